@@ -1,0 +1,112 @@
+-- What pushes and pops do to the components of a text.
+use Rattle.std.proofs.Common.{◌≡◌, ◌≢◌, ℕ, suc, ◌+◌, ◌-◌, ◌<◌, ◌≤◌, false, List, [], ◌∷◌, ◌++◌, replicate, length, get_or, take, Option, Some, None, MatchOption, Bor, sym, refl, ap, ap₂, ◌∙◌, subst, ⊎_elim, append_assoc, append-nil, arith, lit<, ne_eqb, eqb, eqb-true, length-append, take_at, take_all, zero, add-one}
+use Rattle.std.specs.Option.{unwrap_or}
+use Rattle.std.specs.List.{suffix_len, prefix_len}
+use Rattle.std.specs.Str.Pattern.{FindsCharPrefix, StripsPrefix}
+use Rattle.std.proofs.lemmas.Bool.{cond-true, cond-false, cases_Bool}
+use Rattle.std.proofs.lemmas.List.{reverse-append, take_more, replicate_more, length-replicate}
+use Rattle.std.proofs.lemmas.Str.Pattern.{strip_prefix_char}
+use Rattle.relative_path.specs.Components.{slash, Step, cur, components}
+use Rattle.relative_path.specs.Slices.{IsShortestPrefix, IsFront}
+use Rattle.relative_path.specs.Editing.{with_separator, without_leading_slash, pushed, is_cur, kept_len, IsPopped}
+use Rattle.relative_path.proofs.ComponentsLemmas.{components-nil, components-append, components-slash, components-trailing_slash}
+use Rattle.relative_path.proofs.SliceLemmas.{IsPrefix, IsPrefix-trans, IsPrefix-shortest, IsShortestPrefix-nil, IsShortestPrefix-trans}
+
+-- what `strip_prefix` gives, or the text
+pub without_leading_slash-strip_prefix : (text : List ℕ) (r : Option (Bor (List ℕ))) (whole : Bor (List ℕ)) → whole.now ≡ text → MatchOption r (FindsCharPrefix slash text None) (λ x. StripsPrefix (FindsCharPrefix slash) text x.now) → (unwrap_or r whole).now ≡ without_leading_slash text
+without_leading_slash-strip_prefix text r whole all found = stripped text r (strip_prefix_char slash text r found (lit< tt)) all
+  where
+    stripped : (bs : List ℕ) (o : Option (Bor (List ℕ))) → MatchOption o ((rest : List ℕ) → bs ≢ slash ∷ rest) (λ x. bs ≡ slash ∷ x.now) → whole.now ≡ bs → (unwrap_or o whole).now ≡ without_leading_slash bs
+    stripped [] None other same = same
+    stripped (b ∷ bs) None other same = same ∙ sym (cond-false _ _ _ (ne_eqb b slash (λ e. other bs (ap (λ x. x ∷ bs) e))))
+    stripped bs (Some rest) joined same = sym (ap without_leading_slash joined)
+
+-- ---- dropping the components that a parent loses
+
+suffix_len-curs : (cs : List Step) (n : ℕ) → suffix_len is_cur (cs ++ replicate n cur) ≡ n + suffix_len is_cur cs
+suffix_len-curs cs zero = ap (suffix_len is_cur) (append-nil cs) ∙ omega arith
+suffix_len-curs cs (suc n) =
+    let last : cs ++ replicate (suc n) cur ≡ (cs ++ replicate n cur) ++ cur ∷ [] = ap (λ x. cs ++ x) (sym (replicate_more n cur ∙ ap (λ k. replicate k cur) (add-one n))) ∙ sym (append_assoc cs (replicate n cur) (cur ∷ [])) in
+    ap (suffix_len is_cur) last ∙ ap (prefix_len is_cur) (reverse-append (cs ++ replicate n cur) (cur ∷ [])) ∙ omega (arith, suffix_len-curs cs n)
+
+pub kept_len-curs : (cs : List Step) (n : ℕ) → kept_len (cs ++ replicate n cur) ≡ kept_len cs
+kept_len-curs cs n = omega (arith, suffix_len-curs cs n, length-append cs (replicate n cur), length-replicate n cur)
+
+pub kept_len-push : (cs : List Step) (c : Step) → is_cur c ≡ false → kept_len (cs ++ c ∷ []) ≡ length cs
+kept_len-push cs c other =
+    let last : suffix_len is_cur (cs ++ c ∷ []) ≡ 0 = ap (prefix_len is_cur) (reverse-append cs (c ∷ [])) ∙ cond-false (is_cur c) _ _ other in
+    omega (arith, last, length-append cs (c ∷ []))
+
+-- what is left of a text is a front of it, and only `.` components were dropped
+pub record LosesCurs (text left : List ℕ) : Type 0 where
+  pub prefix : IsPrefix text left
+  pub lost : ℕ
+  pub joined : components text ≡ components left ++ replicate lost cur
+
+pub LosesCurs-start : (text : List ℕ) → LosesCurs text text
+LosesCurs-start text = record { prefix = record { front = sym (take_all (length text) text (omega arith)) }; lost = 0; joined = sym (append-nil (components text)) }
+
+pub LosesCurs-cur : (text left front : List ℕ) → LosesCurs text left → components left ≡ components front ++ cur ∷ [] → IsFront left front → LosesCurs text front
+LosesCurs-cur text left front h last cut = record {
+  prefix = IsPrefix-trans h.prefix (IsPrefix-shortest cut);
+  lost = suc h.lost;
+  joined = h.joined ∙ ap (λ cs. cs ++ replicate h.lost cur) last ∙ append_assoc (components front) (cur ∷ []) (replicate h.lost cur);
+}
+
+pub IsPopped-none : (text left : List ℕ) → LosesCurs text left → components left ≡ [] → IsPopped text []
+IsPopped-none text left h none =
+    let kept = ap kept_len h.joined ∙ kept_len-curs (components left) h.lost ∙ ap kept_len none in
+    rw kept (IsShortestPrefix-nil text)
+
+pub IsPopped-front : (text left front : List ℕ) (c : Step) → LosesCurs text left → is_cur c ≡ false → components left ≡ components front ++ c ∷ [] → IsFront left front → IsPopped text front
+IsPopped-front text left front c h other last cut =
+    let kept = ap kept_len h.joined ∙ kept_len-curs (components left) h.lost ∙ ap kept_len last ∙ kept_len-push (components front) c other in
+    let whole = h.joined ∙ ap (λ cs. cs ++ replicate h.lost cur) last ∙ append_assoc (components front) (c ∷ []) (replicate h.lost cur) in
+    let firsts = ap₂ take kept whole ∙ take_at (components front) _ (length (components front)) refl in
+    let shortest = IsShortestPrefix-trans h.prefix cut in
+    subst (λ cs. IsShortestPrefix text cs front) (sym cut.parts ∙ sym firsts) shortest
+
+-- ---- pushing
+
+-- the text ends in a slash, or has no byte
+ends_separated : (text : List ℕ) → get_or text (length text - 1) 0 ≡ slash → text ≡ take (length text - 1) text ++ slash ∷ []
+ends_separated [] e = absurd (omega (arith, e))
+ends_separated (b ∷ bs) e =
+    let long : length (b ∷ bs) ≤ length (b ∷ bs) - 1 + 1 = omega arith in
+    sym (take_all (length (b ∷ bs) - 1 + 1) (b ∷ bs) long) ∙ take_more (b ∷ bs) (length (b ∷ bs) - 1) 0 (omega arith) ∙ ap (λ x. take (length (b ∷ bs) - 1) (b ∷ bs) ++ x ∷ []) e
+
+-- a text that has a byte and does not end in a slash gets one
+pub with_separator-solid : (text : List ℕ) → 0 < length text → get_or text (length text - 1) 0 ≢ slash → with_separator text ≡ text ++ slash ∷ []
+with_separator-solid [] nonempty end = absurd (omega arith)
+with_separator-solid (b ∷ bs) nonempty end =
+    let last : length (b ∷ bs) - 1 ≡ length bs = omega arith in
+    cond-false _ _ _ (ne_eqb (get_or (b ∷ bs) (length bs) 0) slash (λ e. end (ap (λ i. get_or (b ∷ bs) i 0) last ∙ e)))
+
+components-with_separator : (text rest : List ℕ) → components (with_separator text ++ rest) ≡ components text ++ components rest
+components-with_separator [] rest = ap (λ cs. cs ++ components rest) (sym components-nil)
+components-with_separator (b ∷ bs) rest =
+    let last : length (b ∷ bs) - 1 ≡ length bs = omega arith in
+    ⊎_elim
+    (λ e.
+    let front = take (length (b ∷ bs) - 1) (b ∷ bs) in
+    let ends = ends_separated (b ∷ bs) (ap (λ i. get_or (b ∷ bs) i 0) last ∙ eqb-true _ slash e) in
+    ap (λ x. components (x ++ rest)) (cond-true _ _ _ e ∙ ends) ∙ ap components (append_assoc front (slash ∷ []) rest) ∙ components-append front rest ∙ ap (λ cs. cs ++ components rest) (sym (components-trailing_slash front) ∙ ap components (sym ends)))
+    (λ e. ap (λ x. components (x ++ rest)) (cond-false _ _ _ e) ∙ ap components (append_assoc (b ∷ bs) (slash ∷ []) rest) ∙ components-append (b ∷ bs) rest)
+    (cases_Bool (eqb (get_or (b ∷ bs) (length bs) 0) slash))
+
+components-without_leading_slash : (path : List ℕ) → components (without_leading_slash path) ≡ components path
+components-without_leading_slash [] = refl
+components-without_leading_slash (b ∷ bs) =
+    ⊎_elim
+    (λ e. ap components (cond-true _ _ _ e) ∙ sym (components-slash bs) ∙ ap (λ x. components (x ∷ bs)) (sym (eqb-true b slash e)))
+    (λ e. ap components (cond-false _ _ _ e))
+    (cases_Bool (eqb b slash))
+
+pub components-pushed : (text path : List ℕ) → components (pushed text path) ≡ components text ++ components path
+components-pushed text path =
+    components-with_separator text (without_leading_slash path) ∙ ap (λ cs. components text ++ cs) (components-without_leading_slash path)
+
+-- a text that begins with no slash is pushed as it is
+pub without_leading_slash-solid : (path : List ℕ) → get_or path 0 0 ≢ slash → without_leading_slash path ≡ path
+without_leading_slash-solid [] start = refl
+without_leading_slash-solid (b ∷ bs) start = cond-false _ _ _ (ne_eqb b slash start)

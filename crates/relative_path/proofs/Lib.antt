@@ -1,0 +1,9 @@
+pub mod ComponentsLemmas
+pub mod SliceLemmas
+pub mod WalkLemmas
+pub mod NormalFormLemmas
+pub mod TrimLemmas
+pub mod SplitLemmas
+pub mod NextLemmas
+pub mod EditingLemmas
+pub mod NormalizingLemmas

@@ -1,0 +1,123 @@
+-- Taking the first or the last component off a text: a trim, a cut at a slash, and a trim.
+use Rattle.std.proofs.Common.{◌≡◌, ◌≢◌, ◌⊎◌, ℕ, ◌-◌, List, [], ◌∷◌, ◌++◌, All, length, get_or, take, drop, Option, Some, None, MatchOption, sym, refl, ap, ap₂, ◌∙◌, subst, inl, inr, append_assoc, append-nil, arith, ne_eqb, false, length-append, take_at}
+use Rattle.std.specs.Iterator.{MakesProgress, YieldsFirstBy, YieldsLastBy, item_count}
+use Rattle.std.specs.Prelude.{⊤}
+use Rattle.std.proofs.lemmas.List.{nil_from_length, get_or_at}
+use Rattle.std.proofs.lemmas.List.Elements.{All-weaker, recursion_from_All}
+use Rattle.relative_path.specs.declared.component.Component.{Component}
+use Rattle.relative_path.specs.declared.component.Components.{Components}
+use Rattle.relative_path.specs.Components.{slash, is_slash, classed, components}
+use Rattle.relative_path.specs.Iterating.{step_of, text_left, components_left, TakesFirst, TakesLast}
+use Rattle.relative_path.proofs.ComponentsLemmas.{HasNoSlash, components-nil, components-append, components_whole}
+use Rattle.relative_path.proofs.SliceLemmas.{IsSuffix, IsSuffix-drop, IsSuffix-trans, IsPrefix, IsPrefix-append, IsPrefix-trans, IsShortestPrefix-from}
+
+-- the text without the slashes at its start
+pub record IsTrimmedStart (text trimmed : List ℕ) : Type 0 where
+  pub suffix : IsSuffix text trimmed
+  pub start : get_or trimmed 0 0 ≢ slash
+  pub same : components trimmed ≡ components text
+
+-- the component that the piece is, if it has a byte
+abbrev pub IsComponentOf : List ℕ → Option Component → Type 0
+IsComponentOf piece r = MatchOption r (piece ≡ []) (λ c. (piece ≢ []) × (step_of c ≡ classed piece))
+
+HasNoSlash-from_All : (p : List ℕ) → All (λ b. b ≢ slash) p → HasNoSlash p
+HasNoSlash-from_All p h =
+    recursion_from_All (λ b. is_slash b ≡ false) p (All-weaker (λ b. b ≢ slash) (λ b. is_slash b ≡ false) (λ b other. ne_eqb b slash other) p h)
+
+-- a piece that has a byte is its one component
+components_piece : (p : List ℕ) → p ≢ [] → All (λ b. b ≢ slash) p → components p ≡ classed p ∷ []
+components_piece [] nonempty h = absurd (nonempty refl)
+components_piece (b ∷ bs) nonempty h = components_whole (b ∷ bs) (omega arith) (HasNoSlash-from_All (b ∷ bs) h)
+
+nil_from_suffix : (r : List ℕ) → IsSuffix [] r → r ≡ []
+nil_from_suffix r h = nil_from_length r (let e = ap length h.joined in omega (arith, e, length-append h.front r))
+
+module _ (text trimmed piece rest left : List ℕ) (trim : IsTrimmedStart text trimmed) (whole : All (λ b. b ≢ slash) piece) (trim' : IsTrimmedStart rest left) where
+  first_none : (trimmed ≡ piece ++ slash ∷ rest) ⊎ ((trimmed ≡ piece) × (rest ≡ [])) → piece ≡ [] → (components text ≡ []) × (left ≡ [])
+  first_none (inl joined) empty = absurd (trim.start (ap (λ x. get_or x 0 0) (joined ∙ ap (λ x. x ++ slash ∷ rest) empty)))
+  first_none (inr (joined, none)) empty =
+      (sym trim.same ∙ ap components (joined ∙ empty) ∙ components-nil, nil_from_suffix left (subst (λ x. IsSuffix x left) none trim'.suffix))
+
+  first_components : (trimmed ≡ piece ++ slash ∷ rest) ⊎ ((trimmed ≡ piece) × (rest ≡ [])) → piece ≢ [] → components text ≡ classed piece ∷ components left
+  first_components (inl joined) nonempty =
+      sym trim.same ∙ ap components joined ∙ components-append piece rest ∙ ap₂ (λ cs ds. cs ++ ds) (components_piece piece nonempty whole) (sym trim'.same)
+  first_components (inr (joined, none)) nonempty =
+      sym trim.same ∙ ap components joined ∙ components_piece piece nonempty whole ∙ ap (λ cs. classed piece ∷ cs) (sym (trim'.same ∙ ap components none ∙ components-nil))
+
+  rest_suffix : (trimmed ≡ piece ++ slash ∷ rest) ⊎ ((trimmed ≡ piece) × (rest ≡ [])) → IsSuffix trimmed rest
+  rest_suffix (inl joined) = record { front = piece ++ slash ∷ []; joined = joined ∙ sym (append_assoc piece (slash ∷ []) rest) }
+  rest_suffix (inr (joined, none)) = record { front = trimmed; joined = sym (append-nil trimmed) ∙ ap (λ x. trimmed ++ x) (sym none) }
+
+  pub TakesFirst-from : (r : Option Component) → (trimmed ≡ piece ++ slash ∷ rest) ⊎ ((trimmed ≡ piece) × (rest ≡ [])) → IsComponentOf piece r → TakesFirst text r left
+  TakesFirst-from None split empty = first_none split empty
+  TakesFirst-from (Some c) split (nonempty, is) =
+      let cs = first_components split nonempty in (
+        cs ∙ ap (λ d. d ∷ components left) (sym is),
+        record {
+          suffix = IsSuffix-drop (IsSuffix-trans trim.suffix (IsSuffix-trans (rest_suffix split) trim'.suffix));
+          start = trim'.start;
+          parts = sym (ap (drop 1) cs);
+        },
+      )
+
+-- the text without the slashes at its end
+pub record IsTrimmedEnd (text trimmed : List ℕ) : Type 0 where
+  pub prefix : IsPrefix text trimmed
+  pub end : get_or trimmed (length trimmed - 1) 0 ≢ slash
+  pub same : components trimmed ≡ components text
+
+nil_from_prefix : (p : List ℕ) → IsPrefix [] p → p ≡ []
+nil_from_prefix [] h = refl
+nil_from_prefix (b ∷ bs) h = h.front
+
+ends_in_slash : (xs : List ℕ) → get_or (xs ++ slash ∷ []) (length (xs ++ slash ∷ []) - 1) 0 ≡ slash
+ends_in_slash xs =
+    let index : length (xs ++ slash ∷ []) - 1 ≡ length xs = omega (arith, length-append xs (slash ∷ [])) in
+    ap (λ i. get_or (xs ++ slash ∷ []) i 0) index ∙ get_or_at xs slash [] 0 (length xs) refl
+
+module _ (text trimmed piece front left : List ℕ) (trim : IsTrimmedEnd text trimmed) (whole : All (λ b. b ≢ slash) piece) (trim' : IsTrimmedEnd front left) where
+  last_none : (trimmed ≡ front ++ slash ∷ piece) ⊎ ((trimmed ≡ piece) × (front ≡ [])) → piece ≡ [] → (components text ≡ []) × (left ≡ [])
+  last_none (inl joined) empty =
+      let ended = joined ∙ ap (λ x. front ++ slash ∷ x) empty in
+      absurd (trim.end (ap (λ x. get_or x (length x - 1) 0) ended ∙ ends_in_slash front))
+  last_none (inr (joined, none)) empty =
+      (sym trim.same ∙ ap components (joined ∙ empty) ∙ components-nil, nil_from_prefix left (subst (λ x. IsPrefix x left) none trim'.prefix))
+
+  last_components : (trimmed ≡ front ++ slash ∷ piece) ⊎ ((trimmed ≡ piece) × (front ≡ [])) → piece ≢ [] → components text ≡ components left ++ classed piece ∷ []
+  last_components (inl joined) nonempty =
+      sym trim.same ∙ ap components joined ∙ components-append front piece ∙ ap₂ (λ cs ds. cs ++ ds) (sym trim'.same) (components_piece piece nonempty whole)
+  last_components (inr (joined, none)) nonempty =
+      sym trim.same ∙ ap components joined ∙ components_piece piece nonempty whole ∙ ap (λ cs. cs ++ classed piece ∷ []) (sym (trim'.same ∙ ap components none ∙ components-nil))
+
+  front_prefix : (trimmed ≡ front ++ slash ∷ piece) ⊎ ((trimmed ≡ piece) × (front ≡ [])) → IsPrefix trimmed front
+  front_prefix (inl joined) = subst (λ x. IsPrefix x front) (sym joined) (IsPrefix-append front (slash ∷ piece))
+  front_prefix (inr (joined, none)) = rw none (record { front = refl })
+
+  pub TakesLast-from : (r : Option Component) → (trimmed ≡ front ++ slash ∷ piece) ⊎ ((trimmed ≡ piece) × (front ≡ [])) → IsComponentOf piece r → TakesLast text r left
+  TakesLast-from None split empty = last_none split empty
+  TakesLast-from (Some c) split (nonempty, is) =
+      let cs = last_components split nonempty in
+      let counted : length (components left) ≡ length (components text) - 1 = omega (arith, ap length cs, length-append (components left) (classed piece ∷ [])) in
+      let firsts = sym (ap (take (length (components left))) cs ∙ take_at (components left) (classed piece ∷ []) (length (components left)) refl) in
+      (cs ∙ ap (λ d. components left ++ d ∷ []) (sym is), IsShortestPrefix-from (IsPrefix-trans trim.prefix (IsPrefix-trans (front_prefix split) trim'.prefix)) (firsts ∙ ap (λ n. take n (components text)) counted) trim'.end)
+
+-- ---- what follows of the lists of components, and that the walk ends
+
+pub YieldsFirstBy-TakesFirst : (s t : Components) (r : Option Component) → TakesFirst (text_left s) r (text_left t) → YieldsFirstBy step_of components_left s r t
+YieldsFirstBy-TakesFirst s t None (none, left) = (none, ap components left ∙ components-nil)
+YieldsFirstBy-TakesFirst s t (Some c) (joined, _) = joined
+
+pub YieldsLastBy-TakesLast : (s t : Components) (r : Option Component) → TakesLast (text_left s) r (text_left t) → YieldsLastBy step_of components_left s r t
+YieldsLastBy-TakesLast s t None (none, left) = (none, ap components left ∙ components-nil)
+YieldsLastBy-TakesLast s t (Some c) (joined, _) = joined
+
+pub MakesProgress-TakesFirst : (s t : Components) (r : Option Component) → TakesFirst (text_left s) r (text_left t) → MakesProgress (λ _. ⊤) (item_count components_left) s r t
+MakesProgress-TakesFirst s t None taken = record { on = λ _. tt; keeps = tt; rests = λ h. h }
+MakesProgress-TakesFirst s t (Some c) (joined, _) =
+    record { on = λ h. (tt, h, omega (arith, ap length joined)); keeps = tt; rests = λ _. tt }
+
+pub MakesProgress-TakesLast : (s t : Components) (r : Option Component) → TakesLast (text_left s) r (text_left t) → MakesProgress (λ _. ⊤) (item_count components_left) s r t
+MakesProgress-TakesLast s t None taken = record { on = λ _. tt; keeps = tt; rests = λ h. h }
+MakesProgress-TakesLast s t (Some c) (joined, _) =
+    record { on = λ h. (tt, h, omega (arith, ap length joined, length-append (components_left t) (step_of c ∷ []))); keeps = tt; rests = λ _. tt }

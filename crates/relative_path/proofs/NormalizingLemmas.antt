@@ -1,0 +1,161 @@
+-- Normalising a text component by component.
+use Rattle.std.proofs.Common.{◌≡◌, ◌≢◌, ◌⊎◌, ℕ, suc, ◌+◌, ◌≤◌, List, [], ◌∷◌, ◌++◌, map, filter, length, get_or, take, sym, refl, ap, ap₂, ◌∙◌, subst, inl, inr, append_assoc, append-nil, arith, length-append, take_at}
+use Rattle.std.specs.List.{join_with_byte, slice_split}
+use Rattle.std.proofs.lemmas.List.Splits.{join_with_byte-slice_split}
+use Rattle.relative_path.specs.Components.{slash, is_slash, is_not_empty, pieces, Step, cur, up, name, step_text, classed, components, spell}
+use Rattle.relative_path.specs.Walk.{IsSame}
+use Rattle.relative_path.specs.NormalForm.{IsNormal, IsNormalText, IsNormalTextOf}
+use Rattle.relative_path.specs.Slices.{IsShortestPrefix}
+use Rattle.relative_path.specs.Editing.{pushed, with_separator, without_leading_slash, kept_len, IsPopped}
+use Rattle.relative_path.proofs.ComponentsLemmas.{components-nil, components-spell, AreProper, IsProper, AreProper-components, AreProper-append_left, HasNoSlash-proper, HasNoSlash-start, nonempty_proper, spell_end, spell_nonempty, step_text-classed, parts_len, parts_len-filter}
+use Rattle.relative_path.proofs.SliceLemmas.{IsPrefix, IsPrefix-append, IsShortestPrefix-from, IsShortestPrefix-unique}
+use Rattle.relative_path.proofs.EditingLemmas.{components-pushed, with_separator-solid, without_leading_slash-solid, kept_len-push}
+use Rattle.relative_path.proofs.WalkLemmas.{IsSame-refl, IsSame-sym, IsSame-trans, IsSame-cur, IsSame-name_up}
+use Rattle.relative_path.proofs.NormalFormLemmas.{IsNormal-push_up_after_up, IsNormal-front, IsNormal-not_cur, normal_unique, spell-append, length-spell-append_le, length-spell-drop_one}
+
+-- ---- a text is no shorter than what spells its components
+
+length-join_with_byte : (c : ℕ) (p : List ℕ) (ps : List (List ℕ)) → suc (length (join_with_byte c (p ∷ ps))) ≡ parts_len (p ∷ ps) + length (p ∷ ps)
+length-join_with_byte c p [] = omega arith
+length-join_with_byte c p (q ∷ ps) = omega (arith, length-append p (c ∷ join_with_byte c (q ∷ ps)), length-join_with_byte c q ps)
+
+length-filter_le : (ps : List (List ℕ)) → length (filter is_not_empty ps) ≤ length ps
+length-filter_le [] = omega arith
+length-filter_le ([] ∷ ps) = omega (arith, length-filter_le ps)
+length-filter_le ((b ∷ bs) ∷ ps) = omega (arith, length-filter_le ps)
+
+length-join-filter : (c : ℕ) (ps : List (List ℕ)) → length (join_with_byte c (filter is_not_empty ps)) ≤ length (join_with_byte c ps)
+length-join-filter c [] = omega arith
+length-join-filter c (p ∷ ps) = shorter (filter is_not_empty (p ∷ ps)) (parts_len-filter (p ∷ ps)) (length-filter_le (p ∷ ps))
+  where
+    shorter : (qs : List (List ℕ)) → parts_len qs ≡ parts_len (p ∷ ps) → length qs ≤ length (p ∷ ps) → length (join_with_byte c qs) ≤ length (join_with_byte c (p ∷ ps))
+    shorter [] same fewer = omega arith
+    shorter (q ∷ qs) same fewer = omega (arith, length-join_with_byte c q qs, length-join_with_byte c p ps)
+
+step_texts : (ps : List (List ℕ)) → map step_text (map classed ps) ≡ ps
+step_texts [] = refl
+step_texts (p ∷ ps) = ap₂ (λ x xs. x ∷ xs) (step_text-classed p) (step_texts ps)
+
+pub length-spell-components : (text : List ℕ) → length (spell (components text)) ≤ length text
+unfolding components pieces
+length-spell-components text =
+    let spelled = ap (λ ps. length (join_with_byte slash ps)) (step_texts (pieces text)) in
+    let shorter = length-join-filter slash (slice_split is_slash text) in
+    omega (arith, spelled, shorter, ap length (join_with_byte-slice_split slash text))
+
+-- ---- one component at a time
+
+-- the text is normal, with what is left it leads where the source leads, and both together fit
+pub record Normalizes (source : List Step) (limit : ℕ) (text : List ℕ) (left : List Step) : Type 0 where
+  pub normal_text : IsNormalText text
+  pub same : IsSame source (components text ++ left)
+  pub fits : length (spell (components text ++ left)) ≤ limit
+
+IsNormalText-nil : IsNormalText []
+IsNormalText-nil = record { spelled = sym (ap spell components-nil); normal = rw components-nil tt }
+
+pub Normalizes-start : (text : List ℕ) → Normalizes (components text) (length text) [] (components text)
+Normalizes-start text =
+    let whole : components [] ++ components text ≡ components text = ap (λ cs. cs ++ components text) components-nil in
+    record { normal_text = IsNormalText-nil; same = rw whole (IsSame-refl (components text)); fits = rw whole (length-spell-components text) }
+
+pub Normalizes-cur : (source : List Step) (limit : ℕ) (text : List ℕ) (left : List Step) → Normalizes source limit text (cur ∷ left) → Normalizes source limit text left
+Normalizes-cur source limit text left h = record {
+  normal_text = h.normal_text;
+  same = IsSame-trans _ _ _ h.same (IsSame-cur (components text) left);
+  fits = let shorter = length-spell-drop_one (components text) left cur in let fits = h.fits in omega arith;
+}
+
+-- a component pushed behind the text that spells others
+pushed-spell : (cs : List Step) (c : Step) → AreProper cs → IsProper c → pushed (spell cs) (step_text c) ≡ spell (cs ++ c ∷ [])
+pushed-spell cs c propers proper = ap (λ x. with_separator (spell cs) ++ x) solid ∙ behind cs propers
+  where
+    solid : without_leading_slash (step_text c) ≡ step_text c
+    solid = without_leading_slash-solid (step_text c) (subst (λ x. get_or x 0 0 ≢ slash) (append-nil (step_text c)) (HasNoSlash-start (step_text c) [] (nonempty_proper c proper) (HasNoSlash-proper c proper)))
+
+    behind : (ds : List Step) → AreProper ds → with_separator (spell ds) ++ step_text c ≡ spell (ds ++ c ∷ [])
+    behind [] h = refl
+    behind (d ∷ ds) h =
+        ap (λ x. x ++ step_text c) (with_separator-solid (spell (d ∷ ds)) (spell_nonempty d ds h.0) (spell_end (d ∷ ds) h)) ∙ append_assoc (spell (d ∷ ds)) (slash ∷ []) (step_text c) ∙ sym (spell-append d ds c [])
+
+spell-pushed : (text : List ℕ) (c : Step) → text ≡ spell (components text) → IsProper c → pushed text (step_text c) ≡ spell (components text ++ c ∷ [])
+spell-pushed text c spelled proper =
+    ap (λ x. pushed x (step_text c)) spelled ∙ pushed-spell (components text) c (AreProper-components text) proper
+
+pub Normalizes-push : (source : List Step) (limit : ℕ) (text : List ℕ) (c : Step) (left : List Step) → Normalizes source limit text (c ∷ left) → IsProper c → IsNormal (components text ++ c ∷ []) → Normalizes source limit (pushed text (step_text c)) left
+Normalizes-push source limit text c left h proper normal =
+    let pushes : components (pushed text (step_text c)) ≡ components text ++ c ∷ [] = components-pushed text (step_text c) ∙ ap (λ cs. components text ++ cs) proper in
+    let joined : components text ++ c ∷ left ≡ components (pushed text (step_text c)) ++ left = sym (append_assoc (components text) (c ∷ []) left) ∙ ap (λ cs. cs ++ left) (sym pushes) in
+    record {
+      normal_text = record { spelled = spell-pushed text c h.normal_text.spelled proper ∙ ap spell (sym pushes); normal = rw pushes normal };
+      same = rw (← joined) h.same;
+      fits = rw (← joined) h.fits;
+    }
+
+pub pushed_fits : (source : List Step) (limit : ℕ) (text : List ℕ) (c : Step) (left : List Step) → Normalizes source limit text (c ∷ left) → IsProper c → length (pushed text (step_text c)) ≤ limit
+pushed_fits source limit text c left h proper =
+    let spelled = ap length (spell-pushed text c h.normal_text.spelled proper) in
+    let joined : length (spell ((components text ++ c ∷ []) ++ left)) ≡ length (spell (components text ++ c ∷ left)) = ap (λ cs. length (spell cs)) (append_assoc (components text) (c ∷ []) left) in
+    let longer = length-spell-append_le (components text ++ c ∷ []) left in
+    let fits = h.fits in
+    omega arith
+
+IsPrefix-spell : (cs : List Step) (c : Step) → IsPrefix (spell (cs ++ c ∷ [])) (spell cs)
+IsPrefix-spell [] c = record { front = refl }
+IsPrefix-spell (d ∷ cs) c = rw (spell-append d cs c []) (IsPrefix-append (spell (d ∷ cs)) (slash ∷ step_text c))
+
+pub Normalizes-pop : (source : List Step) (limit : ℕ) (text popped : List ℕ) (cs : List Step) (n : List ℕ) (left : List Step) → Normalizes source limit text (up ∷ left) → components text ≡ cs ++ name n ∷ [] → IsPopped text popped → Normalizes source limit popped left
+Normalizes-pop source limit text popped cs n left h last pops =
+    let propers : AreProper (cs ++ name n ∷ []) = subst AreProper last (AreProper-components text) in
+    let proper = AreProper-append_left cs (name n ∷ []) propers in
+    let firsts = ap₂ take (ap kept_len last ∙ kept_len-push cs (name n) refl) last ∙ take_at cs (name n ∷ []) (length cs) refl in
+    let cut : IsShortestPrefix text cs popped = subst (λ ds. IsShortestPrefix text ds popped) firsts pops in
+    let front = subst (λ x. IsPrefix x (spell cs)) (sym (h.normal_text.spelled ∙ ap spell last)) (IsPrefix-spell cs (name n)) in
+    let spelled = IsShortestPrefix-unique cut (IsShortestPrefix-from front (components-spell cs proper) (spell_end cs proper)) in
+    let left_over : components text ++ up ∷ left ≡ cs ++ name n ∷ up ∷ left = ap (λ ds. ds ++ up ∷ left) last ∙ append_assoc cs (name n ∷ []) (up ∷ left) in
+    record {
+      normal_text = record { spelled = spelled ∙ ap spell (sym cut.parts); normal = rw cut.parts (IsNormal-front cs (name n) (subst IsNormal last h.normal_text.normal)) };
+      same = rw cut.parts (IsSame-trans _ _ _ (subst (IsSame source) left_over h.same) (IsSame-name_up cs left n));
+      fits =
+          let fits = ap (λ ds. length (spell ds)) left_over in
+          let first = length-spell-drop_one cs (up ∷ left) (name n) in
+          let second = length-spell-drop_one cs left up in
+          let whole = h.fits in
+          rw cut.parts (omega arith);
+    }
+
+-- at the end the text is the only normal text that leads where the source leads
+pub Normalizes-end : (source : List Step) (limit : ℕ) (text : List ℕ) (left : List Step) → Normalizes source limit text left → left ≡ [] → IsNormalTextOf source text × (length text ≤ limit)
+Normalizes-end source limit text left h none =
+    let whole : components text ++ left ≡ components text = ap (λ cs. components text ++ cs) none ∙ append-nil (components text) in
+    let same = subst (IsSame source) whole h.same in
+    let fits = subst (λ cs. length (spell cs) ≤ limit) whole h.fits in (
+      record {
+        normal_text = h.normal_text;
+        same = same;
+        only = λ other normal leads.
+            normal.spelled ∙ ap spell (normal_unique (components other) (components text) normal.normal h.normal_text.normal (IsSame-trans _ _ _ (IsSame-sym _ _ leads) same)) ∙ sym h.normal_text.spelled;
+      },
+      let e = ap length h.normal_text.spelled in omega arith,
+    )
+
+-- ---- when a `..` stays
+
+last_view : (cs : List Step) → (cs ≡ []) ⊎ ((ds : List Step) × (c : Step) × (cs ≡ ds ++ c ∷ []))
+last_view [] = inl refl
+last_view (c ∷ cs) = elim (last_view cs) [
+  | inl none ↦ inr ([], c, ap (λ x. c ∷ x) none)
+  | inr (ds, d, joined) ↦ inr (c ∷ ds, d, ap (λ x. c ∷ x) joined)
+]
+
+-- a normal list that does not end in a name takes one `..` more
+pub IsNormal-push_up : (cs : List Step) → IsNormal cs → ((ds : List Step) (n : List ℕ) → cs ≢ ds ++ name n ∷ []) → IsNormal (cs ++ up ∷ [])
+IsNormal-push_up cs normal other = elim (last_view cs) [
+  | inl none ↦ rw none tt
+  | inr (ds, c, joined) ↦ rw joined (push_up ds c (subst IsNormal joined normal) (λ n e. other ds n (joined ∙ ap (λ d. ds ++ d ∷ []) e)))
+]
+  where
+    push_up : (ds : List Step) (c : Step) → IsNormal (ds ++ c ∷ []) → ((n : List ℕ) → c ≢ name n) → IsNormal ((ds ++ c ∷ []) ++ up ∷ [])
+    push_up ds cur h none = absurd (IsNormal-not_cur ds h)
+    push_up ds up h none = IsNormal-push_up_after_up ds h
+    push_up ds (name n) h none = absurd (none n refl)

@@ -1,0 +1,52 @@
+-- Where joined lists of steps lead, and which lists lead to the same places.
+use Rattle.std.proofs.Common.{◌≡◌, ℕ, List, [], ◌∷◌, ◌++◌, length, take, Option, Some, None, option_and_then, refl, sym, ap, ◌∙◌, arith}
+use Rattle.std.proofs.lemmas.List.{take_at, length_push}
+use Rattle.relative_path.specs.Components.{Step, cur, up, name}
+use Rattle.relative_path.specs.Walk.{above, walk, IsSame}
+
+-- the place where steps lead from a place that may be none
+abbrev walk_from : List Step → Option (List (List ℕ)) → Option (List (List ℕ))
+walk_from cs = option_and_then (λ place. walk place cs)
+
+pub walk-append : (base : List (List ℕ)) (cs ds : List Step) → walk base (cs ++ ds) ≡ option_and_then (λ place. walk place ds) (walk base cs)
+walk-append base [] ds = refl
+walk-append base (cur ∷ cs) ds = walk-append base cs ds
+walk-append [] (up ∷ cs) ds = refl
+walk-append (n ∷ ns) (up ∷ cs) ds = walk-append (take (length ns) (n ∷ ns)) cs ds
+walk-append base (name n ∷ cs) ds = walk-append (base ++ n ∷ []) cs ds
+
+-- above a name just entered is the place where it was entered
+pub above-push : (base : List (List ℕ)) (n : List ℕ) → above (base ++ n ∷ []) ≡ Some base
+above-push [] n = refl
+above-push (m ∷ ms) n = ap Some (take_at (m ∷ ms) (n ∷ []) (length (ms ++ n ∷ [])) (omega (arith, length_push ms n)))
+
+pub IsSame-refl : (cs : List Step) → IsSame cs cs
+IsSame-refl cs = record { everywhere = λ base. refl }
+
+pub IsSame-sym : (cs ds : List Step) → IsSame cs ds → IsSame ds cs
+IsSame-sym cs ds same = record { everywhere = λ base. sym (same.everywhere base) }
+
+pub IsSame-trans : (cs ds es : List Step) → IsSame cs ds → IsSame ds es → IsSame cs es
+IsSame-trans cs ds es first second = record { everywhere = λ base. first.everywhere base ∙ second.everywhere base }
+
+-- the same rest after the same front
+walk_from_same : (cs ds : List Step) → IsSame cs ds → (o : Option (List (List ℕ))) → walk_from cs o ≡ walk_from ds o
+walk_from_same cs ds same None = refl
+walk_from_same cs ds same (Some place) = same.everywhere place
+
+pub IsSame-append_left : (bs cs ds : List Step) → IsSame cs ds → IsSame (bs ++ cs) (bs ++ ds)
+IsSame-append_left bs cs ds same =
+    record { everywhere = λ base. walk-append base bs cs ∙ walk_from_same cs ds same (walk base bs) ∙ sym (walk-append base bs ds) }
+
+pub IsSame-append_right : (cs ds es : List Step) → IsSame cs ds → IsSame (cs ++ es) (ds ++ es)
+IsSame-append_right cs ds es same =
+    record { everywhere = λ base. walk-append base cs es ∙ ap (walk_from es) (same.everywhere base) ∙ sym (walk-append base ds es) }
+
+-- a `.` leads nowhere else
+pub IsSame-cur : (cs ds : List Step) → IsSame (cs ++ cur ∷ ds) (cs ++ ds)
+IsSame-cur cs ds = IsSame-append_left cs (cur ∷ ds) ds (record { everywhere = λ base. refl })
+
+-- a name and a `..` after it lead nowhere else
+pub IsSame-name_up : (cs ds : List Step) (n : List ℕ) → IsSame (cs ++ name n ∷ up ∷ ds) (cs ++ ds)
+IsSame-name_up cs ds n =
+    IsSame-append_left cs (name n ∷ up ∷ ds) ds (record { everywhere = λ base. ap (walk_from ds) (above-push base n) })

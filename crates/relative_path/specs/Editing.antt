@@ -1,0 +1,33 @@
+-- The texts that edits leave.
+use Rattle.std.specs.Prelude.{ℕ, Bool, true, false, ◌-◌, ◌==◌, List, [], ◌∷◌, ◌++◌, length, slice_index, if◌then◌else◌}
+use Rattle.std.specs.List.{suffix_len}
+use Rattle.relative_path.specs.Components.{Step, cur, up, name, slash, components}
+use Rattle.relative_path.specs.Slices.{IsCut}
+
+-- the text, and a slash unless it is empty or ends in one
+abbrev pub with_separator : List ℕ → List ℕ
+with_separator [] = []
+with_separator (b ∷ bs) = if slice_index (b ∷ bs) (length bs) == slash then b ∷ bs else (b ∷ bs) ++ slash ∷ []
+
+-- the text without one slash at its start
+abbrev pub without_leading_slash : List ℕ → List ℕ
+without_leading_slash [] = []
+without_leading_slash (b ∷ text) = if b == slash then text else b ∷ text
+
+-- `text.push(pushed)`: the second text behind the first, with a slash between
+abbrev pub pushed : List ℕ → List ℕ → List ℕ
+pushed text path = with_separator text ++ without_leading_slash path
+
+-- the component is `.`
+abbrev pub is_cur : Step → Bool
+is_cur cur = true
+is_cur up = false
+is_cur (name n) = false
+
+-- how many components a parent keeps: all but the `.` at the end and one more
+abbrev pub kept_len : List Step → ℕ
+kept_len cs = length cs - suffix_len is_cur cs - 1
+
+-- p is what `pop` leaves of the text
+abbrev pub IsPopped : List ℕ → List ℕ → Type 0
+IsPopped text p = IsCut text (kept_len (components text)) p

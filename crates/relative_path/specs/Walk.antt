@@ -1,0 +1,20 @@
+-- Where a path leads. A place is a list of names, the top first; the empty list is the top.
+use Rattle.std.specs.Prelude.{◌≡◌, ℕ, List, [], ◌∷◌, ◌++◌, length, take, Option, Some, None}
+use Rattle.std.specs.Option.{option_and_then}
+use Rattle.relative_path.specs.Components.{Step, cur, up, name}
+
+-- the place above: the base without its last name, and none above the top
+abbrev pub above : List (List ℕ) → Option (List (List ℕ))
+above [] = None
+above (n ∷ ns) = Some (take (length ns) (n ∷ ns))
+
+-- the place where components lead from a base, if they never climb above the top
+abbrev pub walk : List (List ℕ) → List Step → Option (List (List ℕ))
+walk base [] = Some base
+walk base (cur ∷ cs) = walk base cs
+walk base (up ∷ cs) = option_and_then (λ place. walk place cs) (above base)
+walk base (name n ∷ cs) = walk (base ++ n ∷ []) cs
+
+-- from every base both lead to the same place, or both to none
+pub record IsSame (cs ds : List Step) : Type 0 where
+  pub everywhere : (base : List (List ℕ)) → walk base cs ≡ walk base ds

@@ -1,0 +1,10 @@
+//! Portable relative paths: a text cut at `/` on every platform, which names a place only beside a base.
+#![tactic(auto)]
+
+pub use self::buf::RelativePathBuf;
+pub use self::component::{Component, Components};
+pub use self::path::RelativePath;
+
+mod buf;
+mod component;
+mod path;
