@@ -1,9 +1,11 @@
 -- What `Component` and `Components` show, and what a call of `next` or `next_back` gives.
-use Rattle.std.specs.Prelude.{◌≡◌, ℕ, List, [], ◌∷◌, ◌++◌, Option, MatchOption}
+use Rattle.std.specs.Prelude.{◌≡◌, ℕ, List, [], ◌∷◌, ◌++◌, map, Option, MatchOption}
+use Rattle.std.specs.Borrow.{Bor}
 use Rattle.relative_path.specs.declared.component.Component.{Component}
 use Rattle.relative_path.specs.declared.component.Component.TheVariants.{CurDir, ParentDir, Normal}
 use Rattle.relative_path.specs.declared.component.Components.{Components}
-use Rattle.relative_path.specs.Components.{Step, cur, up, name, components}
+use Rattle.relative_path.specs.declared.component.Iter.{Iter}
+use Rattle.relative_path.specs.Components.{Step, cur, up, name, step_text, components}
 use Rattle.relative_path.specs.Slices.{IsFront, IsRest}
 
 -- the step that a `Component` stands for
@@ -20,6 +22,14 @@ text_left walk = walk.text.now
 abbrev pub components_left : Components → List Step
 components_left walk = components (text_left walk)
 
+-- the text that is left to an `Iter`
+abbrev pub iter_text_left : Iter → List ℕ
+iter_text_left iter = text_left iter.components
+
+-- the texts of the components that are left to it
+abbrev pub texts_left : Iter → List (List ℕ)
+texts_left iter = map step_text (components (iter_text_left iter))
+
 -- from the text, the first component was taken and its rest was left; with no component nothing was left
 abbrev pub TakesFirst : List ℕ → Option Component → List ℕ → Type 0
 TakesFirst text taken left = MatchOption taken ((components text ≡ []) × (left ≡ []))
@@ -29,3 +39,12 @@ TakesFirst text taken left = MatchOption taken ((components text ≡ []) × (lef
 abbrev pub TakesLast : List ℕ → Option Component → List ℕ → Type 0
 TakesLast text taken left = MatchOption taken ((components text ≡ []) × (left ≡ []))
     (λ c. (components text ≡ components left ++ step_of c ∷ []) × IsFront text left)
+
+-- the same of an `Iter`, which gives the component's text
+abbrev pub TakesFirstText : List ℕ → Option (Bor (List ℕ)) → List ℕ → Type 0
+TakesFirstText text taken left = MatchOption taken ((components text ≡ []) × (left ≡ []))
+    (λ s. (c : Step) × (s.now ≡ step_text c) × (components text ≡ c ∷ components left) × IsRest text left)
+
+abbrev pub TakesLastText : List ℕ → Option (Bor (List ℕ)) → List ℕ → Type 0
+TakesLastText text taken left = MatchOption taken ((components text ≡ []) × (left ≡ []))
+    (λ s. (c : Step) × (s.now ≡ step_text c) × (components text ≡ components left ++ c ∷ []) × IsFront text left)

@@ -6,3 +6,5 @@ pub mod Editing
 pub mod RelativePath
 pub mod RelativePathBuf
 pub mod Iterating
+pub mod Order
+pub mod OrderLaws

@@ -1,7 +1,12 @@
 -- What a `RelativePathBuf` shows.
 use Rattle.std.specs.Prelude.{ℕ, List}
+use Rattle.relative_path.specs.Components.{Step, components}
 
 -- a text, and how many bytes it may have before its memory has to grow
 pub record Buffer : Type 0 where
   pub text : List ℕ
   pub room : ℕ
+
+-- the components of the text
+abbrev pub buffer_components : Buffer → List Step
+buffer_components buffer = components buffer.text

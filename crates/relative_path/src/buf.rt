@@ -1,12 +1,22 @@
 //! The owned relative path.
-ghost use Rattle.std.specs.Prelude.{◌≡◌, ◌≢◌, ◌≤◌, ◌<◌, ◌+◌, ◌↔◌, ◌++◌, [], ◌∷◌, if◌then◌else◌, length, IfOk, OnOk, OnErr, IsTrue};
-ghost use Rattle.relative_path.specs.Components.{slash};
+ghost use Rattle.std.specs.Prelude.{◌≡◌, ◌≢◌, ◌≤◌, ◌<◌, ◌+◌, ◌↔◌, ◌++◌, [], ◌∷◌, if◌then◌else◌, length, IfOk, OnOk, OnErr, IsTrue, Some};
+ghost use Rattle.relative_path.specs.Components.{slash, components};
 ghost use Rattle.relative_path.specs.Editing.{pushed, with_separator, IsPopped};
 ghost use Rattle.relative_path.specs.Editing as spec;
+ghost use Rattle.relative_path.specs.Order.{steps_eq, steps_cmp, fed};
+ghost use Rattle.relative_path.specs.OrderLaws.{steps_cmp-total, steps_eq-equiv, steps_eq-ties, fed-steps_eq};
 ghost use Rattle.relative_path.specs.RelativePath.{path_text};
+ghost use Rattle.relative_path.specs.RelativePathBuf.{buffer_components};
+ghost use Rattle.std.specs.Cmp.{on_equiv, on_total, partial_equiv_from_equiv, partial_order_from_agreeing_total};
+ghost use Rattle.std.specs.Fmt.{styled_text, debug_str};
+ghost use Rattle.std.specs.Ordering.{on, as_partial_cmp};
+ghost use Rattle.std.proofs.Common.{refl};
 
 use crate::path::{RelativePath, without_last};
 use std::alloc::{AllocError, Global};
+use std::cmp::Ordering;
+use std::fmt;
+use std::hash::{Hash, Hasher};
 use std::marker::Model;
 
 /// A relative path that owns its text.
@@ -99,6 +109,77 @@ impl RelativePathBuf {
         ensures { path_text result ≡ self.now.text }
     {
         RelativePath::new(self.text.as_str())
+    }
+}
+
+impl PartialEq for RelativePathBuf {
+    ghost eq = { on buffer_components steps_eq };
+
+    ghost laws = { partial_equiv_from_equiv (on_equiv buffer_components steps_eq-equiv) };
+
+    fn eq(&self, other: &Self) -> bool
+        ensures value { result ≡ steps_eq (components self.now.text) (components other.now.text) }
+        ensures same { IsTrue result ↔ (components self.now.text ≡ components other.now.text) }
+    {
+        self.as_relative_path() == other.as_relative_path()
+    }
+}
+
+impl Eq for RelativePathBuf {
+    ghost laws = { on_equiv buffer_components steps_eq-equiv };
+}
+
+impl PartialOrd for RelativePathBuf {
+    ghost partial_cmp = { as_partial_cmp (on buffer_components steps_cmp) };
+
+    ghost laws = { partial_order_from_agreeing_total (on buffer_components steps_cmp)
+        (on_total buffer_components steps_cmp-total) (λ _ _. refl)
+        (λ x y. steps_eq-ties (buffer_components x) (buffer_components y)) };
+
+    fn partial_cmp(&self, other: &Self) -> Option<Ordering> {
+        Some(self.cmp(other))
+    }
+}
+
+impl Ord for RelativePathBuf {
+    ghost cmp = { on buffer_components steps_cmp };
+
+    ghost total = { on_total buffer_components steps_cmp-total };
+
+    ghost matches_partial_cmp = { λ _ _. refl };
+
+    ghost matches_eq = { λ x y. steps_eq-ties (buffer_components x) (buffer_components y) };
+
+    fn cmp(&self, other: &Self) -> Ordering {
+        self.as_relative_path().cmp(&other.as_relative_path())
+    }
+}
+
+impl Hash for RelativePathBuf {
+    ghost hash_input = { λ buf. fed (buffer_components buf) };
+
+    ghost respects_eq = { λ x y. fed-steps_eq (buffer_components x) (buffer_components y) };
+
+    fn hash<H: Hasher>(&self, state: &mut H) {
+        self.as_relative_path().hash(state);
+    }
+}
+
+impl fmt::Display for RelativePathBuf {
+    ghost output = { λ buf. Some buf.text };
+
+    ghost styled_output = { λ buf spec. Some (styled_text spec buf.text) };
+
+    fn fmt<W: fmt::Write>(&self, f: &mut fmt::Formatter<W>) -> fmt::Result {
+        fmt::Display::fmt(&self.as_relative_path(), f)
+    }
+}
+
+impl fmt::Debug for RelativePathBuf {
+    ghost debug_output = { λ buf. debug_str buf.text };
+
+    fn fmt<W: fmt::Write>(&self, f: &mut fmt::Formatter<W>) -> fmt::Result {
+        fmt::Debug::fmt(&self.as_relative_path(), f)
     }
 }
 

@@ -1,12 +1,20 @@
 //! The components of a relative path, and the walk over them.
-ghost use Rattle.std.specs.Prelude.{◌≡◌, ◌≢◌, ◌-◌, ◌⊎◌, [], ◌∷◌, ◌++◌, ⊤, MatchOption, length, drop, take, slice_index};
+ghost use Rattle.std.specs.Prelude.{◌≡◌, ◌≢◌, ◌-◌, ◌⊎◌, ◌↔◌, [], ◌∷◌, ◌++◌, ⊤, IsTrue, MatchOption, length, drop, take, slice_index};
 ghost use Rattle.std.specs.List.{All};
-ghost use Rattle.std.specs.Iterator.{YieldsFirstBy, YieldsLastBy, item_count, MakesProgress};
+ghost use Rattle.std.specs.Iterator.{YieldsFirstBy, YieldsFirstRef, YieldsLastBy, YieldsLastRef, item_count, MakesProgress};
 ghost use Rattle.relative_path.specs.Components.{slash, classed, components, step_text};
-ghost use Rattle.relative_path.specs.Iterating.{step_of, text_left, components_left, TakesFirst, TakesLast};
+ghost use Rattle.relative_path.specs.Iterating.{step_of, text_left, components_left, iter_text_left, texts_left, TakesFirst, TakesFirstText, TakesLast, TakesLastText};
 ghost use Rattle.relative_path.specs.RelativePath.{path_text};
+ghost use Rattle.relative_path.specs.Order.{step_rank, step_eq, step_cmp, steps_eq, fed};
+ghost use Rattle.relative_path.specs.OrderLaws.{step_cmp-total, step_eq-equiv, step_eq-ties, steps_eq-equiv, fed-step_eq};
+ghost use Rattle.std.specs.Cmp.{on_equiv, on_total, partial_equiv_from_equiv, partial_order_from_agreeing_total};
+ghost use Rattle.std.specs.Ordering.{on, as_partial_cmp};
+ghost use Rattle.std.proofs.Common.{refl};
 
 use crate::path::RelativePath;
+use std::alloc::AllocError;
+use std::cmp::Ordering;
+use std::hash::{Hash, Hasher};
 
 /// One component of a relative path.
 #[derive(Clone, Copy, Debug)]
@@ -30,6 +38,78 @@ impl<'a> Component<'a> {
             Component::Normal(name) => name,
         }
     }
+
+    /// The component alone, as a path.
+    pub fn as_relative_path(self) -> RelativePath<'a>
+        ensures { path_text result ≡ step_text (step_of self.entry) }
+    {
+        RelativePath::new(self.as_str())
+    }
+
+    // The place of `.`, `..` and names in the order.
+    fn rank(self) -> u8
+        ensures { result ≡ step_rank (step_of self.entry) }
+    {
+        match self {
+            Component::CurDir => 0,
+            Component::ParentDir => 1,
+            Component::Normal(_) => 2,
+        }
+    }
+}
+
+impl PartialEq for Component<'_> {
+    ghost eq = { on step_of step_eq };
+
+    ghost laws = { partial_equiv_from_equiv (on_equiv step_of step_eq-equiv) };
+
+    fn eq(&self, other: &Self) -> bool
+        ensures value { result ≡ step_eq (step_of self.now) (step_of other.now) }
+        ensures same { IsTrue result ↔ (step_of self.now ≡ step_of other.now) }
+    {
+        self.cmp(other).is_eq()
+    }
+}
+
+impl Eq for Component<'_> {
+    ghost laws = { on_equiv step_of step_eq-equiv };
+}
+
+impl PartialOrd for Component<'_> {
+    ghost partial_cmp = { as_partial_cmp (on step_of step_cmp) };
+
+    ghost laws = { partial_order_from_agreeing_total (on step_of step_cmp)
+        (on_total step_of step_cmp-total) (λ _ _. refl) (λ x y. step_eq-ties (step_of x) (step_of y)) };
+
+    fn partial_cmp(&self, other: &Self) -> Option<Ordering> {
+        Some(self.cmp(other))
+    }
+}
+
+impl Ord for Component<'_> {
+    ghost cmp = { on step_of step_cmp };
+
+    ghost total = { on_total step_of step_cmp-total };
+
+    ghost matches_partial_cmp = { λ _ _. refl };
+
+    ghost matches_eq = { λ x y. step_eq-ties (step_of x) (step_of y) };
+
+    fn cmp(&self, other: &Self) -> Ordering {
+        let by_rank = self.rank().cmp(&other.rank());
+        by_rank.then(self.as_str().cmp(other.as_str()))
+    }
+}
+
+impl Hash for Component<'_> {
+    ghost hash_input = { λ c. fed (step_of c ∷ []) };
+
+    ghost respects_eq = { λ x y. fed-step_eq (step_of x) (step_of y) };
+
+    fn hash<H: Hasher>(&self, state: &mut H) {
+        state.write(self.as_str().as_bytes());
+        state.write(b"/");
+    }
 }
 
 /// The walk over the components of a relative path, from both ends.
@@ -51,6 +131,31 @@ impl<'a> Components<'a> {
         ensures { path_text result ≡ text_left self.now }
     {
         RelativePath::new(self.text)
+    }
+}
+
+impl Clone for Components<'_> {
+    ghost is_clone = { λ walk copy. text_left copy ≡ text_left walk };
+
+    ghost is_infallible = { λ _. ⊤ };
+
+    fn clone(&self) -> Result<Self, AllocError> {
+        Ok(Components { text: self.text })
+    }
+}
+
+impl PartialEq for Components<'_> {
+    ghost eq = { on components_left steps_eq };
+
+    ghost laws = { partial_equiv_from_equiv (on_equiv components_left steps_eq-equiv) };
+
+    fn eq(&self, other: &Self) -> bool
+        ensures value { result ≡ steps_eq (components_left self.now) (components_left other.now) }
+        ensures same { IsTrue result ↔ (components_left self.now ≡ components_left other.now) }
+    {
+        self.as_relative_path()
+            .cmp(&other.as_relative_path())
+            .is_eq()
     }
 }
 
@@ -85,6 +190,63 @@ impl<'a> DoubleEndedIterator for Components<'a> {
         let (front, piece) = split_last(without_trailing_slashes(self.text));
         self.text = without_trailing_slashes(front);
         component_of(piece)
+    }
+}
+
+/// The walk over the texts of the components of a relative path, from both ends.
+#[derive(Drop)]
+pub struct Iter<'a> {
+    components: Components<'a>,
+}
+
+impl<'a> Iter<'a> {
+    // The walk over a whole text.
+    pub(crate) fn new(text: &'a str) -> Iter<'a>
+        ensures { iter_text_left result ≡ text.now }
+    {
+        Iter {
+            components: Components::new(text),
+        }
+    }
+}
+
+impl Clone for Iter<'_> {
+    ghost is_clone = { λ walk copy. iter_text_left copy ≡ iter_text_left walk };
+
+    ghost is_infallible = { λ _. ⊤ };
+
+    fn clone(&self) -> Result<Self, AllocError> {
+        Ok(Iter::new(self.components.text))
+    }
+}
+
+impl<'a> Iterator for Iter<'a> {
+    type Item = &'a str;
+
+    ghost next_gives = { YieldsFirstRef texts_left };
+
+    ghost remaining = { item_count texts_left };
+
+    /// The text of the first component of what is left.
+    fn next(&mut self) -> Option<&'a str>
+        ensures steps { YieldsFirstRef texts_left self.old result self.new }
+        ensures goes { MakesProgress (λ _. ⊤) (item_count texts_left) self.old result self.new }
+        ensures first { TakesFirstText (iter_text_left self.old) result (iter_text_left self.new) }
+    {
+        self.components.next().map(Component::as_str)
+    }
+}
+
+impl<'a> DoubleEndedIterator for Iter<'a> {
+    ghost next_back_gives = { YieldsLastRef texts_left };
+
+    /// The text of the last component of what is left.
+    fn next_back(&mut self) -> Option<&'a str>
+        ensures steps { YieldsLastRef texts_left self.old result self.new }
+        ensures goes { MakesProgress (λ _. ⊤) (item_count texts_left) self.old result self.new }
+        ensures last { TakesLastText (iter_text_left self.old) result (iter_text_left self.new) }
+    {
+        self.components.next_back().map(Component::as_str)
     }
 }
 

@@ -2,8 +2,8 @@
 #![tactic(auto)]
 
 pub use self::buf::RelativePathBuf;
-pub use self::component::{Component, Components};
-pub use self::path::RelativePath;
+pub use self::component::{Component, Components, Iter};
+pub use self::path::{Display, RelativePath};
 
 mod buf;
 mod component;
