@@ -53,10 +53,11 @@ LosesCurs-cur text left front h last cut = record {
   joined = h.joined ∙ ap (λ cs. cs ++ replicate h.lost cur) last ∙ append_assoc (components front) (cur ∷ []) (replicate h.lost cur);
 }
 
-pub IsPopped-none : (text left : List ℕ) → LosesCurs text left → components left ≡ [] → IsPopped text []
-IsPopped-none text left h none =
+pub IsPopped-none : (text left front : List ℕ) → LosesCurs text left → components left ≡ [] → IsFront left front → IsPopped text front
+IsPopped-none text left front h none cut =
     let kept = ap kept_len h.joined ∙ kept_len-curs (components left) h.lost ∙ ap kept_len none in
-    rw kept (IsShortestPrefix-nil text)
+    let nothing = ap (λ cs. take (length cs - 1) cs) none in
+    rw kept (subst (λ cs. IsShortestPrefix text cs front) nothing (IsShortestPrefix-trans h.prefix cut))
 
 pub IsPopped-front : (text left front : List ℕ) (c : Step) → LosesCurs text left → is_cur c ≡ false → components left ≡ components front ++ c ∷ [] → IsFront left front → IsPopped text front
 IsPopped-front text left front c h other last cut =
@@ -64,7 +65,7 @@ IsPopped-front text left front c h other last cut =
     let whole = h.joined ∙ ap (λ cs. cs ++ replicate h.lost cur) last ∙ append_assoc (components front) (c ∷ []) (replicate h.lost cur) in
     let firsts = ap₂ take kept whole ∙ take_at (components front) _ (length (components front)) refl in
     let shortest = IsShortestPrefix-trans h.prefix cut in
-    subst (λ cs. IsShortestPrefix text cs front) (sym cut.parts ∙ sym firsts) shortest
+    subst (λ cs. IsShortestPrefix text cs front) (sym cut.same_components ∙ sym firsts) shortest
 
 -- ---- pushing
 

@@ -2,14 +2,17 @@
 use Rattle.std.proofs.Common.{◌≡◌, ◌≢◌, ◌⊎◌, ℕ, ◌-◌, List, [], ◌∷◌, ◌++◌, All, length, get_or, take, drop, Option, Some, None, MatchOption, sym, refl, ap, ap₂, ◌∙◌, subst, inl, inr, append_assoc, append-nil, arith, ne_eqb, false, length-append, take_at}
 use Rattle.std.specs.Iterator.{MakesProgress, YieldsFirstBy, YieldsLastBy, item_count}
 use Rattle.std.specs.Prelude.{⊤}
-use Rattle.std.proofs.lemmas.List.{nil_from_length, get_or_at}
+use Rattle.std.proofs.lemmas.Iterator.{YieldsList}
+use Rattle.std.proofs.lemmas.Iterator.Consumers.{YieldsList-from_shown}
+use Rattle.std.proofs.lemmas.List.{nil_from_length, get_or_at, drop_all}
 use Rattle.std.proofs.lemmas.List.Elements.{All-weaker, recursion_from_All}
 use Rattle.relative_path.specs.declared.component.Component.{Component}
 use Rattle.relative_path.specs.declared.component.Components.{Components}
 use Rattle.relative_path.specs.Components.{slash, is_slash, classed, components}
+use Rattle.relative_path.specs.Slices.{IsRest, IsFront}
 use Rattle.relative_path.specs.Iterating.{step_of, text_left, components_left, TakesFirst, TakesLast}
 use Rattle.relative_path.proofs.ComponentsLemmas.{HasNoSlash, components-nil, components-append, components_whole}
-use Rattle.relative_path.proofs.SliceLemmas.{IsSuffix, IsSuffix-drop, IsSuffix-trans, IsPrefix, IsPrefix-append, IsPrefix-trans, IsShortestPrefix-from}
+use Rattle.relative_path.proofs.SliceLemmas.{IsSuffix, IsSuffix-drop, IsSuffix-trans, IsPrefix, IsPrefix-append, IsPrefix-trans, IsShortestPrefix-from, IsShortestPrefix-nil}
 
 -- the text without the slashes at its start
 pub record IsTrimmedStart (text trimmed : List ℕ) : Type 0 where
@@ -33,6 +36,17 @@ components_piece (b ∷ bs) nonempty h = components_whole (b ∷ bs) (omega arit
 nil_from_suffix : (r : List ℕ) → IsSuffix [] r → r ≡ []
 nil_from_suffix r h = nil_from_length r (let e = ap length h.joined in omega (arith, e, length-append h.front r))
 
+-- with no component, the rest and the front are empty
+IsRest-none : (text r : List ℕ) → components text ≡ [] → r ≡ [] → IsRest text r
+IsRest-none text r none empty = rw empty (record {
+  suffix = sym (drop_all (length text - 0) text (omega arith));
+  no_leading_slash = λ e. absurd (omega (arith, e));
+  other_components = components-nil ∙ sym (ap (drop 1) none);
+})
+
+IsFront-none : (text p : List ℕ) → components text ≡ [] → p ≡ [] → IsFront text p
+IsFront-none text p none empty = rw (empty, none) (IsShortestPrefix-nil text)
+
 module _ (text trimmed piece rest left : List ℕ) (trim : IsTrimmedStart text trimmed) (whole : All (λ b. b ≢ slash) piece) (trim' : IsTrimmedStart rest left) where
   first_none : (trimmed ≡ piece ++ slash ∷ rest) ⊎ ((trimmed ≡ piece) × (rest ≡ [])) → piece ≡ [] → (components text ≡ []) × (left ≡ [])
   first_none (inl joined) empty = absurd (trim.start (ap (λ x. get_or x 0 0) (joined ∙ ap (λ x. x ++ slash ∷ rest) empty)))
@@ -50,14 +64,15 @@ module _ (text trimmed piece rest left : List ℕ) (trim : IsTrimmedStart text t
   rest_suffix (inr (joined, none)) = record { front = trimmed; joined = sym (append-nil trimmed) ∙ ap (λ x. trimmed ++ x) (sym none) }
 
   pub TakesFirst-from : (r : Option Component) → (trimmed ≡ piece ++ slash ∷ rest) ⊎ ((trimmed ≡ piece) × (rest ≡ [])) → IsComponentOf piece r → TakesFirst text r left
-  TakesFirst-from None split empty = first_none split empty
+  TakesFirst-from None split empty =
+      let none = first_none split empty in (none.0, IsRest-none text left none.0 none.1)
   TakesFirst-from (Some c) split (nonempty, is) =
       let cs = first_components split nonempty in (
         cs ∙ ap (λ d. d ∷ components left) (sym is),
         record {
           suffix = IsSuffix-drop (IsSuffix-trans trim.suffix (IsSuffix-trans (rest_suffix split) trim'.suffix));
-          start = trim'.start;
-          parts = sym (ap (drop 1) cs);
+          no_leading_slash = trim'.start;
+          other_components = sym (ap (drop 1) cs);
         },
       )
 
@@ -95,7 +110,8 @@ module _ (text trimmed piece front left : List ℕ) (trim : IsTrimmedEnd text tr
   front_prefix (inr (joined, none)) = rw none (record { front = refl })
 
   pub TakesLast-from : (r : Option Component) → (trimmed ≡ front ++ slash ∷ piece) ⊎ ((trimmed ≡ piece) × (front ≡ [])) → IsComponentOf piece r → TakesLast text r left
-  TakesLast-from None split empty = last_none split empty
+  TakesLast-from None split empty =
+      let none = last_none split empty in (none.0, IsFront-none text left none.0 none.1)
   TakesLast-from (Some c) split (nonempty, is) =
       let cs = last_components split nonempty in
       let counted : length (components left) ≡ length (components text) - 1 = omega (arith, ap length cs, length-append (components left) (classed piece ∷ [])) in
@@ -103,14 +119,6 @@ module _ (text trimmed piece front left : List ℕ) (trim : IsTrimmedEnd text tr
       (cs ∙ ap (λ d. components left ++ d ∷ []) (sym is), IsShortestPrefix-from (IsPrefix-trans trim.prefix (IsPrefix-trans (front_prefix split) trim'.prefix)) (firsts ∙ ap (λ n. take n (components text)) counted) trim'.end)
 
 -- ---- what follows of the lists of components, and that the walk ends
-
-pub YieldsFirstBy-TakesFirst : (s t : Components) (r : Option Component) → TakesFirst (text_left s) r (text_left t) → YieldsFirstBy step_of components_left s r t
-YieldsFirstBy-TakesFirst s t None (none, left) = (none, ap components left ∙ components-nil)
-YieldsFirstBy-TakesFirst s t (Some c) (joined, _) = joined
-
-pub YieldsLastBy-TakesLast : (s t : Components) (r : Option Component) → TakesLast (text_left s) r (text_left t) → YieldsLastBy step_of components_left s r t
-YieldsLastBy-TakesLast s t None (none, left) = (none, ap components left ∙ components-nil)
-YieldsLastBy-TakesLast s t (Some c) (joined, _) = joined
 
 pub MakesProgress-TakesFirst : (s t : Components) (r : Option Component) → TakesFirst (text_left s) r (text_left t) → MakesProgress (λ _. ⊤) (item_count components_left) s r t
 MakesProgress-TakesFirst s t None taken = record { on = λ _. tt; keeps = tt; rests = λ h. h }
@@ -121,3 +129,8 @@ pub MakesProgress-TakesLast : (s t : Components) (r : Option Component) → Take
 MakesProgress-TakesLast s t None taken = record { on = λ _. tt; keeps = tt; rests = λ h. h }
 MakesProgress-TakesLast s t (Some c) (joined, _) =
     record { on = λ h. (tt, h, omega (arith, ap length joined, length-append (components_left t) (step_of c ∷ []))); keeps = tt; rests = λ _. tt }
+
+-- a walk gives the components of its text, one after another
+pub YieldsList-components : (s : Components) (text : List ℕ) → text_left s ≡ text → YieldsList (λ s taken t. TakesFirst (text_left s) taken (text_left t)) step_of s (components text)
+YieldsList-components s text same =
+    subst (λ x. YieldsList (λ s taken t. TakesFirst (text_left s) taken (text_left t)) step_of s (components x)) same (YieldsList-from_shown (λ s taken t. TakesFirst (text_left s) taken (text_left t)) step_of components_left (λ s t taken. ap length taken.0) (λ s c t taken. taken.0) s)

@@ -114,14 +114,14 @@ Normalizes-pop source limit text popped cs n left h last pops =
     let spelled = IsShortestPrefix-unique cut (IsShortestPrefix-from front (components-spell cs proper) (spell_end cs proper)) in
     let left_over : components text ++ up ∷ left ≡ cs ++ name n ∷ up ∷ left = ap (λ ds. ds ++ up ∷ left) last ∙ append_assoc cs (name n ∷ []) (up ∷ left) in
     record {
-      normal_text = record { spelled = spelled ∙ ap spell (sym cut.parts); normal = rw cut.parts (IsNormal-front cs (name n) (subst IsNormal last h.normal_text.normal)) };
-      same = rw cut.parts (IsSame-trans _ _ _ (subst (IsSame source) left_over h.same) (IsSame-name_up cs left n));
+      normal_text = record { spelled = spelled ∙ ap spell (sym cut.same_components); normal = rw cut.same_components (IsNormal-front cs (name n) (subst IsNormal last h.normal_text.normal)) };
+      same = rw cut.same_components (IsSame-trans _ _ _ (subst (IsSame source) left_over h.same) (IsSame-name_up cs left n));
       fits =
           let fits = ap (λ ds. length (spell ds)) left_over in
           let first = length-spell-drop_one cs (up ∷ left) (name n) in
           let second = length-spell-drop_one cs left up in
           let whole = h.fits in
-          rw cut.parts (omega arith);
+          rw cut.same_components (omega arith);
     }
 
 -- at the end the text is the only normal text that leads where the source leads

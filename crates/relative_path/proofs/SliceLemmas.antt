@@ -41,7 +41,7 @@ ends_in_slash_after p k short same =
 pub IsShortestPrefix-from : {text p : List ℕ} {cs : List Step} → IsPrefix text p → components p ≡ cs → get_or p (length p - 1) 0 ≢ slash → IsShortestPrefix text cs p
 IsShortestPrefix-from {text} {p} {cs} h same end = record {
   prefix = h.front;
-  parts = same;
+  same_components = same;
   shortest = λ k e. ⊎_elim
       (λ short. absurd (end (ends_in_slash_after p k short (ap components (take-IsPrefix h k (omega arith)) ∙ e ∙ sym same))))
       (λ long. long)
@@ -55,7 +55,7 @@ IsPrefix-shortest h = record { front = h.prefix }
 pub IsShortestPrefix-trans : {text q p : List ℕ} {cs : List Step} → IsPrefix text q → IsShortestPrefix q cs p → IsShortestPrefix text cs p
 IsShortestPrefix-trans {text} {q} {p} {cs} h s = record {
   prefix = (IsPrefix-trans h (IsPrefix-shortest s)).front;
-  parts = s.parts;
+  same_components = s.same_components;
   shortest = λ k e. ⊎_elim
       (λ short. s.shortest k (ap components (take-IsPrefix h k (omega arith)) ∙ e))
       (λ long. let fits = length-IsPrefix (IsPrefix-shortest s) in omega arith)
@@ -64,14 +64,14 @@ IsShortestPrefix-trans {text} {q} {p} {cs} h s = record {
 
 pub IsShortestPrefix-unique : {text p q : List ℕ} {cs : List Step} → IsShortestPrefix text cs p → IsShortestPrefix text cs q → p ≡ q
 IsShortestPrefix-unique {text} {p} {q} s t =
-    let at_most = s.shortest (length q) (ap components (sym t.prefix) ∙ t.parts) in
-    let at_least = t.shortest (length p) (ap components (sym s.prefix) ∙ s.parts) in
+    let at_most = s.shortest (length q) (ap components (sym t.prefix) ∙ t.same_components) in
+    let at_least = t.shortest (length p) (ap components (sym s.prefix) ∙ s.same_components) in
     let same : length p ≡ length q = omega arith in
     s.prefix ∙ ap (λ k. take k text) same ∙ sym t.prefix
 
 -- the empty front has no components
 pub IsShortestPrefix-nil : (text : List ℕ) → IsShortestPrefix text [] []
-IsShortestPrefix-nil text = record { prefix = refl; parts = components-nil; shortest = λ k e. omega arith }
+IsShortestPrefix-nil text = record { prefix = refl; same_components = components-nil; shortest = λ k e. omega arith }
 
 -- r is the end of the text
 pub record IsSuffix (text r : List ℕ) : Type 0 where

@@ -14,7 +14,7 @@ abbrev pub without_leading_slash : List ℕ → List ℕ
 without_leading_slash [] = []
 without_leading_slash (b ∷ text) = if b == slash then text else b ∷ text
 
--- `text.push(pushed)`: the second text behind the first, with a slash between
+-- the text after a push of the path: the text with its separator, then the path without one slash at its start
 abbrev pub pushed : List ℕ → List ℕ → List ℕ
 pushed text path = with_separator text ++ without_leading_slash path
 
@@ -24,10 +24,10 @@ is_cur cur = true
 is_cur up = false
 is_cur (name n) = false
 
--- how many components a parent keeps: all but the `.` at the end and one more
+-- how many components a parent keeps: all but each `.` at the end, and one less if any are left
 abbrev pub kept_len : List Step → ℕ
 kept_len cs = length cs - suffix_len is_cur cs - 1
 
--- p is what `pop` leaves of the text
+-- p is what `pop` leaves of the text, and `parent` shows of it
 abbrev pub IsPopped : List ℕ → List ℕ → Type 0
 IsPopped text p = IsCut text (kept_len (components text)) p

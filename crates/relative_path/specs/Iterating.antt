@@ -14,13 +14,13 @@ step_of CurDir = cur
 step_of ParentDir = up
 step_of (Normal n) = name n.now
 
--- the text that is left to walk
+-- the text that is left
 abbrev pub text_left : Components → List ℕ
-text_left walk = walk.text.now
+text_left it = it.text.now
 
 -- the components that are left
 abbrev pub components_left : Components → List Step
-components_left walk = components (text_left walk)
+components_left it = components (text_left it)
 
 -- the text that is left to an `Iter`
 abbrev pub iter_text_left : Iter → List ℕ
@@ -30,21 +30,21 @@ iter_text_left iter = text_left iter.components
 abbrev pub texts_left : Iter → List (List ℕ)
 texts_left iter = map step_text (components (iter_text_left iter))
 
--- from the text, the first component was taken and its rest was left; with no component nothing was left
+-- the text's first component was taken, or none where it has none, and its rest was left
 abbrev pub TakesFirst : List ℕ → Option Component → List ℕ → Type 0
-TakesFirst text taken left = MatchOption taken ((components text ≡ []) × (left ≡ []))
-    (λ c. (components text ≡ step_of c ∷ components left) × IsRest text left)
+TakesFirst text taken rest =
+    MatchOption taken (components text ≡ []) (λ c. components text ≡ step_of c ∷ components rest) × IsRest text rest
 
--- from the text, the last component was taken and its front was left; with no component nothing was left
+-- the text's last component was taken, or none where it has none, and its front was left
 abbrev pub TakesLast : List ℕ → Option Component → List ℕ → Type 0
-TakesLast text taken left = MatchOption taken ((components text ≡ []) × (left ≡ []))
-    (λ c. (components text ≡ components left ++ step_of c ∷ []) × IsFront text left)
+TakesLast text taken front =
+    MatchOption taken (components text ≡ []) (λ c. components text ≡ components front ++ step_of c ∷ []) × IsFront text front
 
--- the same of an `Iter`, which gives the component's text
+-- the same of an `Iter`, which gives the text of the component
 abbrev pub TakesFirstText : List ℕ → Option (Bor (List ℕ)) → List ℕ → Type 0
-TakesFirstText text taken left = MatchOption taken ((components text ≡ []) × (left ≡ []))
-    (λ s. (c : Step) × (s.now ≡ step_text c) × (components text ≡ c ∷ components left) × IsRest text left)
+TakesFirstText text taken rest =
+    MatchOption taken (components text ≡ []) (λ s. (c : Step) × (s.now ≡ step_text c) × (components text ≡ c ∷ components rest)) × IsRest text rest
 
 abbrev pub TakesLastText : List ℕ → Option (Bor (List ℕ)) → List ℕ → Type 0
-TakesLastText text taken left = MatchOption taken ((components text ≡ []) × (left ≡ []))
-    (λ s. (c : Step) × (s.now ≡ step_text c) × (components text ≡ components left ++ c ∷ []) × IsFront text left)
+TakesLastText text taken front =
+    MatchOption taken (components text ≡ []) (λ s. (c : Step) × (s.now ≡ step_text c) × (components text ≡ components front ++ c ∷ [])) × IsFront text front

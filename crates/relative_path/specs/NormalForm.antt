@@ -17,12 +17,12 @@ IsNormal (cur ∷ cs) = ⊥
 IsNormal (up ∷ cs) = IsNormal cs
 IsNormal (name n ∷ cs) = AreNames cs
 
--- the text joins its components by single slashes, and they are normal
+-- the text is its components joined by single slashes, and they are normal
 pub record IsNormalText (text : List ℕ) : Type 0 where
   pub spelled : text ≡ spell (components text)
   pub normal : IsNormal (components text)
 
--- the text is normal, leads where the components lead, and is the only normal text that does
+-- the text is normal, leads where the components lead from every base, and is the only normal text that does
 pub record IsNormalTextOf (cs : List Step) (text : List ℕ) : Type 0 where
   pub normal_text : IsNormalText text
   pub same : IsSame cs (components text)

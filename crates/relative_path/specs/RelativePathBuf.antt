@@ -2,7 +2,7 @@
 use Rattle.std.specs.Prelude.{ℕ, List}
 use Rattle.relative_path.specs.Components.{Step, components}
 
--- a text, and how many bytes it may have before its memory has to grow
+-- a text, and how many bytes it can have without a growth of its memory
 pub record Buffer : Type 0 where
   pub text : List ℕ
   pub room : ℕ

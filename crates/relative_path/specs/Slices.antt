@@ -1,23 +1,23 @@
--- Parts of a text that are fixed by the components they have.
+-- Prefixes and suffixes of a text, told by their components.
 use Rattle.std.specs.Prelude.{◌≡◌, ◌≢◌, ℕ, ◌-◌, ◌≤◌, List, length, take, drop, slice_index}
 use Rattle.relative_path.specs.Components.{Step, slash, components}
 
 -- p is the shortest prefix of the text whose components are cs
 pub record IsShortestPrefix (text : List ℕ) (cs : List Step) (p : List ℕ) : Type 0 where
   pub prefix : p ≡ take (length p) text
-  pub parts : components p ≡ cs
+  pub same_components : components p ≡ cs
   pub shortest : (k : ℕ) → components (take k text) ≡ cs → length p ≤ k
 
--- p is the shortest prefix of the text that has its first n components and no other
+-- p is the shortest prefix of the text that has its first n components and no other (all of them, if it has fewer)
 abbrev pub IsCut : List ℕ → ℕ → List ℕ → Type 0
 IsCut text n p = IsShortestPrefix text (take n (components text)) p
 
--- p has the components but the last, without the slashes after them
+-- p is the shortest prefix of the text that has its components but the last; empty where it has none
 abbrev pub IsFront : List ℕ → List ℕ → Type 0
 IsFront text p = IsCut text (length (components text) - 1) p
 
--- r has the components but the first, without the slashes before them
+-- r is the suffix of the text that has its components but the first and begins with no slash; empty where it has none
 pub record IsRest (text r : List ℕ) : Type 0 where
   pub suffix : r ≡ drop (length text - length r) text
-  pub start : slice_index r 0 ≢ slash
-  pub parts : components r ≡ drop 1 (components text)
+  pub no_leading_slash : slice_index r 0 ≢ slash
+  pub other_components : components r ≡ drop 1 (components text)

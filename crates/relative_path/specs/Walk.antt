@@ -3,12 +3,12 @@ use Rattle.std.specs.Prelude.{◌≡◌, ℕ, List, [], ◌∷◌, ◌++◌, len
 use Rattle.std.specs.Option.{option_and_then}
 use Rattle.relative_path.specs.Components.{Step, cur, up, name}
 
--- the place above: the base without its last name, and none above the top
+-- the place above a place: its names without the last; above the top there is none
 abbrev pub above : List (List ℕ) → Option (List (List ℕ))
 above [] = None
 above (n ∷ ns) = Some (take (length ns) (n ∷ ns))
 
--- the place where components lead from a base, if they never climb above the top
+-- the place where components lead from a base, or none if they climb above the top
 abbrev pub walk : List (List ℕ) → List Step → Option (List (List ℕ))
 walk base [] = Some base
 walk base (cur ∷ cs) = walk base cs

@@ -162,16 +162,12 @@ impl PartialEq for Components<'_> {
 impl<'a> Iterator for Components<'a> {
     type Item = Component<'a>;
 
-    ghost next_gives = { YieldsFirstBy step_of components_left };
+    ghost next_gives = { λ s taken t. TakesFirst (text_left s) taken (text_left t) };
 
     ghost remaining = { item_count components_left };
 
     /// The first component of the text that is left.
-    fn next(&mut self) -> Option<Component<'a>>
-        ensures steps { YieldsFirstBy step_of components_left self.old result self.new }
-        ensures goes { MakesProgress (λ _. ⊤) (item_count components_left) self.old result self.new }
-        ensures first { TakesFirst (text_left self.old) result (text_left self.new) }
-    {
+    fn next(&mut self) -> Option<Component<'a>> {
         let (piece, rest) = split_first(without_leading_slashes(self.text));
         self.text = without_leading_slashes(rest);
         component_of(piece)
@@ -179,14 +175,10 @@ impl<'a> Iterator for Components<'a> {
 }
 
 impl<'a> DoubleEndedIterator for Components<'a> {
-    ghost next_back_gives = { YieldsLastBy step_of components_left };
+    ghost next_back_gives = { λ s taken t. TakesLast (text_left s) taken (text_left t) };
 
     /// The last component of the text that is left.
-    fn next_back(&mut self) -> Option<Component<'a>>
-        ensures steps { YieldsLastBy step_of components_left self.old result self.new }
-        ensures goes { MakesProgress (λ _. ⊤) (item_count components_left) self.old result self.new }
-        ensures last { TakesLast (text_left self.old) result (text_left self.new) }
-    {
+    fn next_back(&mut self) -> Option<Component<'a>> {
         let (front, piece) = split_last(without_trailing_slashes(self.text));
         self.text = without_trailing_slashes(front);
         component_of(piece)
@@ -223,29 +215,21 @@ impl Clone for Iter<'_> {
 impl<'a> Iterator for Iter<'a> {
     type Item = &'a str;
 
-    ghost next_gives = { YieldsFirstRef texts_left };
+    ghost next_gives = { λ s taken t. TakesFirstText (iter_text_left s) taken (iter_text_left t) };
 
     ghost remaining = { item_count texts_left };
 
     /// The text of the first component of what is left.
-    fn next(&mut self) -> Option<&'a str>
-        ensures steps { YieldsFirstRef texts_left self.old result self.new }
-        ensures goes { MakesProgress (λ _. ⊤) (item_count texts_left) self.old result self.new }
-        ensures first { TakesFirstText (iter_text_left self.old) result (iter_text_left self.new) }
-    {
+    fn next(&mut self) -> Option<&'a str> {
         self.components.next().map(Component::as_str)
     }
 }
 
 impl<'a> DoubleEndedIterator for Iter<'a> {
-    ghost next_back_gives = { YieldsLastRef texts_left };
+    ghost next_back_gives = { λ s taken t. TakesLastText (iter_text_left s) taken (iter_text_left t) };
 
     /// The text of the last component of what is left.
-    fn next_back(&mut self) -> Option<&'a str>
-        ensures steps { YieldsLastRef texts_left self.old result self.new }
-        ensures goes { MakesProgress (λ _. ⊤) (item_count texts_left) self.old result self.new }
-        ensures last { TakesLastText (iter_text_left self.old) result (iter_text_left self.new) }
-    {
+    fn next_back(&mut self) -> Option<&'a str> {
         self.components.next_back().map(Component::as_str)
     }
 }

@@ -15,7 +15,7 @@ is_cur-other (Normal n) other = refl
 pub loop-component-preserved : goal.loop-component-preserved
 loop-component-preserved c =
     elim c.match-matches.branch [
-      | in-CurDir w ↦ LosesCurs-cur _ _ _ c.loop-component.invariant (rw w.in-CurDir.is at c.in-Some.ensures.last.0) c.in-Some.ensures.last.1
+      | in-CurDir w ↦ LosesCurs-cur _ _ _ c.loop-component.invariant (rw w.in-CurDir.is at c.in-Some.ensures.steps.0) c.in-Some.ensures.steps.1
       | in_default-matches w ↦ absurd (let h = w.matches-is in let k = c.if-not-matches.false in cc)
     ]
 
@@ -25,7 +25,7 @@ returns c =
     elim c.match-next_back.branch [
       | in-Some+then-not-matches w ↦ elim w.match-matches.branch [
         | in-CurDir w' ↦ absurd (let h = w'.matches-is in let k = w.if-not-matches.true in cc)
-        | in_default-matches w' ↦ rw kept (IsPopped-front _ _ _ _ c.loop-component.invariant (is_cur-other w.in-Some.component w'.in_default-matches.not-CurDir) w.in-Some.ensures.last.0 w.in-Some.ensures.last.1)
+        | in_default-matches w' ↦ rw kept (IsPopped-front _ _ _ _ c.loop-component.invariant (is_cur-other w.in-Some.component w'.in_default-matches.not-CurDir) w.in-Some.ensures.steps.0 w.in-Some.ensures.steps.1)
       ]
-      | in_default w ↦ rw (kept, w.in_default.ensures.last.1) (IsPopped-none _ _ c.loop-component.invariant w.in_default.ensures.last.0)
+      | in_default w ↦ rw kept (IsPopped-none _ _ _ c.loop-component.invariant w.in_default.ensures.steps.0 w.in_default.ensures.steps.1)
     ]

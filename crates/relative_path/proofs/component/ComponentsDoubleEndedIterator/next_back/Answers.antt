@@ -1,5 +1,5 @@
 use Rattle.relative_path.specs.Iterating.{TakesLast}
-use Rattle.relative_path.proofs.NextLemmas.{TakesLast-from, YieldsLastBy-TakesLast, MakesProgress-TakesLast}
+use Rattle.relative_path.proofs.NextLemmas.{TakesLast-from, MakesProgress-TakesLast}
 use Rattle.relative_path.proofs.component.ComponentsDoubleEndedIterator.next_back.Goals as goal
 
 pub returns : goal.returns
@@ -8,4 +8,4 @@ returns c =
     let trim' = c.without_trailing_slashes-self.ensures in
     let last : TakesLast c.args.self.now.text.now c.component_of.result c.without_trailing_slashes-self.result.now =
     TakesLast-from _ _ _ _ _ (record { prefix = record { front = trim.prefix }; end = trim.end; same = trim.same }) c.split_last.ensures.piece (record { prefix = record { front = trim'.prefix }; end = trim'.end; same = trim'.same }) c.component_of.result c.split_last.ensures.joined c.component_of.ensures in
-    record { steps = YieldsLastBy-TakesLast c.args.self.now (record { text = c.without_trailing_slashes-self.result }) _ last; goes = MakesProgress-TakesLast c.args.self.now (record { text = c.without_trailing_slashes-self.result }) _ last; last = last }
+    record { steps = last; goes = MakesProgress-TakesLast c.args.self.now (record { text = c.without_trailing_slashes-self.result }) _ last }

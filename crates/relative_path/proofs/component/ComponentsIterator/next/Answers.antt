@@ -1,6 +1,6 @@
 use Rattle.relative_path.specs.Iterating.{TakesFirst}
 use Rattle.relative_path.proofs.SliceLemmas.{IsSuffix-from}
-use Rattle.relative_path.proofs.NextLemmas.{TakesFirst-from, YieldsFirstBy-TakesFirst, MakesProgress-TakesFirst}
+use Rattle.relative_path.proofs.NextLemmas.{TakesFirst-from, MakesProgress-TakesFirst}
 use Rattle.relative_path.proofs.component.ComponentsIterator.next.Goals as goal
 
 pub returns : goal.returns
@@ -9,4 +9,4 @@ returns c =
     let trim' = c.without_leading_slashes-self.ensures in
     let first : TakesFirst c.args.self.now.text.now c.component_of.result c.without_leading_slashes-self.result.now =
     TakesFirst-from _ _ _ _ _ (record { suffix = IsSuffix-from trim.suffix; start = trim.start; same = trim.same }) c.split_first.ensures.piece (record { suffix = IsSuffix-from trim'.suffix; start = trim'.start; same = trim'.same }) c.component_of.result c.split_first.ensures.joined c.component_of.ensures in
-    record { steps = YieldsFirstBy-TakesFirst c.args.self.now (record { text = c.without_leading_slashes-self.result }) _ first; goes = MakesProgress-TakesFirst c.args.self.now (record { text = c.without_leading_slashes-self.result }) _ first; first = first }
+    record { steps = first; goes = MakesProgress-TakesFirst c.args.self.now (record { text = c.without_leading_slashes-self.result }) _ first }

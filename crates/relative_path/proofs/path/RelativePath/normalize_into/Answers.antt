@@ -19,13 +19,13 @@ taken source limit text rest c left h first =
 
 pub loop-component-preserved-in-CurDir : goal.loop-component-preserved-in-CurDir
 loop-component-preserved-in-CurDir c =
-    let first = c.in-Some.ensures.steps ∙ ap (λ d. step_of d ∷ components_left c.next.new.self) c.in-CurDir.is in
+    let first = c.in-Some.ensures.steps.0 ∙ ap (λ d. step_of d ∷ components_left c.next.new.self) c.in-CurDir.is in
     let here = taken _ _ _ _ _ _ c.loop-component.invariant.0 first in
     (Normalizes-cur _ _ _ _ here.0, c.loop-component.invariant.1)
 
 pub push_within-requires : goal.push_within-requires
 push_within-requires c =
-    let first = c.in-Some.ensures.steps ∙ ap (λ d. step_of d ∷ components_left c.next.new.self) c.in-Normal.is in
+    let first = c.in-Some.ensures.steps.0 ∙ ap (λ d. step_of d ∷ components_left c.next.new.self) c.in-Normal.is in
     let here = taken _ _ _ _ _ _ c.loop-component.invariant.0 first in
     let fits = pushed_fits _ _ _ _ _ here.0 here.1 in
     let within = c.loop-component.invariant.1 in
@@ -33,7 +33,7 @@ push_within-requires c =
 
 pub loop-component-preserved-in-Normal : goal.loop-component-preserved-in-Normal
 loop-component-preserved-in-Normal c =
-    let first = c.in-Some.ensures.steps ∙ ap (λ d. step_of d ∷ components_left c.next.new.self) c.in-Normal.is in
+    let first = c.in-Some.ensures.steps.0 ∙ ap (λ d. step_of d ∷ components_left c.next.new.self) c.in-Normal.is in
     let here = taken _ _ _ _ _ _ c.loop-component.invariant.0 first in
     let pushes = Normalizes-push _ _ _ _ _ here.0 here.1 (IsNormal-push_name (components c.loop-component.out.text) c.in-Normal.name.now here.0.normal_text.normal) in
     let within = c.loop-component.invariant.1 in
@@ -41,7 +41,7 @@ loop-component-preserved-in-Normal c =
 
 pub loop-component-preserved-then-ends_in_name : goal.loop-component-preserved-then-ends_in_name
 loop-component-preserved-then-ends_in_name c =
-    let first = c.in-Some.ensures.steps ∙ ap (λ d. step_of d ∷ components_left c.next.new.self) c.in-ParentDir.is in
+    let first = c.in-Some.ensures.steps.0 ∙ ap (λ d. step_of d ∷ components_left c.next.new.self) c.in-ParentDir.is in
     let here = taken _ _ _ _ _ _ c.loop-component.invariant.0 first in
     let last = c.if-ends_in_name.ensures.0 refl in
     let joined = ap components (sym c.as_relative_path.ensures) ∙ last.2 in
@@ -50,7 +50,7 @@ loop-component-preserved-then-ends_in_name c =
 
 pub push_within-requires-in-ParentDir-2 : goal.push_within-requires-in-ParentDir-2
 push_within-requires-in-ParentDir-2 c =
-    let first = c.in-Some.ensures.steps ∙ ap (λ d. step_of d ∷ components_left c.next.new.self) c.in-ParentDir-2.is in
+    let first = c.in-Some.ensures.steps.0 ∙ ap (λ d. step_of d ∷ components_left c.next.new.self) c.in-ParentDir-2.is in
     let here = taken _ _ _ _ _ _ c.loop-component.invariant.0 first in
     let fits = pushed_fits _ _ _ _ _ here.0 here.1 in
     let within = c.loop-component.invariant.1 in
@@ -58,7 +58,7 @@ push_within-requires-in-ParentDir-2 c =
 
 pub loop-component-preserved : goal.loop-component-preserved
 loop-component-preserved c =
-    let first = c.in-Some.ensures.steps ∙ ap (λ d. step_of d ∷ components_left c.next.new.self) c.in-ParentDir-2.is in
+    let first = c.in-Some.ensures.steps.0 ∙ ap (λ d. step_of d ∷ components_left c.next.new.self) c.in-ParentDir-2.is in
     let here = taken _ _ _ _ _ _ c.loop-component.invariant.0 first in
     let other = IsNormal-push_up (components c.loop-component.out.text) here.0.normal_text.normal (λ ds n e. true≢false (sym (c.if-ends_in_name.ensures.1 (ds, n, ap components c.as_relative_path.ensures ∙ e)))) in
     let pushes = Normalizes-push _ _ _ _ _ here.0 here.1 other in

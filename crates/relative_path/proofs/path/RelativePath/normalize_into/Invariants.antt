@@ -9,6 +9,3 @@ abbrev pub invariant-loop-component : goal.invariant-loop-component
 invariant-loop-component l =
     let source = path_text l.fn.self in
     Normalizes (components source) (length source) l.out.text (components_left l.component-iterator) × (length source ≤ l.out.room)
-
-abbrev pub decreases-loop-component : goal.decreases-loop-component
-decreases-loop-component l = length (components_left l.component-iterator)

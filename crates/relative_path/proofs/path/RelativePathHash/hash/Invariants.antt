@@ -1,4 +1,4 @@
-use Rattle.std.proofs.Common.{◌≡◌, fold, length}
+use Rattle.std.proofs.Common.{◌≡◌, fold}
 use Rattle.relative_path.specs.Iterating.{components_left}
 use Rattle.relative_path.specs.Order.{fed}
 use Rattle.relative_path.specs.RelativePath.{path_components}
@@ -7,6 +7,3 @@ use Rattle.relative_path.proofs.path.RelativePathHash.hash.Given as goal
 abbrev pub invariant-loop-component : goal.invariant-loop-component
 invariant-loop-component g l =
     fold g.H.Hasher.write l.state (fed (components_left l.component-iterator)) ≡ fold g.H.Hasher.write l.fn.state (fed (path_components l.fn.self))
-
-abbrev pub decreases-loop-component : goal.decreases-loop-component
-decreases-loop-component g l = length (components_left l.component-iterator)
