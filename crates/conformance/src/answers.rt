@@ -1,0 +1,86 @@
+//! What each call answers.
+
+use crate::call::Call;
+use crate::refusal::Refusal;
+use relative_path::{Component, RelativePath, RelativePathBuf};
+use std::alloc::{AllocError, Global};
+
+/// Makes the call that a line names, and gives the fields of its answer, with tabs between.
+pub fn answer(alloc: Global, line: &str) -> Result<String, Refusal> {
+    let call = Call::parse(alloc, line)?;
+    match call.command {
+        "components" => components(alloc, call.one()?),
+        "components_back" => components_back(alloc, call.one()?),
+        "walk" => walk(alloc, call.two()?),
+        "normalize" => normalize(alloc, call.one()?),
+        "push" => push(alloc, call.two()?),
+        "pop" => pop(alloc, call.one()?),
+        _ => Err(Refusal::UnknownCommand),
+    }
+}
+
+fn components(alloc: Global, path: &str) -> Result<String, Refusal> {
+    let components: Vec<Component<'_>> = RelativePath::new(path).components().collect(alloc)?;
+    list(alloc, &components)
+}
+
+fn components_back(alloc: Global, path: &str) -> Result<String, Refusal> {
+    let components: Vec<Component<'_>> = RelativePath::new(path).components().rev().collect(alloc)?;
+    list(alloc, &components)
+}
+
+// After each step, `F` from the front or `B` from the back: the component, and the text that is left.
+fn walk(alloc: Global, (path, steps): (&str, &str)) -> Result<String, Refusal> {
+    let mut components = RelativePath::new(path).components();
+    let mut shown = Vec::new(alloc);
+    for step in steps.chars() {
+        let taken = match step {
+            'F' => components.next(),
+            'B' => components.next_back(),
+            _ => return Err(Refusal::UnknownStep),
+        };
+        shown.push(match taken {
+            Some(component) => show(alloc, component)?,
+            None => "none".to_string(alloc)?,
+        })?;
+        shown.push(components.as_relative_path().as_str().to_string(alloc)?)?;
+    }
+    Ok(shown.join(alloc, "\t")?)
+}
+
+fn normalize(alloc: Global, path: &str) -> Result<String, Refusal> {
+    text_of(alloc, &RelativePath::new(path).normalize(alloc)?)
+}
+
+fn push(alloc: Global, (base, path): (&str, &str)) -> Result<String, Refusal> {
+    let mut buf = RelativePathBuf::from_text(alloc, base)?;
+    buf.push(RelativePath::new(path))?;
+    text_of(alloc, &buf)
+}
+
+fn pop(alloc: Global, path: &str) -> Result<String, Refusal> {
+    let mut buf = RelativePathBuf::from_text(alloc, path)?;
+    let popped = buf.pop();
+    let text = buf.as_relative_path().as_str();
+    Ok(format!(in alloc; "{popped}\t{text}")?)
+}
+
+fn text_of(alloc: Global, buf: &RelativePathBuf) -> Result<String, Refusal> {
+    Ok(buf.as_relative_path().as_str().to_string(alloc)?)
+}
+
+fn list(alloc: Global, components: &[Component<'_>]) -> Result<String, Refusal> {
+    let shown: Vec<String> = components
+        .iter()
+        .map(|component| show(alloc, *component))
+        .try_collect(alloc)?;
+    Ok(shown.join(alloc, "\t")?)
+}
+
+fn show(alloc: Global, component: Component<'_>) -> Result<String, AllocError> {
+    match component {
+        Component::CurDir => "CurDir".to_string(alloc),
+        Component::ParentDir => "ParentDir".to_string(alloc),
+        Component::Normal(name) => format!(in alloc; "Normal:{name}"),
+    }
+}

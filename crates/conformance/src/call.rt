@@ -1,0 +1,37 @@
+//! The call that a line names.
+
+use crate::refusal::Refusal;
+use std::alloc::{AllocError, Global};
+
+/// A command and its arguments.
+#[derive(Drop)]
+pub struct Call<'a> {
+    pub command: &'a str,
+    arguments: Vec<&'a str>,
+}
+
+impl<'a> Call<'a> {
+    /// Cuts a line at its tabs.
+    pub fn parse(alloc: Global, line: &'a str) -> Result<Call<'a>, AllocError> {
+        let mut fields = line.split('\t');
+        let command = fields.next().unwrap_or("");
+        let arguments = fields.collect(alloc)?;
+        Ok(Call { command, arguments })
+    }
+
+    /// The argument, if there is just one.
+    pub fn one(&self) -> Result<&'a str, Refusal> {
+        match self.arguments.as_slice() {
+            [only] => Ok(*only),
+            _ => Err(Refusal::WrongFieldCount),
+        }
+    }
+
+    /// The arguments, if there are just two.
+    pub fn two(&self) -> Result<(&'a str, &'a str), Refusal> {
+        match self.arguments.as_slice() {
+            [first, second] => Ok((*first, *second)),
+            _ => Err(Refusal::WrongFieldCount),
+        }
+    }
+}

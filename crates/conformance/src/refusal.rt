@@ -1,0 +1,36 @@
+//! Why a line is not answered.
+
+use std::alloc::{AllocError, AllocFailed};
+use std::fmt;
+
+/// Why a line is not answered.
+#[derive(Clone, Copy)]
+pub enum Refusal {
+    UnknownCommand,
+    WrongFieldCount,
+    UnknownStep,
+    OutOfMemory,
+}
+
+impl fmt::Display for Refusal {
+    fn fmt<W: fmt::Write>(&self, f: &mut fmt::Formatter<W>) -> fmt::Result {
+        f.write_str(match self {
+            Refusal::UnknownCommand => "unknown command",
+            Refusal::WrongFieldCount => "wrong number of fields",
+            Refusal::UnknownStep => "unknown step",
+            Refusal::OutOfMemory => "out of memory",
+        })
+    }
+}
+
+impl From<AllocError> for Refusal {
+    fn from(_error: AllocError) -> Refusal {
+        Refusal::OutOfMemory
+    }
+}
+
+impl<T: Drop> From<AllocFailed<T>> for Refusal {
+    fn from(_failed: AllocFailed<T>) -> Refusal {
+        Refusal::OutOfMemory
+    }
+}
