@@ -12,6 +12,12 @@ pub fn answer(alloc: Global, line: &str) -> Result<String, Refusal> {
         "components" => components(alloc, call.one()?),
         "components_back" => components_back(alloc, call.one()?),
         "walk" => walk(alloc, call.two()?),
+        "iter" => iter(alloc, call.one()?),
+        "eq" => eq(alloc, call.two()?),
+        "cmp" => cmp(alloc, call.two()?),
+        "display" => display(alloc, call.one()?),
+        "debug" => debug(alloc, call.one()?),
+        "width" => width(alloc, call.two()?),
         "normalize" => normalize(alloc, call.one()?),
         "push" => push(alloc, call.two()?),
         "pop" => pop(alloc, call.one()?),
@@ -46,6 +52,36 @@ fn walk(alloc: Global, (path, steps): (&str, &str)) -> Result<String, Refusal> {
         shown.push(components.as_relative_path().as_str().to_string(alloc)?)?;
     }
     Ok(shown.join(alloc, "\t")?)
+}
+
+fn iter(alloc: Global, path: &str) -> Result<String, Refusal> {
+    let texts: Vec<&str> = RelativePath::new(path).iter().collect(alloc)?;
+    Ok(texts.join(alloc, "\t")?)
+}
+
+fn eq(alloc: Global, (path, other): (&str, &str)) -> Result<String, Refusal> {
+    let equal = RelativePath::new(path) == RelativePath::new(other);
+    Ok(equal.to_string(alloc)?)
+}
+
+fn cmp(alloc: Global, (path, other): (&str, &str)) -> Result<String, Refusal> {
+    let order = RelativePath::new(path).cmp(&RelativePath::new(other));
+    Ok(format!(in alloc; "{order:?}")?)
+}
+
+fn display(alloc: Global, path: &str) -> Result<String, Refusal> {
+    Ok(RelativePath::new(path).to_string(alloc)?)
+}
+
+fn debug(alloc: Global, path: &str) -> Result<String, Refusal> {
+    let path = RelativePath::new(path);
+    Ok(format!(in alloc; "{path:?}")?)
+}
+
+fn width(alloc: Global, (path, width): (&str, &str)) -> Result<String, Refusal> {
+    let path = RelativePath::new(path);
+    let width: usize = width.parse().map_err(|_| Refusal::NotAWidth)?;
+    Ok(format!(in alloc; "{path:width$}")?)
 }
 
 fn normalize(alloc: Global, path: &str) -> Result<String, Refusal> {

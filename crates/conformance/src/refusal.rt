@@ -9,6 +9,7 @@ pub enum Refusal {
     UnknownCommand,
     WrongFieldCount,
     UnknownStep,
+    NotAWidth,
     OutOfMemory,
 }
 
@@ -18,6 +19,7 @@ impl fmt::Display for Refusal {
             Refusal::UnknownCommand => "unknown command",
             Refusal::WrongFieldCount => "wrong number of fields",
             Refusal::UnknownStep => "unknown step",
+            Refusal::NotAWidth => "not a width",
             Refusal::OutOfMemory => "out of memory",
         })
     }
