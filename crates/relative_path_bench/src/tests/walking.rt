@@ -50,72 +50,66 @@ fn gives_the_texts_of_the_components(rt: HostRuntime) -> Result<(), Fail> {
     Ok(())
 }
 
-// A text, the ends to take from, and for each the component and the text that is left.
-type Walk = (
-    &'static str,
-    &'static [(End, Option<Component<'static>>, &'static str)],
-);
-
-const WALKS: [Walk; 4] = [
-    (
-        "/a/./b/",
-        &[
-            (End::Front, Some(Component::Normal("a")), "./b/"),
-            (End::Back, Some(Component::Normal("b")), "."),
-            (End::Front, Some(Component::CurDir), ""),
-            (End::Front, None, ""),
-            (End::Back, None, ""),
-        ],
-    ),
-    (
-        "a/b/c/d/e",
-        &[
-            (End::Front, Some(Component::Normal("a")), "b/c/d/e"),
-            (End::Back, Some(Component::Normal("e")), "b/c/d"),
-            (End::Front, Some(Component::Normal("b")), "c/d"),
-            (End::Back, Some(Component::Normal("d")), "c"),
-            (End::Front, Some(Component::Normal("c")), ""),
-            (End::Back, None, ""),
-            (End::Front, None, ""),
-        ],
-    ),
-    (
-        "/hello///world//",
-        &[
-            (End::Front, Some(Component::Normal("hello")), "world//"),
-            (End::Front, Some(Component::Normal("world")), ""),
-            (End::Front, None, ""),
-        ],
-    ),
-    (
-        "baz/bar///foo",
-        &[
-            (End::Back, Some(Component::Normal("foo")), "baz/bar"),
-            (End::Back, Some(Component::Normal("bar")), "baz"),
-            (End::Back, Some(Component::Normal("baz")), ""),
-            (End::Back, None, ""),
-        ],
-    ),
+// A text, calls of `next` (F) and `next_back` (B), the text that the last one gives (none: no text), and what it leaves.
+const BOTH_ENDS: [(&str, &str, &str, &str); 12] = [
+    ("/a/./b/", "F", "a", "./b/"),
+    ("/a/./b/", "FB", "b", "."),
+    ("/a/./b/", "FBF", ".", ""),
+    ("/a/./b/", "FBFF", "", ""),
+    ("/a/./b/", "FBFFB", "", ""),
+    ("a/b/c/d/e", "F", "a", "b/c/d/e"),
+    ("a/b/c/d/e", "FB", "e", "b/c/d"),
+    ("a/b/c/d/e", "FBF", "b", "c/d"),
+    ("a/b/c/d/e", "FBFB", "d", "c"),
+    ("a/b/c/d/e", "FBFBF", "c", ""),
+    ("a/b/c/d/e", "FBFBFB", "", ""),
+    ("a/b/c/d/e", "FBFBFBF", "", ""),
 ];
 
+const ONE_END: [(&str, &str, &str, &str); 7] = [
+    ("/hello///world//", "F", "hello", "world//"),
+    ("/hello///world//", "FF", "world", ""),
+    ("/hello///world//", "FFF", "", ""),
+    ("baz/bar///foo", "B", "foo", "baz/bar"),
+    ("baz/bar///foo", "BB", "bar", "baz"),
+    ("baz/bar///foo", "BBB", "baz", ""),
+    ("baz/bar///foo", "BBBB", "", ""),
+];
+
+// What the last of these calls gives, and what it leaves.
+fn after<'a>(text: &'a str, calls: &str) -> (&'a str, &'a str) {
+    let mut walk = RelativePath::new(text).components();
+    let mut taken = None;
+    for call in calls.chars() {
+        taken = match call {
+            'F' => walk.next(),
+            _ => walk.next_back(),
+        };
+    }
+    let left = walk.as_relative_path().as_str();
+    (taken.map_or("", Component::as_str), left)
+}
+
 #[test]
-fn takes_from_either_end(rt: HostRuntime) {
-    for (text, calls) in WALKS {
-        let path = RelativePath::new(text);
-        let mut walk = path.components();
-        assert_eq!(rt; walk.as_relative_path().as_str(), text, "before any call");
-        for (end, component, left) in calls {
-            let taken = match end {
-                End::Front => walk.next(),
-                End::Back => walk.next_back(),
-            };
-            assert_eq!(rt; taken, *component, "{end:?} of {text:?}");
-            assert_eq!(rt;
-                walk.as_relative_path().as_str(),
-                *left,
-                "{end:?} of {text:?}"
-            );
-        }
+fn takes_from_both_ends(rt: HostRuntime) {
+    for (text, calls, component, left) in BOTH_ENDS {
+        assert_eq!(rt; after(text, ""), ("", text), "before any call");
+        assert_eq!(rt;
+            after(text, calls),
+            (component, left),
+            "{calls} of {text:?}"
+        );
+    }
+}
+
+#[test]
+fn takes_from_one_end(rt: HostRuntime) {
+    for (text, calls, component, left) in ONE_END {
+        assert_eq!(rt;
+            after(text, calls),
+            (component, left),
+            "{calls} of {text:?}"
+        );
     }
 }
 
