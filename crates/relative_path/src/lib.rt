@@ -7,4 +7,6 @@ pub use self::path::RelativePath;
 
 mod buf;
 mod component;
+mod name;
 mod path;
+
