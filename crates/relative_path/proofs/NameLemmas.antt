@@ -1,10 +1,18 @@
 -- The file name of a text, where it stands, and its stem.
-use Rattle.std.proofs.Common.{◌≡◌, ◌≢◌, ℕ, ◌+◌, ◌-◌, ◌<◌, ◌≤◌, Bool, not, cond, List, [], ◌∷◌, ◌++◌, All, length, get_or, take, drop, Option, Some, None, sym, refl, ap, ap₂, ◌∙◌, arith, ne_eqb, append_assoc, length-append, take_at}
+use Rattle.std.proofs.Common.{◌≡◌, ◌≢◌, ℕ, zero, suc, ◌+◌, ◌-◌, ◌<◌, ◌≤◌, Bool, false, not, cond, List, [], ◌∷◌, ◌++◌, All, length, get_or, take, drop, replicate, Option, Some, None, Bor, ◌⊎◌, inl, inr, ⊎_elim, sym, refl, ap, ap₂, ◌∙◌, arith, ne_eqb, eqb-true, append_assoc, length-append, take_at}
 use Rattle.std.specs.List.{suffix_len, before_last, after_last}
 use Rattle.std.proofs.lemmas.List.{get_or_at, get_or-append_right, drop_at}
 use Rattle.std.proofs.lemmas.List.Sums.{suffix_len_is}
-use Rattle.relative_path.specs.Components.{dot, is_not_empty}
-use Rattle.relative_path.specs.Names.{is_dot, stem_of, extension_of}
+use Rattle.std.specs.Prelude.{slice_get, IfSome}
+use Rattle.std.specs.Option.{option_and_then, option_copied}
+use Rattle.std.proofs.lemmas.Bool.{cases_Bool}
+use Rattle.relative_path.specs.Components.{slash, dot, is_slash, is_not_empty, Step, cur, up, name, step_text, classed, components}
+use Rattle.relative_path.specs.Slices.{IsCut, IsFront}
+use Rattle.relative_path.specs.Editing.{is_cur, kept_len, IsPopped}
+use Rattle.relative_path.specs.Names.{name_of, last_name, file_name_of, is_dot, stem_of, extension_of}
+use Rattle.relative_path.proofs.ComponentsLemmas.{HasNoSlash, components-nil, components-append, components_whole, step_text-classed}
+use Rattle.relative_path.proofs.NextLemmas.{ends_in_slash}
+use Rattle.relative_path.proofs.EditingLemmas.{kept_len-curs, LosesCurs, IsPopped-none, kept_len-front, IsPopped-front, IsCut-through}
 
 -- ---- a name cut at its last dot
 
@@ -45,30 +53,105 @@ before_last-no_dot xs other =
     ap (λ n. take n xs) count
 
 -- the name has that stem and that extension
-pub record IsSplit (name stem : List ℕ) (extension : Option (List ℕ)) : Type 0 where
-  pub stem_is : stem_of name ≡ stem
-  pub extension_is : extension_of name ≡ extension
+pub record IsSplit (n stem : List ℕ) (extension : Option (List ℕ)) : Type 0 where
+  pub stem_is : stem_of n ≡ stem
+  pub extension_is : extension_of n ≡ extension
 
-IsSplit-whole : (name : List ℕ) → before_last is_dot name ≡ [] → IsSplit name name None
-IsSplit-whole name nothing = record {
-  stem_is = ap (λ x. cond (is_not_empty x) x name) nothing;
-  extension_is = ap (λ x. cond (is_not_empty x) (Some (after_last is_dot name)) None) nothing;
+IsSplit-whole : (n : List ℕ) → before_last is_dot n ≡ [] → IsSplit n n None
+IsSplit-whole n nothing = record {
+  stem_is = ap (λ x. cond (is_not_empty x) x n) nothing;
+  extension_is = ap (λ x. cond (is_not_empty x) (Some (after_last is_dot n)) None) nothing;
 }
 
-pub IsSplit-no_dot : (name : List ℕ) → All (λ b. b ≢ dot) name → IsSplit name name None
-IsSplit-no_dot name other = IsSplit-whole name (before_last-no_dot name other)
+pub IsSplit-no_dot : (n : List ℕ) → All (λ b. b ≢ dot) n → IsSplit n n None
+IsSplit-no_dot n other = IsSplit-whole n (before_last-no_dot n other)
 
-pub IsSplit-leading_dot : (name stem extension : List ℕ) → (name ≡ stem ++ dot ∷ extension) × All (λ b. b ≢ dot) extension → length stem ≡ 0 → IsSplit name name None
-IsSplit-leading_dot name [] extension (joined, other) empty =
-    IsSplit-whole name (ap (before_last is_dot) joined ∙ before_last-dot [] extension other)
-IsSplit-leading_dot name (b ∷ bs) extension split empty = absurd (omega arith)
+pub IsSplit-leading_dot : (n stem extension : List ℕ) → (n ≡ stem ++ dot ∷ extension) × All (λ b. b ≢ dot) extension → length stem ≡ 0 → IsSplit n n None
+IsSplit-leading_dot n [] extension (joined, other) empty =
+    IsSplit-whole n (ap (before_last is_dot) joined ∙ before_last-dot [] extension other)
+IsSplit-leading_dot n (b ∷ bs) extension split empty = absurd (omega arith)
 
-pub IsSplit-dot : (name stem extension : List ℕ) → (name ≡ stem ++ dot ∷ extension) × All (λ b. b ≢ dot) extension → length stem ≢ 0 → IsSplit name stem (Some extension)
-IsSplit-dot name [] extension split nonempty = absurd (nonempty refl)
-IsSplit-dot name (b ∷ bs) extension (joined, other) nonempty =
+pub IsSplit-dot : (n stem extension : List ℕ) → (n ≡ stem ++ dot ∷ extension) × All (λ b. b ≢ dot) extension → length stem ≢ 0 → IsSplit n stem (Some extension)
+IsSplit-dot n [] extension split nonempty = absurd (nonempty refl)
+IsSplit-dot n (b ∷ bs) extension (joined, other) nonempty =
     let before = ap (before_last is_dot) joined ∙ before_last-dot (b ∷ bs) extension other in
     let after = ap (after_last is_dot) joined ∙ after_last-dot (b ∷ bs) extension other in
     record {
-      stem_is = ap (λ x. cond (is_not_empty x) x name) before;
+      stem_is = ap (λ x. cond (is_not_empty x) x n) before;
       extension_is = ap₂ (λ x y. cond (is_not_empty x) (Some y) None) before after;
+    }
+
+-- ---- the text of the last component
+
+-- the text has no slash, or a last one
+last_slash : (text : List ℕ) → HasNoSlash text ⊎ ((xs : List ℕ) × (ys : List ℕ) × (text ≡ xs ++ slash ∷ ys) × HasNoSlash ys)
+last_slash [] = inl tt
+last_slash (b ∷ bs) = elim (last_slash bs) [
+  | inl none ↦ ⊎_elim (λ e. inr ([], bs, ap (λ x. x ∷ bs) (eqb-true b slash e), none)) (λ e. inl (e, none)) (cases_Bool (is_slash b))
+  | inr (xs, ys, joined, none) ↦ inr (b ∷ xs, ys, ap (λ x. b ∷ x) joined, none)
+]
+
+last_same : (cs ds : List Step) (c d : Step) → cs ++ c ∷ [] ≡ ds ++ d ∷ [] → c ≡ d
+last_same cs ds c d e =
+    let count : length ds ≡ length cs = omega (arith, ap length e, length-append cs (c ∷ []), length-append ds (d ∷ [])) in
+    sym (get_or_at cs c [] c (length cs) refl) ∙ ap (λ l. get_or l (length cs) c) e ∙ get_or_at ds d [] c (length cs) count
+
+-- a text that ends in no slash ends in the text of its last component
+pub ends_in_last : (text : List ℕ) (cs : List Step) (c : Step) → get_or text (length text - 1) 0 ≢ slash → components text ≡ cs ++ c ∷ [] → (head : List ℕ) × (text ≡ head ++ step_text c)
+ends_in_last text cs c end last = elim (last_slash text) [
+  | inl none ↦ ([], whole text none last)
+  | inr (xs, [], joined, none) ↦ absurd (end (ap (λ x. get_or x (length x - 1) 0) joined ∙ ends_in_slash xs))
+  | inr (xs, b ∷ bs, joined, none) ↦
+      let parts = ap components joined ∙ components-append xs (b ∷ bs) ∙ ap (λ ds. components xs ++ ds) (components_whole (b ∷ bs) (omega arith) none) in
+      let same = last_same cs (components xs) c (classed (b ∷ bs)) (sym last ∙ parts) in
+      (xs ++ slash ∷ [], joined ∙ sym (append_assoc xs (slash ∷ []) (b ∷ bs)) ∙ ap (λ x. (xs ++ slash ∷ []) ++ x) (sym (step_text-classed (b ∷ bs)) ∙ ap step_text (sym same)))
+]
+  where
+    whole : (bs : List ℕ) → HasNoSlash bs → components bs ≡ cs ++ c ∷ [] → bs ≡ step_text c
+    whole [] none parts = absurd (let e = ap length (sym components-nil ∙ parts) in omega (arith, e, length-append cs (c ∷ [])))
+    whole (b ∷ bs) none parts =
+        let same = last_same cs [] c (classed (b ∷ bs)) (sym parts ∙ components_whole (b ∷ bs) (omega arith) none) in
+        sym (step_text-classed (b ∷ bs)) ∙ ap step_text (sym same)
+
+-- ---- the end of a path
+
+slice_get-at : (cs : List Step) (c : Step) (ds : List Step) → slice_get (cs ++ c ∷ ds) (length cs) ≡ Some c
+slice_get-at [] c ds = refl
+slice_get-at (b ∷ cs) c ds = slice_get-at cs c ds
+
+-- `.` components alone have no name among them
+last_name-curs : (n : ℕ) → last_name (replicate n cur) ≡ None
+last_name-curs zero = refl
+last_name-curs (suc n) = ap (λ k. option_and_then name_of (slice_get (replicate (suc n) cur) k)) (kept_len-curs [] (suc n))
+
+last_name-none : (text left : List ℕ) → LosesCurs text left → components left ≡ [] → file_name_of text ≡ None
+last_name-none text left h none =
+    ap last_name (h.joined ∙ ap (λ cs. cs ++ replicate h.lost cur) none) ∙ last_name-curs h.lost
+
+last_name-at : (text left front : List ℕ) (c : Step) → LosesCurs text left → is_cur c ≡ false → components left ≡ components front ++ c ∷ [] → file_name_of text ≡ name_of c
+last_name-at text left front c h other last =
+    let whole = h.joined ∙ ap (λ cs. cs ++ replicate h.lost cur) last ∙ append_assoc (components front) (c ∷ []) (replicate h.lost cur) in
+    ap₂ (λ cs k. option_and_then name_of (slice_get cs k)) whole (kept_len-front text left front c h other last) ∙ ap (option_and_then name_of) (slice_get-at (components front) c (replicate h.lost cur))
+
+-- what stands before the last component that is no `.`, that component if it is a name, and the text through it
+pub record IsEnd (text before : List ℕ) (last : Option (Bor (List ℕ))) (through : List ℕ) : Type 0 where
+  pub popped : IsPopped text before
+  pub named : option_copied last ≡ file_name_of text
+  pub placed : IfSome last (λ n. (head : List ℕ) × (through ≡ head ++ n.now) × IsCut text (kept_len (components text) + 1) through)
+
+pub IsEnd-none : (text left front : List ℕ) → LosesCurs text left → (components left ≡ []) × (front ≡ []) → IsEnd text front None left
+IsEnd-none text left front h (none, empty) =
+    record { popped = rw empty (IsPopped-none text left h none); named = sym (last_name-none text left h none); placed = tt }
+
+pub IsEnd-up : (text left front : List ℕ) → LosesCurs text left → (components left ≡ components front ++ up ∷ []) × IsFront left front → IsEnd text front None left
+IsEnd-up text left front h (last, cut) =
+    record { popped = IsPopped-front text left front up h refl last cut; named = sym (last_name-at text left front up h refl last); placed = tt }
+
+pub IsEnd-name : (text left front : List ℕ) (n : Bor (List ℕ)) → LosesCurs text left → (components left ≡ components front ++ name n.now ∷ []) × IsFront left front → IsEnd text front (Some n) left
+IsEnd-name text left front n h (last, cut) =
+    let ends = ends_in_last left (components front) (name n.now) h.end last in
+    record {
+      popped = IsPopped-front text left front (name n.now) h refl last cut;
+      named = sym (last_name-at text left front (name n.now) h refl last);
+      placed = (ends.0, ends.1, IsCut-through text left front (name n.now) h refl last);
     }

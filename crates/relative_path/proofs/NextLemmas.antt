@@ -71,7 +71,8 @@ nil_from_prefix : (p : List ℕ) → IsPrefix [] p → p ≡ []
 nil_from_prefix [] h = refl
 nil_from_prefix (b ∷ bs) h = h.front
 
-ends_in_slash : (xs : List ℕ) → get_or (xs ++ slash ∷ []) (length (xs ++ slash ∷ []) - 1) 0 ≡ slash
+-- a slash put behind a text ends it
+pub ends_in_slash : (xs : List ℕ) → get_or (xs ++ slash ∷ []) (length (xs ++ slash ∷ []) - 1) 0 ≡ slash
 ends_in_slash xs =
     let index : length (xs ++ slash ∷ []) - 1 ≡ length xs = omega (arith, length-append xs (slash ∷ [])) in
     ap (λ i. get_or (xs ++ slash ∷ []) i 0) index ∙ get_or_at xs slash [] 0 (length xs) refl

@@ -17,7 +17,7 @@ pub length-IsPrefix : {text p : List ℕ} → IsPrefix text p → length p ≤ l
 length-IsPrefix {text} {p} h = let e = ap length h.front ∙ length-take (length p) text in omega (arith, e)
 
 -- a shorter front of the front
-take-IsPrefix : {text p : List ℕ} → IsPrefix text p → (k : ℕ) → k ≤ length p → take k p ≡ take k text
+pub take-IsPrefix : {text p : List ℕ} → IsPrefix text p → (k : ℕ) → k ≤ length p → take k p ≡ take k text
 take-IsPrefix {text} {p} h k short = ap (take k) h.front ∙ take-take k (length p) text short
 
 pub IsPrefix-trans : {text p q : List ℕ} → IsPrefix text p → IsPrefix p q → IsPrefix text q

@@ -1,11 +1,10 @@
 //! The end of a path: its last component, the file name, and the stem of that.
 ghost use Rattle.std.specs.Prelude.{◌≡◌, ◌↔◌, ◌+◌, [], ◌++◌, List, ℕ, IsSome, IfSome};
-ghost use Rattle.std.specs.Option.{option_copied, option_and_then};
+ghost use Rattle.std.specs.Option.{option_copied};
 ghost use Rattle.relative_path.specs.Components.{components};
 ghost use Rattle.relative_path.specs.Slices.{IsCut};
 ghost use Rattle.relative_path.specs.Editing.{kept_len, IsPopped};
-ghost use Rattle.relative_path.specs.Names.{name_of, file_name_of, stem_of, extension_of, IsBase, IsExtended};
-ghost use Rattle.relative_path.specs.Iterating.{step_of};
+ghost use Rattle.relative_path.specs.Names.{file_name_of, stem_of, extension_of, IsBase, IsExtended};
 ghost use Rattle.relative_path.specs.RelativePath.{path_text};
 
 use crate::component::{Component, without_trailing_slashes};
@@ -32,24 +31,17 @@ pub(crate) fn end_of(path: RelativePath<'_>) -> End<'_>
     let mut components = RelativePath::new(without_trailing_slashes(path.as_str())).components();
     loop {
         let through = components.as_relative_path().as_str();
-        let last = components.next_back();
-        if !matches!(last, Some(Component::CurDir)) {
-            return End {
-                before: components.as_relative_path(),
-                name: as_name(last),
-                through,
-            };
-        }
-    }
-}
-
-// The component's text, if it is a name.
-fn as_name(component: Option<Component<'_>>) -> Option<&str>
-    ensures { option_copied result ≡ option_and_then (λ c. name_of (step_of c)) component.entry }
-{
-    match component {
-        Some(Component::Normal(name)) => Some(name),
-        _ => None,
+        let name = match components.next_back() {
+            Some(Component::CurDir) => continue,
+            Some(Component::Normal(name)) => Some(name),
+            Some(Component::ParentDir) => None,
+            None => None,
+        };
+        return End {
+            before: components.as_relative_path(),
+            name,
+            through,
+        };
     }
 }
 
