@@ -1,17 +1,20 @@
 -- The file name of a text, where it stands, and its stem.
-use Rattle.std.proofs.Common.{◌≡◌, ◌≢◌, ℕ, zero, suc, ◌+◌, ◌-◌, ◌<◌, ◌≤◌, Bool, false, not, cond, List, [], ◌∷◌, ◌++◌, All, length, get_or, take, drop, replicate, Option, Some, None, Bor, ◌⊎◌, inl, inr, ⊎_elim, sym, refl, ap, ap₂, ◌∙◌, arith, ne_eqb, eqb-true, append_assoc, length-append, take_at}
-use Rattle.std.specs.List.{suffix_len, before_last, after_last}
-use Rattle.std.proofs.lemmas.List.{get_or_at, get_or-append_right, drop_at}
+use Rattle.std.proofs.Common.{◌≡◌, ◌≢◌, ℕ, zero, suc, ◌+◌, ◌-◌, ◌<◌, ◌≤◌, Bool, false, not, cond, List, [], ◌∷◌, ◌++◌, All, length, get_or, take, drop, replicate, Option, Some, None, Bor, ◌⊎◌, inl, inr, ⊎_elim, sym, refl, ap, ap₂, ◌∙◌, arith, ne_eqb, eqb-true, append_assoc, append-nil, length-append, take_at, take_all}
+use Rattle.std.specs.List.{slice_range, suffix_len, before_last, after_last}
+use Rattle.std.specs.Str.{IsCharBoundary}
+use Rattle.std.proofs.lemmas.List.{get_or_at, get_or-append_right, drop_at, append_cancel_right}
+use Rattle.std.proofs.lemmas.Str.{IsCharBoundary-end, IsCharBoundary-before_ascii}
 use Rattle.std.proofs.lemmas.List.Sums.{suffix_len_is}
-use Rattle.std.specs.Prelude.{slice_get, IfSome}
+use Rattle.std.specs.Prelude.{slice_get, IsSome, IfSome, MatchOption}
 use Rattle.std.specs.Option.{option_and_then, option_copied}
 use Rattle.std.proofs.lemmas.Bool.{cases_Bool}
 use Rattle.relative_path.specs.Components.{slash, dot, is_slash, is_not_empty, Step, cur, up, name, step_text, classed, components}
 use Rattle.relative_path.specs.Slices.{IsCut, IsFront}
-use Rattle.relative_path.specs.Editing.{is_cur, kept_len, IsPopped}
-use Rattle.relative_path.specs.Names.{name_of, last_name, file_name_of, is_dot, stem_of, extension_of}
+use Rattle.relative_path.specs.Editing.{is_cur, kept_len, pushed, IsPopped}
+use Rattle.relative_path.specs.Names.{name_of, last_name, file_name_of, is_dot, stem_of, extension_of, dotted, IsBase, IsNamed, IsExtended}
 use Rattle.relative_path.proofs.ComponentsLemmas.{HasNoSlash, components-nil, components-append, components_whole, step_text-classed}
 use Rattle.relative_path.proofs.NextLemmas.{ends_in_slash}
+use Rattle.relative_path.proofs.SliceLemmas.{IsPrefix, IsPrefix-shortest, IsShortestPrefix-unique}
 use Rattle.relative_path.proofs.EditingLemmas.{kept_len-curs, LosesCurs, IsPopped-none, kept_len-front, IsPopped-front, IsCut-through}
 
 -- ---- a name cut at its last dot
@@ -155,3 +158,82 @@ IsEnd-name text left front n h (last, cut) =
       named = sym (last_name-at text left front (name n.now) h refl last);
       placed = (ends.0, ends.1, IsCut-through text left front (name n.now) h refl last);
     }
+
+-- ---- the stem in its text
+
+-- a name is its stem and what stands after it: nothing, or a dot and the extension
+abbrev pub IsJoined : List ℕ → List ℕ → Option (Bor (List ℕ)) → Type 0
+IsJoined n stem extension = MatchOption extension (n ≡ stem) (λ e. n ≡ stem ++ dot ∷ e.now)
+
+-- what stands after the stem
+after_stem : Option (Bor (List ℕ)) → List ℕ
+after_stem None = []
+after_stem (Some e) = dot ∷ e.now
+
+IsJoined-after : (n stem : List ℕ) (extension : Option (Bor (List ℕ))) → IsJoined n stem extension → n ≡ stem ++ after_stem extension
+unfolding after_stem
+IsJoined-after n stem None joined = joined ∙ sym (append-nil stem)
+IsJoined-after n stem (Some e) joined = joined
+
+IsCharBoundary-after : (front : List ℕ) (extension : Option (Bor (List ℕ))) → IsCharBoundary (front ++ after_stem extension) (length front)
+unfolding after_stem
+IsCharBoundary-after front None = rw (append-nil front) (IsCharBoundary-end front)
+IsCharBoundary-after front (Some e) =
+    IsCharBoundary-before_ascii (front ++ dot ∷ e.now) (length front) (omega (arith, length-append front (dot ∷ e.now))) (let at = get_or_at front dot e.now 0 (length front) refl in omega (arith, at))
+
+module _ (through head n stem : List ℕ) (extension : Option (Bor (List ℕ))) (placed : through ≡ head ++ n) (joined : IsJoined n stem extension) where
+  whole : through ≡ (head ++ stem) ++ after_stem extension
+  whole = placed ∙ ap (λ x. head ++ x) (IsJoined-after n stem extension joined) ∙ sym (append_assoc head stem (after_stem extension))
+
+  stem_end : length through - length n + length stem ≡ length (head ++ stem)
+  stem_end = omega (arith, ap length placed, length-append head n, length-append head stem)
+
+  -- a character ends at the end of the stem
+  pub IsCharBoundary-stem : IsCharBoundary through (length through - length n + length stem)
+  IsCharBoundary-stem = rw (stem_end, whole) (IsCharBoundary-after (head ++ stem) extension)
+
+  pub slice_range-stem : slice_range through 0 (length through - length n + length stem) ≡ head ++ stem
+  slice_range-stem =
+      let count : length through - length n + length stem - 0 ≡ length (head ++ stem) = omega (arith, stem_end) in
+      ap₂ take count whole ∙ take_at (head ++ stem) (after_stem extension) (length (head ++ stem)) refl
+
+-- ---- the texts that the setters leave
+
+-- the text up to the end of its stem is the text without its extension
+pub IsExtended-stem : (text head n : List ℕ) → file_name_of text ≡ Some n → IsCut text (kept_len (components text) + 1) (head ++ n) → IsExtended text [] (head ++ stem_of n)
+IsExtended-stem text head n named cut = rw named (head, cut, sym (append-nil (head ++ stem_of n)))
+
+-- an extension behind it gives the extended text
+pub IsExtended-push : (text e front : List ℕ) → IsSome (file_name_of text) → IsExtended text [] front → IsExtended text e (front ++ dotted e)
+IsExtended-push text e front found extended = push (file_name_of text) found extended
+  where
+    push : (o : Option (List ℕ)) → IsSome o → MatchOption o (front ≡ text) (λ n. (head : List ℕ) × IsCut text (kept_len (components text) + 1) (head ++ n) × (front ≡ head ++ stem_of n ++ [])) → MatchOption o (front ++ dotted e ≡ text) (λ n. (head : List ℕ) × IsCut text (kept_len (components text) + 1) (head ++ n) × (front ++ dotted e ≡ head ++ stem_of n ++ dotted e))
+    push None some is = absurd (cc)
+    push (Some n) some (head, cut, is) = (head, cut, ap (λ x. x ++ dotted e) (is ∙ append-nil (head ++ stem_of n)))
+
+pub IsExtended-unique : (text e x y : List ℕ) → IsExtended text e x → IsExtended text e y → x ≡ y
+IsExtended-unique text e x y is_x is_y = same (file_name_of text) is_x is_y
+  where
+    same : (o : Option (List ℕ)) → MatchOption o (x ≡ text) (λ n. (head : List ℕ) × IsCut text (kept_len (components text) + 1) (head ++ n) × (x ≡ head ++ stem_of n ++ dotted e)) → MatchOption o (y ≡ text) (λ n. (head : List ℕ) × IsCut text (kept_len (components text) + 1) (head ++ n) × (y ≡ head ++ stem_of n ++ dotted e)) → x ≡ y
+    same None is_x is_y = is_x ∙ sym is_y
+    same (Some n) (head, cut, is_x) (head', cut', is_y) =
+        let heads = append_cancel_right head head' n (IsShortestPrefix-unique cut cut') in
+        is_x ∙ ap (λ h. h ++ stem_of n ++ dotted e) heads ∙ sym is_y
+
+IsBase-unique : (text x y : List ℕ) → IsBase text x → IsBase text y → x ≡ y
+IsBase-unique text x y is_x is_y = same (file_name_of text) is_x is_y
+  where
+    same : (o : Option (List ℕ)) → MatchOption o (x ≡ text) (λ n. IsPopped text x) → MatchOption o (y ≡ text) (λ n. IsPopped text y) → x ≡ y
+    same None is_x is_y = is_x ∙ sym is_y
+    same (Some n) is_x is_y = IsShortestPrefix-unique is_x is_y
+
+pub IsNamed-unique : (text f x y : List ℕ) → IsNamed text f x → IsNamed text f y → x ≡ y
+IsNamed-unique text f x y (base, is, is_x) (base', is', is_y) =
+    is_x ∙ ap (λ b. pushed b f) (IsBase-unique text base base' is is') ∙ sym is_y
+
+pub IsPrefix-IsBase : (text base : List ℕ) → IsBase text base → IsPrefix text base
+IsPrefix-IsBase text base is = front (file_name_of text) is
+  where
+    front : (o : Option (List ℕ)) → MatchOption o (base ≡ text) (λ n. IsPopped text base) → IsPrefix text base
+    front None same = record { front = same ∙ sym (take_all (length base) text (omega (arith, ap length same))) }
+    front (Some n) popped = IsPrefix-shortest popped

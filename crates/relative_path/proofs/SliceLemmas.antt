@@ -1,7 +1,9 @@
 -- Prefixes and suffixes of a text that are fixed by their components.
-use Rattle.std.proofs.Common.{◌≡◌, ◌≢◌, ℕ, ◌+◌, ◌-◌, ◌<◌, ◌≤◌, List, [], ◌++◌, length, get_or, take, drop, sym, refl, ap, ◌∙◌, ⊎_elim, append_assoc, arith, take-append-drop, length-drop, length-take, take-take, take_at, get_or-drop}
+use Rattle.std.proofs.Common.{◌≡◌, ◌≢◌, ℕ, ◌+◌, ◌-◌, ◌<◌, ◌≤◌, List, [], ◌++◌, length, get_or, take, drop, sym, refl, ap, ◌∙◌, subst, ⊎_elim, append_assoc, arith, take-append-drop, length-drop, length-take, take-take, take_at, get_or-drop}
 use Rattle.std.proofs.lemmas.Bool.{cases_lt}
 use Rattle.std.proofs.lemmas.List.Prefix.{end_rest}
+use Rattle.std.specs.Str.{IsUtf8, IsCharBoundary}
+use Rattle.std.proofs.lemmas.Str.{IsCharBoundary-from_take}
 use Rattle.relative_path.specs.Components.{slash, Step, components}
 use Rattle.relative_path.specs.Slices.{IsShortestPrefix}
 use Rattle.relative_path.proofs.ComponentsLemmas.{components-nil, total_len-components, solid_len, solid_len-append, ends_in_slash}
@@ -47,6 +49,10 @@ IsShortestPrefix-from {text} {p} {cs} h same end = record {
       (λ long. long)
       (cases_lt k (length p));
 }
+
+-- a text is cut at the end of a character where its front is a text
+pub IsCharBoundary-IsPrefix : {text p : List ℕ} → IsPrefix text p → IsUtf8 text → IsUtf8 p → IsCharBoundary text (length p)
+IsCharBoundary-IsPrefix {text} {p} h whole part = IsCharBoundary-from_take text (length p) whole (length-IsPrefix h) (subst IsUtf8 h.front part)
 
 pub IsPrefix-shortest : {text p : List ℕ} {cs : List Step} → IsShortestPrefix text cs p → IsPrefix text p
 IsPrefix-shortest h = record { front = h.prefix }

@@ -159,7 +159,7 @@ impl RelativePathBuf {
         let Some(front) = without_extension(self.as_relative_path()) else {
             return Ok(false);
         };
-        let front_len = front.len();
+        let front_len = front.as_str().len();
         self.reserve_to(front_len + dotted_len(extension))?;
         self.text.truncate(front_len);
         self.push_extension(extension);
@@ -171,6 +171,7 @@ impl RelativePathBuf {
         ensures text { self.new.text ≡ self.old.text }
         ensures ok { OnOk result (len ≤ self.new.room) }
         ensures full { OnErr result (self.old.room < len) }
+        ensures longer { OnErr result (length self.old.text < len) }
         ensures room { self.old.room ≤ self.new.room }
     {
         self.text.reserve(len.saturating_sub(self.text.len()))

@@ -1,7 +1,7 @@
 //! The end of a path: its last component, the file name, and the stem of that.
-ghost use Rattle.std.specs.Prelude.{◌≡◌, ◌↔◌, ◌+◌, [], ◌++◌, List, ℕ, IsSome, IfSome};
+ghost use Rattle.std.specs.Prelude.{◌≡◌, ◌↔◌, ◌+◌, [], ◌∷◌, ◌++◌, List, ℕ, IsSome, IfSome, MatchOption};
 ghost use Rattle.std.specs.Option.{option_copied};
-ghost use Rattle.relative_path.specs.Components.{components};
+ghost use Rattle.relative_path.specs.Components.{dot, components};
 ghost use Rattle.relative_path.specs.Slices.{IsCut};
 ghost use Rattle.relative_path.specs.Editing.{kept_len, IsPopped};
 ghost use Rattle.relative_path.specs.Names.{file_name_of, stem_of, extension_of, IsBase, IsExtended};
@@ -53,21 +53,24 @@ pub(crate) fn base_of(path: RelativePath<'_>) -> RelativePath<'_>
     if end.name.is_some() { end.before } else { path }
 }
 
-// The text up to the end of the stem of its file name, if it has one.
-pub(crate) fn without_extension(path: RelativePath<'_>) -> Option<&str>
+// The path up to the end of the stem of its file name, if it has one.
+pub(crate) fn without_extension(path: RelativePath<'_>) -> Option<RelativePath<'_>>
     ensures found { IsSome result ↔ IsSome (file_name_of (path_text path.entry)) }
-    ensures text { IfSome result (λ front. IsExtended (path_text path.entry) [] front.now) }
+    ensures text { IfSome result (λ front. IsExtended (path_text path.entry) [] (path_text front)) }
 {
     let end = end_of(path);
     let name = end.name?;
     let (stem, _) = split_name(name);
-    Some(&end.through[..end.through.len() - name.len() + stem.len()])
+    let stem_end = end.through.len() - name.len() + stem.len();
+    Some(RelativePath::new(&end.through[..stem_end]))
 }
 
 // The stem and the extension of a file name.
 pub(crate) fn split_name(name: &str) -> (&str, Option<&str>)
     ensures stem { result.0.now ≡ stem_of name.now }
     ensures extension { option_copied result.1 ≡ extension_of name.now }
+    ensures joined { MatchOption result.1 (name.now ≡ result.0.now)
+        (λ extension. name.now ≡ result.0.now ++ dot ∷ extension.now) }
 {
     match name.rsplit_once('.') {
         Some((stem, extension)) if !stem.is_empty() => (stem, Some(extension)),

@@ -168,8 +168,8 @@ impl<'a> RelativePath<'a> {
         let Some(front) = without_extension(self) else {
             return self.to_relative_path_buf(alloc);
         };
-        let len = front.len() + dotted_len(extension);
-        let mut extended = RelativePathBuf::with_room(alloc, front, len)?;
+        let len = front.text.len() + dotted_len(extension);
+        let mut extended = RelativePathBuf::with_room(alloc, front.text, len)?;
         extended.push_extension(extension);
         Ok(extended)
     }
