@@ -7,14 +7,15 @@ use Rattle.std.proofs.lemmas.Str.{IsCharBoundary-end, IsCharBoundary-before_asci
 use Rattle.std.proofs.lemmas.List.Sums.{suffix_len_is}
 use Rattle.std.specs.Prelude.{slice_get, IsSome, IfSome, MatchOption}
 use Rattle.std.specs.Option.{option_and_then, option_copied}
-use Rattle.std.proofs.lemmas.Bool.{cases_Bool}
+use Rattle.std.proofs.lemmas.Bool.{cases_Bool, cond_both}
 use Rattle.relative_path.specs.Components.{slash, dot, is_slash, is_not_empty, Step, cur, up, name, step_text, classed, components}
 use Rattle.relative_path.specs.Slices.{IsCut, IsFront}
 use Rattle.relative_path.specs.Editing.{is_cur, kept_len, pushed, IsPopped}
-use Rattle.relative_path.specs.Names.{name_of, last_name, file_name_of, is_dot, stem_of, extension_of, dotted, IsBase, IsNamed, IsExtended}
+use Rattle.relative_path.specs.Names.{name_of, last_name, file_name_of, is_dot, has_stem, stem_of, extension_of, dotted, IsBase, IsNamed, IsExtended}
+use Rattle.relative_path.specs.RelativePathBuf.{IsTooLong}
 use Rattle.relative_path.proofs.ComponentsLemmas.{HasNoSlash, components-nil, components-append, components_whole, step_text-classed}
 use Rattle.relative_path.proofs.NextLemmas.{ends_in_slash}
-use Rattle.relative_path.proofs.SliceLemmas.{IsPrefix, IsPrefix-shortest, IsShortestPrefix-unique}
+use Rattle.relative_path.proofs.SliceLemmas.{IsPrefix, IsPrefix-take, IsPrefix-append_left, IsPrefix-trans, IsPrefix-shortest, IsShortestPrefix-unique}
 use Rattle.relative_path.proofs.EditingLemmas.{kept_len-curs, LosesCurs, IsPopped-none, kept_len-front, IsPopped-front, IsCut-through}
 
 -- ---- a name cut at its last dot
@@ -231,9 +232,37 @@ pub IsNamed-unique : (text f x y : List ℕ) → IsNamed text f x → IsNamed te
 IsNamed-unique text f x y (base, is, is_x) (base', is', is_y) =
     is_x ∙ ap (λ b. pushed b f) (IsBase-unique text base base' is is') ∙ sym is_y
 
+-- ---- the fronts that the setters keep
+
+IsPrefix-stem : (n : List ℕ) → IsPrefix n (stem_of n)
+IsPrefix-stem n =
+    cond_both (has_stem n) (before_last is_dot n) n (IsPrefix n) (λ _. IsPrefix-take _ n) (λ _. record { front = sym (take_all (length n) n (omega arith)) })
+
+pub IsPrefix-IsExtended : (text front : List ℕ) → IsSome (file_name_of text) → IsExtended text [] front → IsPrefix text front
+IsPrefix-IsExtended text front found extended = prefix (file_name_of text) found extended
+  where
+    prefix : (o : Option (List ℕ)) → IsSome o → MatchOption o (front ≡ text) (λ n. (head : List ℕ) × IsCut text (kept_len (components text) + 1) (head ++ n) × (front ≡ head ++ stem_of n ++ [])) → IsPrefix text front
+    prefix None some is = absurd (cc)
+    prefix (Some n) some (head, cut, is) =
+        rw (is, append-nil (head ++ stem_of n)) (IsPrefix-trans (IsPrefix-shortest cut) (IsPrefix-append_left head (IsPrefix-stem n)))
+
 pub IsPrefix-IsBase : (text base : List ℕ) → IsBase text base → IsPrefix text base
 IsPrefix-IsBase text base is = front (file_name_of text) is
   where
     front : (o : Option (List ℕ)) → MatchOption o (base ≡ text) (λ n. IsPopped text base) → IsPrefix text base
     front None same = record { front = same ∙ sym (take_all (length base) text (omega (arith, ap length same))) }
     front (Some n) popped = IsPrefix-shortest popped
+
+-- ---- the one text that a setter would leave, where the room is too small
+
+pub IsTooLong-named : (text f base : List ℕ) (room len : ℕ) → IsBase text base → len ≡ length (pushed base f) → room < len → IsTooLong (IsNamed text f) room
+IsTooLong-named text f base room len is count longer = record {
+  text = pushed base f;
+  holds = (base, is, refl);
+  only = λ other named. IsNamed-unique text f other (pushed base f) named (base, is, refl);
+  longer = omega arith;
+}
+
+pub IsTooLong-extended : (text e extended : List ℕ) (room len : ℕ) → IsExtended text e extended → len ≡ length extended → room < len → IsTooLong (IsExtended text e) room
+IsTooLong-extended text e extended room len is count longer =
+    record { text = extended; holds = is; only = λ other is_other. IsExtended-unique text e other extended is_other is; longer = omega arith }

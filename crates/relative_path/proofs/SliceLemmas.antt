@@ -15,6 +15,16 @@ pub record IsPrefix (text p : List ℕ) : Type 0 where
 pub IsPrefix-append : (p rest : List ℕ) → IsPrefix (p ++ rest) p
 IsPrefix-append p rest = record { front = sym (take_at p rest (length p) refl) }
 
+pub IsPrefix-take : (k : ℕ) (text : List ℕ) → IsPrefix text (take k text)
+IsPrefix-take k text = subst (λ x. IsPrefix x (take k text)) (take-append-drop k text) (IsPrefix-append (take k text) (drop k text))
+
+-- the same text before both
+pub IsPrefix-append_left : (head : List ℕ) {text p : List ℕ} → IsPrefix text p → IsPrefix (head ++ text) (head ++ p)
+IsPrefix-append_left head {text} {p} h =
+    let rest = drop (length p) text in
+    let whole : (head ++ p) ++ rest ≡ head ++ text = append_assoc head p rest ∙ ap (λ x. head ++ (x ++ rest)) h.front ∙ ap (λ x. head ++ x) (take-append-drop (length p) text) in
+    subst (λ x. IsPrefix x (head ++ p)) whole (IsPrefix-append (head ++ p) rest)
+
 pub length-IsPrefix : {text p : List ℕ} → IsPrefix text p → length p ≤ length text
 length-IsPrefix {text} {p} h = let e = ap length h.front ∙ length-take (length p) text in omega (arith, e)
 
