@@ -1,5 +1,5 @@
 -- The file name of a text, where it stands, and its stem.
-use Rattle.std.proofs.Common.{◌≡◌, ◌≢◌, ℕ, zero, suc, ◌+◌, ◌-◌, ◌<◌, ◌≤◌, Bool, false, not, cond, List, [], ◌∷◌, ◌++◌, All, length, get_or, take, drop, replicate, Option, Some, None, Bor, ◌⊎◌, inl, inr, ⊎_elim, sym, refl, ap, ap₂, ◌∙◌, arith, ne_eqb, eqb-true, append_assoc, append-nil, length-append, take_at, take_all}
+use Rattle.std.proofs.Common.{◌≡◌, ◌≢◌, ℕ, zero, suc, ◌+◌, ◌-◌, ◌<◌, Bool, false, not, cond, List, [], ◌∷◌, ◌++◌, All, length, get_or, take, drop, replicate, Option, Some, None, Bor, ◌⊎◌, inl, inr, ⊎_elim, sym, refl, ap, ap₂, ◌∙◌, arith, ne_eqb, eqb-true, append_assoc, append-nil, length-append, take_at, take_all}
 use Rattle.std.specs.List.{slice_range, suffix_len, before_last, after_last}
 use Rattle.std.specs.Str.{IsCharBoundary}
 use Rattle.std.proofs.lemmas.List.{get_or_at, get_or-append_right, drop_at, append_cancel_right}

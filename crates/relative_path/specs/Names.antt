@@ -1,5 +1,5 @@
 -- File names, their stems and extensions, and the texts that setting them leaves.
-use Rattle.std.specs.Prelude.{◌≡◌, ℕ, ◌+◌, Bool, true, false, ◌==◌, List, [], ◌∷◌, ◌++◌, Option, Some, None, MatchOption, slice_get, if◌then◌else◌}
+use Rattle.std.specs.Prelude.{◌≡◌, ℕ, ◌+◌, Bool, ◌==◌, List, [], ◌∷◌, ◌++◌, Option, Some, None, MatchOption, slice_get, if◌then◌else◌}
 use Rattle.std.specs.Option.{option_and_then}
 use Rattle.std.specs.List.{before_last, after_last}
 use Rattle.relative_path.specs.Components.{Step, cur, up, name, dot, is_not_empty, components}

@@ -56,7 +56,11 @@ impl RelativePathBuf {
     }
 
     // A copy of the text, with room for `room` bytes.
-    pub(crate) fn with_room(alloc: Global, text: &str, room: usize) -> Result<RelativePathBuf, AllocError>
+    pub(crate) fn with_room(
+        alloc: Global,
+        text: &str,
+        room: usize,
+    ) -> Result<RelativePathBuf, AllocError>
         requires { length text.now ≤ room }
         ensures text { IfOk result (λ buf. buf.text ≡ text.now) }
         ensures room { IfOk result (λ buf. room ≤ buf.room) }

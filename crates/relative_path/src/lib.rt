@@ -9,4 +9,3 @@ mod buf;
 mod component;
 mod name;
 mod path;
-

@@ -116,7 +116,11 @@ impl<'a> RelativePath<'a> {
     /// let named = RelativePath::new("tmp/foo.txt").with_file_name(alloc, "bar.txt")?;
     /// assert_eq!(rt; named.as_relative_path().as_str(), "tmp/bar.txt");
     /// ```
-    pub fn with_file_name(self, alloc: Global, file_name: &str) -> Result<RelativePathBuf, AllocError>
+    pub fn with_file_name(
+        self,
+        alloc: Global,
+        file_name: &str,
+    ) -> Result<RelativePathBuf, AllocError>
         ensures { IfOk result
             (λ named. IsNamed (path_text self.entry) file_name.now named.text) }
     {
@@ -161,7 +165,11 @@ impl<'a> RelativePath<'a> {
     /// let extended = RelativePath::new("foo.rs").with_extension(alloc, "txt")?;
     /// assert_eq!(rt; extended.as_relative_path().as_str(), "foo.txt");
     /// ```
-    pub fn with_extension(self, alloc: Global, extension: &str) -> Result<RelativePathBuf, AllocError>
+    pub fn with_extension(
+        self,
+        alloc: Global,
+        extension: &str,
+    ) -> Result<RelativePathBuf, AllocError>
         ensures { IfOk result
             (λ extended. IsExtended (path_text self.entry) extension.now extended.text) }
     {

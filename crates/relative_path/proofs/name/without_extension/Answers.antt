@@ -8,6 +8,11 @@ use Rattle.relative_path.specs.RelativePath.{path_text}
 use Rattle.relative_path.proofs.NameLemmas.{IsCharBoundary-stem, slice_range-stem, IsExtended-stem}
 use Rattle.relative_path.proofs.name.without_extension.Goals as goal
 
+pub range-requires-clause-end_boundary : goal.range-requires-clause-end_boundary
+range-requires-clause-end_boundary c =
+    let placed = rw c.in_ok-name.was at c.end_of-end.ensures.through in
+    IsCharBoundary-stem _ placed.0 c.in_ok-name.name.now c.split_name.result.0.now c.split_name.result.1 placed.1 c.split_name.ensures.joined
+
 pub returns-clause-text : goal.returns-clause-text
 returns-clause-text c =
     let text = path_text c.args.path in

@@ -1,7 +1,7 @@
-use Rattle.std.proofs.Common.{string_bytes, ap, ◌∙◌, ◌≡◌, sym, subst}
+use Rattle.std.proofs.Common.{string_bytes, ap, ◌∙◌, ◌≡◌, sym}
 use Rattle.std.proofs.lemmas.Str.{IsUtf8-string_bytes}
 use Rattle.relative_path.specs.RelativePath.{path_text}
-use Rattle.relative_path.proofs.SliceLemmas.{IsPrefix, IsPrefix-shortest, IsCharBoundary-IsPrefix}
+use Rattle.relative_path.proofs.SliceLemmas.{IsPrefix-shortest, IsCharBoundary-IsPrefix}
 use Rattle.relative_path.proofs.buf.RelativePathBuf.pop.Goals as goal
 
 pub truncate-requires : goal.truncate-requires

@@ -1,13 +1,11 @@
-use Rattle.std.proofs.Common.{rules, arith, string_bytes, ap, ap₂, ◌∙◌, ◌≡◌, sym, length, take}
+use Rattle.std.proofs.Common.{rules, string_bytes, ap, ap₂, ◌∙◌, ◌≡◌, sym, length}
 use Rattle.std.proofs.lemmas.Str.{IsUtf8-string_bytes}
 use Rattle.relative_path.specs.Editing.{pushed}
-use Rattle.relative_path.specs.Names.{IsBase, IsNamed}
-use Rattle.relative_path.specs.RelativePathBuf.{IsTooLong}
+use Rattle.relative_path.specs.Names.{IsBase}
 use Rattle.relative_path.specs.RelativePath.{path_text}
-use Rattle.relative_path.proofs.SliceLemmas.{IsPrefix, IsCharBoundary-IsPrefix}
+use Rattle.relative_path.proofs.SliceLemmas.{IsCharBoundary-IsPrefix}
 use Rattle.relative_path.proofs.NameLemmas.{IsPrefix-IsBase, IsTooLong-named}
 use Rattle.relative_path.proofs.buf.RelativePathBuf.set_file_name.Goals as goal
-
 
 pub returns-in_err-reserve_to-clause-full : goal.returns-in_err-reserve_to-clause-full
 returns-in_err-reserve_to-clause-full c =
