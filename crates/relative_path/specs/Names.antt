@@ -38,7 +38,7 @@ extension_of n = if has_stem n then Some (after_last is_dot n) else None
 
 -- base is what a new file name is pushed onto: what `pop` leaves of a text with a file name, else the text
 abbrev pub IsBase : List ℕ → List ℕ → Type 0
-IsBase text base = MatchOption (file_name_of text) (base ≡ text) (λ n. IsPopped text base)
+IsBase text base = MatchOption (file_name_of text) (base ≡ text) (λ _. IsPopped text base)
 
 -- named is the text with a new file name
 abbrev pub IsNamed : List ℕ → List ℕ → List ℕ → Type 0

@@ -72,7 +72,7 @@ impl RelativePathBuf {
 
     /// A copy of the path.
     ///
-    /// It asks for memory once, and fails only where that is refused. A clone is a copy of its own.
+    /// It asks for memory once, and fails only where that is refused.
     ///
     /// ```
     /// let buf = RelativePathBuf::from_text(alloc, "foo//bar")?;
@@ -140,11 +140,12 @@ impl RelativePathBuf {
         Ok(())
     }
 
-    /// Replaces the extension of the file name, or takes it off where `extension` is empty. Whether the path
-    /// has a file name; without one it stays as it is.
+    /// Replaces the extension of the file name, or takes it off where `extension` is empty. It answers whether
+    /// the path has a file name; a path without one stays as it is.
     ///
     /// It asks for memory only where the result is longer than the text and its spare room together, and
-    /// before it changes anything: a refusal leaves the text as it was.
+    /// before it changes anything: a refusal leaves the text as it was. Neither an empty extension nor a path
+    /// without a file name needs memory.
     ///
     /// ```
     /// let mut buf = RelativePathBuf::from_text(alloc, "foo.tar.gz")?;

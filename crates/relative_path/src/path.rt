@@ -37,7 +37,7 @@ impl<'a> RelativePath<'a> {
     /// This path with `path` pushed onto it, in memory of its own.
     ///
     /// One slash at the start of `path` is dropped, so nothing replaces this path. It asks for memory
-    /// once, for the whole result.
+    /// once, for the whole result, and fails only where that is refused.
     ///
     /// ```
     /// let joined = RelativePath::new("foo").join(alloc, RelativePath::new("/bar"))?;
@@ -62,7 +62,7 @@ impl<'a> RelativePath<'a> {
 
     /// A copy of the path, in memory of its own.
     ///
-    /// It asks for memory once.
+    /// It asks for memory once, and fails only where that is refused.
     ///
     /// ```
     /// let buf = RelativePath::new("//a/").to_relative_path_buf(alloc)?;
@@ -110,7 +110,7 @@ impl<'a> RelativePath<'a> {
 
     /// This path with the file name replaced, or with one pushed onto it if it has none, in memory of its own.
     ///
-    /// It asks for memory once, for the whole result.
+    /// It asks for memory once, for the whole result, and fails only where that is refused.
     ///
     /// ```
     /// let named = RelativePath::new("tmp/foo.txt").with_file_name(alloc, "bar.txt")?;
@@ -159,7 +159,7 @@ impl<'a> RelativePath<'a> {
     /// This path with the extension of its file name replaced, in memory of its own. An empty extension takes
     /// it off. A path without a file name stays as it is.
     ///
-    /// It asks for memory once, for the whole result.
+    /// It asks for memory once, for the whole result, and fails only where that is refused.
     ///
     /// ```
     /// let extended = RelativePath::new("foo.rs").with_extension(alloc, "txt")?;
