@@ -1,5 +1,5 @@
 -- The file name of a text, where it stands, and its stem.
-use Rattle.std.proofs.Common.{◌≡◌, ◌≢◌, ℕ, zero, suc, ◌+◌, ◌-◌, ◌<◌, Bool, false, not, cond, List, [], ◌∷◌, ◌++◌, All, length, get_or, take, drop, replicate, Option, Some, None, Bor, ◌⊎◌, inl, inr, ⊎_elim, sym, refl, ap, ap₂, ◌∙◌, arith, ne_eqb, eqb-true, append_assoc, append-nil, length-append, take_at, take_all}
+use Rattle.std.proofs.Common.{◌≡◌, ◌≢◌, ℕ, zero, suc, ◌+◌, ◌-◌, ◌<◌, ◌≤◌, Bool, true, false, not, cond, List, [], ◌∷◌, ◌++◌, All, length, get_or, take, drop, replicate, Option, Some, None, Bor, ◌⊎◌, inl, inr, ⊎_elim, sym, refl, ap, ap₂, ◌∙◌, arith, ne_eqb, eqb-true, append_assoc, append-nil, length-append, take_at, take_all}
 use Rattle.std.specs.List.{slice_range, suffix_len, before_last, after_last}
 use Rattle.std.specs.Str.{IsCharBoundary}
 use Rattle.std.proofs.lemmas.List.{get_or_at, get_or-append_right, drop_at, append_cancel_right}
@@ -24,15 +24,21 @@ use Rattle.relative_path.proofs.EditingLemmas.{kept_len-curs, LosesCurs, IsPoppe
 abbrev no_dot : ℕ → Bool
 no_dot b = not (is_dot b)
 
-suffix_len-last_dot : (xs ys : List ℕ) → All (λ b. b ≢ dot) ys → suffix_len no_dot (xs ++ dot ∷ ys) ≡ length ys
-suffix_len-last_dot xs ys other =
-    let regroup : xs ++ dot ∷ ys ≡ (xs ++ dot ∷ []) ++ ys = sym (append_assoc xs (dot ∷ []) ys) in
+-- the bytes behind the last dot are no dots
+behind_dot : (xs ys : List ℕ) → All (λ b. b ≢ dot) ys → (k : ℕ) → length xs + 1 ≤ k → k < length (xs ++ dot ∷ ys) → no_dot (get_or (xs ++ dot ∷ ys) k 0) ≡ true
+behind_dot xs ys other k from below =
+    let regroup = append_assoc xs (dot ∷ []) ys in
     let front = length-append xs (dot ∷ []) in
     let whole = length-append xs (dot ∷ ys) in
+    let at = get_or-append_right (xs ++ dot ∷ []) ys (length xs + 1) k 0 (omega arith) from in
+    ap (λ l. no_dot (get_or l k 0)) (sym regroup) ∙ ap no_dot at ∙ ap not (ne_eqb _ dot (other (k - (length xs + 1)) 0 (omega arith)))
+
+suffix_len-last_dot : (xs ys : List ℕ) → All (λ b. b ≢ dot) ys → suffix_len no_dot (xs ++ dot ∷ ys) ≡ length ys
+suffix_len-last_dot xs ys other =
+    let whole = length-append xs (dot ∷ ys) in
     let start : length xs + 1 - 1 ≡ length xs = omega arith in
-    let counted = suffix_len_is no_dot (xs ++ dot ∷ ys) (length xs + 1) 0 (omega arith) (λ k from below.
-    let at : get_or (xs ++ dot ∷ ys) k 0 ≡ get_or ys (k - (length xs + 1)) 0 = ap (λ l. get_or l k 0) regroup ∙ get_or-append_right (xs ++ dot ∷ []) ys (length xs + 1) k 0 (omega arith) from in
-    ap not (ne_eqb _ dot (λ e. other (k - (length xs + 1)) 0 (omega arith) (sym at ∙ e)))) (λ _. ap no_dot (ap (λ i. get_or (xs ++ dot ∷ ys) i 0) start ∙ get_or_at xs dot ys 0 (length xs) refl)) in
+    let here = ap (λ i. no_dot (get_or (xs ++ dot ∷ ys) i 0)) start ∙ ap no_dot (get_or_at xs dot ys 0 (length xs) refl) in
+    let counted = suffix_len_is no_dot (xs ++ dot ∷ ys) (length xs + 1) 0 (omega arith) (behind_dot xs ys other) (λ _. here) in
     omega arith
 
 suffix_len-no_dot : (xs : List ℕ) → All (λ b. b ≢ dot) xs → suffix_len no_dot xs ≡ length xs
@@ -200,6 +206,15 @@ module _ (through head n stem : List ℕ) (extension : Option (Bor (List ℕ))) 
 
 -- ---- the texts that the setters leave
 
+-- the text with that extension, where its file name is that one
+abbrev IsExtendedAt : List ℕ → List ℕ → List ℕ → Option (List ℕ) → Type 0
+IsExtendedAt text e extended named = MatchOption named (extended ≡ text)
+    (λ n. (head : List ℕ) × IsCut text (kept_len (components text) + 1) (head ++ n) × (extended ≡ head ++ stem_of n ++ dotted e))
+
+-- the base of a text, where its file name is that one
+abbrev IsBaseAt : List ℕ → List ℕ → Option (List ℕ) → Type 0
+IsBaseAt text base named = MatchOption named (base ≡ text) (λ _. IsPopped text base)
+
 -- the text up to the end of its stem is the text without its extension
 pub IsExtended-stem : (text head n : List ℕ) → file_name_of text ≡ Some n → IsCut text (kept_len (components text) + 1) (head ++ n) → IsExtended text [] (head ++ stem_of n)
 IsExtended-stem text head n named cut = rw named (head, cut, sym (append-nil (head ++ stem_of n)))
@@ -208,14 +223,14 @@ IsExtended-stem text head n named cut = rw named (head, cut, sym (append-nil (he
 pub IsExtended-push : (text e front : List ℕ) → IsSome (file_name_of text) → IsExtended text [] front → IsExtended text e (front ++ dotted e)
 IsExtended-push text e front found extended = push (file_name_of text) found extended
   where
-    push : (o : Option (List ℕ)) → IsSome o → MatchOption o (front ≡ text) (λ n. (head : List ℕ) × IsCut text (kept_len (components text) + 1) (head ++ n) × (front ≡ head ++ stem_of n ++ [])) → MatchOption o (front ++ dotted e ≡ text) (λ n. (head : List ℕ) × IsCut text (kept_len (components text) + 1) (head ++ n) × (front ++ dotted e ≡ head ++ stem_of n ++ dotted e))
+    push : (o : Option (List ℕ)) → IsSome o → IsExtendedAt text [] front o → IsExtendedAt text e (front ++ dotted e) o
     push None some is = absurd (cc)
     push (Some n) some (head, cut, is) = (head, cut, ap (λ x. x ++ dotted e) (is ∙ append-nil (head ++ stem_of n)))
 
 pub IsExtended-unique : (text e x y : List ℕ) → IsExtended text e x → IsExtended text e y → x ≡ y
 IsExtended-unique text e x y is_x is_y = same (file_name_of text) is_x is_y
   where
-    same : (o : Option (List ℕ)) → MatchOption o (x ≡ text) (λ n. (head : List ℕ) × IsCut text (kept_len (components text) + 1) (head ++ n) × (x ≡ head ++ stem_of n ++ dotted e)) → MatchOption o (y ≡ text) (λ n. (head : List ℕ) × IsCut text (kept_len (components text) + 1) (head ++ n) × (y ≡ head ++ stem_of n ++ dotted e)) → x ≡ y
+    same : (o : Option (List ℕ)) → IsExtendedAt text e x o → IsExtendedAt text e y o → x ≡ y
     same None is_x is_y = is_x ∙ sym is_y
     same (Some n) (head, cut, is_x) (head', cut', is_y) =
         let heads = append_cancel_right head head' n (IsShortestPrefix-unique cut cut') in
@@ -224,7 +239,7 @@ IsExtended-unique text e x y is_x is_y = same (file_name_of text) is_x is_y
 IsBase-unique : (text x y : List ℕ) → IsBase text x → IsBase text y → x ≡ y
 IsBase-unique text x y is_x is_y = same (file_name_of text) is_x is_y
   where
-    same : (o : Option (List ℕ)) → MatchOption o (x ≡ text) (λ n. IsPopped text x) → MatchOption o (y ≡ text) (λ n. IsPopped text y) → x ≡ y
+    same : (o : Option (List ℕ)) → IsBaseAt text x o → IsBaseAt text y o → x ≡ y
     same None is_x is_y = is_x ∙ sym is_y
     same (Some n) is_x is_y = IsShortestPrefix-unique is_x is_y
 
@@ -241,7 +256,7 @@ IsPrefix-stem n =
 pub IsPrefix-IsExtended : (text front : List ℕ) → IsSome (file_name_of text) → IsExtended text [] front → IsPrefix text front
 IsPrefix-IsExtended text front found extended = prefix (file_name_of text) found extended
   where
-    prefix : (o : Option (List ℕ)) → IsSome o → MatchOption o (front ≡ text) (λ n. (head : List ℕ) × IsCut text (kept_len (components text) + 1) (head ++ n) × (front ≡ head ++ stem_of n ++ [])) → IsPrefix text front
+    prefix : (o : Option (List ℕ)) → IsSome o → IsExtendedAt text [] front o → IsPrefix text front
     prefix None some is = absurd (cc)
     prefix (Some n) some (head, cut, is) =
         rw (is, append-nil (head ++ stem_of n)) (IsPrefix-trans (IsPrefix-shortest cut) (IsPrefix-append_left head (IsPrefix-stem n)))
@@ -249,7 +264,7 @@ IsPrefix-IsExtended text front found extended = prefix (file_name_of text) found
 pub IsPrefix-IsBase : (text base : List ℕ) → IsBase text base → IsPrefix text base
 IsPrefix-IsBase text base is = front (file_name_of text) is
   where
-    front : (o : Option (List ℕ)) → MatchOption o (base ≡ text) (λ n. IsPopped text base) → IsPrefix text base
+    front : (o : Option (List ℕ)) → IsBaseAt text base o → IsPrefix text base
     front None same = record { front = same ∙ sym (take_all (length base) text (omega (arith, ap length same))) }
     front (Some n) popped = IsPrefix-shortest popped
 
