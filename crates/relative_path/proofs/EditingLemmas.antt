@@ -7,10 +7,10 @@ use Rattle.std.proofs.lemmas.Bool.{cond-true, cond-false, cases_Bool}
 use Rattle.std.proofs.lemmas.List.{reverse-append, take_more, replicate_more, length-replicate}
 use Rattle.std.proofs.lemmas.Str.Pattern.{strip_prefix_char}
 use Rattle.relative_path.specs.Components.{slash, Step, cur, components}
-use Rattle.relative_path.specs.Slices.{IsShortestPrefix, IsFront}
+use Rattle.relative_path.specs.Slices.{IsShortestPrefix, IsCut, IsFront}
 use Rattle.relative_path.specs.Editing.{with_separator, without_leading_slash, pushed, is_cur, kept_len, IsPopped}
 use Rattle.relative_path.proofs.ComponentsLemmas.{components-nil, components-append, components-slash, components-trailing_slash}
-use Rattle.relative_path.proofs.SliceLemmas.{IsPrefix, IsPrefix-trans, IsPrefix-shortest, IsShortestPrefix-nil, IsShortestPrefix-trans}
+use Rattle.relative_path.proofs.SliceLemmas.{IsPrefix, take-IsPrefix, IsPrefix-trans, IsPrefix-shortest, IsShortestPrefix-from, IsShortestPrefix-trans}
 
 -- what `strip_prefix` gives, or the text
 pub without_leading_slash-strip_prefix : (text : List ℕ) (r : Option (Bor (List ℕ))) (whole : Bor (List ℕ)) → whole.now ≡ text → MatchOption r (FindsCharPrefix slash text None) (λ x. StripsPrefix (FindsCharPrefix slash) text x.now) → (unwrap_or r whole).now ≡ without_leading_slash text
@@ -37,18 +37,40 @@ kept_len-push cs c other =
     let last : suffix_len is_cur (cs ++ c ∷ []) ≡ 0 = ap (prefix_len is_cur) (reverse-append cs (c ∷ [])) ∙ cond-false (is_cur c) _ _ other in
     omega (arith, last, length-append cs (c ∷ []))
 
--- what is left of a text is a front of it, and only `.` components were dropped
+-- the text ends in a slash, or has no byte
+ends_separated : (text : List ℕ) → get_or text (length text - 1) 0 ≡ slash → text ≡ take (length text - 1) text ++ slash ∷ []
+ends_separated [] e = absurd (omega (arith, e))
+ends_separated (b ∷ bs) e =
+    let long : length (b ∷ bs) ≤ length (b ∷ bs) - 1 + 1 = omega arith in
+    sym (take_all (length (b ∷ bs) - 1 + 1) (b ∷ bs) long) ∙ take_more (b ∷ bs) (length (b ∷ bs) - 1) 0 (omega arith) ∙ ap (λ x. take (length (b ∷ bs) - 1) (b ∷ bs) ++ x ∷ []) e
+
+-- the shortest front with its components ends in no slash
+pub end-IsShortestPrefix : {text p : List ℕ} {cs : List Step} → IsShortestPrefix text cs p → get_or p (length p - 1) 0 ≢ slash
+end-IsShortestPrefix {text} {p} {cs} s = λ e.
+    let front = take (length p - 1) p in
+    let same = ap components (sym (take-IsPrefix (IsPrefix-shortest s) (length p - 1) (omega arith))) ∙ sym (components-trailing_slash front) ∙ ap components (sym (ends_separated p e)) ∙ s.same_components in
+    let shorter = s.shortest (length p - 1) same in
+    empty p (omega arith) e
+  where
+    empty : (q : List ℕ) → length q ≡ 0 → get_or q (length q - 1) 0 ≢ slash
+    empty [] none = λ e. absurd (omega (arith, e))
+    empty (b ∷ bs) none = absurd (omega arith)
+
+-- what is left of a text is a front of it that ends in no slash, and only `.` components were dropped
 pub record LosesCurs (text left : List ℕ) : Type 0 where
   pub prefix : IsPrefix text left
+  pub end : get_or left (length left - 1) 0 ≢ slash
   pub lost : ℕ
   pub joined : components text ≡ components left ++ replicate lost cur
 
-pub LosesCurs-start : (text : List ℕ) → LosesCurs text text
-LosesCurs-start text = record { prefix = record { front = sym (take_all (length text) text (omega arith)) }; lost = 0; joined = sym (append-nil (components text)) }
+-- only the slashes at the end were dropped
+pub LosesCurs-start : (text trimmed : List ℕ) → IsPrefix text trimmed → get_or trimmed (length trimmed - 1) 0 ≢ slash → components trimmed ≡ components text → LosesCurs text trimmed
+LosesCurs-start text trimmed prefix end same = record { prefix = prefix; end = end; lost = 0; joined = sym same ∙ sym (append-nil (components trimmed)) }
 
 pub LosesCurs-cur : (text left front : List ℕ) → LosesCurs text left → components left ≡ components front ++ cur ∷ [] → IsFront left front → LosesCurs text front
 LosesCurs-cur text left front h last cut = record {
   prefix = IsPrefix-trans h.prefix (IsPrefix-shortest cut);
+  end = end-IsShortestPrefix cut;
   lost = suc h.lost;
   joined = h.joined ∙ ap (λ cs. cs ++ replicate h.lost cur) last ∙ append_assoc (components front) (cur ∷ []) (replicate h.lost cur);
 }
@@ -59,22 +81,29 @@ IsPopped-none text left front h none cut =
     let nothing = ap (λ cs. take (length cs - 1) cs) none in
     rw kept (subst (λ cs. IsShortestPrefix text cs front) nothing (IsShortestPrefix-trans h.prefix cut))
 
-pub IsPopped-front : (text left front : List ℕ) (c : Step) → LosesCurs text left → is_cur c ≡ false → components left ≡ components front ++ c ∷ [] → IsFront left front → IsPopped text front
-IsPopped-front text left front c h other last cut =
-    let kept = ap kept_len h.joined ∙ kept_len-curs (components left) h.lost ∙ ap kept_len last ∙ kept_len-push (components front) c other in
-    let whole = h.joined ∙ ap (λ cs. cs ++ replicate h.lost cur) last ∙ append_assoc (components front) (c ∷ []) (replicate h.lost cur) in
-    let firsts = ap₂ take kept whole ∙ take_at (components front) _ (length (components front)) refl in
-    let shortest = IsShortestPrefix-trans h.prefix cut in
-    subst (λ cs. IsShortestPrefix text cs front) (sym cut.same_components ∙ sym firsts) shortest
+-- where the component before the lost ones stands
+module _ (text left front : List ℕ) (c : Step) (h : LosesCurs text left) (other : is_cur c ≡ false) (last : components left ≡ components front ++ c ∷ []) where
+  whole : components text ≡ (components front ++ c ∷ []) ++ replicate h.lost cur
+  whole = h.joined ∙ ap (λ cs. cs ++ replicate h.lost cur) last
+
+  pub kept_len-front : kept_len (components text) ≡ length (components front)
+  kept_len-front = ap kept_len whole ∙ kept_len-curs (components front ++ c ∷ []) h.lost ∙ kept_len-push (components front) c other
+
+  -- the text before it is what a parent keeps
+  pub IsPopped-front : IsFront left front → IsPopped text front
+  IsPopped-front cut =
+      let firsts = ap₂ take kept_len-front (whole ∙ append_assoc (components front) (c ∷ []) (replicate h.lost cur)) ∙ take_at (components front) _ (length (components front)) refl in
+      let shortest = IsShortestPrefix-trans h.prefix cut in
+      subst (λ cs. IsShortestPrefix text cs front) (sym cut.same_components ∙ sym firsts) shortest
+
+  -- the text up to its end has one component more
+  pub IsCut-through : IsCut text (kept_len (components text) + 1) left
+  IsCut-through =
+      let count : kept_len (components text) + 1 ≡ length (components front ++ c ∷ []) = omega (arith, kept_len-front, length-append (components front) (c ∷ [])) in
+      let firsts = ap₂ take count whole ∙ take_at (components front ++ c ∷ []) _ _ refl in
+      IsShortestPrefix-from h.prefix (last ∙ sym firsts) h.end
 
 -- ---- pushing
-
--- the text ends in a slash, or has no byte
-ends_separated : (text : List ℕ) → get_or text (length text - 1) 0 ≡ slash → text ≡ take (length text - 1) text ++ slash ∷ []
-ends_separated [] e = absurd (omega (arith, e))
-ends_separated (b ∷ bs) e =
-    let long : length (b ∷ bs) ≤ length (b ∷ bs) - 1 + 1 = omega arith in
-    sym (take_all (length (b ∷ bs) - 1 + 1) (b ∷ bs) long) ∙ take_more (b ∷ bs) (length (b ∷ bs) - 1) 0 (omega arith) ∙ ap (λ x. take (length (b ∷ bs) - 1) (b ∷ bs) ++ x ∷ []) e
 
 -- a text that has a byte and does not end in a slash gets one
 pub with_separator-solid : (text : List ℕ) → 0 < length text → get_or text (length text - 1) 0 ≢ slash → with_separator text ≡ text ++ slash ∷ []

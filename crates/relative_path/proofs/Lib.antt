@@ -6,4 +6,5 @@ pub mod TrimLemmas
 pub mod SplitLemmas
 pub mod NextLemmas
 pub mod EditingLemmas
+pub mod NameLemmas
 pub mod NormalizingLemmas

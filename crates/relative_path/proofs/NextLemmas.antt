@@ -1,6 +1,6 @@
 -- Taking the first or the last component off a text: a trim, a cut at a slash, and a trim.
 use Rattle.std.proofs.Common.{◌≡◌, ◌≢◌, ◌⊎◌, ℕ, ◌-◌, List, [], ◌∷◌, ◌++◌, All, length, get_or, take, drop, Option, Some, None, MatchOption, sym, refl, ap, ap₂, ◌∙◌, subst, inl, inr, append_assoc, append-nil, arith, ne_eqb, false, length-append, take_at}
-use Rattle.std.specs.Iterator.{MakesProgress, YieldsFirstBy, YieldsLastBy, item_count}
+use Rattle.std.specs.Iterator.{MakesProgress, item_count}
 use Rattle.std.specs.Prelude.{⊤}
 use Rattle.std.proofs.lemmas.Iterator.{YieldsList}
 use Rattle.std.proofs.lemmas.Iterator.Consumers.{YieldsList-from_shown}
@@ -86,7 +86,8 @@ nil_from_prefix : (p : List ℕ) → IsPrefix [] p → p ≡ []
 nil_from_prefix [] h = refl
 nil_from_prefix (b ∷ bs) h = h.front
 
-ends_in_slash : (xs : List ℕ) → get_or (xs ++ slash ∷ []) (length (xs ++ slash ∷ []) - 1) 0 ≡ slash
+-- a slash put behind a text ends it
+pub ends_in_slash : (xs : List ℕ) → get_or (xs ++ slash ∷ []) (length (xs ++ slash ∷ []) - 1) 0 ≡ slash
 ends_in_slash xs =
     let index : length (xs ++ slash ∷ []) - 1 ≡ length xs = omega (arith, length-append xs (slash ∷ [])) in
     ap (λ i. get_or (xs ++ slash ∷ []) i 0) index ∙ get_or_at xs slash [] 0 (length xs) refl

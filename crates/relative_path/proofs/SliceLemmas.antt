@@ -1,7 +1,9 @@
 -- Prefixes and suffixes of a text that are fixed by their components.
-use Rattle.std.proofs.Common.{◌≡◌, ◌≢◌, ℕ, ◌+◌, ◌-◌, ◌<◌, ◌≤◌, List, [], ◌++◌, length, get_or, take, drop, sym, refl, ap, ◌∙◌, ⊎_elim, append_assoc, arith, take-append-drop, length-drop, length-take, take-take, take_at, get_or-drop}
+use Rattle.std.proofs.Common.{◌≡◌, ◌≢◌, ℕ, ◌+◌, ◌-◌, ◌<◌, ◌≤◌, List, [], ◌++◌, length, get_or, take, drop, sym, refl, ap, ◌∙◌, subst, ⊎_elim, append_assoc, arith, take-append-drop, length-drop, length-take, take-take, take_at, get_or-drop}
 use Rattle.std.proofs.lemmas.Bool.{cases_lt}
 use Rattle.std.proofs.lemmas.List.Prefix.{end_rest}
+use Rattle.std.specs.Str.{IsUtf8, IsCharBoundary}
+use Rattle.std.proofs.lemmas.Str.{IsCharBoundary-from_take}
 use Rattle.relative_path.specs.Components.{slash, Step, components}
 use Rattle.relative_path.specs.Slices.{IsShortestPrefix}
 use Rattle.relative_path.proofs.ComponentsLemmas.{components-nil, total_len-components, solid_len, solid_len-append, ends_in_slash}
@@ -13,11 +15,21 @@ pub record IsPrefix (text p : List ℕ) : Type 0 where
 pub IsPrefix-append : (p rest : List ℕ) → IsPrefix (p ++ rest) p
 IsPrefix-append p rest = record { front = sym (take_at p rest (length p) refl) }
 
+pub IsPrefix-take : (k : ℕ) (text : List ℕ) → IsPrefix text (take k text)
+IsPrefix-take k text = subst (λ x. IsPrefix x (take k text)) (take-append-drop k text) (IsPrefix-append (take k text) (drop k text))
+
+-- the same text before both
+pub IsPrefix-append_left : (head : List ℕ) {text p : List ℕ} → IsPrefix text p → IsPrefix (head ++ text) (head ++ p)
+IsPrefix-append_left head {text} {p} h =
+    let rest = drop (length p) text in
+    let whole : (head ++ p) ++ rest ≡ head ++ text = append_assoc head p rest ∙ ap (λ x. head ++ (x ++ rest)) h.front ∙ ap (λ x. head ++ x) (take-append-drop (length p) text) in
+    subst (λ x. IsPrefix x (head ++ p)) whole (IsPrefix-append (head ++ p) rest)
+
 pub length-IsPrefix : {text p : List ℕ} → IsPrefix text p → length p ≤ length text
 length-IsPrefix {text} {p} h = let e = ap length h.front ∙ length-take (length p) text in omega (arith, e)
 
 -- a shorter front of the front
-take-IsPrefix : {text p : List ℕ} → IsPrefix text p → (k : ℕ) → k ≤ length p → take k p ≡ take k text
+pub take-IsPrefix : {text p : List ℕ} → IsPrefix text p → (k : ℕ) → k ≤ length p → take k p ≡ take k text
 take-IsPrefix {text} {p} h k short = ap (take k) h.front ∙ take-take k (length p) text short
 
 pub IsPrefix-trans : {text p q : List ℕ} → IsPrefix text p → IsPrefix p q → IsPrefix text q
@@ -47,6 +59,10 @@ IsShortestPrefix-from {text} {p} {cs} h same end = record {
       (λ long. long)
       (cases_lt k (length p));
 }
+
+-- a text is cut at the end of a character where its front is a text
+pub IsCharBoundary-IsPrefix : {text p : List ℕ} → IsPrefix text p → IsUtf8 text → IsUtf8 p → IsCharBoundary text (length p)
+IsCharBoundary-IsPrefix {text} {p} h whole part = IsCharBoundary-from_take text (length p) whole (length-IsPrefix h) (subst IsUtf8 h.front part)
 
 pub IsPrefix-shortest : {text p : List ℕ} {cs : List Step} → IsShortestPrefix text cs p → IsPrefix text p
 IsPrefix-shortest h = record { front = h.prefix }

@@ -3,6 +3,7 @@ pub mod Walk
 pub mod NormalForm
 pub mod Slices
 pub mod Editing
+pub mod Names
 pub mod RelativePath
 pub mod RelativePathBuf
 pub mod Iterating

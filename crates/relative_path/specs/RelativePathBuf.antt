@@ -1,5 +1,5 @@
 -- What a `RelativePathBuf` shows.
-use Rattle.std.specs.Prelude.{ℕ, List}
+use Rattle.std.specs.Prelude.{◌≡◌, ◌<◌, ℕ, List, length}
 use Rattle.relative_path.specs.Components.{Step, components}
 
 -- a text, and how many bytes it can have without a growth of its memory
@@ -10,3 +10,10 @@ pub record Buffer : Type 0 where
 -- the components of the text
 abbrev pub buffer_components : Buffer → List Step
 buffer_components buffer = components buffer.text
+
+-- one text alone has the property, and it is longer than the room
+pub record IsTooLong (P : List ℕ → Type 0) (room : ℕ) : Type 0 where
+  pub text : List ℕ
+  pub holds : P text
+  pub only : (other : List ℕ) → P other → other ≡ text
+  pub longer : room < length text

@@ -1,18 +1,20 @@
 //! The owned relative path.
-ghost use Rattle.std.specs.Prelude.{◌≡◌, ◌≢◌, ◌≤◌, ◌<◌, ◌+◌, ◌↔◌, ◌++◌, [], ◌∷◌, if◌then◌else◌, length, IfOk, OnOk, OnErr, IsTrue, Some};
+ghost use Rattle.std.specs.Prelude.{◌≡◌, ◌≢◌, ◌≤◌, ◌<◌, ◌+◌, ◌↔◌, ◌++◌, [], ◌∷◌, if◌then◌else◌, length, None, Some, IsSome, IfOk, IsOk, OnOk, OnErr, IsTrue};
 ghost use Rattle.relative_path.specs.Components.{slash, components};
 ghost use Rattle.relative_path.specs.Editing.{pushed, with_separator, IsPopped};
+ghost use Rattle.relative_path.specs.Names.{file_name_of, dotted, IsNamed, IsExtended};
 ghost use Rattle.relative_path.specs.Editing as spec;
 ghost use Rattle.relative_path.specs.Order.{steps_eq, steps_cmp, fed};
 ghost use Rattle.relative_path.specs.OrderLaws.{steps_cmp-total, steps_eq-equiv, steps_eq-ties, fed-steps_eq};
 ghost use Rattle.relative_path.specs.RelativePath.{path_text};
-ghost use Rattle.relative_path.specs.RelativePathBuf.{buffer_components};
+ghost use Rattle.relative_path.specs.RelativePathBuf.{buffer_components, IsTooLong};
 ghost use Rattle.std.specs.Cmp.{on_equiv, on_total, partial_equiv_from_equiv, partial_order_from_agreeing_total};
 ghost use Rattle.std.specs.Fmt.{styled_text, debug_str};
 ghost use Rattle.std.specs.Ordering.{on, as_partial_cmp};
 ghost use Rattle.std.proofs.Common.{refl};
 
-use crate::path::{RelativePath, without_last};
+use crate::name::{base_of, end_of, without_extension};
+use crate::path::RelativePath;
 use std::alloc::{AllocError, Global};
 use std::cmp::Ordering;
 use std::fmt;
@@ -62,6 +64,36 @@ impl RelativePathBuf {
         Ok(RelativePathBuf { text })
     }
 
+    // A copy of the text, with room for `room` bytes.
+    pub(crate) fn with_room(
+        alloc: Global,
+        text: &str,
+        room: usize,
+    ) -> Result<RelativePathBuf, AllocError>
+        requires { length text.now ≤ room }
+        ensures text { IfOk result (λ buf. buf.text ≡ text.now) }
+        ensures room { IfOk result (λ buf. room ≤ buf.room) }
+    {
+        let mut buf = RelativePathBuf::with_capacity(alloc, room)?;
+        buf.text.push_str(text).unwrap();
+        Ok(buf)
+    }
+
+    /// A copy of the path.
+    ///
+    /// It asks for memory once, and fails only where that is refused.
+    ///
+    /// ```
+    /// let buf = RelativePathBuf::from_text(alloc, "foo//bar")?;
+    /// assert_eq!(rt; buf.clone()?.as_relative_path().as_str(), "foo//bar");
+    /// ```
+    pub fn clone(&self) -> Result<RelativePathBuf, AllocError>
+        ensures { IfOk result (λ buf. buf.text ≡ self.now.text) }
+    {
+        let text = self.text.clone()?;
+        Ok(RelativePathBuf { text })
+    }
+
     /// How many bytes the text has.
     pub fn len(&self) -> usize
         ensures { result ≡ length self.now.text }
@@ -92,13 +124,92 @@ impl RelativePathBuf {
         self.text.push_str(text)
     }
 
+    /// Replaces the file name, or pushes one if the path has none.
+    ///
+    /// It asks for memory only where the result is longer than the text and its spare room together, and
+    /// before it changes anything: a refusal leaves the text as it was.
+    ///
+    /// ```
+    /// let mut buf = RelativePathBuf::from_text(alloc, "foo/bar/.")?;
+    /// buf.set_file_name("baz")?;
+    /// assert_eq!(rt; buf.as_relative_path().as_str(), "foo/baz");
+    /// ```
+    pub fn set_file_name(&mut self, file_name: &str) -> Result<(), AllocError>
+        ensures ok { OnOk result (IsNamed self.old.text file_name.now self.new.text) }
+        ensures err { OnErr result (self.new.text ≡ self.old.text) }
+        ensures full { OnErr result (IsTooLong (IsNamed self.old.text file_name.now) self.old.room) }
+        ensures room { self.old.room ≤ self.new.room }
+    {
+        let base = base_of(self.as_relative_path()).as_str();
+        let base_len = base.len();
+        let len = pushed_len(base, file_name);
+        self.reserve_to(len)?;
+        self.text.truncate(base_len);
+        self.push(RelativePath::new(file_name)).unwrap();
+        Ok(())
+    }
+
+    /// Replaces the extension of the file name, or takes it off where `extension` is empty. It answers whether
+    /// the path has a file name; a path without one stays as it is.
+    ///
+    /// It asks for memory only where the result is longer than the text and its spare room together, and
+    /// before it changes anything: a refusal leaves the text as it was. Neither an empty extension nor a path
+    /// without a file name needs memory.
+    ///
+    /// ```
+    /// let mut buf = RelativePathBuf::from_text(alloc, "foo.tar.gz")?;
+    /// assert!(rt; buf.set_extension("xz")?);
+    /// assert_eq!(rt; buf.as_relative_path().as_str(), "foo.tar.xz");
+    /// ```
+    pub fn set_extension(&mut self, extension: &str) -> Result<bool, AllocError>
+        ensures answer { IfOk result (λ set. IsTrue set ↔ IsSome (file_name_of self.old.text)) }
+        ensures ok { OnOk result (IsExtended self.old.text extension.now self.new.text) }
+        ensures err { OnErr result (self.new.text ≡ self.old.text) }
+        ensures full { OnErr result (IsTooLong (IsExtended self.old.text extension.now) self.old.room) }
+        ensures shorter { extension.now ≡ [] → IsOk result }
+        ensures unnamed { file_name_of self.old.text ≡ None → IsOk result }
+        ensures room { self.old.room ≤ self.new.room }
+    {
+        let Some(front) = without_extension(self.as_relative_path()) else {
+            return Ok(false);
+        };
+        let front_len = front.as_str().len();
+        self.reserve_to(front_len + dotted_len(extension))?;
+        self.text.truncate(front_len);
+        self.push_extension(extension);
+        Ok(true)
+    }
+
+    // Makes room for a text of `len` bytes.
+    fn reserve_to(&mut self, len: usize) -> Result<(), AllocError>
+        ensures text { self.new.text ≡ self.old.text }
+        ensures ok { OnOk result (len ≤ self.new.room) }
+        ensures full { OnErr result (self.old.room < len) }
+        ensures longer { OnErr result (length self.old.text < len) }
+        ensures room { self.old.room ≤ self.new.room }
+    {
+        self.text.reserve(len.saturating_sub(self.text.len()))
+    }
+
+    // Adds a dot and the extension, if that is not empty.
+    pub(crate) fn push_extension(&mut self, extension: &str)
+        requires { length (self.old.text ++ dotted extension.now) ≤ self.old.room }
+        ensures text { self.new.text ≡ self.old.text ++ dotted extension.now }
+        ensures room { self.old.room ≤ self.new.room }
+    {
+        if !extension.is_empty() {
+            self.text.push_str(".").unwrap();
+            self.text.push_str(extension).unwrap();
+        }
+    }
+
     /// Cuts the path to its parent.
     pub fn pop(&mut self) -> bool
         ensures popped { IsTrue result ↔ (self.old.text ≢ []) }
         ensures text { IsPopped self.old.text self.new.text }
         ensures room { self.new.room ≡ self.old.room }
     {
-        let len = without_last(self.as_relative_path()).as_str().len();
+        let len = end_of(self.as_relative_path()).before.as_str().len();
         let popped = !self.text.is_empty();
         self.text.truncate(len);
         popped
@@ -180,6 +291,24 @@ impl fmt::Debug for RelativePathBuf {
 
     fn fmt<W: fmt::Write>(&self, f: &mut fmt::Formatter<W>) -> fmt::Result {
         fmt::Debug::fmt(&self.as_relative_path(), f)
+    }
+}
+
+// How many bytes the text has when the path is pushed onto it.
+pub(crate) fn pushed_len(text: &str, path: &str) -> usize
+    ensures { result ≡ length (pushed text.now path.now) }
+{
+    text.len() + usize::from(needs_separator(text)) + without_leading_slash(path).len()
+}
+
+// How many bytes a dot and the extension have, if that is not empty.
+pub(crate) fn dotted_len(extension: &str) -> usize
+    ensures { result ≡ length (dotted extension.now) }
+{
+    if extension.is_empty() {
+        0
+    } else {
+        1 + extension.len()
     }
 }
 

@@ -244,7 +244,7 @@ fn without_leading_slashes(text: &str) -> &str
 }
 
 // The text without the slashes at its end.
-fn without_trailing_slashes(text: &str) -> &str
+pub(crate) fn without_trailing_slashes(text: &str) -> &str
     ensures prefix { result.now ≡ take (length result.now) text.now }
     ensures end { slice_index result.now (length result.now - 1) ≢ slash }
     ensures same { components result.now ≡ components text.now }

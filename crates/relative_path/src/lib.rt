@@ -7,4 +7,5 @@ pub use self::path::{Display, RelativePath};
 
 mod buf;
 mod component;
+mod name;
 mod path;

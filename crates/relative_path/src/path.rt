@@ -1,19 +1,22 @@
 //! The borrowed relative path.
-ghost use Rattle.std.specs.Prelude.{◌≡◌, ◌≤◌, ◌↔◌, ◌++◌, [], ◌∷◌, IfOk, IsTrue, Some, List, ℕ, length};
+ghost use Rattle.std.specs.Prelude.{◌≡◌, ◌≢◌, ◌≤◌, ◌↔◌, ◌++◌, [], ◌∷◌, IfOk, IfSome, IsSome, IsTrue, Some, List, ℕ, length};
 ghost use Rattle.relative_path.specs.Components.{Step, name, components};
 ghost use Rattle.relative_path.specs.Editing.{pushed, IsPopped};
 ghost use Rattle.relative_path.specs.Iterating.{text_left, iter_text_left};
+ghost use Rattle.relative_path.specs.Names.{file_name_of, stem_of, extension_of, IsNamed, IsExtended};
 ghost use Rattle.relative_path.specs.Order.{steps_eq, steps_cmp, fed};
 ghost use Rattle.relative_path.specs.OrderLaws.{steps_cmp-total, steps_eq-equiv, steps_eq-ties, fed-steps_eq};
 ghost use Rattle.std.specs.Cmp.{on_equiv, on_total, partial_equiv_from_equiv, partial_order_from_agreeing_total};
 ghost use Rattle.std.specs.Fmt.{styled_text, debug_str};
+ghost use Rattle.std.specs.Option.{option_copied, option_map, option_and_then};
 ghost use Rattle.std.specs.Ordering.{on, as_partial_cmp};
 ghost use Rattle.std.proofs.Common.{refl};
 ghost use Rattle.relative_path.specs.NormalForm.{IsNormalTextOf};
 ghost use Rattle.relative_path.specs.RelativePath.{path_text, path_components, display_text};
 
-use crate::buf::RelativePathBuf;
+use crate::buf::{RelativePathBuf, dotted_len, pushed_len};
 use crate::component::{Component, Components, Iter};
+use crate::name::{base_of, end_of, split_name, without_extension};
 use std::alloc::{AllocError, Global};
 use std::cmp::Ordering;
 use std::fmt;
@@ -40,6 +43,25 @@ impl<'a> RelativePath<'a> {
         self.text
     }
 
+    /// This path with `path` pushed onto it, in memory of its own.
+    ///
+    /// One slash at the start of `path` is dropped, so nothing replaces this path. It asks for memory
+    /// once, for the whole result, and fails only where that is refused.
+    ///
+    /// ```
+    /// let joined = RelativePath::new("foo").join(alloc, RelativePath::new("/bar"))?;
+    /// assert_eq!(rt; joined.as_relative_path().as_str(), "foo/bar");
+    /// ```
+    pub fn join(self, alloc: Global, path: RelativePath<'_>) -> Result<RelativePathBuf, AllocError>
+        ensures { IfOk result
+            (λ joined. joined.text ≡ pushed (path_text self.entry) (path_text path.entry)) }
+    {
+        let len = pushed_len(self.text, path.text);
+        let mut joined = RelativePathBuf::with_room(alloc, self.text, len)?;
+        joined.push(path).unwrap();
+        Ok(joined)
+    }
+
     /// The walk over the path's components, from both ends.
     pub fn components(self) -> Components<'a>
         ensures { text_left result ≡ path_text self.entry }
@@ -59,6 +81,128 @@ impl<'a> RelativePath<'a> {
         ensures { display_text result ≡ path_text self.entry }
     {
         Display { path: self }
+    }
+
+    /// A copy of the path, in memory of its own.
+    ///
+    /// It asks for memory once, and fails only where that is refused.
+    ///
+    /// ```
+    /// let buf = RelativePath::new("//a/").to_relative_path_buf(alloc)?;
+    /// assert_eq!(rt; buf.as_relative_path().as_str(), "//a/");
+    /// ```
+    pub fn to_relative_path_buf(self, alloc: Global) -> Result<RelativePathBuf, AllocError>
+        ensures { IfOk result (λ buf. buf.text ≡ path_text self.entry) }
+    {
+        RelativePathBuf::from_text(alloc, self.text)
+    }
+
+    /// The path without the `.` at its end and one more component. Only the empty path has none.
+    ///
+    /// The answer is a part of this path, without the slashes at its end, and takes no memory.
+    ///
+    /// ```
+    /// let parent = RelativePath::new("foo/./bar//.").parent();
+    /// assert!(rt; parent.is_some_and(|path| path.as_str() == "foo/."));
+    /// ```
+    pub fn parent(self) -> Option<RelativePath<'a>>
+        ensures some { IsSome result ↔ (path_text self.entry ≢ []) }
+        ensures text { IfSome result
+            (λ parent. IsPopped (path_text self.entry) (path_text parent)) }
+    {
+        if self.text.is_empty() {
+            None
+        } else {
+            Some(end_of(self).before)
+        }
+    }
+
+    /// The last component that is no `.`, if it is a name.
+    ///
+    /// The answer is a part of this path, and takes no memory.
+    ///
+    /// ```
+    /// assert_eq!(rt; RelativePath::new("foo/bar.txt/.").file_name(), Some("bar.txt"));
+    /// assert_eq!(rt; RelativePath::new("foo/..").file_name(), None);
+    /// ```
+    pub fn file_name(self) -> Option<&'a str>
+        ensures { option_copied result ≡ file_name_of (path_text self.entry) }
+    {
+        end_of(self).name
+    }
+
+    /// This path with the file name replaced, or with one pushed onto it if it has none, in memory of its own.
+    ///
+    /// It asks for memory once, for the whole result, and fails only where that is refused.
+    ///
+    /// ```
+    /// let named = RelativePath::new("tmp/foo.txt").with_file_name(alloc, "bar.txt")?;
+    /// assert_eq!(rt; named.as_relative_path().as_str(), "tmp/bar.txt");
+    /// ```
+    pub fn with_file_name(
+        self,
+        alloc: Global,
+        file_name: &str,
+    ) -> Result<RelativePathBuf, AllocError>
+        ensures { IfOk result
+            (λ named. IsNamed (path_text self.entry) file_name.now named.text) }
+    {
+        base_of(self).join(alloc, RelativePath::new(file_name))
+    }
+
+    /// The file name up to its last dot. It is the whole file name if that has no dot, or nothing before its
+    /// last one.
+    ///
+    /// The answer is a part of this path, and takes no memory.
+    ///
+    /// ```
+    /// assert_eq!(rt; RelativePath::new("foo.tar.gz").file_stem(), Some("foo.tar"));
+    /// assert_eq!(rt; RelativePath::new(".foo").file_stem(), Some(".foo"));
+    /// ```
+    pub fn file_stem(self) -> Option<&'a str>
+        ensures { option_copied result ≡ option_map stem_of (file_name_of (path_text self.entry)) }
+    {
+        self.file_name().map(|name| split_name(name).0)
+    }
+
+    /// What stands after the last dot of the file name, if something stands before that dot.
+    ///
+    /// The answer is a part of this path, and takes no memory.
+    ///
+    /// ```
+    /// assert_eq!(rt; RelativePath::new("foo.tar.gz").extension(), Some("gz"));
+    /// assert_eq!(rt; RelativePath::new(".foo").extension(), None);
+    /// ```
+    pub fn extension(self) -> Option<&'a str>
+        ensures { option_copied result ≡ option_and_then extension_of (file_name_of (path_text self.entry)) }
+    {
+        self.file_name().and_then(|name| split_name(name).1)
+    }
+
+    /// This path with the extension of its file name replaced, in memory of its own. An empty extension takes
+    /// it off. A path without a file name stays as it is.
+    ///
+    /// It asks for memory once, for the whole result, and fails only where that is refused.
+    ///
+    /// ```
+    /// let extended = RelativePath::new("foo.rs").with_extension(alloc, "txt")?;
+    /// assert_eq!(rt; extended.as_relative_path().as_str(), "foo.txt");
+    /// ```
+    pub fn with_extension(
+        self,
+        alloc: Global,
+        extension: &str,
+    ) -> Result<RelativePathBuf, AllocError>
+        ensures { IfOk result
+            (λ extended. IsExtended (path_text self.entry) extension.now extended.text) }
+    {
+        let Some(front) = without_extension(self) else {
+            return self.to_relative_path_buf(alloc);
+        };
+        let len = front.text.len() + dotted_len(extension);
+        let mut extended = RelativePathBuf::with_room(alloc, front.text, len)?;
+        extended.push_extension(extension);
+        Ok(extended)
     }
 
     /// The normal path that leads where this one leads.
@@ -200,19 +344,6 @@ impl fmt::Debug for Display<'_> {
     fn fmt<W: fmt::Write>(&self, f: &mut fmt::Formatter<W>) -> fmt::Result {
         fmt::Debug::fmt(&self.path, f)
     }
-}
-
-// What a parent keeps: the path without the `.` at its end and one more component.
-pub(crate) fn without_last(path: RelativePath<'_>) -> RelativePath<'_>
-    ensures { IsPopped (path_text path.entry) (path_text result) }
-{
-    let mut components = path.components();
-    while let Some(component) = components.next_back() {
-        if !matches!(component, Component::CurDir) {
-            break;
-        }
-    }
-    components.as_relative_path()
 }
 
 // Pushes a text onto a buffer that has room for it.
