@@ -18,9 +18,18 @@ pub fn answer(alloc: Global, line: &str) -> Result<String, Refusal> {
         "display" => display(alloc, call.one()?),
         "debug" => debug(alloc, call.one()?),
         "width" => width(alloc, call.two()?),
+        "parent" => parent(alloc, call.one()?),
+        "file_name" => file_name(alloc, call.one()?),
+        "file_stem" => file_stem(alloc, call.one()?),
+        "extension" => extension(alloc, call.one()?),
+        "join" => join(alloc, call.two()?),
+        "with_file_name" => with_file_name(alloc, call.two()?),
+        "with_extension" => with_extension(alloc, call.two()?),
         "normalize" => normalize(alloc, call.one()?),
         "push" => push(alloc, call.two()?),
         "pop" => pop(alloc, call.one()?),
+        "set_file_name" => set_file_name(alloc, call.two()?),
+        "set_extension" => set_extension(alloc, call.two()?),
         _ => Err(Refusal::UnknownCommand),
     }
 }
@@ -84,6 +93,39 @@ fn width(alloc: Global, (path, width): (&str, &str)) -> Result<String, Refusal> 
     Ok(format!(in alloc; "{path:width$}")?)
 }
 
+fn parent(alloc: Global, path: &str) -> Result<String, Refusal> {
+    let parent = RelativePath::new(path).parent();
+    maybe(alloc, parent.map(|parent| parent.as_str()))
+}
+
+fn file_name(alloc: Global, path: &str) -> Result<String, Refusal> {
+    maybe(alloc, RelativePath::new(path).file_name())
+}
+
+fn file_stem(alloc: Global, path: &str) -> Result<String, Refusal> {
+    maybe(alloc, RelativePath::new(path).file_stem())
+}
+
+fn extension(alloc: Global, path: &str) -> Result<String, Refusal> {
+    maybe(alloc, RelativePath::new(path).extension())
+}
+
+fn join(alloc: Global, (path, other): (&str, &str)) -> Result<String, Refusal> {
+    let joined = RelativePath::new(path).join(alloc, RelativePath::new(other))?;
+    text_of(alloc, &joined)
+}
+
+fn with_file_name(alloc: Global, (path, name): (&str, &str)) -> Result<String, Refusal> {
+    text_of(alloc, &RelativePath::new(path).with_file_name(alloc, name)?)
+}
+
+fn with_extension(alloc: Global, (path, extension): (&str, &str)) -> Result<String, Refusal> {
+    text_of(
+        alloc,
+        &RelativePath::new(path).with_extension(alloc, extension)?,
+    )
+}
+
 fn normalize(alloc: Global, path: &str) -> Result<String, Refusal> {
     text_of(alloc, &RelativePath::new(path).normalize(alloc)?)
 }
@@ -97,12 +139,36 @@ fn push(alloc: Global, (base, path): (&str, &str)) -> Result<String, Refusal> {
 fn pop(alloc: Global, path: &str) -> Result<String, Refusal> {
     let mut buf = RelativePathBuf::from_text(alloc, path)?;
     let popped = buf.pop();
-    let text = buf.as_relative_path().as_str();
-    Ok(format!(in alloc; "{popped}\t{text}")?)
+    told(alloc, popped, &buf)
+}
+
+fn set_file_name(alloc: Global, (path, name): (&str, &str)) -> Result<String, Refusal> {
+    let mut buf = RelativePathBuf::from_text(alloc, path)?;
+    buf.set_file_name(name)?;
+    text_of(alloc, &buf)
+}
+
+fn set_extension(alloc: Global, (path, extension): (&str, &str)) -> Result<String, Refusal> {
+    let mut buf = RelativePathBuf::from_text(alloc, path)?;
+    let set = buf.set_extension(extension)?;
+    told(alloc, set, &buf)
 }
 
 fn text_of(alloc: Global, buf: &RelativePathBuf) -> Result<String, Refusal> {
     Ok(buf.as_relative_path().as_str().to_string(alloc)?)
+}
+
+// What an edit returned, and the text then.
+fn told(alloc: Global, returned: bool, buf: &RelativePathBuf) -> Result<String, Refusal> {
+    let text = buf.as_relative_path().as_str();
+    Ok(format!(in alloc; "{returned}\t{text}")?)
+}
+
+fn maybe(alloc: Global, text: Option<&str>) -> Result<String, Refusal> {
+    match text {
+        Some(text) => Ok(format!(in alloc; "some {text}")?),
+        None => Ok("none".to_string(alloc)?),
+    }
 }
 
 fn list(alloc: Global, components: &[Component<'_>]) -> Result<String, Refusal> {
