@@ -1,6 +1,7 @@
 //! What no clause says: outside vectors in tables, and each call that takes memory once with enough of it.
 mod comparing;
 mod editing;
+mod naming;
 mod normalizing;
 mod printing;
 mod walking;

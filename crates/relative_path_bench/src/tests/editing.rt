@@ -66,3 +66,161 @@ fn makes_buffers(rt: HostRuntime) -> Result<(), Fail> {
     assert_eq!(rt; copy.len(), 4, "from_text");
     Ok(())
 }
+
+// A text, a file name, and the text that setting it leaves.
+const FILE_NAMES: [(&str, &str, &str); 12] = [
+    ("foo", "foo", "foo"),
+    ("foo", "bar", "bar"),
+    ("foo", "", ""),
+    ("", "foo", "foo"),
+    (".", "foo", "./foo"),
+    ("foo/", "bar", "bar"),
+    ("foo/.", "bar", "bar"),
+    ("..", "foo", "../foo"),
+    ("foo/..", "bar", "foo/../bar"),
+    ("/", "foo", "/foo"),
+    ("tmp/foo.txt", "bar.txt", "tmp/bar.txt"),
+    ("a/foo", "", "a/"),
+];
+
+#[test]
+fn sets_file_names(rt: HostRuntime) -> Result<(), Fail> {
+    for (text, file_name, expected) in FILE_NAMES {
+        let mut buf = RelativePathBuf::from_text(rt.alloc(), text)?;
+        buf.set_file_name(file_name)?;
+        assert_eq!(rt;
+            buf.as_relative_path().as_str(),
+            expected,
+            "{text:?}, {file_name:?}"
+        );
+        let named = RelativePath::new(text).with_file_name(rt.alloc(), file_name)?;
+        assert_eq!(rt;
+            named.as_relative_path().as_str(),
+            expected,
+            "{text:?}, {file_name:?}"
+        );
+    }
+    Ok(())
+}
+
+#[test]
+fn sets_a_long_file_name(rt: HostRuntime) -> Result<(), Fail> {
+    let letters = "b".repeat(rt.alloc(), 4096)?;
+    let mut buf = RelativePathBuf::from_text(rt.alloc(), "foo/bar")?;
+    buf.set_file_name(letters.as_str())?;
+    let text = buf.as_relative_path().as_str();
+    assert_eq!(rt; text.strip_prefix("foo/"), Some(letters.as_str()));
+    buf.set_file_name("baz")?;
+    assert_eq!(rt; buf.as_relative_path().as_str(), "foo/baz");
+    Ok(())
+}
+
+// A text, an extension, the text that setting it leaves, and the answer.
+const EXTENSIONS: [(&str, &str, &str, bool); 17] = [
+    ("foo", "txt", "foo.txt", true),
+    ("foo.bar", "txt", "foo.txt", true),
+    ("foo.bar.baz", "txt", "foo.bar.txt", true),
+    (".test", "txt", ".test.txt", true),
+    ("foo.txt", "", "foo", true),
+    ("foo", "", "foo", true),
+    ("foo/", "bar", "foo.bar", true),
+    ("", "foo", "", false),
+    (".", "foo", ".", false),
+    ("..", "foo", "..", false),
+    ("/", "foo", "/", false),
+    ("foo/.", "bar", "foo.bar", true),
+    ("...", "", "..", true),
+    ("foo/..", "bar", "foo/..", false),
+    ("foo.rs", "txt", "foo.txt", true),
+    ("..", "x", "..", false),
+    ("日本/語.é", "ü", "日本/語.ü", true),
+];
+
+#[test]
+fn sets_extensions(rt: HostRuntime) -> Result<(), Fail> {
+    for (text, extension, expected, answer) in EXTENSIONS {
+        let mut buf = RelativePathBuf::from_text(rt.alloc(), text)?;
+        assert_eq!(rt;
+            buf.set_extension(extension)?,
+            answer,
+            "{text:?}, {extension:?}"
+        );
+        assert_eq!(rt;
+            buf.as_relative_path().as_str(),
+            expected,
+            "{text:?}, {extension:?}"
+        );
+        let extended = RelativePath::new(text).with_extension(rt.alloc(), extension)?;
+        assert_eq!(rt;
+            extended.as_relative_path().as_str(),
+            expected,
+            "{text:?}, {extension:?}"
+        );
+    }
+    Ok(())
+}
+
+#[test]
+fn an_extension_of_dots_alone_leaves_no_file_name(rt: HostRuntime) -> Result<(), Fail> {
+    let mut buf = RelativePathBuf::from_text(rt.alloc(), "...")?;
+    assert!(rt; buf.set_extension("")?);
+    assert_eq!(rt; buf.as_relative_path().file_name(), None);
+    Ok(())
+}
+
+// Two texts, and their join.
+const JOINS: [(&str, &str, &str); 5] = [
+    ("foo/bar", "baz///", "foo/bar/baz///"),
+    ("hello/world", "///foo/bar/baz", "hello/world///foo/bar/baz"),
+    ("foo", "/bar", "foo/bar"),
+    ("", "foo/bar/baz", "foo/bar/baz"),
+    ("/hello///world//", ".", "/hello///world//."),
+];
+
+#[test]
+fn joins(rt: HostRuntime) -> Result<(), Fail> {
+    for (text, path, expected) in JOINS {
+        let joined = RelativePath::new(text).join(rt.alloc(), RelativePath::new(path))?;
+        assert_eq!(rt;
+            joined.as_relative_path().as_str(),
+            expected,
+            "{text:?}, {path:?}"
+        );
+    }
+    Ok(())
+}
+
+// Two texts, and the components of their join, with a slash between.
+const JOINED_COMPONENTS: [(&str, &str, &str); 4] = [
+    ("foo/bar", "baz///", "foo/bar/baz"),
+    ("hello/world", "///foo/bar/baz", "hello/world/foo/bar/baz"),
+    ("", "foo/bar/baz", "foo/bar/baz"),
+    ("/hello///world//", ".", "hello/world/."),
+];
+
+#[test]
+fn joins_components(rt: HostRuntime) -> Result<(), Fail> {
+    for (text, path, expected) in JOINED_COMPONENTS {
+        let joined = RelativePath::new(text).join(rt.alloc(), RelativePath::new(path))?;
+        assert!(rt;
+            joined.as_relative_path() == RelativePath::new(expected),
+            "{text:?}, {path:?}"
+        );
+    }
+    Ok(())
+}
+
+#[test]
+fn copies(rt: HostRuntime) -> Result<(), Fail> {
+    let buf = RelativePath::new("//a/").to_relative_path_buf(rt.alloc())?;
+    assert_eq!(rt;
+        buf.as_relative_path().as_str(),
+        "//a/",
+        "to_relative_path_buf"
+    );
+    let copy = buf.clone()?;
+    assert_eq!(rt; copy.as_relative_path().as_str(), "//a/", "clone");
+    let foo = RelativePath::new("foo");
+    assert!(rt; foo == foo.to_relative_path_buf(rt.alloc())?.as_relative_path());
+    Ok(())
+}
