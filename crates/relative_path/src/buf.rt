@@ -126,8 +126,8 @@ impl RelativePathBuf {
 
     /// Replaces the file name, or pushes one if the path has none.
     ///
-    /// It asks for memory only where the result is longer than the text and its spare room together, and
-    /// before it changes anything: a refusal leaves the text as it was.
+    /// It asks for memory only where the result is longer than the text and its spare room
+    /// together, and before it changes anything: a refusal leaves the text as it was.
     ///
     /// ```
     /// let mut buf = RelativePathBuf::from_text(alloc, "foo/bar/.")?;
@@ -137,7 +137,8 @@ impl RelativePathBuf {
     pub fn set_file_name(&mut self, file_name: &str) -> Result<(), AllocError>
         ensures ok { OnOk result (IsNamed self.old.text file_name.now self.new.text) }
         ensures err { OnErr result (self.new.text ≡ self.old.text) }
-        ensures full { OnErr result (IsTooLong (IsNamed self.old.text file_name.now) self.old.room) }
+        ensures full { OnErr result
+            (IsTooLong (IsNamed self.old.text file_name.now) self.old.room) }
         ensures room { self.old.room ≤ self.new.room }
     {
         let base = base_of(self.as_relative_path()).as_str();
@@ -149,12 +150,12 @@ impl RelativePathBuf {
         Ok(())
     }
 
-    /// Replaces the extension of the file name, or takes it off where `extension` is empty. It answers whether
-    /// the path has a file name; a path without one stays as it is.
+    /// Replaces the extension of the file name, or takes it off where `extension` is empty. It
+    /// answers whether the path has a file name; a path without one stays as it is.
     ///
-    /// It asks for memory only where the result is longer than the text and its spare room together, and
-    /// before it changes anything: a refusal leaves the text as it was. Neither an empty extension nor a path
-    /// without a file name needs memory.
+    /// It asks for memory only where the result is longer than the text and its spare room
+    /// together, and before it changes anything: a refusal leaves the text as it was. Neither an
+    /// empty extension nor a path without a file name needs memory.
     ///
     /// ```
     /// let mut buf = RelativePathBuf::from_text(alloc, "foo.tar.gz")?;
@@ -165,7 +166,8 @@ impl RelativePathBuf {
         ensures answer { IfOk result (λ set. IsTrue set ↔ IsSome (file_name_of self.old.text)) }
         ensures ok { OnOk result (IsExtended self.old.text extension.now self.new.text) }
         ensures err { OnErr result (self.new.text ≡ self.old.text) }
-        ensures full { OnErr result (IsTooLong (IsExtended self.old.text extension.now) self.old.room) }
+        ensures full { OnErr result
+            (IsTooLong (IsExtended self.old.text extension.now) self.old.room) }
         ensures shorter { extension.now ≡ [] → IsOk result }
         ensures unnamed { file_name_of self.old.text ≡ None → IsOk result }
         ensures room { self.old.room ≤ self.new.room }

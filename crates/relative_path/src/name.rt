@@ -25,8 +25,10 @@ pub(crate) struct End<'a> {
 pub(crate) fn end_of(path: RelativePath<'_>) -> End<'_>
     ensures before { IsPopped (path_text path.entry) (path_text result.before) }
     ensures name { option_copied result.name ≡ file_name_of (path_text path.entry) }
-    ensures through { IfSome result.name (λ name. (head : List ℕ) × (result.through.now ≡ head ++ name.now)
-        × IsCut (path_text path.entry) (kept_len (components (path_text path.entry)) + 1) result.through.now) }
+    ensures through { IfSome result.name (λ name. (head : List ℕ)
+        × (result.through.now ≡ head ++ name.now)
+        × IsCut (path_text path.entry) (kept_len (components (path_text path.entry)) + 1)
+        result.through.now) }
 {
     let mut components = RelativePath::new(without_trailing_slashes(path.as_str())).components();
     loop {

@@ -45,8 +45,8 @@ impl<'a> RelativePath<'a> {
 
     /// This path with `path` pushed onto it, in memory of its own.
     ///
-    /// One slash at the start of `path` is dropped, so nothing replaces this path. It asks for memory
-    /// once, for the whole result, and fails only where that is refused.
+    /// One slash at the start of `path` is dropped, so nothing replaces this path. It asks for
+    /// memory once, for the whole result, and fails only where that is refused.
     ///
     /// ```
     /// let joined = RelativePath::new("foo").join(alloc, RelativePath::new("/bar"))?;
@@ -131,7 +131,8 @@ impl<'a> RelativePath<'a> {
         end_of(self).name
     }
 
-    /// This path with the file name replaced, or with one pushed onto it if it has none, in memory of its own.
+    /// This path with the file name replaced, or with one pushed onto it if it has none, in memory
+    /// of its own.
     ///
     /// It asks for memory once, for the whole result, and fails only where that is refused.
     ///
@@ -150,8 +151,8 @@ impl<'a> RelativePath<'a> {
         base_of(self).join(alloc, RelativePath::new(file_name))
     }
 
-    /// The file name up to its last dot. It is the whole file name if that has no dot, or nothing before its
-    /// last one.
+    /// The file name up to its last dot. It is the whole file name if that has no dot, or nothing
+    /// before its last one.
     ///
     /// The answer is a part of this path, and takes no memory.
     ///
@@ -174,13 +175,14 @@ impl<'a> RelativePath<'a> {
     /// assert_eq!(rt; RelativePath::new(".foo").extension(), None);
     /// ```
     pub fn extension(self) -> Option<&'a str>
-        ensures { option_copied result ≡ option_and_then extension_of (file_name_of (path_text self.entry)) }
+        ensures { option_copied result
+            ≡ option_and_then extension_of (file_name_of (path_text self.entry)) }
     {
         self.file_name().and_then(|name| split_name(name).1)
     }
 
-    /// This path with the extension of its file name replaced, in memory of its own. An empty extension takes
-    /// it off. A path without a file name stays as it is.
+    /// This path with the extension of its file name replaced, in memory of its own. An empty
+    /// extension takes it off. A path without a file name stays as it is.
     ///
     /// It asks for memory once, for the whole result, and fails only where that is refused.
     ///
@@ -217,7 +219,8 @@ impl<'a> RelativePath<'a> {
         Ok(normal)
     }
 
-    /// Writes the normal path that leads where this one leads into an empty buffer with room for this path.
+    /// Writes the normal path that leads where this one leads into an empty buffer with room for
+    /// this path.
     pub fn normalize_into(self, out: &mut RelativePathBuf)
         requires empty { out.old.text ≡ [] }
         requires room { length (path_text self) ≤ out.old.room }
