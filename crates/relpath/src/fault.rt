@@ -1,0 +1,58 @@
+//! Why a run ends without an answer.
+ghost use Rattle.std.specs.Prelude.{◌≡◌, Some};
+ghost use Rattle.std.specs.Fmt.{styled_text};
+
+use std::alloc::AllocError;
+use std::error::Error;
+use std::fmt;
+
+/// Why a run ends without an answer.
+///
+/// A fault prints its name.
+///
+/// ```
+/// println!(rt; "relpath: {}", Fault::NotText)?; // relpath: NotText
+/// ```
+#[derive(Clone, Copy, Debug, PartialEq, Eq)]
+pub enum Fault {
+    /// A read answered an error.
+    Read,
+    /// More bytes came than the input may have.
+    InputTooLong,
+    /// The input isn't UTF-8.
+    NotText,
+    /// Memory was refused before anything was written.
+    OutOfMemory,
+    /// A write or the flush answered an error, or a write took nothing.
+    Write,
+}
+
+impl fmt::Display for Fault {
+    ghost use Rattle.relpath.specs.Fault.{fault_name};
+
+    ghost output = { λ fault. Some (fault_name fault) };
+
+    ghost styled_output = { λ fault spec. Some (styled_text spec (fault_name fault)) };
+
+    fn fmt<W: fmt::Write>(&self, f: &mut fmt::Formatter<W>) -> fmt::Result {
+        f.pad(match self {
+            Fault::Read => "Read",
+            Fault::InputTooLong => "InputTooLong",
+            Fault::NotText => "NotText",
+            Fault::OutOfMemory => "OutOfMemory",
+            Fault::Write => "Write",
+        })
+    }
+}
+
+impl Error for Fault {}
+
+impl From<AllocError> for Fault {
+    ghost use Rattle.relpath.specs.declared.fault.Fault.TheVariants.{OutOfMemory};
+
+    ghost from_gives = { λ _ fault. fault ≡ OutOfMemory };
+
+    fn from(_: AllocError) -> Fault {
+        Fault::OutOfMemory
+    }
+}
