@@ -21,7 +21,16 @@ use std::fmt;
 use std::hash::{Hash, Hasher};
 use std::marker::Model;
 
-/// A relative path that owns its text.
+/// A relative path that owns its text, and keeps the allocator that the text's memory comes from.
+///
+/// It is compared, hashed and printed as its view is; the queries are reached by `as_relative_path`.
+///
+/// ```
+/// let mut buf = RelativePathBuf::new(alloc);
+/// buf.push(RelativePath::new("foo"))?;
+/// buf.push(RelativePath::new("bar"))?;
+/// assert_eq!(rt; buf.as_relative_path().as_str(), "foo/bar");
+/// ```
 #[derive(Drop)]
 pub struct RelativePathBuf {
     text: String,
@@ -38,7 +47,11 @@ impl Model for RelativePathBuf {
 }
 
 impl RelativePathBuf {
-    /// The empty path. Takes no memory.
+    /// The empty path. It takes no memory.
+    ///
+    /// ```
+    /// assert_eq!(rt; RelativePathBuf::new(alloc).len(), 0);
+    /// ```
     pub fn new(alloc: Global) -> RelativePathBuf
         ensures { result.text ≡ [] }
     {
@@ -48,6 +61,13 @@ impl RelativePathBuf {
     }
 
     /// The empty path, with room for `capacity` bytes.
+    ///
+    /// It asks for memory once, and fails only where that is refused.
+    ///
+    /// ```
+    /// let buf = RelativePathBuf::with_capacity(alloc, 15)?;
+    /// assert!(rt; buf.spare() >= 15);
+    /// ```
     pub fn with_capacity(alloc: Global, capacity: usize) -> Result<RelativePathBuf, AllocError>
         ensures empty { IfOk result (λ buf. buf.text ≡ []) }
         ensures room { IfOk result (λ buf. capacity ≤ buf.room) }
@@ -57,6 +77,13 @@ impl RelativePathBuf {
     }
 
     /// A copy of the text.
+    ///
+    /// It asks for memory once, and fails only where that is refused.
+    ///
+    /// ```
+    /// let buf = RelativePathBuf::from_text(alloc, "foo/bar")?;
+    /// assert_eq!(rt; buf.len(), 7);
+    /// ```
     pub fn from_text(alloc: Global, text: &str) -> Result<RelativePathBuf, AllocError>
         ensures { IfOk result (λ buf. buf.text ≡ text.now) }
     {
@@ -95,6 +122,10 @@ impl RelativePathBuf {
     }
 
     /// How many bytes the text has.
+    ///
+    /// ```
+    /// assert_eq!(rt; RelativePathBuf::from_text(alloc, "é/b")?.len(), 4);
+    /// ```
     pub fn len(&self) -> usize
         ensures { result ≡ length self.now.text }
     {
@@ -102,13 +133,28 @@ impl RelativePathBuf {
     }
 
     /// How many bytes can be added before the buffer asks for memory.
+    ///
+    /// ```
+    /// let mut buf = RelativePathBuf::with_capacity(alloc, 3)?;
+    /// buf.push(RelativePath::new("foo"))?; // this asks for none
+    /// ```
     pub fn spare(&self) -> usize
         ensures { length self.now.text + result ≡ self.now.room }
     {
         self.text.capacity() - self.text.len()
     }
 
-    /// Adds a path behind this one, with a slash between.
+    /// Adds a path behind this one: a slash, unless the text is empty or ends in one, and the path
+    /// without one slash at its start.
+    ///
+    /// It asks for memory only where the result doesn't fit the room there is. A refusal leaves the
+    /// text as it was.
+    ///
+    /// ```
+    /// let mut buf = RelativePathBuf::from_text(alloc, "foo")?;
+    /// buf.push(RelativePath::new("/bar"))?;
+    /// assert_eq!(rt; buf.as_relative_path().as_str(), "foo/bar");
+    /// ```
     pub fn push(&mut self, path: RelativePath<'_>) -> Result<(), AllocError>
         ensures ok { OnOk result (self.new.text ≡ pushed self.old.text (path_text path.entry)) }
         ensures err { OnErr result (self.new.text ≡ self.old.text) }
@@ -205,7 +251,16 @@ impl RelativePathBuf {
         }
     }
 
-    /// Cuts the path to its parent.
+    /// Cuts the path to its parent and answers true, unless it is empty: then it stays, and the
+    /// answer is false.
+    ///
+    /// It takes no memory, and the room stays.
+    ///
+    /// ```
+    /// let mut buf = RelativePathBuf::from_text(alloc, "foo//bar/.")?;
+    /// assert!(rt; buf.pop());
+    /// assert_eq!(rt; buf.as_relative_path().as_str(), "foo");
+    /// ```
     pub fn pop(&mut self) -> bool
         ensures popped { IsTrue result ↔ (self.old.text ≢ []) }
         ensures text { IsPopped self.old.text self.new.text }
@@ -217,7 +272,12 @@ impl RelativePathBuf {
         popped
     }
 
-    /// The path, as a view.
+    /// The path, as a view. It takes no memory.
+    ///
+    /// ```
+    /// let buf = RelativePathBuf::from_text(alloc, "foo/bar")?;
+    /// assert_eq!(rt; buf.as_relative_path().file_name(), Some("bar"));
+    /// ```
     pub fn as_relative_path(&self) -> RelativePath<'_>
         ensures { path_text result ≡ self.now.text }
     {

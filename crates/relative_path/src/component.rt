@@ -16,7 +16,14 @@ use std::alloc::AllocError;
 use std::cmp::Ordering;
 use std::hash::{Hash, Hasher};
 
-/// One component of a relative path.
+/// One component of a relative path. It is copied, and no call on it takes memory.
+///
+/// ```
+/// let mut components = RelativePath::new("./foo/..").components();
+/// assert_eq!(rt; components.next(), Some(Component::CurDir));
+/// assert_eq!(rt; components.next(), Some(Component::Normal("foo")));
+/// assert_eq!(rt; components.next(), Some(Component::ParentDir));
+/// ```
 #[derive(Clone, Copy, Debug)]
 pub enum Component<'a> {
     /// `.`
@@ -29,6 +36,10 @@ pub enum Component<'a> {
 
 impl<'a> Component<'a> {
     /// The component's text: `.`, `..` or the name.
+    ///
+    /// ```
+    /// assert_eq!(rt; Component::ParentDir.as_str(), "..");
+    /// ```
     pub fn as_str(self) -> &'a str
         ensures { result.now ≡ step_text (step_of self.entry) }
     {
@@ -40,6 +51,10 @@ impl<'a> Component<'a> {
     }
 
     /// The component alone, as a path.
+    ///
+    /// ```
+    /// assert_eq!(rt; Component::Normal("foo").as_relative_path(), RelativePath::new("foo"));
+    /// ```
     pub fn as_relative_path(self) -> RelativePath<'a>
         ensures { path_text result ≡ step_text (step_of self.entry) }
     {
@@ -112,7 +127,16 @@ impl Hash for Component<'_> {
     }
 }
 
-/// The walk over the components of a relative path, from both ends.
+/// The walk over the components of a relative path, from both ends. No call on it takes memory.
+///
+/// Two walks are equal if the components left are.
+///
+/// ```
+/// let mut components = RelativePath::new("/a/./b/").components();
+/// assert_eq!(rt; components.next(), Some(Component::Normal("a")));
+/// assert_eq!(rt; components.next_back(), Some(Component::Normal("b")));
+/// assert_eq!(rt; components.as_relative_path().as_str(), ".");
+/// ```
 #[derive(Drop)]
 pub struct Components<'a> {
     text: &'a str,
@@ -126,7 +150,13 @@ impl<'a> Components<'a> {
         Components { text }
     }
 
-    /// The text that is left to walk, as a path.
+    /// The text that is left to walk, as a path. Before any call it is the whole text.
+    ///
+    /// ```
+    /// let mut components = RelativePath::new("/a//b/").components();
+    /// components.next();
+    /// assert_eq!(rt; components.as_relative_path().as_str(), "b/");
+    /// ```
     pub fn as_relative_path(&self) -> RelativePath<'a>
         ensures { path_text result ≡ text_left self.now }
     {
@@ -185,7 +215,15 @@ impl<'a> DoubleEndedIterator for Components<'a> {
     }
 }
 
-/// The walk over the texts of the components of a relative path, from both ends.
+/// The walk over the texts of the components of a relative path, from both ends. No call on it takes memory.
+///
+/// ```
+/// let mut texts = RelativePath::new("a/..//b").iter();
+/// assert_eq!(rt; texts.next(), Some("a"));
+/// assert_eq!(rt; texts.next_back(), Some("b"));
+/// assert_eq!(rt; texts.next(), Some(".."));
+/// assert_eq!(rt; texts.next(), None);
+/// ```
 #[derive(Drop)]
 pub struct Iter<'a> {
     components: Components<'a>,

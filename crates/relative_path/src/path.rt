@@ -22,14 +22,25 @@ use std::cmp::Ordering;
 use std::fmt;
 use std::hash::{Hash, Hasher};
 
-/// A relative path: a copied view of a text.
+/// A relative path: a copied view of a text, cut at `/` on every platform.
+///
+/// Paths are equal, ordered and hashed by their components, and print as their text.
+///
+/// ```
+/// assert!(rt; RelativePath::new("a//b/") == RelativePath::new("a/b"));
+/// assert!(rt; RelativePath::new("a/b") < RelativePath::new("a.b"));
+/// ```
 #[derive(Clone, Copy)]
 pub struct RelativePath<'a> {
     text: &'a str,
 }
 
 impl<'a> RelativePath<'a> {
-    /// The path with this text.
+    /// The path with this text, whatever the text is. It takes no memory.
+    ///
+    /// ```
+    /// let path = RelativePath::new("foo/bar");
+    /// ```
     pub fn new(text: &'a str) -> RelativePath<'a>
         ensures { path_text result ≡ text.now }
     {
@@ -37,6 +48,10 @@ impl<'a> RelativePath<'a> {
     }
 
     /// The path's text.
+    ///
+    /// ```
+    /// assert_eq!(rt; RelativePath::new("a//b").as_str(), "a//b");
+    /// ```
     pub fn as_str(self) -> &'a str
         ensures { result.now ≡ path_text self.entry }
     {
@@ -62,21 +77,36 @@ impl<'a> RelativePath<'a> {
         Ok(joined)
     }
 
-    /// The walk over the path's components, from both ends.
+    /// The walk over the path's components, from both ends. It takes no memory.
+    ///
+    /// ```
+    /// let mut components = RelativePath::new("foo/../bar").components();
+    /// assert_eq!(rt; components.next_back(), Some(Component::Normal("bar")));
+    /// ```
     pub fn components(self) -> Components<'a>
         ensures { text_left result ≡ path_text self.entry }
     {
         Components::new(self.text)
     }
 
-    /// The walk over the texts of the path's components, from both ends.
+    /// The walk over the texts of the path's components, from both ends. It takes no memory.
+    ///
+    /// ```
+    /// let mut texts = RelativePath::new("foo//bar").iter();
+    /// assert_eq!(rt; texts.next(), Some("foo"));
+    /// ```
     pub fn iter(self) -> Iter<'a>
         ensures { iter_text_left result ≡ path_text self.entry }
     {
         Iter::new(self.text)
     }
 
-    /// The path, to be printed.
+    /// The path, to be printed. It prints as the path itself does.
+    ///
+    /// ```
+    /// let display = RelativePath::new("foo/bar").display();
+    /// let text = format!(in alloc; "{display}")?; // foo/bar
+    /// ```
     pub fn display(self) -> Display<'a>
         ensures { display_text result ≡ path_text self.entry }
     {
@@ -207,7 +237,16 @@ impl<'a> RelativePath<'a> {
         Ok(extended)
     }
 
-    /// The normal path that leads where this one leads.
+    /// The only normal path that leads where this one leads: `..` first, then names, with single
+    /// slashes between.
+    ///
+    /// It asks for memory once, for as many bytes as this path has, and fails only where that is
+    /// refused.
+    ///
+    /// ```
+    /// let normal = RelativePath::new("../foo/./bar/../baz.txt").normalize(alloc)?;
+    /// assert_eq!(rt; normal.as_relative_path().as_str(), "../foo/baz.txt");
+    /// ```
     pub fn normalize(self, alloc: Global) -> Result<RelativePathBuf, AllocError>
         ensures normal_form { IfOk result
             (λ normal. IsNormalTextOf (components (path_text self.entry)) normal.text) }
@@ -219,8 +258,15 @@ impl<'a> RelativePath<'a> {
         Ok(normal)
     }
 
-    /// Writes the normal path that leads where this one leads into an empty buffer with room for
-    /// this path.
+    /// Writes the text of `normalize` into an empty buffer with room for this path. It takes no
+    /// memory.
+    ///
+    /// ```
+    /// let path = RelativePath::new("a/.././b/../c/d");
+    /// let mut normal = RelativePathBuf::with_capacity(alloc, path.as_str().len())?;
+    /// path.normalize_into(&mut normal);
+    /// assert_eq!(rt; normal.as_relative_path().as_str(), "c/d");
+    /// ```
     pub fn normalize_into(self, out: &mut RelativePathBuf)
         requires empty { out.old.text ≡ [] }
         requires room { length (path_text self) ≤ out.old.room }
@@ -326,6 +372,11 @@ impl<'a> IntoIterator for RelativePath<'a> {
 }
 
 /// What [`RelativePath::display`] answers: it prints as the path does.
+///
+/// ```
+/// let display = RelativePath::new("foo").display();
+/// let text = format!(in alloc; "{display:>5}")?; //   foo
+/// ```
 #[derive(Clone, Copy)]
 pub struct Display<'a> {
     path: RelativePath<'a>,

@@ -6,7 +6,7 @@ ghost use Rattle.relative_path_bench.specs.Ends.{IsTakenInTurn};
 use relative_path::{Component, RelativePath};
 use std::alloc::{AllocError, Global};
 
-/// An end of a walk.
+/// An end of a walk, as `End::Front`.
 #[derive(Clone, Copy, Debug, PartialEq, Eq)]
 pub enum End {
     /// The end that `next` takes from.
@@ -15,7 +15,7 @@ pub enum End {
     Back,
 }
 
-/// What a walk gave, and what it left.
+/// What a walk gave, and what it left: the answer of [`take_in_turn`].
 #[derive(Drop)]
 pub struct Taken<'a> {
     /// What each call gave.
@@ -26,7 +26,15 @@ pub struct Taken<'a> {
 
 /// Takes a component from each of these ends in turn.
 ///
-/// Whatever the order, each component is given once, and then `None` for good.
+/// Whatever the order, each component is given once, and then `None` for good. It asks for memory
+/// for what the calls give, and fails only where that is refused.
+///
+/// ```
+/// let ends = [End::Front, End::Back];
+/// let taken = take_in_turn(alloc, RelativePath::new("/a/./b/"), &ends)?;
+/// assert_eq!(rt; taken.components[1], Some(Component::Normal("b")));
+/// assert_eq!(rt; taken.left.as_str(), ".");
+/// ```
 pub fn take_in_turn<'a>(
     alloc: Global,
     path: RelativePath<'a>,
