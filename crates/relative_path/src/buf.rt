@@ -285,6 +285,14 @@ impl RelativePathBuf {
     }
 }
 
+impl fmt::Debug for RelativePathBuf {
+    ghost debug_output = { λ buf. debug_str buf.text };
+
+    fn fmt<W: fmt::Write>(&self, f: &mut fmt::Formatter<W>) -> fmt::Result {
+        fmt::Debug::fmt(&self.as_relative_path(), f)
+    }
+}
+
 impl PartialEq for RelativePathBuf {
     ghost eq = { on buffer_components steps_eq };
 
@@ -345,14 +353,6 @@ impl fmt::Display for RelativePathBuf {
 
     fn fmt<W: fmt::Write>(&self, f: &mut fmt::Formatter<W>) -> fmt::Result {
         fmt::Display::fmt(&self.as_relative_path(), f)
-    }
-}
-
-impl fmt::Debug for RelativePathBuf {
-    ghost debug_output = { λ buf. debug_str buf.text };
-
-    fn fmt<W: fmt::Write>(&self, f: &mut fmt::Formatter<W>) -> fmt::Result {
-        fmt::Debug::fmt(&self.as_relative_path(), f)
     }
 }
 

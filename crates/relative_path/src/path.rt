@@ -58,6 +58,18 @@ impl<'a> RelativePath<'a> {
         self.text
     }
 
+    /// The path, to be printed. It prints as the path itself does.
+    ///
+    /// ```
+    /// let display = RelativePath::new("foo/bar").display();
+    /// let text = format!(in alloc; "{display}")?; // foo/bar
+    /// ```
+    pub fn display(self) -> Display<'a>
+        ensures { display_text result ≡ path_text self.entry }
+    {
+        Display { path: self }
+    }
+
     /// This path with `path` pushed onto it, in memory of its own.
     ///
     /// One slash at the start of `path` is dropped, so nothing replaces this path. It asks for
@@ -99,18 +111,6 @@ impl<'a> RelativePath<'a> {
         ensures { iter_text_left result ≡ path_text self.entry }
     {
         Iter::new(self.text)
-    }
-
-    /// The path, to be printed. It prints as the path itself does.
-    ///
-    /// ```
-    /// let display = RelativePath::new("foo/bar").display();
-    /// let text = format!(in alloc; "{display}")?; // foo/bar
-    /// ```
-    pub fn display(self) -> Display<'a>
-        ensures { display_text result ≡ path_text self.entry }
-    {
-        Display { path: self }
     }
 
     /// A copy of the path, in memory of its own.
@@ -286,6 +286,26 @@ impl<'a> RelativePath<'a> {
     }
 }
 
+impl<'a> IntoIterator for RelativePath<'a> {
+    type Item = &'a str;
+
+    type IntoIter = Iter<'a>;
+
+    ghost into_iter_gives = { λ path walk. iter_text_left walk ≡ path_text path };
+
+    fn into_iter(self) -> Iter<'a> {
+        self.iter()
+    }
+}
+
+impl fmt::Debug for RelativePath<'_> {
+    ghost debug_output = { λ path. debug_str (path_text path) };
+
+    fn fmt<W: fmt::Write>(&self, f: &mut fmt::Formatter<W>) -> fmt::Result {
+        fmt::Debug::fmt(&self.text, f)
+    }
+}
+
 impl PartialEq for RelativePath<'_> {
     ghost eq = { on path_components steps_eq };
 
@@ -348,26 +368,6 @@ impl fmt::Display for RelativePath<'_> {
 
     fn fmt<W: fmt::Write>(&self, f: &mut fmt::Formatter<W>) -> fmt::Result {
         f.pad(self.text)
-    }
-}
-
-impl fmt::Debug for RelativePath<'_> {
-    ghost debug_output = { λ path. debug_str (path_text path) };
-
-    fn fmt<W: fmt::Write>(&self, f: &mut fmt::Formatter<W>) -> fmt::Result {
-        fmt::Debug::fmt(&self.text, f)
-    }
-}
-
-impl<'a> IntoIterator for RelativePath<'a> {
-    type Item = &'a str;
-
-    type IntoIter = Iter<'a>;
-
-    ghost into_iter_gives = { λ path walk. iter_text_left walk ≡ path_text path };
-
-    fn into_iter(self) -> Iter<'a> {
-        self.iter()
     }
 }
 
