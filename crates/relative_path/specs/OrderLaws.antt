@@ -1,11 +1,11 @@
 -- The laws of the equality and the order of components and of lists of them, which the impls of the traits give.
-use Rattle.std.proofs.Common.{◌≡◌, Decides, List, [], ◌∷◌, ◌++◌, IsTrue, sym, refl, ap, ◌∙◌, arith}
+use Rattle.std.proofs.Common.{◌≡◌, Decides, List, [], ◌∷◌, IsTrue, sym, refl, ap, ◌∙◌, arith}
 use Rattle.std.specs.Cmp.{IsTotalOrder, IsEquivalence, on_total, on_equiv, then_total, and_equiv, both_tied, unsigned_ties, nat_cmp_total, nat_eq_equiv}
 use Rattle.std.specs.Cmp.Lexicographic.{nat_list_cmp_total, nat_list_eq_equiv, texts_ties, lists_ties, lists_total, lists_equiv, pointwise_decides}
 use Rattle.std.specs.Ordering.{eq_by_cmp}
 use Rattle.std.proofs.lemmas.Bool.{and_parts, eqb-true}
 use Rattle.std.proofs.lemmas.Slice.Eq.{bytes_eq-Decides}
-use Rattle.relative_path.specs.Components.{Step, cur, up, name, slash, step_text}
+use Rattle.relative_path.specs.Components.{Step, cur, up, name, step_text}
 use Rattle.relative_path.specs.Order.{step_rank, step_eq, step_cmp, steps_eq, steps_cmp, fed}
 
 pub step_cmp-total : IsTotalOrder step_cmp
@@ -53,7 +53,3 @@ fed-steps_eq cs ds e = ap fed ((steps_eq-Decides cs ds).0 e)
 
 pub fed-step_eq : (c d : Step) → IsTrue (step_eq c d) → fed (c ∷ []) ≡ fed (d ∷ [])
 fed-step_eq c d e = ap (λ x. fed (x ∷ [])) ((step_eq-Decides c d).0 e)
-
-pub fed-append : (cs ds : List Step) → fed (cs ++ ds) ≡ fed cs ++ fed ds
-fed-append [] ds = refl
-fed-append (c ∷ cs) ds = ap (λ ws. step_text c ∷ (slash ∷ []) ∷ ws) (fed-append cs ds)
