@@ -28,6 +28,6 @@ is_cur (name n) = false
 abbrev pub kept_len : List Step → ℕ
 kept_len cs = length cs - suffix_len is_cur cs - 1
 
--- p is what `pop` leaves of the text, and `parent` shows of it
+-- p is what `pop` leaves of the text, and what `parent` answers of a text that isn't empty
 abbrev pub IsPopped : List ℕ → List ℕ → Type 0
 IsPopped text p = IsCut text (kept_len (components text)) p

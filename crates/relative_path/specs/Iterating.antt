@@ -40,11 +40,12 @@ abbrev pub TakesLast : List ℕ → Option Component → List ℕ → Type 0
 TakesLast text taken front =
     MatchOption taken (components text ≡ []) (λ c. components text ≡ components front ++ step_of c ∷ []) × IsFront text front
 
--- the same of an `Iter`, which gives the text of the component
+-- the same of an `Iter`, which gives the text of its first component
 abbrev pub TakesFirstText : List ℕ → Option (Bor (List ℕ)) → List ℕ → Type 0
 TakesFirstText text taken rest =
     MatchOption taken (components text ≡ []) (λ s. (c : Step) × (s.now ≡ step_text c) × (components text ≡ c ∷ components rest)) × IsRest text rest
 
+-- the same of an `Iter`, which gives the text of its last component
 abbrev pub TakesLastText : List ℕ → Option (Bor (List ℕ)) → List ℕ → Type 0
 TakesLastText text taken front =
     MatchOption taken (components text ≡ []) (λ s. (c : Step) × (s.now ≡ step_text c) × (components text ≡ components front ++ c ∷ [])) × IsFront text front

@@ -49,7 +49,7 @@ abbrev pub dotted : List ℕ → List ℕ
 dotted [] = []
 dotted (b ∷ bs) = dot ∷ b ∷ bs
 
--- extended is the text up to the stem of its file name, and the new extension; without a file name it is the text
+-- extended is the text up to the end of its file name's stem, then a dot and the extension unless that is empty; without a file name it is the text
 abbrev pub IsExtended : List ℕ → List ℕ → List ℕ → Type 0
 IsExtended text e extended = MatchOption (file_name_of text) (extended ≡ text)
     (λ n. (head : List ℕ) × IsCut text (kept_len (components text) + 1) (head ++ n) × (extended ≡ head ++ stem_of n ++ dotted e))

@@ -214,7 +214,7 @@ impl RelativePathBuf {
         ensures err { OnErr result (self.new.text ≡ self.old.text) }
         ensures full { OnErr result
             (IsTooLong (IsExtended self.old.text extension.now) self.old.room) }
-        ensures shorter { extension.now ≡ [] → IsOk result }
+        ensures taken_off { extension.now ≡ [] → IsOk result }
         ensures unnamed { file_name_of self.old.text ≡ None → IsOk result }
         ensures room { self.old.room ≤ self.new.room }
     {

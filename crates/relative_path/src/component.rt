@@ -1,7 +1,7 @@
 //! The components of a relative path, and the walk over them.
 ghost use Rattle.std.specs.Prelude.{◌≡◌, ◌≢◌, ◌-◌, ◌⊎◌, ◌↔◌, [], ◌∷◌, ◌++◌, ⊤, IsTrue, MatchOption, length, drop, take, slice_index};
 ghost use Rattle.std.specs.List.{All};
-ghost use Rattle.std.specs.Iterator.{YieldsFirstBy, YieldsFirstRef, YieldsLastBy, YieldsLastRef, item_count, MakesProgress};
+ghost use Rattle.std.specs.Iterator.{item_count};
 ghost use Rattle.relative_path.specs.Components.{slash, classed, components, step_text};
 ghost use Rattle.relative_path.specs.Iterating.{step_of, text_left, components_left, iter_text_left, texts_left, TakesFirst, TakesFirstText, TakesLast, TakesLastText};
 ghost use Rattle.relative_path.specs.RelativePath.{path_text};

@@ -13,7 +13,7 @@ use crate::path::RelativePath;
 // A path cut at its last component that is no `.`.
 #[derive(Drop)]
 pub(crate) struct End<'a> {
-    // What stands before that component.
+    // What stands before that component, without slashes at its end; empty where there is none.
     pub(crate) before: RelativePath<'a>,
     // The component, if it is a name.
     pub(crate) name: Option<&'a str>,

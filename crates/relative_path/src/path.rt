@@ -127,9 +127,9 @@ impl<'a> RelativePath<'a> {
         RelativePathBuf::from_text(alloc, self.text)
     }
 
-    /// The path without the `.` at its end and one more component. Only the empty path has none.
+    /// The path without each `.` at its end and one component more. Only the empty path has none.
     ///
-    /// The answer is a part of this path, without the slashes at its end, and takes no memory.
+    /// The answer is a part of this path, never ends in a slash, and takes no memory.
     ///
     /// ```
     /// let parent = RelativePath::new("foo/./bar//.").parent();
@@ -182,7 +182,7 @@ impl<'a> RelativePath<'a> {
     }
 
     /// The file name up to its last dot. It is the whole file name if that has no dot, or nothing
-    /// before its last one.
+    /// before its last one; `None` without a file name.
     ///
     /// The answer is a part of this path, and takes no memory.
     ///
@@ -196,7 +196,8 @@ impl<'a> RelativePath<'a> {
         self.file_name().map(|name| split_name(name).0)
     }
 
-    /// What stands after the last dot of the file name, if something stands before that dot.
+    /// What stands after the last dot of the file name, if there is one and something stands before
+    /// that dot.
     ///
     /// The answer is a part of this path, and takes no memory.
     ///

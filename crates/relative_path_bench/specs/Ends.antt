@@ -1,5 +1,5 @@
 -- What calls of `next` and `next_back` give, made in any order.
-use Rattle.std.specs.Prelude.{◌≡◌, ℕ, ◌<◌, ◌↔◌, List, [], ◌∷◌, ◌++◌, length, reverse, Option, Some, None, IsSome, slice_index_or}
+use Rattle.std.specs.Prelude.{◌≡◌, ℕ, ◌<◌, ◌↔◌, List, [], ◌∷◌, ◌++◌, length, Option, Some, None, IsSome, slice_index_or}
 use Rattle.relative_path.specs.declared.component.Component.{Component}
 use Rattle.relative_path.specs.Components.{Step, components}
 use Rattle.relative_path.specs.Iterating.{step_of, TakesFirst, TakesLast}

@@ -17,7 +17,7 @@ words_line words = codes "! " ++ words ++ line_feed ∷ []
 abbrev pub IsPathLine : (List ℕ → Type 0) → List ℕ → Type 0
 IsPathLine P answer = (text : List ℕ) × P text × (answer ≡ path_line text)
 
--- a field, counted from 0
+-- field number n, counted from 0; empty where there is none
 abbrev pub field : List (List ℕ) → ℕ → List ℕ
 field fields n = slice_index_or fields n []
 

@@ -30,7 +30,7 @@ CameWithin old new = (came : List ℕ) × Consumes old new came × (length came 
 abbrev pub CameBeyond : Option (List ℕ) → Option (List ℕ) → Type 0
 CameBeyond old new = (came : List ℕ) × Consumes old new came × IsTooLong came
 
--- why the reading stopped short of the end of an input within the limit
+-- what is known where the reading ended with this fault
 abbrev pub StopsShort : {R : Type 0} → (R → Option (List ℕ)) → Meter R → Meter R → Fault → Type 0
 StopsShort remaining old new Read =
     (failures_of new ≡ 1) × CameWithin (remaining (inner_of old)) (remaining (inner_of new))
@@ -40,12 +40,12 @@ StopsShort remaining old new NotText = ⊥
 StopsShort remaining old new OutOfMemory = failures_of new ≡ 0
 StopsShort remaining old new Write = ⊥
 
--- the reader was read to its end with no failure, and P holds of its bytes
+-- the reader was read to its end with no failure, and where it tells its bytes, all of them came and P holds of them
 pub record ReadsAll {R : Type 0} (remaining : R → Option (List ℕ)) (old new : Meter R)
     (P : List ℕ → Type 0) : Type 0 where
   pub end : IsAtEnd (remaining (inner_of new))
   pub failures : failures_of new ≡ 0
-  pub input : IfSome (remaining (inner_of old)) P
+  pub input : IfSome (remaining (inner_of old)) (λ input. P input × Consumes (remaining (inner_of old)) (remaining (inner_of new)) input)
 
 -- the writer gained an output of the input and nothing else, by at most a write for each byte
 pub record GainsOutput {W : Type 0} (contents : W → Option (List ℕ)) (old new : Meter W)

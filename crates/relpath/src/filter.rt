@@ -21,7 +21,8 @@ use crate::output::write_output;
 use std::alloc::Global;
 use std::io::{Read, Write};
 
-/// Reads the whole input, then writes the answers to its lines and flushes once.
+/// Reads the whole input, then writes the answers to its lines and flushes once. After a fault other
+/// than `Write`, nothing was written.
 ///
 /// A line is cut at tabs into fields, the command first.
 ///
@@ -39,13 +40,13 @@ pub fn run<R: Read, W: Write>(
     requires reader { IsFresh reader.old }
     requires writer { IsFresh writer.old }
 
-    // An `Ok`: the whole input was a text, and the writer gained its output.
+    // An `Ok`: the whole input was a text within the limit, and the writer gained its output.
     ensures ok_read { OnOk result (ReadsAll R.remaining reader.old reader.new IsAccepted) }
     ensures ok_written { OnOk result (IfSome (R.remaining (inner_of reader.old))
         (GainsOutput W.contents writer.old writer.new)) }
     ensures ok_flushed { OnOk result ((flushes_of writer.new ≡ 1) × (failures_of writer.new ≡ 0)) }
 
-    // When each fault comes. Want of memory may come in place of the second and the third.
+    // When each fault comes. Want of memory may come in place of `InputTooLong` and `NotText`.
     ensures read { IsErrOf result Fault.Read ↔ (failures_of reader.new ≡ 1) }
     ensures read_only_within_limit { IsErrOf result Fault.Read →
         CameWithin (R.remaining (inner_of reader.old)) (R.remaining (inner_of reader.new)) }
@@ -63,7 +64,7 @@ pub fn run<R: Read, W: Write>(
         ReadsAll R.remaining reader.old reader.new IsAccepted }
     ensures untouched { IfErr result (λ fault. fault ≢ Fault.Write → writer.new ≡ writer.old) }
 
-    // How many calls are made, whatever the outcome.
+    // How many calls are made. The writes of an `Ok` are bounded in `ok_written`.
     ensures reads { calls_of reader.new ≤ MAX_INPUT + 1 }
     ensures writes { IsErrOf result Fault.Write →
         IfSome (R.remaining (inner_of reader.old)) (WritesWithin writer.new) }

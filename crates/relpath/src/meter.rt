@@ -5,7 +5,7 @@ ghost use Rattle.std.specs.Io.KnownBytes.{ReadConsumes, WriteAppends, Keeps};
 
 use std::io::{Read, Result, Write};
 
-/// A reader or a writer, with counts of the calls that it was passed and of those that failed.
+/// A reader or a writer, with counts of the calls that it passed on, and of those that failed.
 ///
 /// ```
 /// let mut reader = Meter::new(b"a/b".as_slice());

@@ -1,5 +1,5 @@
 //! Writing the whole output.
-ghost use Rattle.std.specs.Prelude.{◌≡◌, ◌+◌, ◌<◌, ◌≤◌, take, length, is_err, IfOk, IfErr, OnOk, OnErr, if◌then◌else◌};
+ghost use Rattle.std.specs.Prelude.{◌≡◌, ◌+◌, ◌<◌, ◌≤◌, take, length, is_err, IfOk, IfErr, OnOk, if◌then◌else◌};
 ghost use Rattle.std.specs.Io.KnownBytes.{Appends};
 ghost use Rattle.relpath.specs.Meter.{inner_of, calls_of, flushes_of, failures_of, IsFresh, CountsCall};
 

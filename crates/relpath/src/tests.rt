@@ -229,10 +229,10 @@ fn counts_the_reads_that_it_passes_on(rt: HostRuntime) {
 
 #[test]
 fn counts_the_writes_and_flushes_that_it_passes_on(rt: HostRuntime) {
-    let mut writer = Meter::new(Sink::new(rt.alloc(), 1, Some(3), true));
-    assert_eq!(rt; writer.write(b"abc").ok(), Some(1));
+    let mut writer = Meter::new(Sink::new(rt.alloc(), 2, Some(3), true));
+    assert_eq!(rt; writer.write(b"abc").ok(), Some(2));
     assert_eq!(rt; writer.write(b"").ok(), Some(0));
-    assert_eq!(rt; writer.write(b"bc").ok(), None);
+    assert_eq!(rt; writer.write(b"c").ok(), None);
     assert!(rt; writer.flush().is_err());
     assert_eq!(rt;
         (writer.calls(), writer.flushes(), writer.failures()),
@@ -240,7 +240,7 @@ fn counts_the_writes_and_flushes_that_it_passes_on(rt: HostRuntime) {
     );
     let sink = writer.into_inner();
     assert_eq!(rt; (sink.writes, sink.flushes), (3, 1));
-    assert_eq!(rt; sink.taken.as_slice(), b"a".as_slice());
+    assert_eq!(rt; sink.taken.as_slice(), b"ab".as_slice());
 
     let mut writer = Meter::new(Sink::new(rt.alloc(), 0, None, false));
     assert_eq!(rt; writer.write(b"a").ok(), Some(0));

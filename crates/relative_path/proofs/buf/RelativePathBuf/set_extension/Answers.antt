@@ -16,8 +16,8 @@ returns-in_err-reserve_to-clause-full c =
     let long = IsTooLong-extended text extension extended c.args.self.now.room _ is count c.in_err-reserve_to.ensures.full in
     search rules
 
-pub returns-in_err-reserve_to-clause-shorter : goal.returns-in_err-reserve_to-clause-shorter
-returns-in_err-reserve_to-clause-shorter c = λ empty.
+pub returns-in_err-reserve_to-clause-taken_off : goal.returns-in_err-reserve_to-clause-taken_off
+returns-in_err-reserve_to-clause-taken_off c = λ empty.
     let front = length-IsPrefix (IsPrefix-IsExtended _ _ (c.in-Some.ensures.found.0 refl) c.in-Some.ensures.text) in
     let none = c.dotted_len.ensures ∙ ap (λ e. length (dotted e)) empty in
     let longer = c.in_err-reserve_to.ensures.longer in
