@@ -68,7 +68,7 @@ pub fn run<R: Read, W: Write>(
     ensures reads { calls_of reader.new ≤ MAX_INPUT + 1 }
     ensures writes { IsErrOf result Fault.Write →
         IfSome (R.remaining (inner_of reader.old)) (WritesWithin writer.new) }
-    ensures flushes { flushes_of writer.new ≤ 1 }
+    ensures flushes { flushes_of reader.new + flushes_of writer.new ≤ 1 }
     ensures failures { failures_of reader.new + failures_of writer.new ≤ 1 }
 {
     let input = read_input(alloc, reader)?;

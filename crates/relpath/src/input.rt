@@ -1,7 +1,7 @@
 //! Reading the whole input.
 ghost use Rattle.std.specs.Prelude.{◌≡◌, ◌+◌, ◌<◌, ◌≤◌, take, drop, length, vec_len, is_err, IfOk, IfErr, OnOk, OnErr};
 ghost use Rattle.std.specs.Io.KnownBytes.{Consumes, IsAtEnd, Keeps};
-ghost use Rattle.relpath.specs.Meter.{inner_of, calls_of, failures_of, IsFresh, CountsCall};
+ghost use Rattle.relpath.specs.Meter.{inner_of, calls_of, flushes_of, failures_of, IsFresh, CountsCall};
 ghost use Rattle.relpath.specs.Run.{StopsShort};
 
 use crate::fault::Fault;
@@ -22,6 +22,7 @@ pub fn read_input<R: Read>(alloc: Global, reader: &mut Meter<R>) -> Result<Vec<u
     ensures failures { OnOk result (failures_of reader.new ≡ 0) }
     ensures fault { IfErr result (λ fault. StopsShort R.remaining reader.old reader.new fault) }
     ensures reads { calls_of reader.new ≤ MAX_INPUT + 1 }
+    ensures flushes { flushes_of reader.new ≡ 0 }
 {
     let mut input = buffer(alloc)?;
     let mut filled = 0;

@@ -29,4 +29,5 @@ loop-filled-preserved g c =
       came = Consumes-more _ _ _ _ _ _ _ _ _ c.as_mut_slice.ensures.value (search rules) read.front c.loop-filled.invariant.came read.came;
       reads = search rules;
       failures = search rules;
+      flushes = search rules;
     }

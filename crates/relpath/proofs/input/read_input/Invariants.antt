@@ -1,7 +1,7 @@
 -- The filled bytes came from the reader, at least one by each read.
 use Rattle.std.proofs.Common.{◌≡◌, ◌+◌, ◌-◌, ◌≤◌, take, vec_len}
 use Rattle.std.specs.Io.KnownBytes.{Consumes}
-use Rattle.relpath.specs.Meter.{inner_of, calls_of, failures_of}
+use Rattle.relpath.specs.Meter.{inner_of, calls_of, flushes_of, failures_of}
 use Rattle.relpath.specs.declared.input.TheConstants.{MAX_INPUT}
 use Rattle.relpath.proofs.input.read_input.Given as goal
 
@@ -12,6 +12,7 @@ invariant-loop-filled g l = record {
   came : Consumes (g.R.Read.remaining (inner_of l.fn.reader)) (g.R.Read.remaining (inner_of l.reader)) (take l.filled l.input.items);
   reads : calls_of l.reader ≤ l.filled;
   failures : failures_of l.reader ≡ 0;
+  flushes : flushes_of l.reader ≡ 0;
 }
 
 abbrev pub decreases-loop-filled : goal.decreases-loop-filled
