@@ -1,258 +1,137 @@
--- How the components of a text follow its slashes.
-use Rattle.std.proofs.Common.{◌≡◌, ◌≢◌, ℕ, suc, ◌+◌, ◌-◌, ◌<◌, ◌≤◌, false, cond, List, [], ◌∷◌, ◌++◌, map, length, get_or, filter, get_or-append-add, bytes_eq, sym, refl, ap, ap₂, ◌∙◌, eqb-true, ⊎_elim, append_assoc, append-nil, arith, length-append}
-use Rattle.std.specs.List.{slice_split, onto_first, AllByRecursion}
-use Rattle.std.proofs.lemmas.Bool.{cond-true, cond-false, cond_both, cases_Bool, eqb-false}
-use Rattle.std.proofs.lemmas.List.Elements.{filter-append, All-from_recursion}
-use Rattle.std.proofs.lemmas.List.{map-append}
-use Rattle.std.proofs.lemmas.Slice.Eq.{bytes_eq-Decides}
-use Rattle.std.proofs.lemmas.List.Splits.{length-slice_split, slice_split_none}
-use Rattle.relative_path.specs.Components.{slash, dot, is_slash, is_not_empty, pieces, Step, cur, up, name, step_text, classed, components, spell}
+-- Taking the first or the last component off a text: a trim, a cut at a slash, and a trim.
+use Rattle.std.proofs.Common.{◌≡◌, ◌≢◌, ◌⊎◌, ℕ, ◌-◌, List, [], ◌∷◌, ◌++◌, All, length, get_or, take, drop, Option, Some, None, MatchOption, sym, refl, ap, ap₂, ◌∙◌, subst, inl, inr, append_assoc, append-nil, arith, ne_eqb, false, length-append, take_at}
+use Rattle.std.specs.Iterator.{MakesProgress, item_count}
+use Rattle.std.specs.Prelude.{⊤}
+use Rattle.std.proofs.lemmas.Iterator.{YieldsList}
+use Rattle.std.proofs.lemmas.Iterator.Consumers.{YieldsList-from_shown}
+use Rattle.std.proofs.lemmas.List.{nil_from_length, get_or_at, drop_all}
+use Rattle.std.proofs.lemmas.List.Elements.{All-weaker, recursion_from_All}
+use Rattle.relative_path.specs.declared.component.Component.{Component}
+use Rattle.relative_path.specs.declared.component.Components.{Components}
+use Rattle.relative_path.specs.Steps.{slash, is_slash, classed, components}
+use Rattle.relative_path.specs.Slices.{IsRest, IsFront}
+use Rattle.relative_path.specs.Components.{step_of, text_left, components_left, TakesFirst, TakesLast}
+use Rattle.relative_path.proofs.StepsLemmas.{HasNoSlash, components-nil, components-append, components_whole}
+use Rattle.relative_path.proofs.SlicesLemmas.{IsSuffix, IsSuffix-drop, IsSuffix-trans, IsPrefix, IsPrefix-append, IsPrefix-trans, IsShortestPrefix-from, IsShortestPrefix-nil}
 
--- no byte is a slash
-abbrev pub HasNoSlash : List ℕ → Type 0
-HasNoSlash bs = AllByRecursion (λ b. is_slash b ≡ false) bs
+-- the text without the slashes at its start
+pub record IsTrimmedStart (text trimmed : List ℕ) : Type 0 where
+  pub suffix : IsSuffix text trimmed
+  pub start : get_or trimmed 0 0 ≢ slash
+  pub same : components trimmed ≡ components text
 
--- ---- cutting
+-- the component that the piece is, if it has a byte
+abbrev pub IsComponentOf : List ℕ → Option Component → Type 0
+IsComponentOf piece r = MatchOption r (piece ≡ []) (λ c. (piece ≢ []) × (step_of c ≡ classed piece))
 
-onto_first-append : (b : ℕ) (ps qs : List (List ℕ)) → 0 < length ps → onto_first b (ps ++ qs) ≡ onto_first b ps ++ qs
-onto_first-append b [] qs nonempty = absurd (omega arith)
-onto_first-append b (p ∷ ps) qs nonempty = refl
+HasNoSlash-from_All : (p : List ℕ) → All (λ b. b ≢ slash) p → HasNoSlash p
+HasNoSlash-from_All p h =
+    recursion_from_All (λ b. is_slash b ≡ false) p (All-weaker (λ b. b ≢ slash) (λ b. is_slash b ≡ false) (λ b other. ne_eqb b slash other) p h)
 
-slice_split_nonempty : (bs : List ℕ) → 0 < length (slice_split is_slash bs)
-slice_split_nonempty bs = omega (arith, length-slice_split is_slash bs)
+-- a piece that has a byte is its one component
+components_piece : (p : List ℕ) → p ≢ [] → All (λ b. b ≢ slash) p → components p ≡ classed p ∷ []
+components_piece [] nonempty h = absurd (nonempty refl)
+components_piece (b ∷ bs) nonempty h = components_whole (b ∷ bs) (omega arith) (HasNoSlash-from_All (b ∷ bs) h)
 
-slice_split-append : (xs ys : List ℕ) → slice_split is_slash (xs ++ slash ∷ ys) ≡ slice_split is_slash xs ++ slice_split is_slash ys
-slice_split-append [] ys = refl
-slice_split-append (x ∷ xs) ys =
-    let rest = slice_split-append xs ys in
-    let joined = onto_first-append x (slice_split is_slash xs) (slice_split is_slash ys) (slice_split_nonempty xs) in
-    ⊎_elim
-    (λ e. rw (cond-true (is_slash x) _ _ e, cond-true (is_slash x) _ _ e) (ap (λ ps. [] ∷ ps) rest))
-    (λ e. rw (cond-false (is_slash x) _ _ e, cond-false (is_slash x) _ _ e) (ap (onto_first x) rest ∙ joined))
-    (cases_Bool (is_slash x))
+nil_from_suffix : (r : List ℕ) → IsSuffix [] r → r ≡ []
+nil_from_suffix r h = nil_from_length r (let e = ap length h.joined in omega (arith, e, length-append h.front r))
 
-pieces-append : (xs ys : List ℕ) → pieces (xs ++ slash ∷ ys) ≡ pieces xs ++ pieces ys
-unfolding pieces
-pieces-append xs ys =
-    ap (filter is_not_empty) (slice_split-append xs ys) ∙ filter-append is_not_empty (slice_split is_slash xs) (slice_split is_slash ys)
+-- with no component, the rest and the front are empty
+IsRest-none : (text r : List ℕ) → components text ≡ [] → r ≡ [] → IsRest text r
+IsRest-none text r none empty = rw empty (record {
+  suffix = sym (drop_all (length text - 0) text (omega arith));
+  no_leading_slash = λ e. absurd (omega (arith, e));
+  other_components = components-nil ∙ sym (ap (drop 1) none);
+})
 
--- a text that has a byte and no slash is one piece
-pieces_whole : (b : ℕ) (bs : List ℕ) → HasNoSlash (b ∷ bs) → pieces (b ∷ bs) ≡ (b ∷ bs) ∷ []
-unfolding pieces
-pieces_whole b bs h =
-    rw (slice_split_none is_slash (b ∷ bs) (All-from_recursion (λ x. is_slash x ≡ false) (b ∷ bs) h)) refl
+IsFront-none : (text p : List ℕ) → components text ≡ [] → p ≡ [] → IsFront text p
+IsFront-none text p none empty = rw (empty, none) (IsShortestPrefix-nil text)
 
-pub components-nil : components [] ≡ []
-unfolding components pieces
-components-nil = refl
+module _ (text trimmed piece rest left : List ℕ) (trim : IsTrimmedStart text trimmed) (whole : All (λ b. b ≢ slash) piece) (trim' : IsTrimmedStart rest left) where
+  first_none : (trimmed ≡ piece ++ slash ∷ rest) ⊎ ((trimmed ≡ piece) × (rest ≡ [])) → piece ≡ [] → (components text ≡ []) × (left ≡ [])
+  first_none (inl joined) empty = absurd (trim.start (ap (λ x. get_or x 0 0) (joined ∙ ap (λ x. x ++ slash ∷ rest) empty)))
+  first_none (inr (joined, none)) empty =
+      (sym trim.same ∙ ap components (joined ∙ empty) ∙ components-nil, nil_from_suffix left (subst (λ x. IsSuffix x left) none trim'.suffix))
 
-pub components-append : (xs ys : List ℕ) → components (xs ++ slash ∷ ys) ≡ components xs ++ components ys
-unfolding components
-components-append xs ys = ap (map classed) (pieces-append xs ys) ∙ map-append classed (pieces xs) (pieces ys)
+  first_components : (trimmed ≡ piece ++ slash ∷ rest) ⊎ ((trimmed ≡ piece) × (rest ≡ [])) → piece ≢ [] → components text ≡ classed piece ∷ components left
+  first_components (inl joined) nonempty =
+      sym trim.same ∙ ap components joined ∙ components-append piece rest ∙ ap₂ (λ cs ds. cs ++ ds) (components_piece piece nonempty whole) (sym trim'.same)
+  first_components (inr (joined, none)) nonempty =
+      sym trim.same ∙ ap components joined ∙ components_piece piece nonempty whole ∙ ap (λ cs. classed piece ∷ cs) (sym (trim'.same ∙ ap components none ∙ components-nil))
 
-pub components-slash : (ys : List ℕ) → components (slash ∷ ys) ≡ components ys
-components-slash ys = components-append [] ys ∙ ap (λ cs. cs ++ components ys) components-nil
+  rest_suffix : (trimmed ≡ piece ++ slash ∷ rest) ⊎ ((trimmed ≡ piece) × (rest ≡ [])) → IsSuffix trimmed rest
+  rest_suffix (inl joined) = record { front = piece ++ slash ∷ []; joined = joined ∙ sym (append_assoc piece (slash ∷ []) rest) }
+  rest_suffix (inr (joined, none)) = record { front = trimmed; joined = sym (append-nil trimmed) ∙ ap (λ x. trimmed ++ x) (sym none) }
 
-pub components-trailing_slash : (xs : List ℕ) → components (xs ++ slash ∷ []) ≡ components xs
-components-trailing_slash xs = components-append xs [] ∙ ap (λ cs. components xs ++ cs) components-nil ∙ append-nil (components xs)
+  pub TakesFirst-from : (r : Option Component) → (trimmed ≡ piece ++ slash ∷ rest) ⊎ ((trimmed ≡ piece) × (rest ≡ [])) → IsComponentOf piece r → TakesFirst text r left
+  TakesFirst-from None split empty =
+      let none = first_none split empty in (none.0, IsRest-none text left none.0 none.1)
+  TakesFirst-from (Some c) split (nonempty, is) =
+      let cs = first_components split nonempty in (
+        cs ∙ ap (λ d. d ∷ components left) (sym is),
+        record {
+          suffix = IsSuffix-drop (IsSuffix-trans trim.suffix (IsSuffix-trans (rest_suffix split) trim'.suffix));
+          no_leading_slash = trim'.start;
+          other_components = sym (ap (drop 1) cs);
+        },
+      )
 
--- a text that has a byte and no slash is one component
-pub components_whole : (p : List ℕ) → 0 < length p → HasNoSlash p → components p ≡ classed p ∷ []
-unfolding components
-components_whole [] nonempty h = absurd (omega arith)
-components_whole (b ∷ bs) nonempty h = ap (map classed) (pieces_whole b bs h)
+-- the text without the slashes at its end
+pub record IsTrimmedEnd (text trimmed : List ℕ) : Type 0 where
+  pub prefix : IsPrefix text trimmed
+  pub end : get_or trimmed (length trimmed - 1) 0 ≢ slash
+  pub same : components trimmed ≡ components text
 
--- ---- classing
+nil_from_prefix : (p : List ℕ) → IsPrefix [] p → p ≡ []
+nil_from_prefix [] h = refl
+nil_from_prefix (b ∷ bs) h = h.front
 
-pub step_text-classed : (p : List ℕ) → step_text (classed p) ≡ p
-step_text-classed p =
-    cond_both (bytes_eq p (dot ∷ [])) cur (cond (bytes_eq p (dot ∷ dot ∷ [])) up (name p)) (λ c. step_text c ≡ p)
-    (λ e. sym ((bytes_eq-Decides p (dot ∷ [])).0 e))
-    (λ _. cond_both (bytes_eq p (dot ∷ dot ∷ [])) up (name p) (λ c. step_text c ≡ p) (λ e. sym ((bytes_eq-Decides p (dot ∷ dot ∷ [])).0 e)) (λ _. refl))
+-- a slash put behind a text ends it
+pub ends_in_slash : (xs : List ℕ) → get_or (xs ++ slash ∷ []) (length (xs ++ slash ∷ []) - 1) 0 ≡ slash
+ends_in_slash xs =
+    let index : length (xs ++ slash ∷ []) - 1 ≡ length xs = omega (arith, length-append xs (slash ∷ [])) in
+    ap (λ i. get_or (xs ++ slash ∷ []) i 0) index ∙ get_or_at xs slash [] 0 (length xs) refl
 
--- ---- what a component is: its own text has it alone
+module _ (text trimmed piece front left : List ℕ) (trim : IsTrimmedEnd text trimmed) (whole : All (λ b. b ≢ slash) piece) (trim' : IsTrimmedEnd front left) where
+  last_none : (trimmed ≡ front ++ slash ∷ piece) ⊎ ((trimmed ≡ piece) × (front ≡ [])) → piece ≡ [] → (components text ≡ []) × (left ≡ [])
+  last_none (inl joined) empty =
+      let ended = joined ∙ ap (λ x. front ++ slash ∷ x) empty in
+      absurd (trim.end (ap (λ x. get_or x (length x - 1) 0) ended ∙ ends_in_slash front))
+  last_none (inr (joined, none)) empty =
+      (sym trim.same ∙ ap components (joined ∙ empty) ∙ components-nil, nil_from_prefix left (subst (λ x. IsPrefix x left) none trim'.prefix))
 
--- the text of the component has that component and no other
-abbrev pub IsProper : Step → Type 0
-IsProper c = components (step_text c) ≡ c ∷ []
+  last_components : (trimmed ≡ front ++ slash ∷ piece) ⊎ ((trimmed ≡ piece) × (front ≡ [])) → piece ≢ [] → components text ≡ components left ++ classed piece ∷ []
+  last_components (inl joined) nonempty =
+      sym trim.same ∙ ap components joined ∙ components-append front piece ∙ ap₂ (λ cs ds. cs ++ ds) (sym trim'.same) (components_piece piece nonempty whole)
+  last_components (inr (joined, none)) nonempty =
+      sym trim.same ∙ ap components joined ∙ components_piece piece nonempty whole ∙ ap (λ cs. cs ++ classed piece ∷ []) (sym (trim'.same ∙ ap components none ∙ components-nil))
 
--- each component is so
-abbrev pub AreProper : List Step → Type 0
-AreProper cs = AllByRecursion IsProper cs
+  front_prefix : (trimmed ≡ front ++ slash ∷ piece) ⊎ ((trimmed ≡ piece) × (front ≡ [])) → IsPrefix trimmed front
+  front_prefix (inl joined) = subst (λ x. IsPrefix x front) (sym joined) (IsPrefix-append front (slash ∷ piece))
+  front_prefix (inr (joined, none)) = rw none (record { front = refl })
 
--- ---- counting bytes
+  pub TakesLast-from : (r : Option Component) → (trimmed ≡ front ++ slash ∷ piece) ⊎ ((trimmed ≡ piece) × (front ≡ [])) → IsComponentOf piece r → TakesLast text r left
+  TakesLast-from None split empty =
+      let none = last_none split empty in (none.0, IsFront-none text left none.0 none.1)
+  TakesLast-from (Some c) split (nonempty, is) =
+      let cs = last_components split nonempty in
+      let counted : length (components left) ≡ length (components text) - 1 = omega (arith, ap length cs, length-append (components left) (classed piece ∷ [])) in
+      let firsts = sym (ap (take (length (components left))) cs ∙ take_at (components left) (classed piece ∷ []) (length (components left)) refl) in
+      (cs ∙ ap (λ d. components left ++ d ∷ []) (sym is), IsShortestPrefix-from (IsPrefix-trans trim.prefix (IsPrefix-trans (front_prefix split) trim'.prefix)) (firsts ∙ ap (λ n. take n (components text)) counted) trim'.end)
 
--- how many bytes are no slash
-abbrev pub solid_len : List ℕ → ℕ
-solid_len [] = 0
-solid_len (b ∷ bs) = cond (is_slash b) (solid_len bs) (suc (solid_len bs))
+-- ---- what follows of the lists of components, and that the walk ends
 
--- how many bytes the components have
-abbrev pub total_len : List Step → ℕ
-total_len [] = 0
-total_len (c ∷ cs) = length (step_text c) + total_len cs
+pub MakesProgress-TakesFirst : (s t : Components) (r : Option Component) → TakesFirst (text_left s) r (text_left t) → MakesProgress (λ _. ⊤) (item_count components_left) s r t
+MakesProgress-TakesFirst s t None taken = record { on = λ _. tt; keeps = tt; rests = λ h. h }
+MakesProgress-TakesFirst s t (Some c) (joined, _) =
+    record { on = λ h. (tt, h, omega (arith, ap length joined)); keeps = tt; rests = λ _. tt }
 
--- how many bytes the pieces have
-abbrev pub parts_len : List (List ℕ) → ℕ
-parts_len [] = 0
-parts_len (p ∷ ps) = length p + parts_len ps
+pub MakesProgress-TakesLast : (s t : Components) (r : Option Component) → TakesLast (text_left s) r (text_left t) → MakesProgress (λ _. ⊤) (item_count components_left) s r t
+MakesProgress-TakesLast s t None taken = record { on = λ _. tt; keeps = tt; rests = λ h. h }
+MakesProgress-TakesLast s t (Some c) (joined, _) =
+    record { on = λ h. (tt, h, omega (arith, ap length joined, length-append (components_left t) (step_of c ∷ []))); keeps = tt; rests = λ _. tt }
 
-parts_len-onto_first : (b : ℕ) (ps : List (List ℕ)) → parts_len (onto_first b ps) ≡ suc (parts_len ps)
-parts_len-onto_first b [] = refl
-parts_len-onto_first b (p ∷ ps) = omega arith
-
-parts_len-slice_split : (bs : List ℕ) → parts_len (slice_split is_slash bs) ≡ solid_len bs
-parts_len-slice_split [] = refl
-parts_len-slice_split (b ∷ bs) =
-    ⊎_elim
-    (λ e. rw (cond-true (is_slash b) _ _ e, cond-true (is_slash b) _ _ e) (omega (arith, parts_len-slice_split bs)))
-    (λ e. rw (cond-false (is_slash b) _ _ e, cond-false (is_slash b) _ _ e) (omega (arith, parts_len-onto_first b (slice_split is_slash bs), parts_len-slice_split bs)))
-    (cases_Bool (is_slash b))
-
-pub parts_len-filter : (ps : List (List ℕ)) → parts_len (filter is_not_empty ps) ≡ parts_len ps
-parts_len-filter [] = refl
-parts_len-filter ([] ∷ ps) = omega (arith, parts_len-filter ps)
-parts_len-filter ((b ∷ bs) ∷ ps) = omega (arith, parts_len-filter ps)
-
-total_len-classed : (ps : List (List ℕ)) → total_len (map classed ps) ≡ parts_len ps
-total_len-classed [] = refl
-total_len-classed (p ∷ ps) = omega (arith, ap length (step_text-classed p), total_len-classed ps)
-
-pub total_len-components : (bs : List ℕ) → total_len (components bs) ≡ solid_len bs
-unfolding components pieces
-total_len-components bs =
-    total_len-classed (pieces bs) ∙ parts_len-filter (slice_split is_slash bs) ∙ parts_len-slice_split bs
-
--- ---- components of a text are proper
-
--- a piece has a byte and no slash
-abbrev IsPiece : List ℕ → Type 0
-IsPiece p = (0 < length p) × HasNoSlash p
-
-HasNoSlash-onto_first : (b : ℕ) (ps : List (List ℕ)) → is_slash b ≡ false → AllByRecursion HasNoSlash ps → AllByRecursion HasNoSlash (onto_first b ps)
-HasNoSlash-onto_first b [] e h = ((e, tt), tt)
-HasNoSlash-onto_first b (p ∷ ps) e h = ((e, h.0), h.1)
-
-HasNoSlash-slice_split : (bs : List ℕ) → AllByRecursion HasNoSlash (slice_split is_slash bs)
-HasNoSlash-slice_split [] = (tt, tt)
-HasNoSlash-slice_split (b ∷ bs) =
-    cond_both (is_slash b) ([] ∷ slice_split is_slash bs) (onto_first b (slice_split is_slash bs)) (AllByRecursion HasNoSlash)
-    (λ _. (tt, HasNoSlash-slice_split bs))
-    (λ e. HasNoSlash-onto_first b (slice_split is_slash bs) e (HasNoSlash-slice_split bs))
-
-IsPiece-filter : (ps : List (List ℕ)) → AllByRecursion HasNoSlash ps → AllByRecursion IsPiece (filter is_not_empty ps)
-IsPiece-filter [] h = tt
-IsPiece-filter ([] ∷ ps) h = IsPiece-filter ps h.1
-IsPiece-filter ((b ∷ bs) ∷ ps) h = ((omega arith, h.0), IsPiece-filter ps h.1)
-
-IsProper-classed : (p : List ℕ) → IsPiece p → IsProper (classed p)
-IsProper-classed p h = rw (step_text-classed p) (components_whole p h.0 h.1)
-
-AreProper-classed : (ps : List (List ℕ)) → AllByRecursion IsPiece ps → AreProper (map classed ps)
-AreProper-classed [] h = tt
-AreProper-classed (p ∷ ps) h = (IsProper-classed p h.0, AreProper-classed ps h.1)
-
-pub AreProper-components : (bs : List ℕ) → AreProper (components bs)
-unfolding components pieces
-AreProper-components bs =
-    AreProper-classed (pieces bs) (IsPiece-filter (slice_split is_slash bs) (HasNoSlash-slice_split bs))
-
--- ---- spelling
-
-pub components-spell : (cs : List Step) → AreProper cs → components (spell cs) ≡ cs
-components-spell [] proper = components-nil
-components-spell (c ∷ []) proper = proper.0
-components-spell (c ∷ d ∷ cs) proper =
-    components-append (step_text c) (spell (d ∷ cs)) ∙ ap₂ (λ xs ys. xs ++ ys) proper.0 (components-spell (d ∷ cs) proper.1)
-
-AreProper-append : (cs ds : List Step) → AreProper cs → AreProper ds → AreProper (cs ++ ds)
-AreProper-append [] ds proper proper' = proper'
-AreProper-append (c ∷ cs) ds proper proper' = (proper.0, AreProper-append cs ds proper.1 proper')
-
--- ---- the last byte
-
--- the end of a text that has a byte is the end of what it ends with
-pub end-append : (xs ys : List ℕ) → 0 < length ys → get_or (xs ++ ys) (length (xs ++ ys) - 1) 0 ≡ get_or ys (length ys - 1) 0
-end-append xs ys nonempty =
-    let index : length (xs ++ ys) - 1 ≡ length xs + (length ys - 1) = omega (arith, length-append xs ys) in
-    ap (λ i. get_or (xs ++ ys) i 0) index ∙ get_or-append-add xs ys (length ys - 1) 0
-
--- ---- solid bytes
-
-pub solid_len-append : (xs ys : List ℕ) → solid_len (xs ++ ys) ≡ solid_len xs + solid_len ys
-solid_len-append [] ys = omega arith
-solid_len-append (x ∷ xs) ys =
-    ⊎_elim
-    (λ e. rw (cond-true (is_slash x) _ _ e, cond-true (is_slash x) _ _ e) (solid_len-append xs ys))
-    (λ e. rw (cond-false (is_slash x) _ _ e, cond-false (is_slash x) _ _ e) (omega (arith, solid_len-append xs ys)))
-    (cases_Bool (is_slash x))
-
-pub solid_len_le : (bs : List ℕ) → solid_len bs ≤ length bs
-solid_len_le [] = omega arith
-solid_len_le (b ∷ bs) =
-    cond_both (is_slash b) (solid_len bs) (suc (solid_len bs)) (λ n. n ≤ suc (length bs)) (λ _. omega (arith, solid_len_le bs)) (λ _. omega (arith, solid_len_le bs))
-
--- a text without a solid byte ends in a slash, if it has a byte
-pub ends_in_slash : (bs : List ℕ) → solid_len bs ≡ 0 → 0 < length bs → get_or bs (length bs - 1) 0 ≡ slash
-ends_in_slash [] none nonempty = absurd (omega arith)
-ends_in_slash (b ∷ []) none nonempty =
-    ⊎_elim
-    (λ e. eqb-true b slash e)
-    (λ e. absurd (let h = rw (cond-false {A = ℕ} (is_slash b) 0 1 e) at none in omega (arith, h)))
-    (cases_Bool (is_slash b))
-ends_in_slash (b ∷ c ∷ bs) none nonempty =
-    let rest : solid_len (c ∷ bs) ≡ 0 = omega (arith, solid_len-append (b ∷ []) (c ∷ bs)) in
-    end-append (b ∷ []) (c ∷ bs) (omega arith) ∙ ends_in_slash (c ∷ bs) rest (omega arith)
-
-HasNoSlash-from_solid : (bs : List ℕ) → solid_len bs ≡ length bs → HasNoSlash bs
-HasNoSlash-from_solid [] solid = tt
-HasNoSlash-from_solid (b ∷ bs) solid =
-    ⊎_elim
-    (λ e. absurd (let h = rw (cond-true (is_slash b) (solid_len bs) (suc (solid_len bs)) e) at solid in omega (arith, h, solid_len_le bs)))
-    (λ e. (e, HasNoSlash-from_solid bs (let h = rw (cond-false (is_slash b) (solid_len bs) (suc (solid_len bs)) e) at solid in omega (arith, h))))
-    (cases_Bool (is_slash b))
-
--- the text of a proper component has no slash
-pub HasNoSlash-proper : (c : Step) → IsProper c → HasNoSlash (step_text c)
-HasNoSlash-proper c proper =
-    let counted = total_len-components (step_text c) in
-    let counts = rw proper at counted in
-    HasNoSlash-from_solid (step_text c) (omega (arith, counts))
-
--- the text of a proper component has a byte
-pub nonempty_proper : (c : Step) → IsProper c → 0 < length (step_text c)
-nonempty_proper c proper = nonempty (step_text c) proper
-  where
-    nonempty : (p : List ℕ) → components p ≡ c ∷ [] → 0 < length p
-    nonempty [] e = let none = components-nil in absurd (cc)
-    nonempty (b ∷ bs) e = omega arith
-
--- ---- ends of texts
-
--- the text begins with no slash
-pub HasNoSlash-start : (p rest : List ℕ) → 0 < length p → HasNoSlash p → get_or (p ++ rest) 0 0 ≢ slash
-HasNoSlash-start [] rest nonempty h = absurd (omega arith)
-HasNoSlash-start (b ∷ bs) rest nonempty h = λ e. eqb-false b slash h.0 e
-
--- the text ends in no slash
-pub HasNoSlash-end : (p : List ℕ) → HasNoSlash p → get_or p (length p - 1) 0 ≢ slash
-HasNoSlash-end [] h = λ e. absurd (omega (arith, e))
-HasNoSlash-end (b ∷ []) h = λ e. eqb-false b slash h.0 e
-HasNoSlash-end (b ∷ c ∷ bs) h = λ e. HasNoSlash-end (c ∷ bs) h.1 (sym (end-append (b ∷ []) (c ∷ bs) (omega arith)) ∙ e)
-
-pub spell_nonempty : (c : Step) (cs : List Step) → IsProper c → 0 < length (spell (c ∷ cs))
-spell_nonempty c [] proper = nonempty_proper c proper
-spell_nonempty c (d ∷ cs) proper = omega (arith, length-append (step_text c) (slash ∷ spell (d ∷ cs)))
-
--- a text that spells proper components ends in no slash
-pub spell_end : (cs : List Step) → AreProper cs → get_or (spell cs) (length (spell cs) - 1) 0 ≢ slash
-spell_end [] proper = HasNoSlash-end [] tt
-spell_end (c ∷ []) proper = HasNoSlash-end (step_text c) (HasNoSlash-proper c proper.0)
-spell_end (c ∷ d ∷ cs) proper = λ e.
-    let longer = end-append (step_text c ++ slash ∷ []) (spell (d ∷ cs)) (spell_nonempty d cs proper.1.0) in
-    let same : step_text c ++ slash ∷ spell (d ∷ cs) ≡ (step_text c ++ slash ∷ []) ++ spell (d ∷ cs) = sym (append_assoc (step_text c) (slash ∷ []) (spell (d ∷ cs))) in
-    spell_end (d ∷ cs) proper.1 (sym longer ∙ ap (λ x. get_or x (length x - 1) 0) (sym same) ∙ e)
-
-pub AreProper-append_left : (cs ds : List Step) → AreProper (cs ++ ds) → AreProper cs
-AreProper-append_left [] ds proper = tt
-AreProper-append_left (c ∷ cs) ds proper = (proper.0, AreProper-append_left cs ds proper.1)
+-- a walk gives the components of its text, one after another
+pub YieldsList-components : (s : Components) (text : List ℕ) → text_left s ≡ text → YieldsList (λ s taken t. TakesFirst (text_left s) taken (text_left t)) step_of s (components text)
+YieldsList-components s text same =
+    subst (λ x. YieldsList (λ s taken t. TakesFirst (text_left s) taken (text_left t)) step_of s (components x)) same (YieldsList-from_shown (λ s taken t. TakesFirst (text_left s) taken (text_left t)) step_of components_left (λ s t taken. ap length taken.0) (λ s c t taken. taken.0) s)

@@ -6,20 +6,20 @@ use Rattle.std.specs.Str.Pattern.{FindsCharPrefix, StripsPrefix}
 use Rattle.std.proofs.lemmas.Bool.{cond-true, cond-false, cases_Bool}
 use Rattle.std.proofs.lemmas.List.{reverse-append, take_more, replicate_more, length-replicate}
 use Rattle.std.proofs.lemmas.Str.Pattern.{strip_prefix_char}
-use Rattle.relative_path.specs.Components.{slash, Step, cur, components}
+use Rattle.relative_path.specs.Steps.{slash, Step, cur, components}
 use Rattle.relative_path.specs.Slices.{IsShortestPrefix, IsCut, IsFront}
-use Rattle.relative_path.specs.Editing.{with_separator, without_leading_slash, pushed, is_cur, kept_len, IsPopped}
-use Rattle.relative_path.proofs.ComponentsLemmas.{components-nil, components-append, components-slash, components-trailing_slash}
-use Rattle.relative_path.proofs.SliceLemmas.{IsPrefix, take-IsPrefix, IsPrefix-trans, IsPrefix-shortest, IsShortestPrefix-from, IsShortestPrefix-trans}
+use Rattle.relative_path.specs.Editing.{with_separator, unslashed, pushed, is_cur, kept_len, IsPopped}
+use Rattle.relative_path.proofs.StepsLemmas.{components-nil, components-append, components-slash, components-trailing_slash}
+use Rattle.relative_path.proofs.SlicesLemmas.{IsPrefix, take-IsPrefix, IsPrefix-trans, IsPrefix-shortest, IsShortestPrefix-from, IsShortestPrefix-trans}
 
 -- what `strip_prefix` gives, or the text
-pub without_leading_slash-strip_prefix : (text : List ℕ) (r : Option (Bor (List ℕ))) (whole : Bor (List ℕ)) → whole.now ≡ text → MatchOption r (FindsCharPrefix slash text None) (λ x. StripsPrefix (FindsCharPrefix slash) text x.now) → (unwrap_or r whole).now ≡ without_leading_slash text
-without_leading_slash-strip_prefix text r whole all found = stripped text r (strip_prefix_char slash text r found (lit< tt)) all
+pub unslashed-strip_prefix : (text : List ℕ) (r : Option (Bor (List ℕ))) (whole : Bor (List ℕ)) → whole.now ≡ text → MatchOption r (FindsCharPrefix slash text None) (λ x. StripsPrefix (FindsCharPrefix slash) text x.now) → (unwrap_or r whole).now ≡ unslashed text
+unslashed-strip_prefix text r whole all found = stripped text r (strip_prefix_char slash text r found (lit< tt)) all
   where
-    stripped : (bs : List ℕ) (o : Option (Bor (List ℕ))) → MatchOption o ((rest : List ℕ) → bs ≢ slash ∷ rest) (λ x. bs ≡ slash ∷ x.now) → whole.now ≡ bs → (unwrap_or o whole).now ≡ without_leading_slash bs
+    stripped : (bs : List ℕ) (o : Option (Bor (List ℕ))) → MatchOption o ((rest : List ℕ) → bs ≢ slash ∷ rest) (λ x. bs ≡ slash ∷ x.now) → whole.now ≡ bs → (unwrap_or o whole).now ≡ unslashed bs
     stripped [] None other same = same
     stripped (b ∷ bs) None other same = same ∙ sym (cond-false _ _ _ (ne_eqb b slash (λ e. other bs (ap (λ x. x ∷ bs) e))))
-    stripped bs (Some rest) joined same = sym (ap without_leading_slash joined)
+    stripped bs (Some rest) joined same = sym (ap unslashed joined)
 
 -- ---- dropping the components that a parent loses
 
@@ -124,9 +124,9 @@ components-with_separator (b ∷ bs) rest =
     (λ e. ap (λ x. components (x ++ rest)) (cond-false _ _ _ e) ∙ ap components (append_assoc (b ∷ bs) (slash ∷ []) rest) ∙ components-append (b ∷ bs) rest)
     (cases_Bool (eqb (get_or (b ∷ bs) (length bs) 0) slash))
 
-components-without_leading_slash : (path : List ℕ) → components (without_leading_slash path) ≡ components path
-components-without_leading_slash [] = refl
-components-without_leading_slash (b ∷ bs) =
+components-unslashed : (path : List ℕ) → components (unslashed path) ≡ components path
+components-unslashed [] = refl
+components-unslashed (b ∷ bs) =
     ⊎_elim
     (λ e. ap components (cond-true _ _ _ e) ∙ sym (components-slash bs) ∙ ap (λ x. components (x ∷ bs)) (sym (eqb-true b slash e)))
     (λ e. ap components (cond-false _ _ _ e))
@@ -134,9 +134,9 @@ components-without_leading_slash (b ∷ bs) =
 
 pub components-pushed : (text path : List ℕ) → components (pushed text path) ≡ components text ++ components path
 components-pushed text path =
-    components-with_separator text (without_leading_slash path) ∙ ap (λ cs. components text ++ cs) (components-without_leading_slash path)
+    components-with_separator text (unslashed path) ∙ ap (λ cs. components text ++ cs) (components-unslashed path)
 
 -- a text that begins with no slash is pushed as it is
-pub without_leading_slash-solid : (path : List ℕ) → get_or path 0 0 ≢ slash → without_leading_slash path ≡ path
-without_leading_slash-solid [] start = refl
-without_leading_slash-solid (b ∷ bs) start = cond-false _ _ _ (ne_eqb b slash start)
+pub unslashed-solid : (path : List ℕ) → get_or path 0 0 ≢ slash → unslashed path ≡ path
+unslashed-solid [] start = refl
+unslashed-solid (b ∷ bs) start = cond-false _ _ _ (ne_eqb b slash start)

@@ -1,10 +1,9 @@
-pub mod ComponentsLemmas
-pub mod SliceLemmas
+pub mod StepsLemmas
+pub mod SlicesLemmas
 pub mod WalkLemmas
-pub mod NormalFormLemmas
-pub mod TrimLemmas
-pub mod SplitLemmas
-pub mod NextLemmas
+pub mod NormalStepsLemmas
+pub mod SlashesLemmas
+pub mod ComponentsLemmas
 pub mod EditingLemmas
-pub mod NameLemmas
+pub mod NamingLemmas
 pub mod NormalizingLemmas

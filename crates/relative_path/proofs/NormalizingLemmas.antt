@@ -2,16 +2,16 @@
 use Rattle.std.proofs.Common.{◌≡◌, ◌≢◌, ◌⊎◌, ℕ, suc, ◌+◌, ◌≤◌, List, [], ◌∷◌, ◌++◌, map, filter, length, get_or, take, sym, refl, ap, ap₂, ◌∙◌, subst, inl, inr, append_assoc, append-nil, arith, length-append, take_at}
 use Rattle.std.specs.List.{join_with_byte, slice_split}
 use Rattle.std.proofs.lemmas.List.Splits.{join_with_byte-slice_split}
-use Rattle.relative_path.specs.Components.{slash, is_slash, is_not_empty, pieces, Step, cur, up, name, step_text, classed, components, spell}
+use Rattle.relative_path.specs.Steps.{slash, is_slash, is_not_empty, pieces, Step, cur, up, name, step_text, classed, components, spell}
 use Rattle.relative_path.specs.Walk.{IsSame}
-use Rattle.relative_path.specs.NormalForm.{IsNormal, IsNormalText, IsNormalTextOf}
+use Rattle.relative_path.specs.Normalizing.{IsNormal, IsNormalText, IsNormalTextOf}
 use Rattle.relative_path.specs.Slices.{IsShortestPrefix}
-use Rattle.relative_path.specs.Editing.{pushed, with_separator, without_leading_slash, kept_len, IsPopped}
-use Rattle.relative_path.proofs.ComponentsLemmas.{components-nil, components-spell, AreProper, IsProper, AreProper-components, AreProper-append_left, HasNoSlash-proper, HasNoSlash-start, nonempty_proper, spell_end, spell_nonempty, step_text-classed, parts_len, parts_len-filter}
-use Rattle.relative_path.proofs.SliceLemmas.{IsPrefix, IsPrefix-append, IsShortestPrefix-from, IsShortestPrefix-unique}
-use Rattle.relative_path.proofs.EditingLemmas.{components-pushed, with_separator-solid, without_leading_slash-solid, kept_len-push}
+use Rattle.relative_path.specs.Editing.{pushed, with_separator, unslashed, kept_len, IsPopped}
+use Rattle.relative_path.proofs.StepsLemmas.{components-nil, components-spell, AreProper, IsProper, AreProper-components, AreProper-append_left, HasNoSlash-proper, HasNoSlash-start, nonempty_proper, spell_end, spell_nonempty, step_text-classed, parts_len, parts_len-filter}
+use Rattle.relative_path.proofs.SlicesLemmas.{IsPrefix, IsPrefix-append, IsShortestPrefix-from, IsShortestPrefix-unique}
+use Rattle.relative_path.proofs.EditingLemmas.{components-pushed, with_separator-solid, unslashed-solid, kept_len-push}
 use Rattle.relative_path.proofs.WalkLemmas.{IsSame-refl, IsSame-sym, IsSame-trans, IsSame-cur, IsSame-name_up}
-use Rattle.relative_path.proofs.NormalFormLemmas.{IsNormal-push_up_after_up, IsNormal-front, IsNormal-not_cur, normal_unique, spell-append, length-spell-append_le, length-spell-drop_one}
+use Rattle.relative_path.proofs.NormalStepsLemmas.{IsNormal-push_up_after_up, IsNormal-front, IsNormal-not_cur, normal_unique, spell-append, length-spell-append_le, length-spell-drop_one}
 
 -- ---- a text is no shorter than what spells its components
 
@@ -70,8 +70,8 @@ Normalizes-cur source limit text left h = record {
 pushed-spell : (cs : List Step) (c : Step) → AreProper cs → IsProper c → pushed (spell cs) (step_text c) ≡ spell (cs ++ c ∷ [])
 pushed-spell cs c propers proper = ap (λ x. with_separator (spell cs) ++ x) solid ∙ behind cs propers
   where
-    solid : without_leading_slash (step_text c) ≡ step_text c
-    solid = without_leading_slash-solid (step_text c) (subst (λ x. get_or x 0 0 ≢ slash) (append-nil (step_text c)) (HasNoSlash-start (step_text c) [] (nonempty_proper c proper) (HasNoSlash-proper c proper)))
+    solid : unslashed (step_text c) ≡ step_text c
+    solid = unslashed-solid (step_text c) (subst (λ x. get_or x 0 0 ≢ slash) (append-nil (step_text c)) (HasNoSlash-start (step_text c) [] (nonempty_proper c proper) (HasNoSlash-proper c proper)))
 
     behind : (ds : List Step) → AreProper ds → with_separator (spell ds) ++ step_text c ≡ spell (ds ++ c ∷ [])
     behind [] h = refl

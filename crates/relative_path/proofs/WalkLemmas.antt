@@ -1,7 +1,7 @@
 -- Where joined lists of steps lead, and which lists lead to the same places.
 use Rattle.std.proofs.Common.{◌≡◌, ℕ, List, [], ◌∷◌, ◌++◌, length, take, Option, Some, None, option_and_then, refl, sym, ap, ◌∙◌, arith}
 use Rattle.std.proofs.lemmas.List.{take_at, length_push}
-use Rattle.relative_path.specs.Components.{Step, cur, up, name}
+use Rattle.relative_path.specs.Steps.{Step, cur, up, name}
 use Rattle.relative_path.specs.Walk.{above, walk, IsSame}
 
 -- the place where steps lead from a place that may be none

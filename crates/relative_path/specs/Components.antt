@@ -1,50 +1,51 @@
--- A text cut at its slashes: the components of a path, and the text that spells them.
-use Rattle.std.specs.Prelude.{ℕ, Bool, true, false, ◌==◌, List, [], ◌∷◌, map, if◌then◌else◌}
-use Rattle.std.specs.List.{filter, slice_split, join_with_byte}
-use Rattle.std.specs.Str.{bytes_eq}
+-- What `Component` and `Components` show, and what a call of `next` or `next_back` gives.
+use Rattle.std.specs.Prelude.{◌≡◌, ℕ, List, [], ◌∷◌, ◌++◌, map, Option, MatchOption}
+use Rattle.std.specs.Borrow.{Bor}
+use Rattle.relative_path.specs.declared.component.Component.{Component}
+use Rattle.relative_path.specs.declared.component.Component.TheVariants.{CurDir, ParentDir, Normal}
+use Rattle.relative_path.specs.declared.component.Components.{Components}
+use Rattle.relative_path.specs.declared.component.Iter.{Iter}
+use Rattle.relative_path.specs.Steps.{Step, cur, up, name, step_text, components}
+use Rattle.relative_path.specs.Slices.{IsFront, IsRest}
 
--- `b'/'`
-abbrev pub slash : ℕ
-slash = 47
+-- the step that a `Component` stands for
+abbrev pub step_of : Component → Step
+step_of CurDir = cur
+step_of ParentDir = up
+step_of (Normal n) = name n.now
 
--- `b'.'`
-abbrev pub dot : ℕ
-dot = 46
+-- the text that is left
+abbrev pub text_left : Components → List ℕ
+text_left it = it.text.now
 
--- the byte is a slash
-abbrev pub is_slash : ℕ → Bool
-is_slash b = b == slash
+-- the components that are left
+abbrev pub components_left : Components → List Step
+components_left it = components (text_left it)
 
--- the piece has a byte
-abbrev pub is_not_empty : List ℕ → Bool
-is_not_empty [] = false
-is_not_empty (b ∷ bs) = true
+-- the text that is left to an `Iter`
+abbrev pub iter_text_left : Iter → List ℕ
+iter_text_left iter = text_left iter.components
 
--- the text cut at every slash, without the empty pieces
-unfoldable pub pieces : List ℕ → List (List ℕ)
-pieces text = filter is_not_empty (slice_split is_slash text)
+-- the texts of the components that are left to it
+abbrev pub texts_left : Iter → List (List ℕ)
+texts_left iter = map step_text (components (iter_text_left iter))
 
--- a component as a step from a place: `.` stays, `..` goes up, a name goes down
-pub data Step : Type 0 where
-  cur : Step
-  up : Step
-  name : List ℕ → Step
+-- the text's first component was taken, or none where it has none, and its rest was left
+abbrev pub TakesFirst : List ℕ → Option Component → List ℕ → Type 0
+TakesFirst text taken rest =
+    MatchOption taken (components text ≡ []) (λ c. components text ≡ step_of c ∷ components rest) × IsRest text rest
 
--- the text of a component
-abbrev pub step_text : Step → List ℕ
-step_text cur = dot ∷ []
-step_text up = dot ∷ dot ∷ []
-step_text (name n) = n
+-- the text's last component was taken, or none where it has none, and its front was left
+abbrev pub TakesLast : List ℕ → Option Component → List ℕ → Type 0
+TakesLast text taken front =
+    MatchOption taken (components text ≡ []) (λ c. components text ≡ components front ++ step_of c ∷ []) × IsFront text front
 
--- the component that a piece is
-abbrev pub classed : List ℕ → Step
-classed piece =
-    if bytes_eq piece (step_text cur) then cur else if bytes_eq piece (step_text up) then up else name piece
+-- the same of an `Iter`, which gives the text of its first component
+abbrev pub TakesFirstText : List ℕ → Option (Bor (List ℕ)) → List ℕ → Type 0
+TakesFirstText text taken rest =
+    MatchOption taken (components text ≡ []) (λ s. (c : Step) × (s.now ≡ step_text c) × (components text ≡ c ∷ components rest)) × IsRest text rest
 
--- the components of a text
-unfoldable pub components : List ℕ → List Step
-components text = map classed (pieces text)
-
--- the texts of the components, joined by single slashes
-abbrev pub spell : List Step → List ℕ
-spell cs = join_with_byte slash (map step_text cs)
+-- the same of an `Iter`, which gives the text of its last component
+abbrev pub TakesLastText : List ℕ → Option (Bor (List ℕ)) → List ℕ → Type 0
+TakesLastText text taken front =
+    MatchOption taken (components text ≡ []) (λ s. (c : Step) × (s.now ≡ step_text c) × (components text ≡ components front ++ c ∷ [])) × IsFront text front

@@ -1,7 +1,7 @@
 -- The texts that edits leave.
 use Rattle.std.specs.Prelude.{ℕ, Bool, true, false, ◌-◌, ◌==◌, List, [], ◌∷◌, ◌++◌, length, slice_index, if◌then◌else◌}
 use Rattle.std.specs.List.{suffix_len}
-use Rattle.relative_path.specs.Components.{Step, cur, up, name, slash, components}
+use Rattle.relative_path.specs.Steps.{Step, cur, up, name, slash, components}
 use Rattle.relative_path.specs.Slices.{IsCut}
 
 -- the text, and a slash unless it is empty or ends in one
@@ -10,13 +10,13 @@ with_separator [] = []
 with_separator (b ∷ bs) = if slice_index (b ∷ bs) (length bs) == slash then b ∷ bs else (b ∷ bs) ++ slash ∷ []
 
 -- the text without one slash at its start
-abbrev pub without_leading_slash : List ℕ → List ℕ
-without_leading_slash [] = []
-without_leading_slash (b ∷ text) = if b == slash then text else b ∷ text
+abbrev pub unslashed : List ℕ → List ℕ
+unslashed [] = []
+unslashed (b ∷ text) = if b == slash then text else b ∷ text
 
 -- the text after a push of the path: the text with its separator, then the path without one slash at its start
 abbrev pub pushed : List ℕ → List ℕ → List ℕ
-pushed text path = with_separator text ++ without_leading_slash path
+pushed text path = with_separator text ++ unslashed path
 
 -- the component is `.`
 abbrev pub is_cur : Step → Bool

@@ -1,11 +1,11 @@
-pub mod Components
+pub mod Steps
 pub mod Walk
-pub mod NormalForm
+pub mod Normalizing
 pub mod Slices
 pub mod Editing
-pub mod Names
+pub mod Naming
 pub mod RelativePath
 pub mod RelativePathBuf
-pub mod Iterating
-pub mod Order
-pub mod OrderLaws
+pub mod Components
+pub mod Comparing
+pub mod ComparingLaws

@@ -2,7 +2,7 @@
 use Rattle.std.specs.Prelude.{ℕ, List}
 use Rattle.relative_path.specs.declared.path.RelativePath.{RelativePath}
 use Rattle.relative_path.specs.declared.path.Display.{Display}
-use Rattle.relative_path.specs.Components.{Step, components}
+use Rattle.relative_path.specs.Steps.{Step, components}
 
 -- the text of a path
 abbrev pub path_text : RelativePath → List ℕ

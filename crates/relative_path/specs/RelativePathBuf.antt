@@ -1,6 +1,6 @@
 -- What a `RelativePathBuf` shows.
 use Rattle.std.specs.Prelude.{◌≡◌, ◌<◌, ℕ, List, length}
-use Rattle.relative_path.specs.Components.{Step, components}
+use Rattle.relative_path.specs.Steps.{Step, components}
 
 -- a text, and how many bytes it can have without a growth of its memory
 pub record Buffer : Type 0 where
@@ -12,7 +12,7 @@ abbrev pub buffer_components : Buffer → List Step
 buffer_components buffer = components buffer.text
 
 -- one text alone has the property, and it is longer than the room
-pub record IsTooLong (P : List ℕ → Type 0) (room : ℕ) : Type 0 where
+pub record ExceedsRoom (P : List ℕ → Type 0) (room : ℕ) : Type 0 where
   pub text : List ℕ
   pub holds : P text
   pub only : (other : List ℕ) → P other → other ≡ text

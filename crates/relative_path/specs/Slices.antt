@@ -1,6 +1,6 @@
 -- Prefixes and suffixes of a text, told by their components.
 use Rattle.std.specs.Prelude.{◌≡◌, ◌≢◌, ℕ, ◌-◌, ◌≤◌, List, length, take, drop, slice_index}
-use Rattle.relative_path.specs.Components.{Step, slash, components}
+use Rattle.relative_path.specs.Steps.{Step, slash, components}
 
 -- p is the shortest prefix of the text whose components are cs
 pub record IsShortestPrefix (text : List ℕ) (cs : List Step) (p : List ℕ) : Type 0 where

@@ -1,7 +1,7 @@
 -- Where a path leads. A place is a list of names, the top first; the empty list is the top.
 use Rattle.std.specs.Prelude.{◌≡◌, ℕ, List, [], ◌∷◌, ◌++◌, length, take, Option, Some, None}
 use Rattle.std.specs.Option.{option_and_then}
-use Rattle.relative_path.specs.Components.{Step, cur, up, name}
+use Rattle.relative_path.specs.Steps.{Step, cur, up, name}
 
 -- the place above a place: its names without the last; above the top there is none
 abbrev pub above : List (List ℕ) → Option (List (List ℕ))

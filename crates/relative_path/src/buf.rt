@@ -1,19 +1,20 @@
 //! The owned relative path.
 ghost use Rattle.std.specs.Prelude.{◌≡◌, ◌≢◌, ◌≤◌, ◌<◌, ◌+◌, ◌↔◌, ◌++◌, [], ◌∷◌, if◌then◌else◌, length, None, Some, IsSome, IfOk, IsOk, OnOk, OnErr, IsTrue};
-ghost use Rattle.relative_path.specs.Components.{slash, components};
+ghost use Rattle.relative_path.specs.Steps.{slash, components};
 ghost use Rattle.relative_path.specs.Editing.{pushed, with_separator, IsPopped};
-ghost use Rattle.relative_path.specs.Names.{file_name_of, dotted, IsNamed, IsExtended};
+ghost use Rattle.relative_path.specs.Naming.{file_name_of, dotted, IsNamed, IsExtended};
 ghost use Rattle.relative_path.specs.Editing as spec;
-ghost use Rattle.relative_path.specs.Order.{steps_eq, steps_cmp, fed};
-ghost use Rattle.relative_path.specs.OrderLaws.{steps_cmp-total, steps_eq-equiv, steps_eq-ties, fed-steps_eq};
+ghost use Rattle.relative_path.specs.Comparing.{steps_eq, steps_cmp, fed};
+ghost use Rattle.relative_path.specs.ComparingLaws.{steps_cmp-total, steps_eq-equiv, steps_eq-ties, fed-steps_eq};
 ghost use Rattle.relative_path.specs.RelativePath.{path_text};
-ghost use Rattle.relative_path.specs.RelativePathBuf.{buffer_components, IsTooLong};
+ghost use Rattle.relative_path.specs.RelativePathBuf.{buffer_components, ExceedsRoom};
 ghost use Rattle.std.specs.Cmp.{on_equiv, on_total, partial_equiv_from_equiv, partial_order_from_agreeing_total};
 ghost use Rattle.std.specs.Fmt.{styled_text, debug_str};
 ghost use Rattle.std.specs.Ordering.{on, as_partial_cmp};
 ghost use Rattle.std.proofs.Common.{refl};
 
-use crate::name::{base_of, end_of, without_extension};
+use crate::editing::{dotted_len, needs_separator, pushed_len, strip_slash};
+use crate::naming::{base_of, last_component, without_extension};
 use crate::path::RelativePath;
 use std::alloc::{AllocError, Global};
 use std::cmp::Ordering;
@@ -162,7 +163,7 @@ impl RelativePathBuf {
             (self.old.room < length (pushed self.old.text (path_text path.entry))) }
         ensures room { self.old.room ≤ self.new.room }
     {
-        let text = without_leading_slash(path.as_str());
+        let text = strip_slash(path.as_str());
         if needs_separator(self.text.as_str()) {
             self.text.reserve(1 + text.len())?;
             self.text.push_str("/").unwrap();
@@ -184,7 +185,7 @@ impl RelativePathBuf {
         ensures ok { OnOk result (IsNamed self.old.text file_name.now self.new.text) }
         ensures err { OnErr result (self.new.text ≡ self.old.text) }
         ensures full { OnErr result
-            (IsTooLong (IsNamed self.old.text file_name.now) self.old.room) }
+            (ExceedsRoom (IsNamed self.old.text file_name.now) self.old.room) }
         ensures room { self.old.room ≤ self.new.room }
     {
         let base = base_of(self.as_relative_path()).as_str();
@@ -213,7 +214,7 @@ impl RelativePathBuf {
         ensures ok { OnOk result (IsExtended self.old.text extension.now self.new.text) }
         ensures err { OnErr result (self.new.text ≡ self.old.text) }
         ensures full { OnErr result
-            (IsTooLong (IsExtended self.old.text extension.now) self.old.room) }
+            (ExceedsRoom (IsExtended self.old.text extension.now) self.old.room) }
         ensures taken_off { extension.now ≡ [] → IsOk result }
         ensures unnamed { file_name_of self.old.text ≡ None → IsOk result }
         ensures room { self.old.room ≤ self.new.room }
@@ -266,7 +267,10 @@ impl RelativePathBuf {
         ensures text { IsPopped self.old.text self.new.text }
         ensures room { self.new.room ≡ self.old.room }
     {
-        let len = end_of(self.as_relative_path()).before.as_str().len();
+        let len = last_component(self.as_relative_path())
+            .before
+            .as_str()
+            .len();
         let popped = !self.text.is_empty();
         self.text.truncate(len);
         popped
@@ -354,36 +358,4 @@ impl fmt::Display for RelativePathBuf {
     fn fmt<W: fmt::Write>(&self, f: &mut fmt::Formatter<W>) -> fmt::Result {
         fmt::Display::fmt(&self.as_relative_path(), f)
     }
-}
-
-// How many bytes the text has when the path is pushed onto it.
-pub(crate) fn pushed_len(text: &str, path: &str) -> usize
-    ensures { result ≡ length (pushed text.now path.now) }
-{
-    text.len() + usize::from(needs_separator(text)) + without_leading_slash(path).len()
-}
-
-// How many bytes a dot and the extension have, if that is not empty.
-pub(crate) fn dotted_len(extension: &str) -> usize
-    ensures { result ≡ length (dotted extension.now) }
-{
-    if extension.is_empty() {
-        0
-    } else {
-        1 + extension.len()
-    }
-}
-
-// Whether a slash has to stand between the text and what is pushed onto it.
-fn needs_separator(text: &str) -> bool
-    ensures { with_separator text.now ≡ (if result then text.now ++ slash ∷ [] else text.now) }
-{
-    !text.is_empty() && !text.ends_with('/')
-}
-
-// The text without one slash at its start.
-fn without_leading_slash(text: &str) -> &str
-    ensures { result.now ≡ spec.without_leading_slash text.now }
-{
-    text.strip_prefix('/').unwrap_or(text)
 }

@@ -2,16 +2,17 @@
 ghost use Rattle.std.specs.Prelude.{◌≡◌, ◌≢◌, ◌-◌, ◌⊎◌, ◌↔◌, [], ◌∷◌, ◌++◌, ⊤, IsTrue, MatchOption, length, drop, take, slice_index};
 ghost use Rattle.std.specs.List.{All};
 ghost use Rattle.std.specs.Iterator.{item_count};
-ghost use Rattle.relative_path.specs.Components.{slash, classed, components, step_text};
-ghost use Rattle.relative_path.specs.Iterating.{step_of, text_left, components_left, iter_text_left, texts_left, TakesFirst, TakesFirstText, TakesLast, TakesLastText};
+ghost use Rattle.relative_path.specs.Steps.{slash, classed, components, step_text};
+ghost use Rattle.relative_path.specs.Components.{step_of, text_left, components_left, iter_text_left, texts_left, TakesFirst, TakesFirstText, TakesLast, TakesLastText};
 ghost use Rattle.relative_path.specs.RelativePath.{path_text};
-ghost use Rattle.relative_path.specs.Order.{step_rank, step_eq, step_cmp, steps_eq, fed};
-ghost use Rattle.relative_path.specs.OrderLaws.{step_cmp-total, step_eq-equiv, step_eq-ties, steps_eq-equiv, fed-step_eq};
+ghost use Rattle.relative_path.specs.Comparing.{step_rank, step_eq, step_cmp, steps_eq, fed};
+ghost use Rattle.relative_path.specs.ComparingLaws.{step_cmp-total, step_eq-equiv, step_eq-ties, steps_eq-equiv, fed-step_eq};
 ghost use Rattle.std.specs.Cmp.{on_equiv, on_total, partial_equiv_from_equiv, partial_order_from_agreeing_total};
 ghost use Rattle.std.specs.Ordering.{on, as_partial_cmp};
 ghost use Rattle.std.proofs.Common.{refl};
 
 use crate::path::RelativePath;
+use crate::slashes::{split_first, split_last, without_leading_slashes, without_trailing_slashes};
 use std::alloc::AllocError;
 use std::cmp::Ordering;
 use std::hash::{Hash, Hasher};
@@ -270,42 +271,6 @@ impl<'a> DoubleEndedIterator for Iter<'a> {
     fn next_back(&mut self) -> Option<&'a str> {
         self.components.next_back().map(Component::as_str)
     }
-}
-
-// The text without the slashes at its start.
-fn without_leading_slashes(text: &str) -> &str
-    ensures suffix { result.now ≡ drop (length text.now - length result.now) text.now }
-    ensures start { slice_index result.now 0 ≢ slash }
-    ensures same { components result.now ≡ components text.now }
-{
-    text.trim_start_matches('/')
-}
-
-// The text without the slashes at its end.
-pub(crate) fn without_trailing_slashes(text: &str) -> &str
-    ensures prefix { result.now ≡ take (length result.now) text.now }
-    ensures end { slice_index result.now (length result.now - 1) ≢ slash }
-    ensures same { components result.now ≡ components text.now }
-{
-    text.trim_end_matches('/')
-}
-
-// What stands before the first slash, and what stands after it.
-fn split_first(text: &str) -> (&str, &str)
-    ensures piece { All (λ b. b ≢ slash) result.0.now }
-    ensures joined { (text.now ≡ result.0.now ++ slash ∷ result.1.now)
-        ⊎ ((text.now ≡ result.0.now) × (result.1.now ≡ [])) }
-{
-    text.split_once('/').unwrap_or((text, ""))
-}
-
-// What stands before the last slash, and what stands after it.
-fn split_last(text: &str) -> (&str, &str)
-    ensures piece { All (λ b. b ≢ slash) result.1.now }
-    ensures joined { (text.now ≡ result.0.now ++ slash ∷ result.1.now)
-        ⊎ ((text.now ≡ result.1.now) × (result.0.now ≡ [])) }
-{
-    text.rsplit_once('/').unwrap_or(("", text))
 }
 
 // The component that a piece of a text is; an empty piece is none.

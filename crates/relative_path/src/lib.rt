@@ -7,5 +7,8 @@ pub use self::path::{Display, RelativePath};
 
 mod buf;
 mod component;
-mod name;
+mod editing;
+mod naming;
+mod normalizing;
 mod path;
+mod slashes;

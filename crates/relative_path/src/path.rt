@@ -1,22 +1,24 @@
 //! The borrowed relative path.
 ghost use Rattle.std.specs.Prelude.{◌≡◌, ◌≢◌, ◌≤◌, ◌↔◌, ◌++◌, [], ◌∷◌, IfOk, IfSome, IsSome, IsTrue, Some, List, ℕ, length};
-ghost use Rattle.relative_path.specs.Components.{Step, name, components};
+ghost use Rattle.relative_path.specs.Steps.{Step, name, components};
 ghost use Rattle.relative_path.specs.Editing.{pushed, IsPopped};
-ghost use Rattle.relative_path.specs.Iterating.{text_left, iter_text_left};
-ghost use Rattle.relative_path.specs.Names.{file_name_of, stem_of, extension_of, IsNamed, IsExtended};
-ghost use Rattle.relative_path.specs.Order.{steps_eq, steps_cmp, fed};
-ghost use Rattle.relative_path.specs.OrderLaws.{steps_cmp-total, steps_eq-equiv, steps_eq-ties, fed-steps_eq};
+ghost use Rattle.relative_path.specs.Components.{text_left, iter_text_left};
+ghost use Rattle.relative_path.specs.Naming.{file_name_of, stem_of, extension_of, IsNamed, IsExtended};
+ghost use Rattle.relative_path.specs.Comparing.{steps_eq, steps_cmp, fed};
+ghost use Rattle.relative_path.specs.ComparingLaws.{steps_cmp-total, steps_eq-equiv, steps_eq-ties, fed-steps_eq};
 ghost use Rattle.std.specs.Cmp.{on_equiv, on_total, partial_equiv_from_equiv, partial_order_from_agreeing_total};
 ghost use Rattle.std.specs.Fmt.{styled_text, debug_str};
 ghost use Rattle.std.specs.Option.{option_copied, option_map, option_and_then};
 ghost use Rattle.std.specs.Ordering.{on, as_partial_cmp};
 ghost use Rattle.std.proofs.Common.{refl};
-ghost use Rattle.relative_path.specs.NormalForm.{IsNormalTextOf};
+ghost use Rattle.relative_path.specs.Normalizing.{IsNormalTextOf};
 ghost use Rattle.relative_path.specs.RelativePath.{path_text, path_components, display_text};
 
-use crate::buf::{RelativePathBuf, dotted_len, pushed_len};
+use crate::buf::RelativePathBuf;
 use crate::component::{Component, Components, Iter};
-use crate::name::{base_of, end_of, split_name, without_extension};
+use crate::editing::{dotted_len, pushed_len};
+use crate::naming::{base_of, last_component, split_name, without_extension};
+use crate::normalizing::{ends_in_name, push_within};
 use std::alloc::{AllocError, Global};
 use std::cmp::Ordering;
 use std::fmt;
@@ -143,7 +145,7 @@ impl<'a> RelativePath<'a> {
         if self.text.is_empty() {
             None
         } else {
-            Some(end_of(self).before)
+            Some(last_component(self).before)
         }
     }
 
@@ -158,7 +160,7 @@ impl<'a> RelativePath<'a> {
     pub fn file_name(self) -> Option<&'a str>
         ensures { option_copied result ≡ file_name_of (path_text self.entry) }
     {
-        end_of(self).name
+        last_component(self).name
     }
 
     /// This path with the file name replaced, or with one pushed onto it if it has none, in memory
@@ -399,21 +401,4 @@ impl fmt::Debug for Display<'_> {
     fn fmt<W: fmt::Write>(&self, f: &mut fmt::Formatter<W>) -> fmt::Result {
         fmt::Debug::fmt(&self.path, f)
     }
-}
-
-// Pushes a text onto a buffer that has room for it.
-fn push_within(out: &mut RelativePathBuf, text: &str)
-    requires room { length (pushed out.old.text text.now) ≤ out.old.room }
-    ensures text { out.new.text ≡ pushed out.old.text text.now }
-    ensures room { out.old.room ≤ out.new.room }
-{
-    out.push(RelativePath::new(text)).unwrap();
-}
-
-// Whether the last component is a name.
-fn ends_in_name(path: RelativePath<'_>) -> bool
-    ensures { IsTrue result
-        ↔ ((cs : List Step) × (n : List ℕ) × (components (path_text path.entry) ≡ cs ++ name n ∷ [])) }
-{
-    matches!(path.components().next_back(), Some(Component::Normal(_)))
 }

@@ -1,1 +1,1 @@
-pub mod EndsLemmas
+pub mod WalkingLemmas

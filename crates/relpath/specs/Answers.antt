@@ -1,8 +1,8 @@
 -- The answer line to a line, by its command.
 use Rattle.std.specs.Prelude.{◌≡◌, ℕ, ◌==◌, List, [], ◌∷◌, ◌++◌, length, drop, codes, MatchBool, slice_index_or}
 use Rattle.std.specs.Str.{bytes_eq}
-use Rattle.relative_path.specs.Components.{components}
-use Rattle.relative_path.specs.NormalForm.{IsNormalTextOf}
+use Rattle.relative_path.specs.Steps.{components}
+use Rattle.relative_path.specs.Normalizing.{IsNormalTextOf}
 use Rattle.relpath.specs.Lines.{line_feed, fields_of}
 
 -- the answer line of a path

@@ -1,9 +1,9 @@
 use Rattle.std.proofs.Common.{rules, arith, string_bytes, ap, refl, ◌∙◌, ◌≡◌, ◌+◌, ◌++◌, sym, length, length-append}
 use Rattle.std.proofs.lemmas.Str.{IsUtf8-string_bytes}
-use Rattle.relative_path.specs.Names.{IsExtended, dotted}
+use Rattle.relative_path.specs.Naming.{IsExtended, dotted}
 use Rattle.relative_path.specs.RelativePath.{path_text}
-use Rattle.relative_path.proofs.SliceLemmas.{length-IsPrefix, IsCharBoundary-IsPrefix}
-use Rattle.relative_path.proofs.NameLemmas.{IsPrefix-IsExtended, IsExtended-push, IsTooLong-extended}
+use Rattle.relative_path.proofs.SlicesLemmas.{length-IsPrefix, IsCharBoundary-IsPrefix}
+use Rattle.relative_path.proofs.NamingLemmas.{IsPrefix-IsExtended, IsExtended-push, ExceedsRoom-extended}
 use Rattle.relative_path.proofs.buf.RelativePathBuf.set_extension.Goals as goal
 
 pub returns-in_err-reserve_to-clause-full : goal.returns-in_err-reserve_to-clause-full
@@ -13,7 +13,7 @@ returns-in_err-reserve_to-clause-full c =
     let extended = path_text c.in-Some.front ++ dotted extension in
     let is : IsExtended text extension extended = rw (← c.as_relative_path.ensures) (IsExtended-push _ _ _ (c.in-Some.ensures.found.0 refl) c.in-Some.ensures.text) in
     let count : length c.as_str-front_len.result.now + c.dotted_len.result ≡ length extended = omega (arith, ap length c.as_str-front_len.ensures, c.dotted_len.ensures, length-append (path_text c.in-Some.front) (dotted extension)) in
-    let long = IsTooLong-extended text extension extended c.args.self.now.room _ is count c.in_err-reserve_to.ensures.full in
+    let long = ExceedsRoom-extended text extension extended c.args.self.now.room _ is count c.in_err-reserve_to.ensures.full in
     search rules
 
 pub returns-in_err-reserve_to-clause-taken_off : goal.returns-in_err-reserve_to-clause-taken_off

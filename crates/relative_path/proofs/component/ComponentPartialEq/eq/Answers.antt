@@ -1,7 +1,7 @@
 use Rattle.std.proofs.Common.{◌≡◌, is_eq, sym, ap, ◌∙◌}
-use Rattle.relative_path.specs.Iterating.{step_of}
-use Rattle.relative_path.specs.Order.{step_eq}
-use Rattle.relative_path.specs.OrderLaws.{step_eq-ties, step_eq-Decides}
+use Rattle.relative_path.specs.Components.{step_of}
+use Rattle.relative_path.specs.Comparing.{step_eq}
+use Rattle.relative_path.specs.ComparingLaws.{step_eq-ties, step_eq-Decides}
 use Rattle.relative_path.proofs.component.ComponentPartialEq.eq.Goals as goal
 
 pub returns : goal.returns

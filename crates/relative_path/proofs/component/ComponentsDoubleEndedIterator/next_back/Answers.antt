@@ -1,5 +1,5 @@
-use Rattle.relative_path.specs.Iterating.{TakesLast}
-use Rattle.relative_path.proofs.NextLemmas.{TakesLast-from, MakesProgress-TakesLast}
+use Rattle.relative_path.specs.Components.{TakesLast}
+use Rattle.relative_path.proofs.ComponentsLemmas.{TakesLast-from, MakesProgress-TakesLast}
 use Rattle.relative_path.proofs.component.ComponentsDoubleEndedIterator.next_back.Goals as goal
 
 pub returns : goal.returns

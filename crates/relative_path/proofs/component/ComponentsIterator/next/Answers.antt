@@ -1,6 +1,6 @@
-use Rattle.relative_path.specs.Iterating.{TakesFirst}
-use Rattle.relative_path.proofs.SliceLemmas.{IsSuffix-from}
-use Rattle.relative_path.proofs.NextLemmas.{TakesFirst-from, MakesProgress-TakesFirst}
+use Rattle.relative_path.specs.Components.{TakesFirst}
+use Rattle.relative_path.proofs.SlicesLemmas.{IsSuffix-from}
+use Rattle.relative_path.proofs.ComponentsLemmas.{TakesFirst-from, MakesProgress-TakesFirst}
 use Rattle.relative_path.proofs.component.ComponentsIterator.next.Goals as goal
 
 pub returns : goal.returns

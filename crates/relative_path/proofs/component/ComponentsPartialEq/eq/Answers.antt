@@ -1,8 +1,8 @@
 use Rattle.std.proofs.Common.{◌≡◌, is_eq, sym, ap, ap₂, ◌∙◌}
-use Rattle.relative_path.specs.Components.{components}
-use Rattle.relative_path.specs.Iterating.{components_left}
-use Rattle.relative_path.specs.Order.{steps_eq, steps_cmp}
-use Rattle.relative_path.specs.OrderLaws.{steps_eq-ties, steps_eq-Decides}
+use Rattle.relative_path.specs.Steps.{components}
+use Rattle.relative_path.specs.Components.{components_left}
+use Rattle.relative_path.specs.Comparing.{steps_eq, steps_cmp}
+use Rattle.relative_path.specs.ComparingLaws.{steps_eq-ties, steps_eq-Decides}
 use Rattle.relative_path.proofs.component.ComponentsPartialEq.eq.Goals as goal
 
 pub returns : goal.returns

@@ -1,9 +1,9 @@
 use Rattle.std.proofs.Common.{◌≡◌, ◌∷◌, ℕ, List, sym, ap, ◌∙◌, refl, subst, arith, true≢false}
-use Rattle.relative_path.specs.Components.{Step, components}
-use Rattle.relative_path.specs.Iterating.{step_of, components_left}
+use Rattle.relative_path.specs.Steps.{Step, components}
+use Rattle.relative_path.specs.Components.{step_of, components_left}
 use Rattle.relative_path.specs.RelativePath.{path_text}
-use Rattle.relative_path.proofs.ComponentsLemmas.{AreProper, IsProper, AreProper-components}
-use Rattle.relative_path.proofs.NormalFormLemmas.{IsNormal-push_name}
+use Rattle.relative_path.proofs.StepsLemmas.{AreProper, IsProper, AreProper-components}
+use Rattle.relative_path.proofs.NormalStepsLemmas.{IsNormal-push_name}
 use Rattle.relative_path.proofs.NormalizingLemmas.{Normalizes, Normalizes-start, Normalizes-cur, Normalizes-push, Normalizes-pop, Normalizes-end, pushed_fits, IsNormal-push_up}
 use Rattle.relative_path.proofs.path.RelativePath.normalize_into.Goals as goal
 

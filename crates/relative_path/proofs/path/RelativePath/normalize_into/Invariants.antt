@@ -1,6 +1,6 @@
 use Rattle.std.proofs.Common.{◌≤◌, length}
-use Rattle.relative_path.specs.Components.{components}
-use Rattle.relative_path.specs.Iterating.{components_left}
+use Rattle.relative_path.specs.Steps.{components}
+use Rattle.relative_path.specs.Components.{components_left}
 use Rattle.relative_path.specs.RelativePath.{path_text}
 use Rattle.relative_path.proofs.NormalizingLemmas.{Normalizes}
 use Rattle.relative_path.proofs.path.RelativePath.normalize_into.Given as goal

@@ -1,6 +1,6 @@
 use Rattle.std.proofs.Common.{◌≡◌, fold}
-use Rattle.relative_path.specs.Iterating.{components_left}
-use Rattle.relative_path.specs.Order.{fed}
+use Rattle.relative_path.specs.Components.{components_left}
+use Rattle.relative_path.specs.Comparing.{fed}
 use Rattle.relative_path.specs.RelativePath.{path_components}
 use Rattle.relative_path.proofs.path.RelativePathHash.hash.Given as goal
 

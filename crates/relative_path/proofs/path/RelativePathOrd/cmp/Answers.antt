@@ -1,9 +1,9 @@
 use Rattle.std.proofs.Common.{◌≡◌, ap, ◌∙◌, refl}
 use Rattle.std.proofs.lemmas.Iterator.Search.{cmp_from_yields_List}
-use Rattle.relative_path.specs.Iterating.{text_left}
-use Rattle.relative_path.specs.Order.{step_cmp}
+use Rattle.relative_path.specs.Components.{text_left}
+use Rattle.relative_path.specs.Comparing.{step_cmp}
 use Rattle.relative_path.proofs.path.RelativePathOrd.cmp.Goals as goal
-use Rattle.relative_path.proofs.NextLemmas.{YieldsList-components}
+use Rattle.relative_path.proofs.ComponentsLemmas.{YieldsList-components}
 
 pub returns : goal.returns
 returns c =

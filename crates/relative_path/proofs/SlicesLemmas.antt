@@ -1,0 +1,105 @@
+-- Prefixes and suffixes of a text that are fixed by their components.
+use Rattle.std.proofs.Common.{◌≡◌, ◌≢◌, ℕ, ◌+◌, ◌-◌, ◌<◌, ◌≤◌, List, [], ◌++◌, length, get_or, take, drop, sym, refl, ap, ◌∙◌, subst, ⊎_elim, append_assoc, arith, take-append-drop, length-drop, length-take, take-take, take_at, get_or-drop}
+use Rattle.std.proofs.lemmas.Bool.{cases_lt}
+use Rattle.std.proofs.lemmas.List.Prefix.{end_rest}
+use Rattle.std.specs.Str.{IsUtf8, IsCharBoundary}
+use Rattle.std.proofs.lemmas.Str.{IsCharBoundary-from_take}
+use Rattle.relative_path.specs.Steps.{slash, Step, components}
+use Rattle.relative_path.specs.Slices.{IsShortestPrefix}
+use Rattle.relative_path.proofs.StepsLemmas.{components-nil, total_len-components, solid_len, solid_len-append, ends_in_slash}
+
+-- p is the front of the text
+pub record IsPrefix (text p : List ℕ) : Type 0 where
+  pub front : p ≡ take (length p) text
+
+pub IsPrefix-append : (p rest : List ℕ) → IsPrefix (p ++ rest) p
+IsPrefix-append p rest = record { front = sym (take_at p rest (length p) refl) }
+
+pub IsPrefix-take : (k : ℕ) (text : List ℕ) → IsPrefix text (take k text)
+IsPrefix-take k text = subst (λ x. IsPrefix x (take k text)) (take-append-drop k text) (IsPrefix-append (take k text) (drop k text))
+
+-- the same text before both
+pub IsPrefix-append_left : (head : List ℕ) {text p : List ℕ} → IsPrefix text p → IsPrefix (head ++ text) (head ++ p)
+IsPrefix-append_left head {text} {p} h =
+    let rest = drop (length p) text in
+    let whole : (head ++ p) ++ rest ≡ head ++ text = append_assoc head p rest ∙ ap (λ x. head ++ (x ++ rest)) h.front ∙ ap (λ x. head ++ x) (take-append-drop (length p) text) in
+    subst (λ x. IsPrefix x (head ++ p)) whole (IsPrefix-append (head ++ p) rest)
+
+pub length-IsPrefix : {text p : List ℕ} → IsPrefix text p → length p ≤ length text
+length-IsPrefix {text} {p} h = let e = ap length h.front ∙ length-take (length p) text in omega (arith, e)
+
+-- a shorter front of the front
+pub take-IsPrefix : {text p : List ℕ} → IsPrefix text p → (k : ℕ) → k ≤ length p → take k p ≡ take k text
+take-IsPrefix {text} {p} h k short = ap (take k) h.front ∙ take-take k (length p) text short
+
+pub IsPrefix-trans : {text p q : List ℕ} → IsPrefix text p → IsPrefix p q → IsPrefix text q
+IsPrefix-trans {text} {p} {q} h i = record { front = i.front ∙ take-IsPrefix h (length q) (length-IsPrefix i) }
+
+-- texts with the same components have as many solid bytes
+solid_len-components : (xs ys : List ℕ) → components xs ≡ components ys → solid_len xs ≡ solid_len ys
+solid_len-components xs ys e = let p = total_len-components xs in let q = total_len-components ys in let r = rw e at p in omega (arith, q, r)
+
+-- a front with the same components as a longer one leaves out slashes alone, the last byte among them
+ends_in_slash_after : (p : List ℕ) (k : ℕ) → k < length p → components (take k p) ≡ components p → get_or p (length p - 1) 0 ≡ slash
+ends_in_slash_after p k short same =
+    let counts = solid_len-components (take k p) p same in
+    let whole = ap solid_len (sym (take-append-drop k p)) ∙ solid_len-append (take k p) (drop k p) in
+    let left : 0 < length (drop k p) = omega (arith, length-drop k p) in
+    let last = ends_in_slash (drop k p) (omega (arith, counts, whole)) left in
+    let index : length p - 1 ≡ k + (length (drop k p) - 1) = omega (arith, length-drop k p) in
+    ap (λ i. get_or p i 0) index ∙ sym (get_or-drop k p (length (drop k p) - 1) 0) ∙ last
+
+-- a front that ends in no slash is the shortest with its components
+pub IsShortestPrefix-from : {text p : List ℕ} {cs : List Step} → IsPrefix text p → components p ≡ cs → get_or p (length p - 1) 0 ≢ slash → IsShortestPrefix text cs p
+IsShortestPrefix-from {text} {p} {cs} h same end = record {
+  prefix = h.front;
+  same_components = same;
+  shortest = λ k e. ⊎_elim
+      (λ short. absurd (end (ends_in_slash_after p k short (ap components (take-IsPrefix h k (omega arith)) ∙ e ∙ sym same))))
+      (λ long. long)
+      (cases_lt k (length p));
+}
+
+-- a text is cut at the end of a character where its front is a text
+pub IsCharBoundary-IsPrefix : {text p : List ℕ} → IsPrefix text p → IsUtf8 text → IsUtf8 p → IsCharBoundary text (length p)
+IsCharBoundary-IsPrefix {text} {p} h whole part = IsCharBoundary-from_take text (length p) whole (length-IsPrefix h) (subst IsUtf8 h.front part)
+
+pub IsPrefix-shortest : {text p : List ℕ} {cs : List Step} → IsShortestPrefix text cs p → IsPrefix text p
+IsPrefix-shortest h = record { front = h.prefix }
+
+-- the shortest front of a front is the shortest front of the text
+pub IsShortestPrefix-trans : {text q p : List ℕ} {cs : List Step} → IsPrefix text q → IsShortestPrefix q cs p → IsShortestPrefix text cs p
+IsShortestPrefix-trans {text} {q} {p} {cs} h s = record {
+  prefix = (IsPrefix-trans h (IsPrefix-shortest s)).front;
+  same_components = s.same_components;
+  shortest = λ k e. ⊎_elim
+      (λ short. s.shortest k (ap components (take-IsPrefix h k (omega arith)) ∙ e))
+      (λ long. let fits = length-IsPrefix (IsPrefix-shortest s) in omega arith)
+      (cases_lt k (length q));
+}
+
+pub IsShortestPrefix-unique : {text p q : List ℕ} {cs : List Step} → IsShortestPrefix text cs p → IsShortestPrefix text cs q → p ≡ q
+IsShortestPrefix-unique {text} {p} {q} s t =
+    let at_most = s.shortest (length q) (ap components (sym t.prefix) ∙ t.same_components) in
+    let at_least = t.shortest (length p) (ap components (sym s.prefix) ∙ s.same_components) in
+    let same : length p ≡ length q = omega arith in
+    s.prefix ∙ ap (λ k. take k text) same ∙ sym t.prefix
+
+-- the empty front has no components
+pub IsShortestPrefix-nil : (text : List ℕ) → IsShortestPrefix text [] []
+IsShortestPrefix-nil text = record { prefix = refl; same_components = components-nil; shortest = λ k e. omega arith }
+
+-- r is the end of the text
+pub record IsSuffix (text r : List ℕ) : Type 0 where
+  pub front : List ℕ
+  pub joined : text ≡ front ++ r
+
+pub IsSuffix-from : {text r : List ℕ} → r ≡ drop (length text - length r) text → IsSuffix text r
+IsSuffix-from {text} {r} e =
+    record { front = take (length text - length r) text; joined = sym (ap (λ x. take (length text - length r) text ++ x) e ∙ take-append-drop (length text - length r) text) }
+
+pub IsSuffix-drop : {text r : List ℕ} → IsSuffix text r → r ≡ drop (length text - length r) text
+IsSuffix-drop {text} {r} h = sym (end_rest text r h.front h.joined)
+
+pub IsSuffix-trans : {text q r : List ℕ} → IsSuffix text q → IsSuffix q r → IsSuffix text r
+IsSuffix-trans {text} {q} {r} h i = record { front = h.front ++ i.front; joined = h.joined ∙ ap (λ x. h.front ++ x) i.joined ∙ sym (append_assoc h.front i.front r) }

@@ -1,0 +1,258 @@
+-- How the components of a text follow its slashes.
+use Rattle.std.proofs.Common.{◌≡◌, ◌≢◌, ℕ, suc, ◌+◌, ◌-◌, ◌<◌, ◌≤◌, false, cond, List, [], ◌∷◌, ◌++◌, map, length, get_or, filter, get_or-append-add, bytes_eq, sym, refl, ap, ap₂, ◌∙◌, eqb-true, ⊎_elim, append_assoc, append-nil, arith, length-append}
+use Rattle.std.specs.List.{slice_split, onto_first, AllByRecursion}
+use Rattle.std.proofs.lemmas.Bool.{cond-true, cond-false, cond_both, cases_Bool, eqb-false}
+use Rattle.std.proofs.lemmas.List.Elements.{filter-append, All-from_recursion}
+use Rattle.std.proofs.lemmas.List.{map-append}
+use Rattle.std.proofs.lemmas.Slice.Eq.{bytes_eq-Decides}
+use Rattle.std.proofs.lemmas.List.Splits.{length-slice_split, slice_split_none}
+use Rattle.relative_path.specs.Steps.{slash, dot, is_slash, is_not_empty, pieces, Step, cur, up, name, step_text, classed, components, spell}
+
+-- no byte is a slash
+abbrev pub HasNoSlash : List ℕ → Type 0
+HasNoSlash bs = AllByRecursion (λ b. is_slash b ≡ false) bs
+
+-- ---- cutting
+
+onto_first-append : (b : ℕ) (ps qs : List (List ℕ)) → 0 < length ps → onto_first b (ps ++ qs) ≡ onto_first b ps ++ qs
+onto_first-append b [] qs nonempty = absurd (omega arith)
+onto_first-append b (p ∷ ps) qs nonempty = refl
+
+slice_split_nonempty : (bs : List ℕ) → 0 < length (slice_split is_slash bs)
+slice_split_nonempty bs = omega (arith, length-slice_split is_slash bs)
+
+slice_split-append : (xs ys : List ℕ) → slice_split is_slash (xs ++ slash ∷ ys) ≡ slice_split is_slash xs ++ slice_split is_slash ys
+slice_split-append [] ys = refl
+slice_split-append (x ∷ xs) ys =
+    let rest = slice_split-append xs ys in
+    let joined = onto_first-append x (slice_split is_slash xs) (slice_split is_slash ys) (slice_split_nonempty xs) in
+    ⊎_elim
+    (λ e. rw (cond-true (is_slash x) _ _ e, cond-true (is_slash x) _ _ e) (ap (λ ps. [] ∷ ps) rest))
+    (λ e. rw (cond-false (is_slash x) _ _ e, cond-false (is_slash x) _ _ e) (ap (onto_first x) rest ∙ joined))
+    (cases_Bool (is_slash x))
+
+pieces-append : (xs ys : List ℕ) → pieces (xs ++ slash ∷ ys) ≡ pieces xs ++ pieces ys
+unfolding pieces
+pieces-append xs ys =
+    ap (filter is_not_empty) (slice_split-append xs ys) ∙ filter-append is_not_empty (slice_split is_slash xs) (slice_split is_slash ys)
+
+-- a text that has a byte and no slash is one piece
+pieces_whole : (b : ℕ) (bs : List ℕ) → HasNoSlash (b ∷ bs) → pieces (b ∷ bs) ≡ (b ∷ bs) ∷ []
+unfolding pieces
+pieces_whole b bs h =
+    rw (slice_split_none is_slash (b ∷ bs) (All-from_recursion (λ x. is_slash x ≡ false) (b ∷ bs) h)) refl
+
+pub components-nil : components [] ≡ []
+unfolding components pieces
+components-nil = refl
+
+pub components-append : (xs ys : List ℕ) → components (xs ++ slash ∷ ys) ≡ components xs ++ components ys
+unfolding components
+components-append xs ys = ap (map classed) (pieces-append xs ys) ∙ map-append classed (pieces xs) (pieces ys)
+
+pub components-slash : (ys : List ℕ) → components (slash ∷ ys) ≡ components ys
+components-slash ys = components-append [] ys ∙ ap (λ cs. cs ++ components ys) components-nil
+
+pub components-trailing_slash : (xs : List ℕ) → components (xs ++ slash ∷ []) ≡ components xs
+components-trailing_slash xs = components-append xs [] ∙ ap (λ cs. components xs ++ cs) components-nil ∙ append-nil (components xs)
+
+-- a text that has a byte and no slash is one component
+pub components_whole : (p : List ℕ) → 0 < length p → HasNoSlash p → components p ≡ classed p ∷ []
+unfolding components
+components_whole [] nonempty h = absurd (omega arith)
+components_whole (b ∷ bs) nonempty h = ap (map classed) (pieces_whole b bs h)
+
+-- ---- classing
+
+pub step_text-classed : (p : List ℕ) → step_text (classed p) ≡ p
+step_text-classed p =
+    cond_both (bytes_eq p (dot ∷ [])) cur (cond (bytes_eq p (dot ∷ dot ∷ [])) up (name p)) (λ c. step_text c ≡ p)
+    (λ e. sym ((bytes_eq-Decides p (dot ∷ [])).0 e))
+    (λ _. cond_both (bytes_eq p (dot ∷ dot ∷ [])) up (name p) (λ c. step_text c ≡ p) (λ e. sym ((bytes_eq-Decides p (dot ∷ dot ∷ [])).0 e)) (λ _. refl))
+
+-- ---- what a component is: its own text has it alone
+
+-- the text of the component has that component and no other
+abbrev pub IsProper : Step → Type 0
+IsProper c = components (step_text c) ≡ c ∷ []
+
+-- each component is so
+abbrev pub AreProper : List Step → Type 0
+AreProper cs = AllByRecursion IsProper cs
+
+-- ---- counting bytes
+
+-- how many bytes are no slash
+abbrev pub solid_len : List ℕ → ℕ
+solid_len [] = 0
+solid_len (b ∷ bs) = cond (is_slash b) (solid_len bs) (suc (solid_len bs))
+
+-- how many bytes the components have
+abbrev pub total_len : List Step → ℕ
+total_len [] = 0
+total_len (c ∷ cs) = length (step_text c) + total_len cs
+
+-- how many bytes the pieces have
+abbrev pub parts_len : List (List ℕ) → ℕ
+parts_len [] = 0
+parts_len (p ∷ ps) = length p + parts_len ps
+
+parts_len-onto_first : (b : ℕ) (ps : List (List ℕ)) → parts_len (onto_first b ps) ≡ suc (parts_len ps)
+parts_len-onto_first b [] = refl
+parts_len-onto_first b (p ∷ ps) = omega arith
+
+parts_len-slice_split : (bs : List ℕ) → parts_len (slice_split is_slash bs) ≡ solid_len bs
+parts_len-slice_split [] = refl
+parts_len-slice_split (b ∷ bs) =
+    ⊎_elim
+    (λ e. rw (cond-true (is_slash b) _ _ e, cond-true (is_slash b) _ _ e) (omega (arith, parts_len-slice_split bs)))
+    (λ e. rw (cond-false (is_slash b) _ _ e, cond-false (is_slash b) _ _ e) (omega (arith, parts_len-onto_first b (slice_split is_slash bs), parts_len-slice_split bs)))
+    (cases_Bool (is_slash b))
+
+pub parts_len-filter : (ps : List (List ℕ)) → parts_len (filter is_not_empty ps) ≡ parts_len ps
+parts_len-filter [] = refl
+parts_len-filter ([] ∷ ps) = omega (arith, parts_len-filter ps)
+parts_len-filter ((b ∷ bs) ∷ ps) = omega (arith, parts_len-filter ps)
+
+total_len-classed : (ps : List (List ℕ)) → total_len (map classed ps) ≡ parts_len ps
+total_len-classed [] = refl
+total_len-classed (p ∷ ps) = omega (arith, ap length (step_text-classed p), total_len-classed ps)
+
+pub total_len-components : (bs : List ℕ) → total_len (components bs) ≡ solid_len bs
+unfolding components pieces
+total_len-components bs =
+    total_len-classed (pieces bs) ∙ parts_len-filter (slice_split is_slash bs) ∙ parts_len-slice_split bs
+
+-- ---- components of a text are proper
+
+-- a piece has a byte and no slash
+abbrev IsPiece : List ℕ → Type 0
+IsPiece p = (0 < length p) × HasNoSlash p
+
+HasNoSlash-onto_first : (b : ℕ) (ps : List (List ℕ)) → is_slash b ≡ false → AllByRecursion HasNoSlash ps → AllByRecursion HasNoSlash (onto_first b ps)
+HasNoSlash-onto_first b [] e h = ((e, tt), tt)
+HasNoSlash-onto_first b (p ∷ ps) e h = ((e, h.0), h.1)
+
+HasNoSlash-slice_split : (bs : List ℕ) → AllByRecursion HasNoSlash (slice_split is_slash bs)
+HasNoSlash-slice_split [] = (tt, tt)
+HasNoSlash-slice_split (b ∷ bs) =
+    cond_both (is_slash b) ([] ∷ slice_split is_slash bs) (onto_first b (slice_split is_slash bs)) (AllByRecursion HasNoSlash)
+    (λ _. (tt, HasNoSlash-slice_split bs))
+    (λ e. HasNoSlash-onto_first b (slice_split is_slash bs) e (HasNoSlash-slice_split bs))
+
+IsPiece-filter : (ps : List (List ℕ)) → AllByRecursion HasNoSlash ps → AllByRecursion IsPiece (filter is_not_empty ps)
+IsPiece-filter [] h = tt
+IsPiece-filter ([] ∷ ps) h = IsPiece-filter ps h.1
+IsPiece-filter ((b ∷ bs) ∷ ps) h = ((omega arith, h.0), IsPiece-filter ps h.1)
+
+IsProper-classed : (p : List ℕ) → IsPiece p → IsProper (classed p)
+IsProper-classed p h = rw (step_text-classed p) (components_whole p h.0 h.1)
+
+AreProper-classed : (ps : List (List ℕ)) → AllByRecursion IsPiece ps → AreProper (map classed ps)
+AreProper-classed [] h = tt
+AreProper-classed (p ∷ ps) h = (IsProper-classed p h.0, AreProper-classed ps h.1)
+
+pub AreProper-components : (bs : List ℕ) → AreProper (components bs)
+unfolding components pieces
+AreProper-components bs =
+    AreProper-classed (pieces bs) (IsPiece-filter (slice_split is_slash bs) (HasNoSlash-slice_split bs))
+
+-- ---- spelling
+
+pub components-spell : (cs : List Step) → AreProper cs → components (spell cs) ≡ cs
+components-spell [] proper = components-nil
+components-spell (c ∷ []) proper = proper.0
+components-spell (c ∷ d ∷ cs) proper =
+    components-append (step_text c) (spell (d ∷ cs)) ∙ ap₂ (λ xs ys. xs ++ ys) proper.0 (components-spell (d ∷ cs) proper.1)
+
+AreProper-append : (cs ds : List Step) → AreProper cs → AreProper ds → AreProper (cs ++ ds)
+AreProper-append [] ds proper proper' = proper'
+AreProper-append (c ∷ cs) ds proper proper' = (proper.0, AreProper-append cs ds proper.1 proper')
+
+-- ---- the last byte
+
+-- the end of a text that has a byte is the end of what it ends with
+pub end-append : (xs ys : List ℕ) → 0 < length ys → get_or (xs ++ ys) (length (xs ++ ys) - 1) 0 ≡ get_or ys (length ys - 1) 0
+end-append xs ys nonempty =
+    let index : length (xs ++ ys) - 1 ≡ length xs + (length ys - 1) = omega (arith, length-append xs ys) in
+    ap (λ i. get_or (xs ++ ys) i 0) index ∙ get_or-append-add xs ys (length ys - 1) 0
+
+-- ---- solid bytes
+
+pub solid_len-append : (xs ys : List ℕ) → solid_len (xs ++ ys) ≡ solid_len xs + solid_len ys
+solid_len-append [] ys = omega arith
+solid_len-append (x ∷ xs) ys =
+    ⊎_elim
+    (λ e. rw (cond-true (is_slash x) _ _ e, cond-true (is_slash x) _ _ e) (solid_len-append xs ys))
+    (λ e. rw (cond-false (is_slash x) _ _ e, cond-false (is_slash x) _ _ e) (omega (arith, solid_len-append xs ys)))
+    (cases_Bool (is_slash x))
+
+pub solid_len_le : (bs : List ℕ) → solid_len bs ≤ length bs
+solid_len_le [] = omega arith
+solid_len_le (b ∷ bs) =
+    cond_both (is_slash b) (solid_len bs) (suc (solid_len bs)) (λ n. n ≤ suc (length bs)) (λ _. omega (arith, solid_len_le bs)) (λ _. omega (arith, solid_len_le bs))
+
+-- a text without a solid byte ends in a slash, if it has a byte
+pub ends_in_slash : (bs : List ℕ) → solid_len bs ≡ 0 → 0 < length bs → get_or bs (length bs - 1) 0 ≡ slash
+ends_in_slash [] none nonempty = absurd (omega arith)
+ends_in_slash (b ∷ []) none nonempty =
+    ⊎_elim
+    (λ e. eqb-true b slash e)
+    (λ e. absurd (let h = rw (cond-false {A = ℕ} (is_slash b) 0 1 e) at none in omega (arith, h)))
+    (cases_Bool (is_slash b))
+ends_in_slash (b ∷ c ∷ bs) none nonempty =
+    let rest : solid_len (c ∷ bs) ≡ 0 = omega (arith, solid_len-append (b ∷ []) (c ∷ bs)) in
+    end-append (b ∷ []) (c ∷ bs) (omega arith) ∙ ends_in_slash (c ∷ bs) rest (omega arith)
+
+HasNoSlash-from_solid : (bs : List ℕ) → solid_len bs ≡ length bs → HasNoSlash bs
+HasNoSlash-from_solid [] solid = tt
+HasNoSlash-from_solid (b ∷ bs) solid =
+    ⊎_elim
+    (λ e. absurd (let h = rw (cond-true (is_slash b) (solid_len bs) (suc (solid_len bs)) e) at solid in omega (arith, h, solid_len_le bs)))
+    (λ e. (e, HasNoSlash-from_solid bs (let h = rw (cond-false (is_slash b) (solid_len bs) (suc (solid_len bs)) e) at solid in omega (arith, h))))
+    (cases_Bool (is_slash b))
+
+-- the text of a proper component has no slash
+pub HasNoSlash-proper : (c : Step) → IsProper c → HasNoSlash (step_text c)
+HasNoSlash-proper c proper =
+    let counted = total_len-components (step_text c) in
+    let counts = rw proper at counted in
+    HasNoSlash-from_solid (step_text c) (omega (arith, counts))
+
+-- the text of a proper component has a byte
+pub nonempty_proper : (c : Step) → IsProper c → 0 < length (step_text c)
+nonempty_proper c proper = nonempty (step_text c) proper
+  where
+    nonempty : (p : List ℕ) → components p ≡ c ∷ [] → 0 < length p
+    nonempty [] e = let none = components-nil in absurd (cc)
+    nonempty (b ∷ bs) e = omega arith
+
+-- ---- ends of texts
+
+-- the text begins with no slash
+pub HasNoSlash-start : (p rest : List ℕ) → 0 < length p → HasNoSlash p → get_or (p ++ rest) 0 0 ≢ slash
+HasNoSlash-start [] rest nonempty h = absurd (omega arith)
+HasNoSlash-start (b ∷ bs) rest nonempty h = λ e. eqb-false b slash h.0 e
+
+-- the text ends in no slash
+pub HasNoSlash-end : (p : List ℕ) → HasNoSlash p → get_or p (length p - 1) 0 ≢ slash
+HasNoSlash-end [] h = λ e. absurd (omega (arith, e))
+HasNoSlash-end (b ∷ []) h = λ e. eqb-false b slash h.0 e
+HasNoSlash-end (b ∷ c ∷ bs) h = λ e. HasNoSlash-end (c ∷ bs) h.1 (sym (end-append (b ∷ []) (c ∷ bs) (omega arith)) ∙ e)
+
+pub spell_nonempty : (c : Step) (cs : List Step) → IsProper c → 0 < length (spell (c ∷ cs))
+spell_nonempty c [] proper = nonempty_proper c proper
+spell_nonempty c (d ∷ cs) proper = omega (arith, length-append (step_text c) (slash ∷ spell (d ∷ cs)))
+
+-- a text that spells proper components ends in no slash
+pub spell_end : (cs : List Step) → AreProper cs → get_or (spell cs) (length (spell cs) - 1) 0 ≢ slash
+spell_end [] proper = HasNoSlash-end [] tt
+spell_end (c ∷ []) proper = HasNoSlash-end (step_text c) (HasNoSlash-proper c proper.0)
+spell_end (c ∷ d ∷ cs) proper = λ e.
+    let longer = end-append (step_text c ++ slash ∷ []) (spell (d ∷ cs)) (spell_nonempty d cs proper.1.0) in
+    let same : step_text c ++ slash ∷ spell (d ∷ cs) ≡ (step_text c ++ slash ∷ []) ++ spell (d ∷ cs) = sym (append_assoc (step_text c) (slash ∷ []) (spell (d ∷ cs))) in
+    spell_end (d ∷ cs) proper.1 (sym longer ∙ ap (λ x. get_or x (length x - 1) 0) (sym same) ∙ e)
+
+pub AreProper-append_left : (cs ds : List Step) → AreProper (cs ++ ds) → AreProper cs
+AreProper-append_left [] ds proper = tt
+AreProper-append_left (c ∷ cs) ds proper = (proper.0, AreProper-append_left cs ds proper.1)

@@ -1,0 +1,33 @@
+-- The equality and the order of components and of paths, and what a hasher is fed.
+use Rattle.std.specs.Prelude.{ℕ, Bool, ◌==◌, List, [], ◌∷◌}
+use Rattle.std.specs.Cmp.Lexicographic.{pointwise, slice_cmp}
+use Rattle.std.specs.Ordering.{nat_cmp, on, then_cmp, eq_of_both}
+use Rattle.std.specs.declared.cmp.Ordering.{Ordering}
+use Rattle.relative_path.specs.Steps.{Step, cur, up, name, slash, step_text}
+
+-- `.` comes first, then `..`, then names
+abbrev pub step_rank : Step → ℕ
+step_rank cur = 0
+step_rank up = 1
+step_rank (name n) = 2
+
+-- of the same rank and with the same text
+abbrev pub step_eq : Step → Step → Bool
+step_eq = eq_of_both (on step_rank ◌==◌) (on step_text (pointwise ◌==◌))
+
+-- by the rank, and names by their bytes
+abbrev pub step_cmp : Step → Step → Ordering
+step_cmp = then_cmp (on step_rank nat_cmp) (on step_text (slice_cmp nat_cmp))
+
+-- as many components, each equal to the other's
+abbrev pub steps_eq : List Step → List Step → Bool
+steps_eq = pointwise step_eq
+
+-- by the first component that differs, and else the shorter list comes first
+abbrev pub steps_cmp : List Step → List Step → Ordering
+steps_cmp = slice_cmp step_cmp
+
+-- a write of each component's text, and a write of one slash behind each
+abbrev pub fed : List Step → List (List ℕ)
+fed [] = []
+fed (c ∷ cs) = step_text c ∷ (slash ∷ []) ∷ fed cs

@@ -1,0 +1,55 @@
+-- File names, their stems and extensions, and the texts that setting them leaves.
+use Rattle.std.specs.Prelude.{◌≡◌, ℕ, ◌+◌, Bool, ◌==◌, List, [], ◌∷◌, ◌++◌, Option, Some, None, MatchOption, slice_get, if◌then◌else◌}
+use Rattle.std.specs.Option.{option_and_then}
+use Rattle.std.specs.List.{before_last, after_last}
+use Rattle.relative_path.specs.Steps.{Step, cur, up, name, dot, is_not_empty, components}
+use Rattle.relative_path.specs.Slices.{IsCut}
+use Rattle.relative_path.specs.Editing.{kept_len, pushed, IsPopped}
+
+-- the name that a component is, if it is one
+abbrev pub name_of : Step → Option (List ℕ)
+name_of cur = None
+name_of up = None
+name_of (name n) = Some n
+
+-- the file name of a list of components: the first one that a parent drops, if it is a name
+abbrev pub last_name : List Step → Option (List ℕ)
+last_name cs = option_and_then name_of (slice_get cs (kept_len cs))
+
+-- the file name of a text
+abbrev pub file_name_of : List ℕ → Option (List ℕ)
+file_name_of text = last_name (components text)
+
+-- the byte is a dot
+abbrev pub is_dot : ℕ → Bool
+is_dot b = b == dot
+
+-- something stands before the last dot of the name
+abbrev pub has_stem : List ℕ → Bool
+has_stem n = is_not_empty (before_last is_dot n)
+
+-- what stands before the last dot, or the whole name if nothing does
+abbrev pub stem_of : List ℕ → List ℕ
+stem_of n = if has_stem n then before_last is_dot n else n
+
+-- what stands after the last dot, if something stands before it
+abbrev pub extension_of : List ℕ → Option (List ℕ)
+extension_of n = if has_stem n then Some (after_last is_dot n) else None
+
+-- base is what a new file name is pushed onto: what `pop` leaves of a text with a file name, else the text
+abbrev pub IsBase : List ℕ → List ℕ → Type 0
+IsBase text base = MatchOption (file_name_of text) (base ≡ text) (λ _. IsPopped text base)
+
+-- named is the text with a new file name
+abbrev pub IsNamed : List ℕ → List ℕ → List ℕ → Type 0
+IsNamed text f named = (base : List ℕ) × IsBase text base × (named ≡ pushed base f)
+
+-- a dot and the extension, and nothing for an empty one
+abbrev pub dotted : List ℕ → List ℕ
+dotted [] = []
+dotted (b ∷ bs) = dot ∷ b ∷ bs
+
+-- extended is the text up to the end of its file name's stem, then a dot and the extension unless that is empty; without a file name it is the text
+abbrev pub IsExtended : List ℕ → List ℕ → List ℕ → Type 0
+IsExtended text e extended = MatchOption (file_name_of text) (extended ≡ text)
+    (λ n. (head : List ℕ) × IsCut text (kept_len (components text) + 1) (head ++ n) × (extended ≡ head ++ stem_of n ++ dotted e))

@@ -1,0 +1,29 @@
+-- Normal forms: `..` components first, then names only.
+use Rattle.std.specs.Prelude.{◌≡◌, ℕ, List, [], ◌∷◌, ⊤}
+use Rattle.relative_path.specs.Steps.{Step, cur, up, name, components, spell}
+use Rattle.relative_path.specs.Walk.{IsSame}
+
+-- each component is a name
+abbrev pub AreNames : List Step → Type 0
+AreNames [] = ⊤
+AreNames (cur ∷ cs) = ⊥
+AreNames (up ∷ cs) = ⊥
+AreNames (name n ∷ cs) = AreNames cs
+
+-- each component is a `..` or a name, and no `..` comes after a name
+abbrev pub IsNormal : List Step → Type 0
+IsNormal [] = ⊤
+IsNormal (cur ∷ cs) = ⊥
+IsNormal (up ∷ cs) = IsNormal cs
+IsNormal (name n ∷ cs) = AreNames cs
+
+-- the text is its components joined by single slashes, and they are normal
+pub record IsNormalText (text : List ℕ) : Type 0 where
+  pub spelled : text ≡ spell (components text)
+  pub normal : IsNormal (components text)
+
+-- the text is normal, leads where the components lead from every base, and is the only normal text that does
+pub record IsNormalTextOf (cs : List Step) (text : List ℕ) : Type 0 where
+  pub normal_text : IsNormalText text
+  pub same : IsSame cs (components text)
+  pub only : (other : List ℕ) → IsNormalText other → IsSame cs (components other) → other ≡ text
