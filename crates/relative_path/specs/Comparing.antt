@@ -31,3 +31,7 @@ steps_cmp = slice_cmp step_cmp
 abbrev pub fed : List Step → List (List ℕ)
 fed [] = []
 fed (c ∷ cs) = step_text c ∷ (slash ∷ []) ∷ fed cs
+
+-- what a value feeds a hasher that shows components
+abbrev pub fed_by : {A : Type 0} → (A → List Step) → A → List (List ℕ)
+fed_by shown x = fed (shown x)

@@ -1,30 +1,55 @@
 -- The laws of the equality and the order of components and of lists of them, which the impls of the traits give.
-use Rattle.std.proofs.Common.{◌≡◌, Decides, List, [], ◌∷◌, IsTrue, sym, refl, ap, ◌∙◌, arith}
-use Rattle.std.specs.Cmp.{IsTotalOrder, IsEquivalence, on_total, on_equiv, then_total, and_equiv, both_tied, unsigned_ties, nat_cmp_total, nat_eq_equiv}
+-- A type that shows components takes its own from `by_components`.
+use Rattle.std.proofs.Common.{◌≡◌, Bool, Decides, List, [], ◌∷◌, IsTrue, sym, refl, ap, ◌∙◌, arith}
+use Rattle.std.specs.Cmp.{IsTotalOrder, IsEquivalence, IsPartialEquivalence, IsPartialOrder, on_total, on_equiv, then_total, and_equiv, both_tied, unsigned_ties, nat_cmp_total, nat_eq_equiv, partial_equiv_from_equiv, partial_order_from_agreeing_total}
 use Rattle.std.specs.Cmp.Lexicographic.{nat_list_cmp_total, nat_list_eq_equiv, texts_ties, lists_ties, lists_total, lists_equiv, pointwise_decides}
-use Rattle.std.specs.Ordering.{eq_by_cmp}
+use Rattle.std.specs.Ordering.{on, eq_by_cmp, as_partial_cmp}
+use Rattle.std.specs.declared.cmp.Ordering.{Ordering}
 use Rattle.std.proofs.lemmas.Bool.{and_parts, eqb-true}
 use Rattle.std.proofs.lemmas.Slice.Eq.{bytes_eq-Decides}
 use Rattle.relative_path.specs.Steps.{Step, cur, up, name, step_text}
-use Rattle.relative_path.specs.Comparing.{step_rank, step_eq, step_cmp, steps_eq, steps_cmp, fed}
+use Rattle.relative_path.specs.Comparing.{step_rank, step_eq, step_cmp, steps_eq, steps_cmp, fed, fed_by}
 
-pub step_cmp-total : IsTotalOrder step_cmp
-step_cmp-total = then_total (on_total step_rank nat_cmp_total) (on_total step_text nat_list_cmp_total)
+-- an equality and an order that agree
+pub record IsComparison {X : Type 0} (eq : X → X → Bool) (cmp : X → X → Ordering) : Type 0 where
+  pub equivalence : IsEquivalence eq
+  pub total : IsTotalOrder cmp
+  pub agree : (x y : X) → eq x y ≡ eq_by_cmp cmp x y
 
-pub step_eq-equiv : IsEquivalence step_eq
-step_eq-equiv = and_equiv (on_equiv step_rank nat_eq_equiv) (on_equiv step_text nat_list_eq_equiv)
+-- a type is compared by what it shows
+pub compared_by : {A X : Type 0} {eq : X → X → Bool} {cmp : X → X → Ordering} (shown : A → X) → IsComparison eq cmp
+    → IsComparison (on shown eq) (on shown cmp)
+compared_by shown laws = record {
+  equivalence = on_equiv shown laws.equivalence;
+  total = on_total shown laws.total;
+  agree = λ x y. laws.agree (shown x) (shown y);
+}
 
-pub step_eq-ties : (c d : Step) → step_eq c d ≡ eq_by_cmp step_cmp c d
-step_eq-ties c d = both_tied _ _ _ _ (unsigned_ties (step_rank c) (step_rank d)) (texts_ties (step_text c) (step_text d))
+-- the law of `PartialEq`
+pub partial_eq_law : {X : Type 0} {eq : X → X → Bool} {cmp : X → X → Ordering} → IsComparison eq cmp
+    → IsPartialEquivalence eq
+partial_eq_law laws = partial_equiv_from_equiv laws.equivalence
 
-pub steps_cmp-total : IsTotalOrder steps_cmp
-steps_cmp-total = lists_total step_cmp-total
+-- the law of `PartialOrd`
+pub partial_ord_law : {X : Type 0} {eq : X → X → Bool} {cmp : X → X → Ordering} → IsComparison eq cmp
+    → IsPartialOrder eq (as_partial_cmp cmp)
+partial_ord_law {X} {eq} {cmp} laws = partial_order_from_agreeing_total cmp laws.total (λ _ _. refl) laws.agree
 
-pub steps_eq-equiv : IsEquivalence steps_eq
-steps_eq-equiv = lists_equiv step_eq-equiv
+-- components are compared by their rank, and then by their text
+pub step_comparison : IsComparison step_eq step_cmp
+step_comparison = record {
+  equivalence = and_equiv (on_equiv step_rank nat_eq_equiv) (on_equiv step_text nat_list_eq_equiv);
+  total = then_total (on_total step_rank nat_cmp_total) (on_total step_text nat_list_cmp_total);
+  agree = λ c d. both_tied _ _ _ _ (unsigned_ties (step_rank c) (step_rank d)) (texts_ties (step_text c) (step_text d));
+}
 
-pub steps_eq-ties : (cs ds : List Step) → steps_eq cs ds ≡ eq_by_cmp steps_cmp cs ds
-steps_eq-ties = lists_ties step_cmp step_eq-ties
+-- lists of components are compared lexicographically
+pub steps_comparison : IsComparison steps_eq steps_cmp
+steps_comparison = record {
+  equivalence = lists_equiv step_comparison.equivalence;
+  total = lists_total step_comparison.total;
+  agree = lists_ties step_cmp step_comparison.agree;
+}
 
 -- the components of one rank and one text are one
 same_step : (c d : Step) → step_rank c ≡ step_rank d → step_text c ≡ step_text d → c ≡ d
@@ -41,15 +66,26 @@ same_step (name m) (name n) ranks texts = ap name texts
 pub step_eq-Decides : (c d : Step) → Decides (step_eq c d) (c ≡ d)
 step_eq-Decides c d = (
   λ e. let both = and_parts _ _ e in same_step c d (eqb-true _ _ both.0) ((bytes_eq-Decides (step_text c) (step_text d)).0 both.1),
-  λ e. ap (step_eq c) (sym e) ∙ step_eq-equiv.refl c,
+  λ e. ap (step_eq c) (sym e) ∙ step_comparison.equivalence.refl c,
 )
 
 pub steps_eq-Decides : (cs ds : List Step) → Decides (steps_eq cs ds) (cs ≡ ds)
 steps_eq-Decides = pointwise_decides step_eq-Decides
 
--- equal lists are fed alike
-pub fed-steps_eq : (cs ds : List Step) → IsTrue (steps_eq cs ds) → fed cs ≡ fed ds
-fed-steps_eq cs ds e = ap fed ((steps_eq-Decides cs ds).0 e)
+-- what shows a component is compared by it
+pub by_component : {A : Type 0} (shown : A → Step) → IsComparison (on shown step_eq) (on shown step_cmp)
+by_component shown = compared_by shown step_comparison
 
-pub fed-step_eq : (c d : Step) → IsTrue (step_eq c d) → fed (c ∷ []) ≡ fed (d ∷ [])
-fed-step_eq c d e = ap (λ x. fed (x ∷ [])) ((step_eq-Decides c d).0 e)
+-- what shows components is compared by them
+pub by_components : {A : Type 0} (shown : A → List Step) → IsComparison (on shown steps_eq) (on shown steps_cmp)
+by_components shown = compared_by shown steps_comparison
+
+-- values of any two types that show equal components feed a hasher the same
+pub fed_alike : {A B : Type 0} (shown : A → List Step) (shown' : B → List Step) (x : A) (y : B)
+    → IsTrue (steps_eq (shown x) (shown' y)) → fed_by shown x ≡ fed_by shown' y
+fed_alike shown shown' x y e = ap fed ((steps_eq-Decides (shown x) (shown' y)).0 e)
+
+-- equal components feed a hasher the same
+pub component_fed_alike : {A B : Type 0} (shown : A → Step) (shown' : B → Step) (x : A) (y : B)
+    → IsTrue (step_eq (shown x) (shown' y)) → fed (shown x ∷ []) ≡ fed (shown' y ∷ [])
+component_fed_alike shown shown' x y e = ap (λ c. fed (c ∷ [])) ((step_eq-Decides (shown x) (shown' y)).0 e)

@@ -4,11 +4,10 @@ ghost use Rattle.relative_path.specs.Steps.{slash, components};
 ghost use Rattle.relative_path.specs.Editing.{pushed, with_separator, IsPopped};
 ghost use Rattle.relative_path.specs.Naming.{file_name_of, dotted, IsNamed, IsExtended};
 ghost use Rattle.relative_path.specs.Editing as spec;
-ghost use Rattle.relative_path.specs.Comparing.{steps_eq, steps_cmp, fed};
-ghost use Rattle.relative_path.specs.ComparingLaws.{steps_cmp-total, steps_eq-equiv, steps_eq-ties, fed-steps_eq};
+ghost use Rattle.relative_path.specs.Comparing.{steps_eq, steps_cmp, fed_by};
+ghost use Rattle.relative_path.specs.ComparingLaws.{partial_eq_law, partial_ord_law, by_components, fed_alike};
 ghost use Rattle.relative_path.specs.RelativePath.{path_text};
 ghost use Rattle.relative_path.specs.RelativePathBuf.{buffer_components, ExceedsRoom};
-ghost use Rattle.std.specs.Cmp.{on_equiv, on_total, partial_equiv_from_equiv, partial_order_from_agreeing_total};
 ghost use Rattle.std.specs.Fmt.{styled_text, debug_str};
 ghost use Rattle.std.specs.Ordering.{on, as_partial_cmp};
 ghost use Rattle.std.proofs.Common.{refl};
@@ -300,7 +299,7 @@ impl fmt::Debug for RelativePathBuf {
 impl PartialEq for RelativePathBuf {
     ghost eq = { on buffer_components steps_eq };
 
-    ghost laws = { partial_equiv_from_equiv (on_equiv buffer_components steps_eq-equiv) };
+    ghost laws = { partial_eq_law (by_components buffer_components) };
 
     fn eq(&self, other: &Self) -> bool
         ensures value { result ≡ steps_eq (components self.now.text) (components other.now.text) }
@@ -311,15 +310,13 @@ impl PartialEq for RelativePathBuf {
 }
 
 impl Eq for RelativePathBuf {
-    ghost laws = { on_equiv buffer_components steps_eq-equiv };
+    ghost laws = { (by_components buffer_components).equivalence };
 }
 
 impl PartialOrd for RelativePathBuf {
     ghost partial_cmp = { as_partial_cmp (on buffer_components steps_cmp) };
 
-    ghost laws = { partial_order_from_agreeing_total (on buffer_components steps_cmp)
-        (on_total buffer_components steps_cmp-total) (λ _ _. refl)
-        (λ x y. steps_eq-ties (buffer_components x) (buffer_components y)) };
+    ghost laws = { partial_ord_law (by_components buffer_components) };
 
     fn partial_cmp(&self, other: &Self) -> Option<Ordering> {
         Some(self.cmp(other))
@@ -329,11 +326,11 @@ impl PartialOrd for RelativePathBuf {
 impl Ord for RelativePathBuf {
     ghost cmp = { on buffer_components steps_cmp };
 
-    ghost total = { on_total buffer_components steps_cmp-total };
+    ghost total = { (by_components buffer_components).total };
 
     ghost matches_partial_cmp = { λ _ _. refl };
 
-    ghost matches_eq = { λ x y. steps_eq-ties (buffer_components x) (buffer_components y) };
+    ghost matches_eq = { (by_components buffer_components).agree };
 
     fn cmp(&self, other: &Self) -> Ordering {
         self.as_relative_path().cmp(&other.as_relative_path())
@@ -341,9 +338,9 @@ impl Ord for RelativePathBuf {
 }
 
 impl Hash for RelativePathBuf {
-    ghost hash_input = { λ buf. fed (buffer_components buf) };
+    ghost hash_input = { fed_by buffer_components };
 
-    ghost respects_eq = { λ x y. fed-steps_eq (buffer_components x) (buffer_components y) };
+    ghost respects_eq = { fed_alike buffer_components buffer_components };
 
     fn hash<H: Hasher>(&self, state: &mut H) {
         self.as_relative_path().hash(state);

@@ -6,8 +6,7 @@ ghost use Rattle.relative_path.specs.Steps.{slash, classed, components, step_tex
 ghost use Rattle.relative_path.specs.Components.{step_of, text_left, components_left, iter_text_left, texts_left, TakesFirst, TakesFirstText, TakesLast, TakesLastText};
 ghost use Rattle.relative_path.specs.RelativePath.{path_text};
 ghost use Rattle.relative_path.specs.Comparing.{step_rank, step_eq, step_cmp, steps_eq, fed};
-ghost use Rattle.relative_path.specs.ComparingLaws.{step_cmp-total, step_eq-equiv, step_eq-ties, steps_eq-equiv, fed-step_eq};
-ghost use Rattle.std.specs.Cmp.{on_equiv, on_total, partial_equiv_from_equiv, partial_order_from_agreeing_total};
+ghost use Rattle.relative_path.specs.ComparingLaws.{partial_eq_law, partial_ord_law, by_component, by_components, component_fed_alike};
 ghost use Rattle.std.specs.Ordering.{on, as_partial_cmp};
 ghost use Rattle.std.proofs.Common.{refl};
 
@@ -77,7 +76,7 @@ impl<'a> Component<'a> {
 impl PartialEq for Component<'_> {
     ghost eq = { on step_of step_eq };
 
-    ghost laws = { partial_equiv_from_equiv (on_equiv step_of step_eq-equiv) };
+    ghost laws = { partial_eq_law (by_component step_of) };
 
     fn eq(&self, other: &Self) -> bool
         ensures value { result ≡ step_eq (step_of self.now) (step_of other.now) }
@@ -88,14 +87,13 @@ impl PartialEq for Component<'_> {
 }
 
 impl Eq for Component<'_> {
-    ghost laws = { on_equiv step_of step_eq-equiv };
+    ghost laws = { (by_component step_of).equivalence };
 }
 
 impl PartialOrd for Component<'_> {
     ghost partial_cmp = { as_partial_cmp (on step_of step_cmp) };
 
-    ghost laws = { partial_order_from_agreeing_total (on step_of step_cmp)
-        (on_total step_of step_cmp-total) (λ _ _. refl) (λ x y. step_eq-ties (step_of x) (step_of y)) };
+    ghost laws = { partial_ord_law (by_component step_of) };
 
     fn partial_cmp(&self, other: &Self) -> Option<Ordering> {
         Some(self.cmp(other))
@@ -105,11 +103,11 @@ impl PartialOrd for Component<'_> {
 impl Ord for Component<'_> {
     ghost cmp = { on step_of step_cmp };
 
-    ghost total = { on_total step_of step_cmp-total };
+    ghost total = { (by_component step_of).total };
 
     ghost matches_partial_cmp = { λ _ _. refl };
 
-    ghost matches_eq = { λ x y. step_eq-ties (step_of x) (step_of y) };
+    ghost matches_eq = { (by_component step_of).agree };
 
     fn cmp(&self, other: &Self) -> Ordering {
         let by_rank = self.rank().cmp(&other.rank());
@@ -120,7 +118,7 @@ impl Ord for Component<'_> {
 impl Hash for Component<'_> {
     ghost hash_input = { λ c. fed (step_of c ∷ []) };
 
-    ghost respects_eq = { λ x y. fed-step_eq (step_of x) (step_of y) };
+    ghost respects_eq = { component_fed_alike step_of step_of };
 
     fn hash<H: Hasher>(&self, state: &mut H) {
         state.write(self.as_str().as_bytes());
@@ -178,7 +176,7 @@ impl Clone for Components<'_> {
 impl PartialEq for Components<'_> {
     ghost eq = { on components_left steps_eq };
 
-    ghost laws = { partial_equiv_from_equiv (on_equiv components_left steps_eq-equiv) };
+    ghost laws = { partial_eq_law (by_components components_left) };
 
     fn eq(&self, other: &Self) -> bool
         ensures value { result ≡ steps_eq (components_left self.now) (components_left other.now) }

@@ -4,9 +4,8 @@ ghost use Rattle.relative_path.specs.Steps.{Step, name, components};
 ghost use Rattle.relative_path.specs.Editing.{pushed, IsPopped};
 ghost use Rattle.relative_path.specs.Components.{text_left, iter_text_left};
 ghost use Rattle.relative_path.specs.Naming.{file_name_of, stem_of, extension_of, IsNamed, IsExtended};
-ghost use Rattle.relative_path.specs.Comparing.{steps_eq, steps_cmp, fed};
-ghost use Rattle.relative_path.specs.ComparingLaws.{steps_cmp-total, steps_eq-equiv, steps_eq-ties, fed-steps_eq};
-ghost use Rattle.std.specs.Cmp.{on_equiv, on_total, partial_equiv_from_equiv, partial_order_from_agreeing_total};
+ghost use Rattle.relative_path.specs.Comparing.{steps_eq, steps_cmp, fed_by};
+ghost use Rattle.relative_path.specs.ComparingLaws.{partial_eq_law, partial_ord_law, by_components, fed_alike};
 ghost use Rattle.std.specs.Fmt.{styled_text, debug_str};
 ghost use Rattle.std.specs.Option.{option_copied, option_map, option_and_then};
 ghost use Rattle.std.specs.Ordering.{on, as_partial_cmp};
@@ -312,7 +311,7 @@ impl fmt::Debug for RelativePath<'_> {
 impl PartialEq for RelativePath<'_> {
     ghost eq = { on path_components steps_eq };
 
-    ghost laws = { partial_equiv_from_equiv (on_equiv path_components steps_eq-equiv) };
+    ghost laws = { partial_eq_law (by_components path_components) };
 
     fn eq(&self, other: &Self) -> bool
         ensures value { result ≡ steps_eq (path_components self.now) (path_components other.now) }
@@ -323,15 +322,13 @@ impl PartialEq for RelativePath<'_> {
 }
 
 impl Eq for RelativePath<'_> {
-    ghost laws = { on_equiv path_components steps_eq-equiv };
+    ghost laws = { (by_components path_components).equivalence };
 }
 
 impl PartialOrd for RelativePath<'_> {
     ghost partial_cmp = { as_partial_cmp (on path_components steps_cmp) };
 
-    ghost laws = { partial_order_from_agreeing_total (on path_components steps_cmp)
-        (on_total path_components steps_cmp-total) (λ _ _. refl)
-        (λ x y. steps_eq-ties (path_components x) (path_components y)) };
+    ghost laws = { partial_ord_law (by_components path_components) };
 
     fn partial_cmp(&self, other: &Self) -> Option<Ordering> {
         Some(self.cmp(other))
@@ -341,11 +338,11 @@ impl PartialOrd for RelativePath<'_> {
 impl Ord for RelativePath<'_> {
     ghost cmp = { on path_components steps_cmp };
 
-    ghost total = { on_total path_components steps_cmp-total };
+    ghost total = { (by_components path_components).total };
 
     ghost matches_partial_cmp = { λ _ _. refl };
 
-    ghost matches_eq = { λ x y. steps_eq-ties (path_components x) (path_components y) };
+    ghost matches_eq = { (by_components path_components).agree };
 
     fn cmp(&self, other: &Self) -> Ordering {
         self.components().cmp(other.components())
@@ -353,9 +350,9 @@ impl Ord for RelativePath<'_> {
 }
 
 impl Hash for RelativePath<'_> {
-    ghost hash_input = { λ path. fed (path_components path) };
+    ghost hash_input = { fed_by path_components };
 
-    ghost respects_eq = { λ x y. fed-steps_eq (path_components x) (path_components y) };
+    ghost respects_eq = { fed_alike path_components path_components };
 
     fn hash<H: Hasher>(&self, state: &mut H) {
         for component in self.components() {
