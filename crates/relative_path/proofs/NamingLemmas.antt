@@ -4,19 +4,20 @@ use Rattle.std.specs.List.{slice_range, suffix_len, before_last, after_last}
 use Rattle.std.specs.Str.{IsCharBoundary}
 use Rattle.std.proofs.lemmas.List.{get_or_at, get_or-append_right, drop_at, append_cancel_right}
 use Rattle.std.proofs.lemmas.Str.{IsCharBoundary-end, IsCharBoundary-before_ascii}
+use Rattle.std.proofs.lemmas.List.Elements.{filter-append}
 use Rattle.std.proofs.lemmas.List.Sums.{suffix_len_is}
 use Rattle.std.specs.Prelude.{slice_get, IsSome, IfSome, MatchOption}
 use Rattle.std.specs.Option.{option_and_then, option_copied}
-use Rattle.std.proofs.lemmas.Bool.{cases_Bool, cond_both}
+use Rattle.std.proofs.lemmas.Bool.{cases_Bool, cond_both, cond-true}
 use Rattle.relative_path.specs.Steps.{slash, dot, is_slash, is_not_empty, Step, cur, up, name, step_text, classed, components}
 use Rattle.relative_path.specs.Slices.{IsCut, IsFront}
 use Rattle.relative_path.specs.Editing.{is_cur, kept_len, pushed, IsPopped}
-use Rattle.relative_path.specs.Naming.{name_of, last_name, file_name_of, is_dot, has_stem, stem_of, extension_of, dotted, IsBase, IsNamed, IsExtended}
+use Rattle.relative_path.specs.Naming.{name_of, others, last_other, last_name, file_name_of, is_dot, has_stem, stem_of, extension_of, dotted, IsBase, IsNamed, IsExtended}
 use Rattle.relative_path.specs.RelativePathBuf.{ExceedsRoom}
 use Rattle.relative_path.proofs.StepsLemmas.{HasNoSlash, components-nil, components-append, components_whole, step_text-classed}
 use Rattle.relative_path.proofs.ComponentsLemmas.{ends_in_slash}
 use Rattle.relative_path.proofs.SlicesLemmas.{IsPrefix, IsPrefix-take, IsPrefix-append_left, IsPrefix-trans, IsPrefix-shortest, IsShortestPrefix-unique}
-use Rattle.relative_path.proofs.EditingLemmas.{kept_len-curs, LosesCurs, IsPopped-none, kept_len-front, IsPopped-front, IsCut-through}
+use Rattle.relative_path.proofs.EditingLemmas.{LosesCurs, IsPopped-none, IsPopped-front, IsCut-through}
 
 -- ---- a name cut at its last dot
 
@@ -129,19 +130,32 @@ slice_get-at : (cs : List Step) (c : Step) (ds : List Step) → slice_get (cs ++
 slice_get-at [] c ds = refl
 slice_get-at (b ∷ cs) c ds = slice_get-at cs c ds
 
--- `.` components alone have no name among them
-last_name-curs : (n : ℕ) → last_name (replicate n cur) ≡ None
-last_name-curs zero = refl
-last_name-curs (suc n) = ap (λ k. option_and_then name_of (slice_get (replicate (suc n) cur) k)) (kept_len-curs [] (suc n))
+others-curs : (n : ℕ) → others (replicate n cur) ≡ []
+others-curs zero = refl
+others-curs (suc n) = others-curs n
+
+others-at : (cs : List Step) (c : Step) (n : ℕ) → is_cur c ≡ false → others (cs ++ c ∷ replicate n cur) ≡ others cs ++ c ∷ []
+others-at cs c n other =
+    filter-append (λ d. not (is_cur d)) cs (c ∷ replicate n cur)
+    ∙ ap (λ ds. others cs ++ ds) (cond-true _ _ _ (ap not other) ∙ ap (λ ds. c ∷ ds) (others-curs n))
+
+last_other-at : (cs : List Step) (c : Step) (n : ℕ) → is_cur c ≡ false → last_other (cs ++ c ∷ replicate n cur) ≡ Some c
+last_other-at cs c n other =
+    let index : length (others cs ++ c ∷ []) - 1 ≡ length (others cs) = omega (arith, length-append (others cs) (c ∷ [])) in
+    ap (λ ds. slice_get ds (length ds - 1)) (others-at cs c n other)
+    ∙ ap (slice_get (others cs ++ c ∷ [])) index ∙ slice_get-at (others cs) c []
 
 last_name-none : (text left : List ℕ) → LosesCurs text left → components left ≡ [] → file_name_of text ≡ None
 last_name-none text left h none =
-    ap last_name (h.joined ∙ ap (λ cs. cs ++ replicate h.lost cur) none) ∙ last_name-curs h.lost
+    ap last_name (h.joined ∙ ap (λ cs. cs ++ replicate h.lost cur) none)
+    ∙ ap (λ cs. option_and_then name_of (slice_get cs (length cs - 1))) (others-curs h.lost)
 
-last_name-at : (text left front : List ℕ) (c : Step) → LosesCurs text left → is_cur c ≡ false → components left ≡ components front ++ c ∷ [] → file_name_of text ≡ name_of c
+last_name-at : (text left front : List ℕ) (c : Step) → LosesCurs text left → is_cur c ≡ false
+    → components left ≡ components front ++ c ∷ [] → file_name_of text ≡ name_of c
 last_name-at text left front c h other last =
-    let whole = h.joined ∙ ap (λ cs. cs ++ replicate h.lost cur) last ∙ append_assoc (components front) (c ∷ []) (replicate h.lost cur) in
-    ap₂ (λ cs k. option_and_then name_of (slice_get cs k)) whole (kept_len-front text left front c h other last) ∙ ap (option_and_then name_of) (slice_get-at (components front) c (replicate h.lost cur))
+    let whole = h.joined ∙ ap (λ cs. cs ++ replicate h.lost cur) last
+        ∙ append_assoc (components front) (c ∷ []) (replicate h.lost cur) in
+    ap last_name whole ∙ ap (option_and_then name_of) (last_other-at (components front) c h.lost other)
 
 -- what stands before the last component that is no `.`, that component if it is a name, and the text through it
 pub record IsEnd (text before : List ℕ) (last : Option (Bor (List ℕ))) (through : List ℕ) : Type 0 where

@@ -26,26 +26,40 @@ components_left it = components (text_left it)
 abbrev pub iter_text_left : Iter → List ℕ
 iter_text_left iter = text_left iter.components
 
+-- the text that a `&str` is
+abbrev pub text_of : Bor (List ℕ) → List ℕ
+text_of s = s.now
+
+-- the texts of the components of a text
+abbrev pub component_texts : List ℕ → List (List ℕ)
+component_texts text = map step_text (components text)
+
 -- the texts of the components that are left to it
 abbrev pub texts_left : Iter → List (List ℕ)
-texts_left iter = map step_text (components (iter_text_left iter))
+texts_left iter = component_texts (iter_text_left iter)
 
--- the text's first component was taken, or none where it has none, and its rest was left
+-- the first item of the text was taken, or none where it has none, and the text's rest was left
+abbrev pub TakesFirstBy : {A X : Type 0} → (A → X) → (List ℕ → List X) → List ℕ → Option A → List ℕ → Type 0
+TakesFirstBy shown items text taken rest =
+    MatchOption taken (items text ≡ []) (λ x. items text ≡ shown x ∷ items rest) × IsRest text rest
+
+-- the last item of the text was taken, or none where it has none, and the text's front was left
+abbrev pub TakesLastBy : {A X : Type 0} → (A → X) → (List ℕ → List X) → List ℕ → Option A → List ℕ → Type 0
+TakesLastBy shown items text taken front =
+    MatchOption taken (items text ≡ []) (λ x. items text ≡ items front ++ shown x ∷ []) × IsFront text front
+
+-- the first component was taken
 abbrev pub TakesFirst : List ℕ → Option Component → List ℕ → Type 0
-TakesFirst text taken rest =
-    MatchOption taken (components text ≡ []) (λ c. components text ≡ step_of c ∷ components rest) × IsRest text rest
+TakesFirst = TakesFirstBy step_of components
 
--- the text's last component was taken, or none where it has none, and its front was left
+-- the last component was taken
 abbrev pub TakesLast : List ℕ → Option Component → List ℕ → Type 0
-TakesLast text taken front =
-    MatchOption taken (components text ≡ []) (λ c. components text ≡ components front ++ step_of c ∷ []) × IsFront text front
+TakesLast = TakesLastBy step_of components
 
--- the same of an `Iter`, which gives the text of its first component
+-- the first component was taken, as its text
 abbrev pub TakesFirstText : List ℕ → Option (Bor (List ℕ)) → List ℕ → Type 0
-TakesFirstText text taken rest =
-    MatchOption taken (components text ≡ []) (λ s. (c : Step) × (s.now ≡ step_text c) × (components text ≡ c ∷ components rest)) × IsRest text rest
+TakesFirstText = TakesFirstBy text_of component_texts
 
--- the same of an `Iter`, which gives the text of its last component
+-- the last component was taken, as its text
 abbrev pub TakesLastText : List ℕ → Option (Bor (List ℕ)) → List ℕ → Type 0
-TakesLastText text taken front =
-    MatchOption taken (components text ≡ []) (λ s. (c : Step) × (s.now ≡ step_text c) × (components text ≡ components front ++ c ∷ [])) × IsFront text front
+TakesLastText = TakesLastBy text_of component_texts

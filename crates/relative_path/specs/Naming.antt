@@ -1,10 +1,10 @@
 -- File names, their stems and extensions, and the texts that setting them leaves.
-use Rattle.std.specs.Prelude.{◌≡◌, ℕ, ◌+◌, Bool, ◌==◌, List, [], ◌∷◌, ◌++◌, Option, Some, None, MatchOption, slice_get, if◌then◌else◌}
+use Rattle.std.specs.Prelude.{◌≡◌, ℕ, ◌+◌, ◌-◌, Bool, not, ◌==◌, List, [], ◌∷◌, ◌++◌, Option, Some, None, MatchOption, length, slice_get, if◌then◌else◌}
 use Rattle.std.specs.Option.{option_and_then}
-use Rattle.std.specs.List.{before_last, after_last}
+use Rattle.std.specs.List.{filter, before_last, after_last}
 use Rattle.relative_path.specs.Steps.{Step, cur, up, name, dot, is_not_empty, components}
 use Rattle.relative_path.specs.Slices.{IsCut}
-use Rattle.relative_path.specs.Editing.{kept_len, pushed, IsPopped}
+use Rattle.relative_path.specs.Editing.{is_cur, kept_len, pushed, IsPopped}
 
 -- the name that a component is, if it is one
 abbrev pub name_of : Step → Option (List ℕ)
@@ -12,9 +12,17 @@ name_of cur = None
 name_of up = None
 name_of (name n) = Some n
 
--- the file name of a list of components: the first one that a parent drops, if it is a name
+-- the components that are no `.`
+abbrev pub others : List Step → List Step
+others cs = filter (λ c. not (is_cur c)) cs
+
+-- the last component that is no `.`, if there is one
+abbrev pub last_other : List Step → Option Step
+last_other cs = slice_get (others cs) (length (others cs) - 1)
+
+-- the file name of a list of components: the last one that is no `.`, if it is a name
 abbrev pub last_name : List Step → Option (List ℕ)
-last_name cs = option_and_then name_of (slice_get cs (kept_len cs))
+last_name cs = option_and_then name_of (last_other cs)
 
 -- the file name of a text
 abbrev pub file_name_of : List ℕ → Option (List ℕ)
@@ -49,7 +57,8 @@ abbrev pub dotted : List ℕ → List ℕ
 dotted [] = []
 dotted (b ∷ bs) = dot ∷ b ∷ bs
 
--- extended is the text up to the end of its file name's stem, then a dot and the extension unless that is empty; without a file name it is the text
+-- extended is the text up to the end of its file name's stem, then a dot and the extension unless that is empty;
+-- without a file name it is the text
 abbrev pub IsExtended : List ℕ → List ℕ → List ℕ → Type 0
 IsExtended text e extended = MatchOption (file_name_of text) (extended ≡ text)
     (λ n. (head : List ℕ) × IsCut text (kept_len (components text) + 1) (head ++ n) × (extended ≡ head ++ stem_of n ++ dotted e))
