@@ -10,7 +10,7 @@ use Rattle.relative_path.specs.Editing.{pushed, with_separator, unslashed, kept_
 use Rattle.relative_path.proofs.StepsLemmas.{components-nil, components-spell, AreProper, IsProper, AreProper-components, AreProper-append_left, HasNoSlash-proper, HasNoSlash-start, nonempty_proper, spell_end, spell_nonempty, step_text-classed, parts_len, parts_len-filter}
 use Rattle.relative_path.proofs.SlicesLemmas.{IsPrefix, IsPrefix-append, IsShortestPrefix-from, IsShortestPrefix-unique}
 use Rattle.relative_path.proofs.EditingLemmas.{components-pushed, with_separator-solid, unslashed-solid, kept_len-push}
-use Rattle.relative_path.proofs.WalkLemmas.{IsSame-refl, IsSame-sym, IsSame-trans, IsSame-cur, IsSame-name_up}
+use Rattle.relative_path.proofs.WalkLemmas.{IsSame-refl, IsSame-sym, IsSame-trans, IsSame-append_right, IsSame-cur, IsSame-name_up}
 use Rattle.relative_path.proofs.NormalStepsLemmas.{IsNormal-push_up_after_up, IsNormal-front, IsNormal-not_cur, normal_unique, spell-append, length-spell-append_le, length-spell-drop_one}
 
 -- ---- a text is no shorter than what spells its components
@@ -59,7 +59,7 @@ Normalizes-start text =
     let whole : components [] ++ components text ≡ components text = ap (λ cs. cs ++ components text) components-nil in
     record { normal_text = IsNormalText-nil; same = rw whole (IsSame-refl (components text)); fits = rw whole (length-spell-components text) }
 
-pub Normalizes-cur : (source : List Step) (limit : ℕ) (text : List ℕ) (left : List Step) → Normalizes source limit text (cur ∷ left) → Normalizes source limit text left
+Normalizes-cur : (source : List Step) (limit : ℕ) (text : List ℕ) (left : List Step) → Normalizes source limit text (cur ∷ left) → Normalizes source limit text left
 Normalizes-cur source limit text left h = record {
   normal_text = h.normal_text;
   same = IsSame-trans _ _ _ h.same (IsSame-cur (components text) left);
@@ -82,7 +82,7 @@ spell-pushed : (text : List ℕ) (c : Step) → text ≡ spell (components text)
 spell-pushed text c spelled proper =
     ap (λ x. pushed x (step_text c)) spelled ∙ pushed-spell (components text) c (AreProper-components text) proper
 
-pub Normalizes-push : (source : List Step) (limit : ℕ) (text : List ℕ) (c : Step) (left : List Step) → Normalizes source limit text (c ∷ left) → IsProper c → IsNormal (components text ++ c ∷ []) → Normalizes source limit (pushed text (step_text c)) left
+Normalizes-push : (source : List Step) (limit : ℕ) (text : List ℕ) (c : Step) (left : List Step) → Normalizes source limit text (c ∷ left) → IsProper c → IsNormal (components text ++ c ∷ []) → Normalizes source limit (pushed text (step_text c)) left
 Normalizes-push source limit text c left h proper normal =
     let pushes : components (pushed text (step_text c)) ≡ components text ++ c ∷ [] = components-pushed text (step_text c) ∙ ap (λ cs. components text ++ cs) proper in
     let joined : components text ++ c ∷ left ≡ components (pushed text (step_text c)) ++ left = sym (append_assoc (components text) (c ∷ []) left) ∙ ap (λ cs. cs ++ left) (sym pushes) in
@@ -104,7 +104,7 @@ IsPrefix-spell : (cs : List Step) (c : Step) → IsPrefix (spell (cs ++ c ∷ []
 IsPrefix-spell [] c = record { front = refl }
 IsPrefix-spell (d ∷ cs) c = rw (spell-append d cs c []) (IsPrefix-append (spell (d ∷ cs)) (slash ∷ step_text c))
 
-pub Normalizes-pop : (source : List Step) (limit : ℕ) (text popped : List ℕ) (cs : List Step) (n : List ℕ) (left : List Step) → Normalizes source limit text (up ∷ left) → components text ≡ cs ++ name n ∷ [] → IsPopped text popped → Normalizes source limit popped left
+Normalizes-pop : (source : List Step) (limit : ℕ) (text popped : List ℕ) (cs : List Step) (n : List ℕ) (left : List Step) → Normalizes source limit text (up ∷ left) → components text ≡ cs ++ name n ∷ [] → IsPopped text popped → Normalizes source limit popped left
 Normalizes-pop source limit text popped cs n left h last pops =
     let propers : AreProper (cs ++ name n ∷ []) = subst AreProper last (AreProper-components text) in
     let proper = AreProper-append_left cs (name n ∷ []) propers in
@@ -122,6 +122,54 @@ Normalizes-pop source limit text popped cs n left h last pops =
           let second = length-spell-drop_one cs left up in
           let whole = h.fits in
           rw cut.same_components (omega arith);
+    }
+
+-- ---- what following a component makes of a normal text
+
+-- the text is normal, leads where the older text and the component lead, and is no longer with what is left
+pub record Follows (text : List ℕ) (c : Step) (new : List ℕ) : Type 0 where
+  pub normal_text : IsNormalText new
+  pub same : IsSame (components text ++ c ∷ []) (components new)
+  pub no_longer : (left : List Step) → length (spell (components new ++ left)) ≤ length (spell (components text ++ c ∷ left))
+
+-- a normal text normalizes its own components with what is left
+module _ (text : List ℕ) (normal : IsNormalText text) where
+  here : (left : List Step) → Normalizes (components text ++ left) (length (spell (components text ++ left))) text left
+  here left = record { normal_text = normal; same = IsSame-refl (components text ++ left); fits = omega arith }
+
+  Follows-from : (c : Step) (new : List ℕ)
+      → ((left : List Step) → Normalizes (components text ++ c ∷ left) (length (spell (components text ++ c ∷ left))) new left)
+      → Follows text c new
+  Follows-from c new h = record {
+    normal_text = (h []).normal_text;
+    same = subst (IsSame (components text ++ c ∷ [])) (append-nil (components new)) (h []).same;
+    no_longer = λ left. (h left).fits;
+  }
+
+  pub Follows-cur : Follows text cur text
+  Follows-cur = Follows-from cur text (λ left. Normalizes-cur _ _ text left (here (cur ∷ left)))
+
+  pub Follows-push : (c : Step) → IsProper c → IsNormal (components text ++ c ∷ []) → Follows text c (pushed text (step_text c))
+  Follows-push c proper ends =
+      Follows-from c (pushed text (step_text c)) (λ left. Normalizes-push _ _ text c left (here (c ∷ left)) proper ends)
+
+  pub Follows-pop : (cs : List Step) (n popped : List ℕ) → components text ≡ cs ++ name n ∷ [] → IsPopped text popped
+      → Follows text up popped
+  Follows-pop cs n popped last pops =
+      Follows-from up popped (λ left. Normalizes-pop _ _ text popped cs n left (here (up ∷ left)) last pops)
+
+-- what is left leads on from there
+pub Normalizes-follow : (source : List Step) (limit : ℕ) (text : List ℕ) (c : Step) (new : List ℕ) (left : List Step)
+    → Normalizes source limit text (c ∷ left) → Follows text c new → Normalizes source limit new left
+Normalizes-follow source limit text c new left h f =
+    let joined = append_assoc (components text) (c ∷ []) left in
+    let longer = f.no_longer left in
+    let fits = h.fits in
+    record {
+      normal_text = f.normal_text;
+      same = IsSame-trans _ _ _ h.same (subst (λ cs. IsSame cs (components new ++ left)) joined
+          (IsSame-append_right (components text ++ c ∷ []) (components new) left f.same));
+      fits = omega arith;
     }
 
 -- at the end the text is the only normal text that leads where the source leads

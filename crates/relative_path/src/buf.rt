@@ -70,7 +70,7 @@ impl RelativePathBuf {
     /// ```
     pub fn with_capacity(alloc: Global, capacity: usize) -> Result<RelativePathBuf, AllocError>
         ensures empty { IfOk result (λ buf. buf.text ≡ []) }
-        ensures room { IfOk result (λ buf. capacity ≤ buf.room) }
+        ensures room { IfOk result (λ buf. buf.room ≡ capacity) }
     {
         let text = String::with_capacity(alloc, capacity)?;
         Ok(RelativePathBuf { text })
@@ -161,13 +161,15 @@ impl RelativePathBuf {
         ensures full { OnErr result
             (self.old.room < length (pushed self.old.text (path_text path.entry))) }
         ensures room { self.old.room ≤ self.new.room }
+        ensures refused_room { OnErr result (self.new.room ≡ self.old.room) }
     {
-        let text = strip_slash(path.as_str());
+        let len = pushed_len(self.text.as_str(), path.as_str());
+        self.reserve_to(len)?;
         if needs_separator(self.text.as_str()) {
-            self.text.reserve(1 + text.len())?;
             self.text.push_str("/").unwrap();
         }
-        self.text.push_str(text)
+        self.text.push_str(strip_slash(path.as_str())).unwrap();
+        Ok(())
     }
 
     /// Replaces the file name, or pushes one if the path has none.
@@ -186,6 +188,7 @@ impl RelativePathBuf {
         ensures full { OnErr result
             (ExceedsRoom (IsNamed self.old.text file_name.now) self.old.room) }
         ensures room { self.old.room ≤ self.new.room }
+        ensures refused_room { OnErr result (self.new.room ≡ self.old.room) }
     {
         let base = base_of(self.as_relative_path()).as_str();
         let base_len = base.len();
@@ -215,8 +218,9 @@ impl RelativePathBuf {
         ensures full { OnErr result
             (ExceedsRoom (IsExtended self.old.text extension.now) self.old.room) }
         ensures taken_off { extension.now ≡ [] → IsOk result }
-        ensures unnamed { file_name_of self.old.text ≡ None → IsOk result }
+        ensures unnamed { file_name_of self.old.text ≡ None → IsOk result × (self.new ≡ self.old) }
         ensures room { self.old.room ≤ self.new.room }
+        ensures refused_room { OnErr result (self.new.room ≡ self.old.room) }
     {
         let Some(front) = without_extension(self.as_relative_path()) else {
             return Ok(false);
@@ -235,6 +239,7 @@ impl RelativePathBuf {
         ensures full { OnErr result (self.old.room < len) }
         ensures longer { OnErr result (length self.old.text < len) }
         ensures room { self.old.room ≤ self.new.room }
+        ensures refused_room { OnErr result (self.new.room ≡ self.old.room) }
     {
         self.text.reserve(len.saturating_sub(self.text.len()))
     }

@@ -17,7 +17,7 @@ use crate::buf::RelativePathBuf;
 use crate::component::{Component, Components, Iter};
 use crate::editing::{dotted_len, pushed_len};
 use crate::naming::{base_of, last_component, split_name, without_extension};
-use crate::normalizing::{ends_in_name, push_within};
+use crate::normalizing::follow;
 use std::alloc::{AllocError, Global};
 use std::cmp::Ordering;
 use std::fmt;
@@ -274,16 +274,10 @@ impl<'a> RelativePath<'a> {
         requires room { length (path_text self) ≤ out.old.room }
         ensures normal_form { IsNormalTextOf (components (path_text self.entry)) out.new.text }
         ensures no_longer { length out.new.text ≤ length (path_text self.entry) }
+        ensures room { out.old.room ≤ out.new.room }
     {
         for component in self.components() {
-            match component {
-                Component::CurDir => {}
-                Component::Normal(name) => push_within(out, name),
-                Component::ParentDir if ends_in_name(out.as_relative_path()) => {
-                    out.pop();
-                }
-                Component::ParentDir => push_within(out, ".."),
-            }
+            follow(out, component);
         }
     }
 }
