@@ -1,5 +1,5 @@
 //! The owned relative path.
-ghost use Rattle.std.specs.Prelude.{◌≡◌, ◌≢◌, ◌≤◌, ◌<◌, ◌+◌, ◌↔◌, ◌++◌, [], ◌∷◌, if◌then◌else◌, length, None, Some, IsSome, IfOk, IsOk, OnOk, OnErr, IsTrue};
+ghost use Rattle.std.specs.Prelude.{◌≡◌, ◌≢◌, ◌≤◌, ◌<◌, ◌+◌, ◌↔◌, ◌++◌, [], ◌∷◌, if◌then◌else◌, length, take, None, Some, IsSome, IfOk, IsOk, OnOk, OnErr, IsTrue};
 ghost use Rattle.relative_path.specs.Steps.{slash, components};
 ghost use Rattle.relative_path.specs.Editing.{pushed, with_separator, IsPopped};
 ghost use Rattle.relative_path.specs.Naming.{file_name_of, dotted, IsNamed, IsExtended};
@@ -9,6 +9,7 @@ ghost use Rattle.relative_path.specs.ComparingLaws.{partial_eq_law, partial_ord_
 ghost use Rattle.relative_path.specs.RelativePath.{path_text};
 ghost use Rattle.relative_path.specs.RelativePathBuf.{buffer_components, ExceedsRoom};
 ghost use Rattle.std.specs.Fmt.{styled_text, debug_str};
+ghost use Rattle.std.specs.Str.{IsUtf8};
 ghost use Rattle.std.specs.Ordering.{on, as_partial_cmp};
 ghost use Rattle.std.proofs.Common.{refl};
 
@@ -194,7 +195,7 @@ impl RelativePathBuf {
         let base_len = base.len();
         let len = pushed_len(base, file_name);
         self.reserve_to(len)?;
-        self.text.truncate(base_len);
+        self.cut_to(base_len);
         self.push(RelativePath::new(file_name)).unwrap();
         Ok(())
     }
@@ -227,7 +228,7 @@ impl RelativePathBuf {
         };
         let front_len = front.as_str().len();
         self.reserve_to(front_len + dotted_len(extension))?;
-        self.text.truncate(front_len);
+        self.cut_to(front_len);
         self.push_extension(extension);
         Ok(true)
     }
@@ -242,6 +243,15 @@ impl RelativePathBuf {
         ensures refused_room { OnErr result (self.new.room ≡ self.old.room) }
     {
         self.text.reserve(len.saturating_sub(self.text.len()))
+    }
+
+    // Cuts the text to its first `len` bytes.
+    fn cut_to(&mut self, len: usize)
+        requires { IsUtf8 (take len self.old.text) }
+        ensures text { self.new.text ≡ take len self.old.text }
+        ensures room { self.new.room ≡ self.old.room }
+    {
+        self.text.truncate(len);
     }
 
     // Adds a dot and the extension, if that is not empty.
@@ -276,7 +286,7 @@ impl RelativePathBuf {
             .as_str()
             .len();
         let popped = !self.text.is_empty();
-        self.text.truncate(len);
+        self.cut_to(len);
         popped
     }
 

@@ -1,12 +1,17 @@
-use Rattle.std.proofs.Common.{string_bytes, ap, ◌∙◌, ◌≡◌, sym}
-use Rattle.std.proofs.lemmas.Str.{IsUtf8-string_bytes}
-use Rattle.relative_path.specs.RelativePath.{path_text}
-use Rattle.relative_path.proofs.SlicesLemmas.{IsPrefix-shortest, IsCharBoundary-IsPrefix}
+-- The text is cut to what stands before its last component.
+use Rattle.std.proofs.Common.{◌∙◌, subst, sym}
+use Rattle.std.specs.Str.{IsUtf8}
+use Rattle.relative_path.specs.Editing.{IsPopped}
 use Rattle.relative_path.proofs.buf.RelativePathBuf.pop.Goals as goal
 
-pub truncate-requires : goal.truncate-requires
-truncate-requires c =
-    let shown : path_text c.as_relative_path.result ≡ string_bytes c.self.inside.text = c.as_relative_path.ensures ∙ ap (λ b. b.text) (sym c.self.view_is) in
-    let front = rw (shown, ← c.as_str-len.ensures) at (IsPrefix-shortest c.last_component.ensures.before) in
-    let boundary = IsCharBoundary-IsPrefix front (IsUtf8-string_bytes c.self.inside.text) c.as_str-len.utf8 in
-    λ _. (boundary.0, λ _. boundary.1)
+pub cut_to-requires : goal.cut_to-requires
+cut_to-requires c =
+    let before : IsPopped c.args.self.now.text c.as_str-len.result.now =
+        rw (c.as_str-len.ensures, ← c.as_relative_path.ensures) c.last_component.ensures.before in
+    subst IsUtf8 before.prefix c.as_str-len.utf8
+
+pub returns-clause-text : goal.returns-clause-text
+returns-clause-text c =
+    let before : IsPopped c.args.self.now.text c.as_str-len.result.now =
+        rw (c.as_str-len.ensures, ← c.as_relative_path.ensures) c.last_component.ensures.before in
+    subst (IsPopped c.args.self.now.text) (before.prefix ∙ sym c.cut_to.ensures.text) before
