@@ -154,7 +154,7 @@ last_name-at : (text left front : List ℕ) (c : Step) → LosesCurs text left �
     → components left ≡ components front ++ c ∷ [] → file_name_of text ≡ name_of c
 last_name-at text left front c h other last =
     let whole = h.joined ∙ ap (λ cs. cs ++ replicate h.lost cur) last
-        ∙ append_assoc (components front) (c ∷ []) (replicate h.lost cur) in
+    ∙ append_assoc (components front) (c ∷ []) (replicate h.lost cur) in
     ap last_name whole ∙ ap (option_and_then name_of) (last_other-at (components front) c h.lost other)
 
 -- what stands before the last component that is no `.`, that component if it is a name, and the text through it

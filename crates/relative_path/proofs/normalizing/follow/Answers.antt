@@ -19,7 +19,7 @@ returns-in-ParentDir c =
     let last = c.if-ends_in_name.ensures.0 refl in
     let joined = ap components (sym c.as_relative_path.ensures) ∙ last.2 in
     let f : Follows text (step_of c.args.component) c.pop.new.self.text =
-        rw c.in-ParentDir.is (Follows-pop text c.requires.normal last.0 last.1 _ joined c.pop.ensures.text) in
+    rw c.in-ParentDir.is (Follows-pop text c.requires.normal last.0 last.1 _ joined c.pop.ensures.text) in
     record { normal = f.normal_text; same = f.same; no_longer = f.no_longer; room = omega (arith, c.pop.ensures.room) }
 
 pub returns-in-ParentDir-2 : goal.returns-in-ParentDir-2
@@ -27,10 +27,10 @@ returns-in-ParentDir-2 c =
     let text = c.args.out.now.text in
     let alone : IsProper (step_of c.args.component) = c.requires.alone in
     let ends = IsNormal-push_up (components text) c.requires.normal.normal (λ ds n e. true≢false
-        (sym (c.if-ends_in_name.ensures.1 (ds, n, ap components c.as_relative_path.ensures ∙ e)))) in
+    (sym (c.if-ends_in_name.ensures.1 (ds, n, ap components c.as_relative_path.ensures ∙ e)))) in
     let f : Follows text (step_of c.args.component) c.push_within.new.out.text =
-        rw (c.push_within.ensures.text, c.in-ParentDir-2.is)
-        (Follows-push text c.requires.normal _ (rw c.in-ParentDir-2.is at alone) ends) in
+    rw (c.push_within.ensures.text, c.in-ParentDir-2.is)
+    (Follows-push text c.requires.normal _ (rw c.in-ParentDir-2.is at alone) ends) in
     record { normal = f.normal_text; same = f.same; no_longer = f.no_longer; room = c.push_within.ensures.room }
 
 pub returns-in-Normal : goal.returns-in-Normal
@@ -39,6 +39,6 @@ returns-in-Normal c =
     let alone : IsProper (step_of c.args.component) = c.requires.alone in
     let ends = IsNormal-push_name (components text) c.in-Normal.name.now c.requires.normal.normal in
     let f : Follows text (step_of c.args.component) c.push_within-in-Normal.new.out.text =
-        rw (c.push_within-in-Normal.ensures.text, c.in-Normal.is)
-        (Follows-push text c.requires.normal _ (rw c.in-Normal.is at alone) ends) in
+    rw (c.push_within-in-Normal.ensures.text, c.in-Normal.is)
+    (Follows-push text c.requires.normal _ (rw c.in-Normal.is at alone) ends) in
     record { normal = f.normal_text; same = f.same; no_longer = f.no_longer; room = c.push_within-in-Normal.ensures.room }

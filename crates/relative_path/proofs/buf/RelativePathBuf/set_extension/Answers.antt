@@ -13,9 +13,9 @@ returns-in_err-reserve_to-clause-full c =
     let front = path_text c.in-Some.front in
     let extension = c.args.extension.now in
     let is : IsExtended text extension (front ++ dotted extension) =
-        rw (← c.as_relative_path.ensures) (IsExtended-push _ _ _ (c.in-Some.ensures.found.0 refl) c.in-Some.ensures.text) in
+    rw (← c.as_relative_path.ensures) (IsExtended-push _ _ _ (c.in-Some.ensures.found.0 refl) c.in-Some.ensures.text) in
     let count : length c.as_str-front_len.result.now + c.dotted_len.result ≡ length (front ++ dotted extension) =
-        omega (arith, ap length c.as_str-front_len.ensures, c.dotted_len.ensures, length-append front (dotted extension)) in
+    omega (arith, ap length c.as_str-front_len.ensures, c.dotted_len.ensures, length-append front (dotted extension)) in
     let long = ExceedsRoom-extended text extension _ c.args.self.now.room _ is count c.in_err-reserve_to.ensures.full in
     search rules
 

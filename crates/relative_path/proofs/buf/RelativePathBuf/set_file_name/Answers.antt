@@ -13,7 +13,7 @@ returns-in_err-reserve_to-clause-full c =
     let name = c.args.file_name.now in
     let is : IsBase c.args.self.now.text base = rw (← c.as_relative_path.ensures) c.base_of.ensures in
     let len : c.pushed_len-len.result ≡ length (pushed base name) =
-        c.pushed_len-len.ensures ∙ ap (λ b. length (pushed b name)) c.as_str-base.ensures in
+    c.pushed_len-len.ensures ∙ ap (λ b. length (pushed b name)) c.as_str-base.ensures in
     let long = ExceedsRoom-named _ name base c.args.self.now.room _ is len c.in_err-reserve_to.ensures.full in
     search rules
 
