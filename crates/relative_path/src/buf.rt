@@ -6,7 +6,7 @@ ghost use Rattle.relative_path.specs.Naming.{file_name_of, dotted, IsNamed, IsEx
 ghost use Rattle.relative_path.specs.Editing as spec;
 ghost use Rattle.relative_path.specs.Comparing.{steps_eq, steps_cmp, fed_by};
 ghost use Rattle.relative_path.specs.ComparingLaws.{partial_eq_law, partial_ord_law, by_components, fed_alike};
-ghost use Rattle.relative_path.specs.RelativePath.{path_text};
+ghost use Rattle.relative_path.specs.RelativePath.{path_text, path_components};
 ghost use Rattle.relative_path.specs.RelativePathBuf.{buffer_components, ExceedsRoom};
 ghost use Rattle.std.specs.Fmt.{styled_text, debug_str};
 ghost use Rattle.std.specs.Str.{IsUtf8};
@@ -158,6 +158,8 @@ impl RelativePathBuf {
     /// ```
     pub fn push(&mut self, path: RelativePath<'_>) -> Result<(), AllocError>
         ensures ok { OnOk result (self.new.text ≡ pushed self.old.text (path_text path.entry)) }
+        ensures components { OnOk result
+            (components self.new.text ≡ components self.old.text ++ path_components path.entry) }
         ensures err { OnErr result (self.new.text ≡ self.old.text) }
         ensures full { OnErr result
             (self.old.room < length (pushed self.old.text (path_text path.entry))) }
@@ -166,11 +168,20 @@ impl RelativePathBuf {
     {
         let len = pushed_len(self.text.as_str(), path.as_str());
         self.reserve_to(len)?;
+        self.push_reserved(path);
+        Ok(())
+    }
+
+    // Adds a path behind this one, within the room there is.
+    pub(crate) fn push_reserved(&mut self, path: RelativePath<'_>)
+        requires { length (pushed self.old.text (path_text path)) ≤ self.old.room }
+        ensures text { self.new.text ≡ pushed self.old.text (path_text path.entry) }
+        ensures room { self.old.room ≤ self.new.room }
+    {
         if needs_separator(self.text.as_str()) {
             self.text.push_str("/").unwrap();
         }
         self.text.push_str(strip_slash(path.as_str())).unwrap();
-        Ok(())
     }
 
     /// Replaces the file name, or pushes one if the path has none.
@@ -196,7 +207,7 @@ impl RelativePathBuf {
         let len = pushed_len(base, file_name);
         self.reserve_to(len)?;
         self.cut_to(base_len);
-        self.push(RelativePath::new(file_name)).unwrap();
+        self.push_reserved(RelativePath::new(file_name));
         Ok(())
     }
 

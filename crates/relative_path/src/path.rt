@@ -81,12 +81,14 @@ impl<'a> RelativePath<'a> {
     /// assert_eq!(rt; joined.as_relative_path().as_str(), "foo/bar");
     /// ```
     pub fn join(self, alloc: Global, path: RelativePath<'_>) -> Result<RelativePathBuf, AllocError>
-        ensures { IfOk result
+        ensures text { IfOk result
             (λ joined. joined.text ≡ pushed (path_text self.entry) (path_text path.entry)) }
+        ensures components { IfOk result
+            (λ joined. components joined.text ≡ path_components self.entry ++ path_components path.entry) }
     {
         let len = pushed_len(self.text, path.text);
         let mut joined = RelativePathBuf::with_room(alloc, self.text, len)?;
-        joined.push(path).unwrap();
+        joined.push_reserved(path);
         Ok(joined)
     }
 
