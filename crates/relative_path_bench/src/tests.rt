@@ -5,4 +5,5 @@ mod editing;
 mod naming;
 mod normalizing;
 mod printing;
+mod readme;
 mod walking;
