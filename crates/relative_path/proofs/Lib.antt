@@ -5,5 +5,6 @@ pub mod NormalStepsLemmas
 pub mod SlashesLemmas
 pub mod ComponentsLemmas
 pub mod EditingLemmas
+pub mod PrefixingLemmas
 pub mod NamingLemmas
 pub mod NormalizingLemmas

@@ -3,6 +3,7 @@ pub mod Walk
 pub mod Normalizing
 pub mod Slices
 pub mod Editing
+pub mod Prefixing
 pub mod Naming
 pub mod RelativePath
 pub mod RelativePathBuf
