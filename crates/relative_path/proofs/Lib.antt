@@ -6,5 +6,6 @@ pub mod SlashesLemmas
 pub mod ComponentsLemmas
 pub mod EditingLemmas
 pub mod PrefixingLemmas
+pub mod ExtendingLemmas
 pub mod NamingLemmas
 pub mod NormalizingLemmas

@@ -7,6 +7,7 @@ pub mod Prefixing
 pub mod Naming
 pub mod RelativePath
 pub mod RelativePathBuf
+pub mod Extending
 pub mod Components
 pub mod Comparing
 pub mod ComparingLaws
