@@ -5,5 +5,7 @@ pub mod NormalStepsLemmas
 pub mod SlashesLemmas
 pub mod ComponentsLemmas
 pub mod EditingLemmas
+pub mod PrefixingLemmas
+pub mod ExtendingLemmas
 pub mod NamingLemmas
 pub mod NormalizingLemmas

@@ -3,9 +3,11 @@ pub mod Walk
 pub mod Normalizing
 pub mod Slices
 pub mod Editing
+pub mod Prefixing
 pub mod Naming
 pub mod RelativePath
 pub mod RelativePathBuf
+pub mod Extending
 pub mod Components
 pub mod Comparing
 pub mod ComparingLaws

@@ -1,13 +1,14 @@
 //! The owned relative path.
-ghost use Rattle.std.specs.Prelude.{◌≡◌, ◌≢◌, ◌≤◌, ◌<◌, ◌+◌, ◌↔◌, ◌++◌, [], ◌∷◌, if◌then◌else◌, length, take, None, Some, IsSome, IfOk, IsOk, OnOk, OnErr, IsTrue};
+ghost use Rattle.std.specs.Prelude.{◌≡◌, ◌≢◌, ◌≤◌, ◌<◌, ◌+◌, ◌↔◌, ◌++◌, [], ◌∷◌, if◌then◌else◌, ℕ, List, length, take, None, Some, IsSome, IfOk, IsOk, OnOk, OnErr, IsTrue};
 ghost use Rattle.relative_path.specs.Steps.{slash, components};
 ghost use Rattle.relative_path.specs.Editing.{pushed, with_separator, IsPopped};
 ghost use Rattle.relative_path.specs.Naming.{file_name_of, dotted, IsNamed, IsExtended};
-ghost use Rattle.relative_path.specs.Editing as spec;
 ghost use Rattle.relative_path.specs.Comparing.{steps_eq, steps_cmp, fed_by};
 ghost use Rattle.relative_path.specs.ComparingLaws.{partial_eq_law, partial_ord_law, by_components, fed_alike};
+ghost use Rattle.relative_path.specs.Extending.{pushed_all, PushesAll, PushesItems, GivesTexts, StopsWithin};
 ghost use Rattle.relative_path.specs.RelativePath.{path_text, path_components};
 ghost use Rattle.relative_path.specs.RelativePathBuf.{buffer_components, ExceedsRoom};
+ghost use Rattle.std.specs.Iterator.{IsFiniteIterable};
 ghost use Rattle.std.specs.Fmt.{styled_text, debug_str};
 ghost use Rattle.std.specs.Str.{IsUtf8};
 ghost use Rattle.std.specs.Ordering.{on, as_partial_cmp};
@@ -90,6 +91,30 @@ impl RelativePathBuf {
     {
         let text = String::from_str(alloc, text)?;
         Ok(RelativePathBuf { text })
+    }
+
+    /// The paths that the iterator gives, pushed in order onto the empty path.
+    ///
+    /// It asks for memory where a push does, and fails where that is refused; the paths taken by
+    /// then stay taken.
+    ///
+    /// ```
+    /// let paths = ["a", "/b", "", "c"].map(RelativePath::new);
+    /// let buf = RelativePathBuf::from_paths(alloc, paths)?;
+    /// assert_eq!(rt; buf.as_relative_path().as_str(), "a/b/c");
+    /// ```
+    pub fn from_paths<'p, I: IntoIterator<Item = RelativePath<'p>>>(
+        alloc: Global,
+        paths: I,
+    ) -> Result<RelativePathBuf, AllocError>
+        requires { IsFiniteIterable I.into_iter_gives I.IntoIter.can_next I.IntoIter.remaining paths }
+        ensures ran { IfOk result (λ buf. PushesAll I.into_iter_gives I.IntoIter.next_gives paths [] buf.text) }
+        ensures ok { (texts : List (List ℕ)) → GivesTexts I.into_iter_gives I.IntoIter.next_gives paths texts
+            → IfOk result (λ buf. buf.text ≡ pushed_all [] texts) }
+    {
+        let mut buf = RelativePathBuf::new(alloc);
+        buf.extend(paths)?;
+        Ok(buf)
     }
 
     // A copy of the text, with room for `room` bytes.
@@ -299,6 +324,35 @@ impl RelativePathBuf {
         let popped = !self.text.is_empty();
         self.cut_to(len);
         popped
+    }
+
+    /// Pushes each path that the iterator gives, in order.
+    ///
+    /// A refusal leaves the text after the pushes before it, and takes no further path.
+    ///
+    /// ```
+    /// let mut buf = RelativePathBuf::from_text(alloc, "x")?;
+    /// buf.extend(["a", "/b", "c"].map(RelativePath::new))?;
+    /// assert_eq!(rt; buf.as_relative_path().as_str(), "x/a/b/c");
+    /// ```
+    pub fn extend<'p, I: IntoIterator<Item = RelativePath<'p>>>(
+        &mut self,
+        paths: I,
+    ) -> Result<(), AllocError>
+        requires { IsFiniteIterable I.into_iter_gives I.IntoIter.can_next I.IntoIter.remaining paths }
+        ensures ran { PushesItems I.into_iter_gives I.IntoIter.next_gives paths self.old self.new result }
+        ensures ok { (texts : List (List ℕ)) → GivesTexts I.into_iter_gives I.IntoIter.next_gives paths texts
+            → OnOk result (self.new.text ≡ pushed_all self.old.text texts) }
+        ensures err { (texts : List (List ℕ)) → GivesTexts I.into_iter_gives I.IntoIter.next_gives paths texts
+            → OnErr result (StopsWithin self.old self.new texts) }
+        ensures full { (texts : List (List ℕ)) → GivesTexts I.into_iter_gives I.IntoIter.next_gives paths texts
+            → OnErr result (self.old.room < length (pushed_all self.old.text texts)) }
+        ensures room { self.old.room ≤ self.new.room }
+    {
+        for path in paths {
+            self.push(path)?;
+        }
+        Ok(())
     }
 
     /// The path, as a view. It takes no memory.

@@ -3,7 +3,7 @@
 
 pub use self::buf::RelativePathBuf;
 pub use self::component::{Component, Components, Iter};
-pub use self::path::{Display, RelativePath};
+pub use self::path::{Display, RelativePath, StripPrefixError};
 
 mod buf;
 mod component;
@@ -11,4 +11,5 @@ mod editing;
 mod naming;
 mod normalizing;
 mod path;
+mod prefixing;
 mod slashes;

@@ -1,5 +1,5 @@
 //! The borrowed relative path.
-ghost use Rattle.std.specs.Prelude.{◌≡◌, ◌≢◌, ◌≤◌, ◌↔◌, ◌++◌, [], ◌∷◌, IfOk, IfSome, IsSome, IsTrue, Some, List, ℕ, length};
+ghost use Rattle.std.specs.Prelude.{◌≡◌, ◌≢◌, ◌≤◌, ◌↔◌, ◌++◌, [], ◌∷◌, IfOk, IsOk, IfSome, IsSome, IsTrue, Some, List, ℕ, length};
 ghost use Rattle.relative_path.specs.Steps.{Step, name, components};
 ghost use Rattle.relative_path.specs.Editing.{pushed, IsPopped};
 ghost use Rattle.relative_path.specs.Components.{text_left, iter_text_left};
@@ -10,7 +10,8 @@ ghost use Rattle.std.specs.Fmt.{styled_text, debug_str};
 ghost use Rattle.std.specs.Option.{option_copied, option_map, option_and_then};
 ghost use Rattle.std.specs.Ordering.{on, as_partial_cmp};
 ghost use Rattle.std.proofs.Common.{refl};
-ghost use Rattle.relative_path.specs.Normalizing.{IsNormalTextOf};
+ghost use Rattle.relative_path.specs.Normalizing.{IsNormal, IsNormalTextOf};
+ghost use Rattle.relative_path.specs.Prefixing.{StartsWith, EndsWith, IsDropped};
 ghost use Rattle.relative_path.specs.RelativePath.{path_text, path_components, display_text};
 
 use crate::buf::RelativePathBuf;
@@ -18,10 +19,21 @@ use crate::component::{Component, Components, Iter};
 use crate::editing::{dotted_len, pushed_len};
 use crate::naming::{base_of, last_component, split_name, without_extension};
 use crate::normalizing::follow;
+use crate::prefixing::path_after;
 use std::alloc::{AllocError, Global};
 use std::cmp::Ordering;
 use std::fmt;
 use std::hash::{Hash, Hasher};
+
+/// What [`RelativePath::strip_prefix`] answers where the path doesn't start with the base. It says
+/// no more than that: any two are equal.
+///
+/// ```
+/// let stripped = RelativePath::new("foo/bar").strip_prefix(RelativePath::new("fo"));
+/// assert!(rt; stripped.is_err());
+/// ```
+#[derive(Debug, Clone, PartialEq, Eq, Drop)]
+pub struct StripPrefixError(());
 
 /// A relative path: a copied view of a text, cut at `/` on every platform.
 ///
@@ -162,6 +174,82 @@ impl<'a> RelativePath<'a> {
         ensures { option_copied result ≡ file_name_of (path_text self.entry) }
     {
         last_component(self).name
+    }
+
+    /// The path that follows `base`, if this path starts with it.
+    ///
+    /// The answer is a part of this path: what is left of it after one call of `next` for each
+    /// component of `base`. By a base without components it is the whole path, slashes included. It
+    /// takes no memory.
+    ///
+    /// ```
+    /// let path = RelativePath::new("//foo/bar/");
+    /// let rest = path.strip_prefix(RelativePath::new("foo")).map(RelativePath::as_str);
+    /// assert_eq!(rt; rest, Ok("bar/"));
+    /// ```
+    pub fn strip_prefix(self, base: RelativePath<'_>) -> Result<RelativePath<'a>, StripPrefixError>
+        ensures found { IsOk result
+            ↔ StartsWith (path_components self.entry) (path_components base.entry) }
+        ensures text { IfOk result (λ rest. IsDropped (path_text self.entry)
+            (length (path_components base.entry)) (path_text rest)) }
+        ensures components { IfOk result (λ rest. path_components self.entry
+            ≡ path_components base.entry ++ path_components rest) }
+    {
+        path_after(self, base).ok_or(StripPrefixError(()))
+    }
+
+    /// Whether the components of this path begin with those of `base`.
+    ///
+    /// It takes no memory.
+    ///
+    /// ```
+    /// let path = RelativePath::new("etc/passwd");
+    /// assert!(rt; path.starts_with(RelativePath::new("etc")));
+    /// assert!(rt; !path.starts_with(RelativePath::new("e")));
+    /// ```
+    pub fn starts_with(self, base: RelativePath<'_>) -> bool
+        ensures { IsTrue result
+            ↔ StartsWith (path_components self.entry) (path_components base.entry) }
+    {
+        path_after(self, base).is_some()
+    }
+
+    /// Whether the components of this path end with those of `child`.
+    ///
+    /// It takes no memory.
+    ///
+    /// ```
+    /// let path = RelativePath::new("etc/passwd");
+    /// assert!(rt; path.ends_with(RelativePath::new("passwd")));
+    /// assert!(rt; !path.ends_with(RelativePath::new("wd")));
+    /// ```
+    pub fn ends_with(self, child: RelativePath<'_>) -> bool
+        ensures { IsTrue result
+            ↔ EndsWith (path_components self.entry) (path_components child.entry) }
+    {
+        let mut left = self.components();
+        for component in child.components().rev() {
+            if left.next_back() != Some(component) {
+                return false;
+            }
+        }
+        true
+    }
+
+    /// Whether the components of this path are `..` first, then names only. Slashes don't count.
+    ///
+    /// It takes no memory.
+    ///
+    /// ```
+    /// assert!(rt; RelativePath::new("../foo//bar").is_normalized());
+    /// assert!(rt; !RelativePath::new("foo/..").is_normalized());
+    /// ```
+    pub fn is_normalized(self) -> bool
+        ensures { IsTrue result ↔ IsNormal (path_components self.entry) }
+    {
+        self.components()
+            .skip_while(|component| matches!(component, Component::ParentDir))
+            .all(|component| matches!(component, Component::Normal(_)))
     }
 
     /// This path with the file name replaced, or with one pushed onto it if it has none, in memory

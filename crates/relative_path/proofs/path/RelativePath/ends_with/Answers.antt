@@ -1,0 +1,15 @@
+use Rattle.std.proofs.Common.{true≢false, sym, ◌∙◌}
+use Rattle.std.specs.Iterator.Adapters.{rev_source}
+use Rattle.relative_path.specs.Components.{components_left}
+use Rattle.relative_path.proofs.PrefixingLemmas.{AgreesBack-taken, EndsWith-other}
+use Rattle.relative_path.proofs.path.RelativePath.ends_with.Goals as goal
+
+pub returns-then-ne : goal.returns-then-ne
+returns-then-ne c =
+    let front = components_left (rev_source c.next.new.self) in
+    (λ e. absurd (true≢false (sym e)), λ ends. absurd (EndsWith-other _ c.in-Some.component front c.loop-component.invariant c.next_back.ensures.steps c.in-Some.ensures.steps.0 (sym c.ne.ensures ∙ c.if-ne.true) ends))
+
+pub loop-component-preserved : goal.loop-component-preserved
+loop-component-preserved c =
+    let front = components_left (rev_source c.next.new.self) in
+    AgreesBack-taken _ c.in-Some.component front c.loop-component.invariant c.next_back.ensures.steps c.in-Some.ensures.steps.0 (sym c.ne.ensures ∙ c.if-ne.false)

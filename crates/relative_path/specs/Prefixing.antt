@@ -1,0 +1,17 @@
+-- Paths that begin or end with another, told by their components.
+use Rattle.std.specs.Prelude.{◌≡◌, ℕ, zero, suc, List, ◌++◌}
+use Rattle.relative_path.specs.Steps.{Step}
+use Rattle.relative_path.specs.Slices.{IsRest}
+
+-- base is a prefix of the components
+abbrev pub StartsWith : List Step → List Step → Type 0
+StartsWith cs base = (rest : List Step) × (cs ≡ base ++ rest)
+
+-- child is a suffix of the components
+abbrev pub EndsWith : List Step → List Step → Type 0
+EndsWith cs child = (front : List Step) × (cs ≡ front ++ child)
+
+-- r is the text after its rest was taken n times
+abbrev pub IsDropped : List ℕ → ℕ → List ℕ → Type 0
+IsDropped text zero r = r ≡ text
+IsDropped text (suc n) r = (rest : List ℕ) × IsRest text rest × IsDropped rest n r
