@@ -9,3 +9,6 @@ pub mod PrefixingLemmas
 pub mod ExtendingLemmas
 pub mod NamingLemmas
 pub mod NormalizingLemmas
+pub mod CountingLemmas
+pub mod SpansLemmas
+pub mod NormalFormLemmas

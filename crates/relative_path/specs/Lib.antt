@@ -1,6 +1,8 @@
 pub mod Steps
 pub mod Walk
 pub mod Normalizing
+pub mod Spans
+pub mod NormalForm
 pub mod Slices
 pub mod Editing
 pub mod Prefixing

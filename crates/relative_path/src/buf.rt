@@ -1,7 +1,7 @@
 //! The owned relative path.
 ghost use Rattle.std.specs.Prelude.{◌≡◌, ◌≢◌, ◌≤◌, ◌<◌, ◌+◌, ◌↔◌, ◌++◌, [], ◌∷◌, if◌then◌else◌, ℕ, List, length, take, None, Some, IsSome, IfOk, IsOk, OnOk, OnErr, IsTrue};
 ghost use Rattle.relative_path.specs.Steps.{slash, components};
-ghost use Rattle.relative_path.specs.Editing.{pushed, with_separator, IsPopped};
+ghost use Rattle.relative_path.specs.Editing.{pushed, with_piece, with_separator, IsPopped};
 ghost use Rattle.relative_path.specs.Naming.{file_name_of, dotted, IsNamed, IsExtended};
 ghost use Rattle.relative_path.specs.Comparing.{steps_eq, steps_cmp, fed_by};
 ghost use Rattle.relative_path.specs.ComparingLaws.{partial_eq_law, partial_ord_law, by_components, fed_alike};
@@ -300,6 +300,18 @@ impl RelativePathBuf {
             self.text.push_str(".").unwrap();
             self.text.push_str(extension).unwrap();
         }
+    }
+
+    // Adds a piece: behind a slash, or alone to the empty text.
+    pub(crate) fn push_piece(&mut self, piece: &str)
+        requires { length (with_piece self.old.text piece.now) ≤ self.old.room }
+        ensures text { self.new.text ≡ with_piece self.old.text piece.now }
+        ensures room { self.old.room ≤ self.new.room }
+    {
+        if !self.text.is_empty() {
+            self.text.push_str("/").unwrap();
+        }
+        self.text.push_str(piece).unwrap();
     }
 
     /// Cuts the path to its parent and answers true, unless it is empty: then it stays, and the

@@ -1,0 +1,30 @@
+use Rattle.std.proofs.Common.{◌≡◌, ◌≤◌, [], Some, ap, sym, ◌∙◌, drop, fold, length, replicate, arith}
+use Rattle.relative_path.specs.Editing.{with_piece}
+use Rattle.relative_path.specs.Steps.{up, step_text}
+use Rattle.relative_path.specs.NormalForm.{climbed, form_names}
+use Rattle.relative_path.proofs.NormalFormLemmas.{AreProper-names_past, length-with_pieces_le, with_pieces-climbed}
+use Rattle.relative_path.proofs.normal_form.NormalForm.spelled_past.Goals as goal
+
+pub push_climb-requires : goal.push_climb-requires
+push_climb-requires c =
+    let names = drop c.args.skipped (form_names c.args.self.now) in
+    let whole = with_pieces-climbed c.args.climb names (AreProper-names_past c.args.self.now c.args.skipped) in
+    let len = rw c.in_ok-len.ensures.ok_part at c.spelled_len.ensures in
+    let room = c.in_ok-buf.ensures.room in
+    rw c.in_ok-buf.ensures.empty (omega (arith, ap length whole, length-with_pieces_le (fold with_piece [] (replicate c.args.climb (step_text up))) names))
+
+pub push_names-requires-clause-room : goal.push_names-requires-clause-room
+push_names-requires-clause-room c =
+    let names = drop c.args.skipped (form_names c.args.self.now) in
+    let climbs = c.push_climb.ensures.text ∙ ap (λ text. fold with_piece text (replicate c.args.climb (step_text up))) c.in_ok-buf.ensures.empty in
+    let whole = with_pieces-climbed c.args.climb names (AreProper-names_past c.args.self.now c.args.skipped) in
+    let len = rw c.in_ok-len.ensures.ok_part at c.spelled_len.ensures in
+    let room = c.in_ok-buf.ensures.room in
+    let kept = c.push_climb.ensures.room in
+    omega (arith, ap (λ text. length (fold with_piece text names)) climbs, ap length whole)
+
+pub returns : goal.returns
+returns c =
+    let names = drop c.args.skipped (form_names c.args.self.now) in
+    let climbs = c.push_climb.ensures.text ∙ ap (λ text. fold with_piece text (replicate c.args.climb (step_text up))) c.in_ok-buf.ensures.empty in
+    c.push_names.ensures ∙ ap (λ text. fold with_piece text names) climbs ∙ with_pieces-climbed c.args.climb names (AreProper-names_past c.args.self.now c.args.skipped)
