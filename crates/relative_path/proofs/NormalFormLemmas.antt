@@ -1,20 +1,21 @@
 -- Climbs and names: that they are normal, what one component more does to them, and the text that spells them.
-use Rattle.std.proofs.Common.{◌≡◌, ℕ, zero, suc, ◌+◌, ◌-◌, ◌<◌, ◌≤◌, Bool, true, List, [], ◌∷◌, ◌++◌, All, Option, Some, None, map, replicate, length, take, drop, sym, refl, ap, ap₂, ◌∙◌, subst, append_assoc, append-nil, arith, length-append, length-take, length-drop, get_or, fold, ◌*◌}
+use Rattle.std.proofs.Common.{◌≡◌, ℕ, zero, suc, ◌+◌, ◌-◌, ◌<◌, ◌≤◌, true, List, [], ◌∷◌, ◌++◌, All, Option, Some, None, map, replicate, length, drop, sym, refl, ap, ◌∙◌, subst, append_assoc, append-nil, arith, length-append, length-take, length-drop, get_or, fold, ◌*◌}
 use Rattle.std.specs.List.{AllByRecursion}
 use Rattle.std.specs.Option.{is_some, option_to_list}
 use Rattle.std.proofs.lemmas.List.Elements.{recursion_from_All, All-from_recursion, All-drop}
 use Rattle.std.proofs.lemmas.List.Sums.{fold-append}
-use Rattle.std.proofs.lemmas.List.{drop_more, replicate_more, map_push, map-append}
+use Rattle.std.proofs.lemmas.List.{drop_more, replicate_more, map_push}
 use Rattle.relative_path.specs.Steps.{Step, cur, up, name, slash, dot, step_text, components, spell}
 use Rattle.relative_path.specs.Editing.{with_piece}
 use Rattle.relative_path.specs.Walk.{IsSame}
-use Rattle.relative_path.specs.Normalizing.{AreNames, IsNormal, IsNormalText, IsNormalTextOf}
+use Rattle.relative_path.specs.Normalizing.{AreNames, IsNormal, IsNormalTextOf}
 use Rattle.relative_path.specs.declared.normal_form.NormalForm.{NormalForm}
 use Rattle.relative_path.specs.declared.spans.Sources.{Sources}
 use Rattle.relative_path.specs.declared.spans.Span.{Span}
 use Rattle.relative_path.specs.Spans.{source_text, span_text, Cuts, CutsName}
 use Rattle.relative_path.specs.NormalForm.{climbed, form_names, form_steps, padded_len, Reduces, IsNormalFormOf}
-use Rattle.relative_path.proofs.StepsLemmas.{IsProper, components_whole, AreProper, AreProper-append, AreProper-components, components-spell, nonempty_proper}
+use Rattle.relative_path.proofs.StepsLemmas.{IsProper, components_whole, AreProper, components-spell, nonempty_proper}
+use Rattle.relative_path.proofs.NormalStepsLemmas.{normal_unique}
 use Rattle.relative_path.proofs.WalkLemmas.{IsSame-refl, IsSame-sym, IsSame-trans, IsSame-append_right, IsSame-cur, IsSame-name_up}
 
 -- ---- reducing a list of components
@@ -216,3 +217,14 @@ pub padded_len-span : (sources : Sources) (spans : List Span) (i : ℕ) (d : Spa
 padded_len-span sources spans i d less cut =
     let more = ap (λ xs. padded_len (map name (map (span_text sources) xs))) (drop_more spans i d less) in
     omega (arith, length-Cuts (cut i d less))
+
+-- the text that spells a normal form is the only normal text that leads where the components lead
+pub IsNormalTextOf-spell : (cs ds : List Step) (text : List ℕ) → IsNormalFormOf cs ds → text ≡ spell ds → IsNormalTextOf cs text
+IsNormalTextOf-spell cs ds text form spelled =
+    let is : components text ≡ ds = ap components spelled ∙ form.of_text in
+    record {
+      normal_text = record { spelled = spelled ∙ ap spell (sym is); normal = rw is form.normal };
+      same = rw is form.same;
+      only = λ other normal leads.
+          normal.spelled ∙ ap spell (normal_unique (components other) ds normal.normal form.normal (IsSame-trans _ _ _ (IsSame-sym _ _ leads) form.same)) ∙ sym spelled;
+    }

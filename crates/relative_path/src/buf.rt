@@ -209,6 +209,18 @@ impl RelativePathBuf {
         self.text.push_str(strip_slash(path.as_str())).unwrap();
     }
 
+    // Adds a piece: behind a slash, or alone to the empty text.
+    pub(crate) fn push_piece(&mut self, piece: &str)
+        requires { length (with_piece self.old.text piece.now) ≤ self.old.room }
+        ensures text { self.new.text ≡ with_piece self.old.text piece.now }
+        ensures room { self.old.room ≤ self.new.room }
+    {
+        if !self.text.is_empty() {
+            self.text.push_str("/").unwrap();
+        }
+        self.text.push_str(piece).unwrap();
+    }
+
     /// Replaces the file name, or pushes one if the path has none.
     ///
     /// It asks for memory only where the result is longer than the text and its spare room
@@ -300,18 +312,6 @@ impl RelativePathBuf {
             self.text.push_str(".").unwrap();
             self.text.push_str(extension).unwrap();
         }
-    }
-
-    // Adds a piece: behind a slash, or alone to the empty text.
-    pub(crate) fn push_piece(&mut self, piece: &str)
-        requires { length (with_piece self.old.text piece.now) ≤ self.old.room }
-        ensures text { self.new.text ≡ with_piece self.old.text piece.now }
-        ensures room { self.old.room ≤ self.new.room }
-    {
-        if !self.text.is_empty() {
-            self.text.push_str("/").unwrap();
-        }
-        self.text.push_str(piece).unwrap();
     }
 
     /// Cuts the path to its parent and answers true, unless it is empty: then it stays, and the

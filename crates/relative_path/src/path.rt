@@ -18,6 +18,7 @@ use crate::buf::RelativePathBuf;
 use crate::component::{Component, Components, Iter};
 use crate::editing::{dotted_len, pushed_len};
 use crate::naming::{base_of, last_component, split_name, without_extension};
+use crate::normal_form::NormalForm;
 use crate::normalizing::follow;
 use crate::prefixing::path_after;
 use std::alloc::{AllocError, Global};
@@ -329,11 +330,35 @@ impl<'a> RelativePath<'a> {
         Ok(extended)
     }
 
+    /// The only normal path that leads where this path, and then `path`, lead: the answer of
+    /// `normalize` for both joined.
+    ///
+    /// It asks for memory twice, for a table of a span for each component of both paths, and for
+    /// the answer's text, and fails only where one is refused. Of an empty table or an empty text
+    /// it asks for none.
+    ///
+    /// ```
+    /// let foo = RelativePath::new("x/y");
+    /// let normal = foo.join_normalized(alloc, RelativePath::new("../z"))?;
+    /// assert_eq!(rt; normal.as_relative_path().as_str(), "x/z");
+    /// ```
+    pub fn join_normalized(
+        self,
+        alloc: Global,
+        path: RelativePath<'_>,
+    ) -> Result<RelativePathBuf, AllocError>
+        ensures normal_form { IfOk result (λ normal. IsNormalTextOf
+            (path_components self.entry ++ path_components path.entry) normal.text) }
+    {
+        NormalForm::of_both(alloc, self, path)?.spelled(alloc)
+    }
+
     /// The only normal path that leads where this one leads: `..` first, then names, with single
     /// slashes between.
     ///
-    /// It asks for memory once, for as many bytes as this path has, and fails only where that is
-    /// refused.
+    /// It asks for memory twice, for a table of a span for each of its components, and for the
+    /// answer's text, and fails only where one is refused. Of an empty table or an empty text it
+    /// asks for none.
     ///
     /// ```
     /// let normal = RelativePath::new("../foo/./bar/../baz.txt").normalize(alloc)?;
@@ -345,9 +370,7 @@ impl<'a> RelativePath<'a> {
         ensures no_longer { IfOk result
             (λ normal. length normal.text ≤ length (path_text self.entry)) }
     {
-        let mut normal = RelativePathBuf::with_capacity(alloc, self.text.len())?;
-        self.normalize_into(&mut normal);
-        Ok(normal)
+        NormalForm::of(alloc, self)?.spelled(alloc)
     }
 
     /// Writes the text of `normalize` into an empty buffer with room for this path. It takes no

@@ -1,4 +1,4 @@
-use Rattle.std.proofs.Common.{◌≡◌, ◌+◌, sym, ◌∙◌, ap, refl, length, drop, arith}
+use Rattle.std.proofs.Common.{arith}
 use Rattle.std.proofs.lemmas.List.{at_drop_all}
 use Rattle.relative_path.proofs.CountingLemmas.{begun, begun-components}
 use Rattle.relative_path.proofs.counting.component_count.Goals as goal

@@ -1,4 +1,4 @@
-use Rattle.std.proofs.Common.{◌≡◌, ◌≤◌, ◌+◌, ◌-◌, ap, sym, ◌∙◌, fold, length, replicate, arith}
+use Rattle.std.proofs.Common.{◌≤◌, ◌+◌, ◌-◌, ap, sym, ◌∙◌, fold, length, replicate, arith}
 use Rattle.relative_path.specs.Editing.{with_piece}
 use Rattle.relative_path.specs.Steps.{up, step_text}
 use Rattle.relative_path.proofs.NormalFormLemmas.{with_piece_fits, replicate_first}

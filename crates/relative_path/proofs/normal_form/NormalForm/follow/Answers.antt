@@ -1,11 +1,10 @@
-use Rattle.std.proofs.Common.{◌≡◌, ◌+◌, ◌-◌, ◌++◌, ◌∷◌, [], length, drop, refl, sym, ap, ◌∙◌, subst, arith, append_assoc}
+use Rattle.std.proofs.Common.{◌+◌, length, refl, sym, ap, ◌∙◌, subst, arith}
 use Rattle.std.specs.Str.{IsUtf8}
-use Rattle.relative_path.specs.Components.{step_of, text_left, components_left}
-use Rattle.relative_path.specs.NormalForm.{form_steps, Reduces}
+use Rattle.relative_path.specs.Components.{step_of}
 use Rattle.relative_path.specs.Spans.{source_text}
 use Rattle.relative_path.specs.Steps.{components}
 use Rattle.relative_path.proofs.NormalFormLemmas.{Reduces-refl, Reduces-step}
-use Rattle.relative_path.proofs.SpansLemmas.{IsLeft, IsLeft-suffix, IsLeft-rest, Cuts-first}
+use Rattle.relative_path.proofs.SpansLemmas.{IsLeft-suffix, IsLeft-rest, Cuts-first}
 use Rattle.relative_path.proofs.normal_form.NormalForm.follow.Goals as goal
 
 pub loop-component-init : goal.loop-component-init

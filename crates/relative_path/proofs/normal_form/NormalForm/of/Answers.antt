@@ -1,7 +1,5 @@
-use Rattle.std.proofs.Common.{◌≡◌, ◌++◌, ap, ap₂, ◌∙◌, subst}
-use Rattle.relative_path.specs.NormalForm.{form_steps, Reduces}
+use Rattle.std.proofs.Common.{ap, ◌∙◌}
 use Rattle.relative_path.specs.Spans.{source_text}
-use Rattle.relative_path.specs.Steps.{components}
 use Rattle.relative_path.specs.declared.spans.Source.TheVariants.{First}
 use Rattle.relative_path.proofs.NormalFormLemmas.{IsNormalFormOf-form}
 use Rattle.relative_path.proofs.normal_form.NormalForm.of.Goals as goal

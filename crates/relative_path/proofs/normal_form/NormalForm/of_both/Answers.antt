@@ -1,4 +1,4 @@
-use Rattle.std.proofs.Common.{◌≡◌, ◌++◌, ap, ap₂, ◌∙◌, subst}
+use Rattle.std.proofs.Common.{◌++◌, ap, ◌∙◌, subst}
 use Rattle.relative_path.specs.NormalForm.{form_steps, Reduces}
 use Rattle.relative_path.specs.Spans.{source_text}
 use Rattle.relative_path.specs.Steps.{components}

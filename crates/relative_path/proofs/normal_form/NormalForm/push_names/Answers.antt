@@ -1,4 +1,4 @@
-use Rattle.std.proofs.Common.{◌≡◌, ◌+◌, ◌≤◌, ◌∷◌, ap, sym, ◌∙◌, map, drop, fold, length, arith}
+use Rattle.std.proofs.Common.{◌+◌, ◌≤◌, ◌∷◌, ap, sym, ◌∙◌, map, drop, fold, length, arith}
 use Rattle.std.proofs.lemmas.List.{drop_more}
 use Rattle.relative_path.specs.Editing.{with_piece}
 use Rattle.relative_path.specs.Spans.{span_text}

@@ -1,9 +1,8 @@
-use Rattle.std.proofs.Common.{◌≡◌, ◌+◌, ◌≤◌, ap, sym, ◌∙◌, refl, map, drop, length, arith, length-drop}
+use Rattle.std.proofs.Common.{◌+◌, ap, ◌∙◌, refl, map, drop, length, arith, length-drop}
 use Rattle.std.proofs.lemmas.List.{length-map, drop_all}
 use Rattle.relative_path.specs.Steps.{name}
 use Rattle.relative_path.specs.Spans.{span_text}
 use Rattle.relative_path.specs.declared.spans.Source.TheVariants.{First}
-use Rattle.relative_path.specs.declared.spans.Span.{Span}
 use Rattle.relative_path.specs.NormalForm.{climbed, padded_len, form_names}
 use Rattle.relative_path.proofs.NormalFormLemmas.{length-spell, padded_len-climbed, length-padded_le, padded_len-span}
 use Rattle.relative_path.proofs.normal_form.NormalForm.spelled_len.Goals as goal

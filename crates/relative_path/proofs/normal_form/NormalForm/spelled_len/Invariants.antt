@@ -1,4 +1,4 @@
-use Rattle.std.proofs.Common.{◌≡◌, ◌+◌, ◌≤◌, drop, map, length}
+use Rattle.std.proofs.Common.{◌≡◌, ◌+◌, drop, map, length}
 use Rattle.relative_path.specs.Steps.{name}
 use Rattle.relative_path.specs.NormalForm.{climbed, padded_len, form_names}
 use Rattle.relative_path.specs.Spans.{span_text}

@@ -1,7 +1,7 @@
-use Rattle.std.proofs.Common.{◌≡◌, ◌≤◌, [], Some, ap, sym, ◌∙◌, drop, fold, length, replicate, arith}
+use Rattle.std.proofs.Common.{[], ap, ◌∙◌, drop, fold, length, replicate, arith}
 use Rattle.relative_path.specs.Editing.{with_piece}
 use Rattle.relative_path.specs.Steps.{up, step_text}
-use Rattle.relative_path.specs.NormalForm.{climbed, form_names}
+use Rattle.relative_path.specs.NormalForm.{form_names}
 use Rattle.relative_path.proofs.NormalFormLemmas.{AreProper-names_past, length-with_pieces_le, with_pieces-climbed}
 use Rattle.relative_path.proofs.normal_form.NormalForm.spelled_past.Goals as goal
 

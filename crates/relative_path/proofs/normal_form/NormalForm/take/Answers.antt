@@ -1,4 +1,3 @@
-use Rattle.std.proofs.Common.{refl}
 use Rattle.relative_path.specs.Spans.{span_text}
 use Rattle.relative_path.proofs.NormalFormLemmas.{Reduces-cur, Reduces-pop}
 use Rattle.relative_path.proofs.normal_form.NormalForm.take.Goals as goal
