@@ -1,14 +1,17 @@
 -- Pushes one after another: what some of them leave, and how long the text grows.
-use Rattle.std.proofs.Common.{◌≡◌, ℕ, ◌+◌, ◌<◌, ◌≤◌, List, [], ◌∷◌, ◌++◌, map, length, take, Option, Some, None, sym, refl, ap, ◌∙◌, append_assoc, arith, length-append, take_at}
+use Rattle.std.proofs.Common.{◌≡◌, ℕ, suc, ◌+◌, ◌<◌, ◌≤◌, true, false, List, [], ◌∷◌, ◌++◌, map, length, take, drop, get_or, Option, IfSome, sym, refl, ap, ap₂, ◌∙◌, append_assoc, append-nil, arith, length-append, take_at}
+use Rattle.std.specs.List.{slice_get}
 use Rattle.std.proofs.lemmas.Bool.{cond_both}
-use Rattle.std.proofs.lemmas.List.{map-append}
-use Rattle.std.specs.Iterator.{AlwaysYields, Yields}
+use Rattle.std.proofs.lemmas.List.{map-append, drop_all}
 use Rattle.std.proofs.iter.Next.{Yields-more}
 use Rattle.std.proofs.iter.Yields.{gives_left, gives_Drains}
+use Rattle.std.proofs.iter.runs.Made.{run, to_end, to_item}
+use Rattle.relative_path.specs.declared.path.RelativePath.{RelativePath}
 use Rattle.relative_path.specs.Steps.{slash}
 use Rattle.relative_path.specs.Editing.{pushed, with_separator, unslashed}
+use Rattle.relative_path.specs.RelativePath.{path_text}
 use Rattle.relative_path.specs.RelativePathBuf.{Buffer}
-use Rattle.relative_path.specs.Extending.{pushed_all, StopsWithin}
+use Rattle.relative_path.specs.Extending.{pushed_all, StopsWithin, ReadsTexts, GivesTexts, PushesAll, PushesUntilFull, PushesWholeRun, PushesRunUntilFull}
 
 pub pushed_all-append : (text : List ℕ) (ps qs : List (List ℕ)) → pushed_all text (ps ++ qs) ≡ pushed_all (pushed_all text ps) qs
 pushed_all-append text [] qs = refl
@@ -27,37 +30,65 @@ pub length-pushed_all-le : (text : List ℕ) (ps : List (List ℕ)) → length t
 length-pushed_all-le text [] = omega arith
 length-pushed_all-le text (p ∷ ps) = omega (arith, length-pushed-le text p, length-pushed_all-le (pushed text p) ps)
 
--- a refusal says this of the texts
-pub record IsRefused (old new : Buffer) (texts : List (List ℕ)) : Type 0 where
-  pub stops : StopsWithin old new texts
-  pub full : old.room < length (pushed_all old.text texts)
-
--- where these were pushed, and the room is too short for the next one
-IsRefused-from : (old new : Buffer) (front : List (List ℕ)) (path : List ℕ) (more texts : List (List ℕ)) → texts ≡ (front ++ path ∷ []) ++ more
-    → new.text ≡ pushed_all old.text front → new.room < length (pushed new.text path) → old.room ≤ new.room → IsRefused old new texts
-IsRefused-from old new front path more texts joined text longer room =
+-- where some were pushed, and the room is too short for the next one
+StopsWithin-from : (old new : Buffer) (front : List (List ℕ)) (path : List ℕ) (more texts : List (List ℕ))
+    → texts ≡ (front ++ path ∷ []) ++ more → new.text ≡ pushed_all old.text front
+    → new.room < length (pushed new.text path) → old.room ≤ new.room → StopsWithin old new texts
+StopsWithin-from old new front path more texts joined text stopped room =
     let count : length (front ++ path ∷ []) ≡ length front + 1 = omega (arith, length-append front (path ∷ [])) in
-    let one_more : pushed_all old.text (front ++ path ∷ []) ≡ pushed new.text path = pushed_all-append old.text front (path ∷ []) ∙ ap (λ t. pushed t path) (sym text) in
-    let first : take (length front) texts ≡ front = ap (take (length front)) (joined ∙ append_assoc front (path ∷ []) more) ∙ take_at front (path ∷ more) (length front) refl in
-    let after : take (length front + 1) texts ≡ front ++ path ∷ [] = ap (take (length front + 1)) joined ∙ take_at (front ++ path ∷ []) more (length front + 1) count in
-    let whole : pushed_all old.text texts ≡ pushed_all (pushed new.text path) more = ap (pushed_all old.text) joined ∙ pushed_all-append old.text (front ++ path ∷ []) more ∙ ap (λ t. pushed_all t more) one_more in
+    let one_more : pushed_all old.text (front ++ path ∷ []) ≡ pushed new.text path =
+    pushed_all-append old.text front (path ∷ []) ∙ ap (λ t. pushed t path) (sym text) in
+    let first : take (length front) texts ≡ front =
+    ap (take (length front)) (joined ∙ append_assoc front (path ∷ []) more) ∙ take_at front (path ∷ more) (length front) refl in
+    let after : take (length front + 1) texts ≡ front ++ path ∷ [] =
+    ap (take (length front + 1)) joined ∙ take_at (front ++ path ∷ []) more (length front + 1) count in
+    let whole : pushed_all old.text texts ≡ pushed_all (pushed new.text path) more =
+    ap (pushed_all old.text) joined ∙ pushed_all-append old.text (front ++ path ∷ []) more ∙ ap (λ t. pushed_all t more) one_more in
     record {
-      stops = record {
-        count = length front;
-        before_end = omega (arith, ap length joined, count, length-append (front ++ path ∷ []) more);
-        text = text ∙ ap (pushed_all old.text) (sym first);
-        longer = rw (after, one_more) longer;
-      };
-      full = omega (arith, longer, room, ap length whole, length-pushed_all-le (pushed new.text path) more);
+      count = length front;
+      before_end = omega (arith, ap length joined, count, length-append (front ++ path ∷ []) more);
+      text = text ∙ ap (pushed_all old.text) (sym first);
+      stopped = rw (after, one_more) stopped;
+      full = omega (arith, stopped, room, ap length whole, length-pushed_all-le (pushed new.text path) more);
     }
 
-module _ {S A : Type 0} (steps : S → Option A → S → Type 0) (view : A → List ℕ) (s : S) (xs : List A) (t : S) (texts : List (List ℕ)) (gives : AlwaysYields steps view s texts) (ran : Yields steps s xs t) where
-  -- of the texts that an iterator gives, where the next one was refused
-  pub IsRefused-at : (x : A) (u : S) → steps t (Some x) u → (old new : Buffer) → new.text ≡ pushed_all old.text (map view xs) → new.room < length (pushed new.text (view x)) → old.room ≤ new.room → IsRefused old new texts
-  IsRefused-at x u step old new text longer room =
-      let left = gives_left steps view (xs ++ x ∷ []) texts s u gives (Yields-more steps s xs t x u ran step) in
-      IsRefused-from old new (map view xs) (view x) left.0 texts (left.1 ∙ ap (λ ys. ys ++ left.0) (map-append view xs (x ∷ []))) text longer room
+-- what is read place by place is the front of the texts
+front_texts : (xs : List RelativePath) (texts : List (List ℕ)) → length xs ≤ length texts
+    → ((k : ℕ) → IfSome (slice_get xs k) (λ path. path_text path ≡ get_or texts k (path_text path)))
+    → texts ≡ map path_text xs ++ drop (length xs) texts
+front_texts [] texts within reads = refl
+front_texts (x ∷ xs) [] within reads = absurd (omega arith)
+front_texts (x ∷ xs) (u ∷ texts) within reads =
+    ap₂ (λ y ys. y ∷ ys) (sym (reads 0)) (front_texts xs texts (omega arith) (λ k. reads (suc k)))
 
-  -- of all that it gives
-  pub texts-at_end : (u : S) → steps t None u → map view xs ≡ texts
-  texts-at_end u step = gives_Drains steps view xs texts s gives (u, (t, ran, step))
+module _ {U T : Type 0} (becomes : U → T → Type 0) (steps : T → Option RelativePath → T → Type 0) (iter : U) where
+  pub texts-PushesAll : (old new : List ℕ) (texts : List (List ℕ)) → PushesAll becomes steps iter old new
+      → GivesTexts becomes steps iter texts → new ≡ pushed_all old texts
+  texts-PushesAll old new texts (it, xs, is, drains, text) gives =
+      text ∙ ap (pushed_all old) (gives_Drains steps path_text xs texts it (gives it is) drains)
+
+  pub PushesWholeRun-from : (old new : List ℕ) → PushesAll becomes steps iter old new → PushesWholeRun becomes steps iter old new
+  PushesWholeRun-from old new (it, xs, is, drains, text) =
+      let read : (texts : List (List ℕ)) → length xs ≡ length texts → ReadsTexts (run steps it xs true (to_end steps it xs drains)) texts → map path_text xs ≡ texts =
+      λ texts long reads. sym (front_texts xs texts (omega (arith, long)) reads ∙ ap (λ ys. map path_text xs ++ ys) (drop_all (length xs) texts (omega (arith, long))) ∙ append-nil (map path_text xs)) in
+      (it, is, (run steps it xs true (to_end steps it xs drains), refl, refl, λ texts long reads. text ∙ ap (pushed_all old) (read texts long reads)))
+
+  module _ (old new : Buffer) (room : old.room ≤ new.room) where
+    pub StopsWithin-PushesUntilFull : (texts : List (List ℕ)) → PushesUntilFull becomes steps iter old new
+        → GivesTexts becomes steps iter texts → StopsWithin old new texts
+    StopsWithin-PushesUntilFull texts (it, xs, x, u, is, ran, text, stopped) gives =
+        let left = gives_left steps path_text (xs ++ x ∷ []) texts it u (gives it is) (Yields-more steps it xs ran.0 x u ran.1 ran.2) in
+        StopsWithin-from old new (map path_text xs) (path_text x) left.0 texts (left.1 ∙ ap (λ ys. ys ++ left.0) (map-append path_text xs (x ∷ []))) text stopped room
+
+    pub PushesRunUntilFull-from : PushesUntilFull becomes steps iter old new → PushesRunUntilFull becomes steps iter old new
+    PushesRunUntilFull-from (it, xs, x, u, is, ran, text, stopped) =
+        let all = xs ++ x ∷ [] in (
+          it,
+          is,
+          (
+            run steps it all false (to_item steps it u xs x ran),
+            refl,
+            λ texts within reads.
+                StopsWithin-from old new (map path_text xs) (path_text x) (drop (length all) texts) texts (front_texts all texts within reads ∙ ap (λ ys. ys ++ drop (length all) texts) (map-append path_text xs (x ∷ []))) text stopped room,
+          ),
+        )

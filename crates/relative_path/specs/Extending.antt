@@ -1,6 +1,7 @@
 -- Pushes of many paths, one after another.
-use Rattle.std.specs.Prelude.{◌≡◌, ℕ, ◌+◌, ◌<◌, List, map, fold, take, length, Option, IsSomeAnd, Result, MatchResult, None}
+use Rattle.std.specs.Prelude.{◌≡◌, ℕ, ◌+◌, ◌<◌, ◌≤◌, List, map, fold, take, length, slice_index_or, Option, Some, IfSome}
 use Rattle.std.specs.Iterator.{AlwaysYields, Drains, YieldsThen}
+use Rattle.std.specs.Iterator.Runs.{Run, SomeRun, WholeRun}
 use Rattle.relative_path.specs.declared.path.RelativePath.{RelativePath}
 use Rattle.relative_path.specs.Editing.{pushed}
 use Rattle.relative_path.specs.RelativePath.{path_text}
@@ -10,24 +11,43 @@ use Rattle.relative_path.specs.RelativePathBuf.{Buffer}
 abbrev pub pushed_all : List ℕ → List (List ℕ) → List ℕ
 pushed_all text paths = fold pushed text paths
 
--- the first few of the paths were pushed, not all, and with one path more the text is longer than the room
+-- the first few of the paths were pushed, and the next one was refused for want of room
 pub record StopsWithin (old new : Buffer) (paths : List (List ℕ)) : Type 0 where
   pub count : ℕ
   pub before_end : count < length paths
   pub text : new.text ≡ pushed_all old.text (take count paths)
-  pub longer : new.room < length (pushed_all old.text (take (count + 1) paths))
+  pub stopped : new.room < length (pushed_all old.text (take (count + 1) paths))
+  pub full : old.room < length (pushed_all old.text paths)
 
+-- the paths that the run gave have these texts, place by place
+abbrev pub ReadsTexts : {S : Type 0} {steps : S → Option RelativePath → S → Type 0} → Run steps → List (List ℕ) → Type 0
+ReadsTexts run texts =
+    (k : ℕ) → IfSome (run.at k) (λ path. path_text path ≡ slice_index_or texts k (path_text path))
+
+-- an iterator, told by what `into_iter` makes of it and by its calls of `next`
 module _ {U T : Type 0} (becomes : U → T → Type 0) (steps : T → Option RelativePath → T → Type 0) where
-  -- whatever iterator it becomes, that gives paths of these texts, and then `None`
+  -- it gives paths with these texts, in order, and then `None`, whatever its calls may give
   abbrev pub GivesTexts : U → List (List ℕ) → Type 0
   GivesTexts iter texts = (it : T) → becomes iter it → AlwaysYields steps path_text it texts
 
-  -- each path that the iterator gave was pushed in turn: up to `None`, or up to a path that the room was too short for
-  abbrev pub PushesItems : {E : Type 0} → U → Buffer → Buffer → Result (Unit {0}) E → Type 0
-  PushesItems iter old new r = (it : T) × (paths : List RelativePath) × (next : Option RelativePath) × (left : T)
-      × becomes iter it × YieldsThen steps it paths next left × (new.text ≡ pushed_all old.text (map path_text paths))
-      × MatchResult r (λ _. next ≡ None) (λ _. IsSomeAnd next (λ path. new.room < length (pushed new.text (path_text path))))
-
-  -- the same, to its end
+  -- each path that it gave was pushed
   abbrev pub PushesAll : U → List ℕ → List ℕ → Type 0
-  PushesAll iter old new = (it : T) × (paths : List RelativePath) × becomes iter it × Drains steps it paths × (new ≡ pushed_all old (map path_text paths))
+  PushesAll iter old new = (it : T) × (paths : List RelativePath) × becomes iter it × Drains steps it paths
+      × (new ≡ pushed_all old (map path_text paths))
+
+  -- each path that it gave was pushed, up to one that there was no room for
+  abbrev pub PushesUntilFull : U → Buffer → Buffer → Type 0
+  PushesUntilFull iter old new = (it : T) × (paths : List RelativePath) × (refused : RelativePath) × (left : T)
+      × becomes iter it × YieldsThen steps it paths (Some refused) left
+      × (new.text ≡ pushed_all old.text (map path_text paths))
+      × (new.room < length (pushed new.text (path_text refused)))
+
+  -- `PushesAll`, by the texts at each place of the run
+  abbrev pub PushesWholeRun : U → List ℕ → List ℕ → Type 0
+  PushesWholeRun iter old new = (it : T) × becomes iter it × WholeRun steps it (λ run.
+      (texts : List (List ℕ)) → run.len ≡ length texts → ReadsTexts run texts → new ≡ pushed_all old texts)
+
+  -- `PushesUntilFull`, by the texts at each place of the run
+  abbrev pub PushesRunUntilFull : U → Buffer → Buffer → Type 0
+  PushesRunUntilFull iter old new = (it : T) × becomes iter it × SomeRun steps it (λ run.
+      (texts : List (List ℕ)) → run.len ≤ length texts → ReadsTexts run texts → StopsWithin old new texts)

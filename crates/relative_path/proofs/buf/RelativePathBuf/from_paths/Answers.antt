@@ -1,0 +1,7 @@
+use Rattle.std.proofs.Common.{List, ℕ, subst}
+use Rattle.relative_path.specs.Extending.{PushesWholeRun}
+use Rattle.relative_path.proofs.buf.RelativePathBuf.from_paths.Goals as goal
+
+pub returns-clause-runs : goal.returns-clause-runs
+returns-clause-runs g c =
+    subst (λ (old : List ℕ). PushesWholeRun g.I.IntoIterator.into_iter_gives g.I.IntoIter.Iterator.next_gives c.args.paths old c.extend.new.self.text) c.new-buf.ensures c.in_ok-extend.ensures.runs
