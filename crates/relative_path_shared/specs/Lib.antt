@@ -1,0 +1,2 @@
+pub mod Cow
+pub mod Json

@@ -1,0 +1,192 @@
+//! The boxed relative path.
+ghost use Rattle.std.specs.Prelude.{◌≡◌, ◌↔◌, List, ℕ, IfErr, IfOk, IsOk, IsTrue, string_bytes};
+ghost use Rattle.std.specs.Box.{boxed_str_bytes};
+ghost use Rattle.std.specs.Cmp.{on_equiv, on_total, partial_equiv_from_equiv, partial_order_from_agreeing_total};
+ghost use Rattle.std.specs.Ordering.{on, as_partial_cmp};
+ghost use Rattle.std.proofs.Common.{refl};
+ghost use Rattle.relative_path.specs.Steps.{components};
+ghost use Rattle.relative_path.specs.Comparing.{steps_eq, steps_cmp, fed};
+ghost use Rattle.relative_path.specs.ComparingLaws.{steps_cmp-total, steps_eq-equiv, steps_eq-ties, fed-steps_eq};
+ghost use Rattle.relative_path.specs.RelativePath.{path_text};
+
+use relative_path::{RelativePath, RelativePathBuf};
+use std::alloc::{AllocError, Global};
+use std::boxed::BoxedStr;
+use std::cmp::Ordering;
+use std::hash::{Hash, Hasher};
+use std::marker::Model;
+
+/// A relative path that owns its text and doesn't grow: a key for a map that lives long.
+///
+/// It is compared and hashed as its view is; it is printed and asked by `as_relative_path`.
+///
+/// ```
+/// let boxed = BoxedRelativePath::from_text(alloc, "a//b")?;
+/// assert_eq!(rt; boxed.as_relative_path().as_str(), "a//b");
+/// ```
+#[derive(Drop)]
+pub struct BoxedRelativePath {
+    text: BoxedStr,
+}
+
+impl Model for BoxedRelativePath {
+    ghost Value = { List ℕ };
+
+    ghost view = { λ boxed. boxed_str_bytes boxed.text };
+}
+
+impl BoxedRelativePath {
+    /// A copy of the text.
+    ///
+    /// It asks for memory once, and fails only where that is refused.
+    ///
+    /// ```
+    /// let boxed = BoxedRelativePath::from_text(alloc, "foo/bar")?;
+    /// assert_eq!(rt; boxed.as_relative_path().as_str(), "foo/bar");
+    /// ```
+    pub fn from_text(alloc: Global, text: &str) -> Result<BoxedRelativePath, AllocError>
+        ensures { IfOk result (λ boxed. boxed ≡ text.now) }
+    {
+        let text = BoxedStr::from_str(alloc, text)?;
+        Ok(BoxedRelativePath { text })
+    }
+
+    /// The buffer's text.
+    ///
+    /// It takes the text over as it is, without memory, so it can't be refused.
+    ///
+    /// ```
+    /// let buf = RelativePathBuf::from_text(alloc, "foo/bar")?;
+    /// let boxed = BoxedRelativePath::from_buf(alloc, buf);
+    /// assert!(rt; boxed.is_ok_and(|path| path.as_relative_path().as_str() == "foo/bar"));
+    /// ```
+    pub fn from_buf(
+        _alloc: Global,
+        buf: RelativePathBuf,
+    ) -> Result<BoxedRelativePath, RelativePathBuf>
+        ensures ok { IfOk result (λ boxed. boxed ≡ buf.text) }
+        ensures err { IfErr result (λ kept. kept.text ≡ buf.text) }
+        ensures succeeds { IsOk result }
+    {
+        let text = buf.into_string().into_boxed_str();
+        Ok(BoxedRelativePath { text })
+    }
+
+    /// A copy of the path.
+    ///
+    /// It asks for memory once, and fails only where that is refused.
+    ///
+    /// ```
+    /// let boxed = BoxedRelativePath::from_text(alloc, "foo//bar")?;
+    /// assert_eq!(rt; boxed.clone(alloc)?.as_relative_path().as_str(), "foo//bar");
+    /// ```
+    pub fn clone(&self, alloc: Global) -> Result<BoxedRelativePath, AllocError>
+        ensures { IfOk result (λ boxed. boxed ≡ self.now) }
+    {
+        BoxedRelativePath::from_text(alloc, self.text.as_str())
+    }
+
+    /// The path, as a view. It takes no memory.
+    ///
+    /// ```
+    /// let boxed = BoxedRelativePath::from_text(alloc, "foo/bar")?;
+    /// assert_eq!(rt; boxed.as_relative_path().file_name(), Some("bar"));
+    /// ```
+    pub fn as_relative_path(&self) -> RelativePath<'_>
+        ensures { path_text result ≡ self.now }
+    {
+        RelativePath::new(self.text.as_str())
+    }
+}
+
+impl From<BoxedStr> for BoxedRelativePath {
+    ghost from_gives = { λ text boxed. boxed ≡ boxed_str_bytes text };
+
+    fn from(text: BoxedStr) -> BoxedRelativePath {
+        BoxedRelativePath { text }
+    }
+}
+
+impl PartialEq for BoxedRelativePath {
+    ghost eq = { on components steps_eq };
+
+    ghost laws = { partial_equiv_from_equiv (on_equiv components steps_eq-equiv) };
+
+    fn eq(&self, other: &Self) -> bool
+        ensures value { result ≡ steps_eq (components self.now) (components other.now) }
+        ensures same { IsTrue result ↔ (components self.now ≡ components other.now) }
+    {
+        self.as_relative_path() == other.as_relative_path()
+    }
+}
+
+impl Eq for BoxedRelativePath {
+    ghost laws = { on_equiv components steps_eq-equiv };
+}
+
+impl PartialOrd for BoxedRelativePath {
+    ghost partial_cmp = { as_partial_cmp (on components steps_cmp) };
+
+    ghost laws = { partial_order_from_agreeing_total (on components steps_cmp)
+        (on_total components steps_cmp-total) (λ _ _. refl)
+        (λ x y. steps_eq-ties (components x) (components y)) };
+
+    fn partial_cmp(&self, other: &Self) -> Option<Ordering> {
+        Some(self.cmp(other))
+    }
+}
+
+impl Ord for BoxedRelativePath {
+    ghost cmp = { on components steps_cmp };
+
+    ghost total = { on_total components steps_cmp-total };
+
+    ghost matches_partial_cmp = { λ _ _. refl };
+
+    ghost matches_eq = { λ x y. steps_eq-ties (components x) (components y) };
+
+    fn cmp(&self, other: &Self) -> Ordering {
+        self.as_relative_path().cmp(&other.as_relative_path())
+    }
+}
+
+impl Hash for BoxedRelativePath {
+    ghost hash_input = { λ boxed. fed (components boxed) };
+
+    ghost respects_eq = { λ x y. fed-steps_eq (components x) (components y) };
+
+    fn hash<H: Hasher>(&self, state: &mut H) {
+        self.as_relative_path().hash(state);
+    }
+}
+
+/// What a buffer can become here. It is for `RelativePathBuf` alone.
+pub trait BufExt {
+    // The text of the buffer.
+    ghost text: { Self → List ℕ };
+
+    /// The text, boxed.
+    ///
+    /// It takes the text over as it is, without memory, so it can't be refused.
+    ///
+    /// ```
+    /// let buf = RelativePathBuf::from_text(alloc, "foo/bar")?;
+    /// let boxed = buf.into_boxed_relative_path(alloc);
+    /// assert!(rt; boxed.is_ok_and(|path| path.as_relative_path().as_str() == "foo/bar"));
+    /// ```
+    fn into_boxed_relative_path(self, alloc: Global) -> Result<BoxedRelativePath, RelativePathBuf>
+        ensures ok { IfOk result (λ boxed. boxed ≡ text self) }
+        ensures err { IfErr result (λ kept. kept.text ≡ text self) }
+        ensures succeeds { IsOk result };
+}
+
+impl BufExt for RelativePathBuf {
+    ghost text = { λ buf. buf.text };
+
+    fn into_boxed_relative_path(
+        self,
+        alloc: Global,
+    ) -> Result<BoxedRelativePath, RelativePathBuf> {
+        BoxedRelativePath::from_buf(alloc, self)
+    }
+}
