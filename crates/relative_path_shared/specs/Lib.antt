@@ -1,2 +1,2 @@
-pub mod Cow
+pub mod CowRelativePath
 pub mod Json

@@ -1,5 +1,5 @@
 //! Relative paths as JSON strings.
-ghost use Rattle.std.specs.Prelude.{◌≡◌, ◌↔◌, IfOk, IsErrOf, Some, None};
+ghost use Rattle.std.specs.Prelude.{◌≡◌, ◌↔◌, IfOk, IsErrOf, IsOkUnless, Some, None};
 ghost use Rattle.std.specs.Fmt.{styled_text};
 ghost use Rattle.serde_json.specs.Data.{string};
 ghost use Rattle.serde_json.specs.View.{view};
@@ -111,7 +111,7 @@ pub fn boxed_from_value(alloc: Global, value: &Value) -> Result<BoxedRelativePat
 pub fn view_value<'a>(value: &'a Value) -> Result<RelativePath<'a>, FromValueError>
     ensures ok { IfOk result (λ path. string_text value.now ≡ Some (path_text path)) }
     ensures not_a_string { IsErrOf result NotAString ↔ (string_text value.now ≡ None) }
-    ensures no_memory { ¬ IsErrOf result OutOfMemory }
+    ensures only_error { IsOkUnless result NotAString }
 {
     match value.as_str() {
         Some(text) => Ok(RelativePath::new(text)),

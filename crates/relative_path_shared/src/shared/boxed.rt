@@ -1,12 +1,11 @@
 //! The boxed relative path.
 ghost use Rattle.std.specs.Prelude.{◌≡◌, ◌↔◌, List, ℕ, IfErr, IfOk, IsOk, IsTrue, string_bytes};
 ghost use Rattle.std.specs.Box.{boxed_str_bytes};
-ghost use Rattle.std.specs.Cmp.{on_equiv, on_total, partial_equiv_from_equiv, partial_order_from_agreeing_total};
 ghost use Rattle.std.specs.Ordering.{on, as_partial_cmp};
 ghost use Rattle.std.proofs.Common.{refl};
 ghost use Rattle.relative_path.specs.Steps.{components};
-ghost use Rattle.relative_path.specs.Comparing.{steps_eq, steps_cmp, fed};
-ghost use Rattle.relative_path.specs.ComparingLaws.{steps_cmp-total, steps_eq-equiv, steps_eq-ties, fed-steps_eq};
+ghost use Rattle.relative_path.specs.Comparing.{steps_eq, steps_cmp, fed_by};
+ghost use Rattle.relative_path.specs.ComparingLaws.{partial_eq_law, partial_ord_law, by_components, fed_alike};
 ghost use Rattle.relative_path.specs.RelativePath.{path_text};
 
 use relative_path::{RelativePath, RelativePathBuf};
@@ -65,7 +64,7 @@ impl BoxedRelativePath {
         buf: RelativePathBuf,
     ) -> Result<BoxedRelativePath, RelativePathBuf>
         ensures ok { IfOk result (λ boxed. boxed ≡ buf.text) }
-        ensures err { IfErr result (λ kept. kept.text ≡ buf.text) }
+        ensures err { IfErr result (λ kept. kept ≡ buf) }
         ensures succeeds { IsOk result }
     {
         let text = buf.into_string().into_boxed_str();
@@ -110,7 +109,7 @@ impl From<BoxedStr> for BoxedRelativePath {
 impl PartialEq for BoxedRelativePath {
     ghost eq = { on components steps_eq };
 
-    ghost laws = { partial_equiv_from_equiv (on_equiv components steps_eq-equiv) };
+    ghost laws = { partial_eq_law (by_components components) };
 
     fn eq(&self, other: &Self) -> bool
         ensures value { result ≡ steps_eq (components self.now) (components other.now) }
@@ -121,15 +120,13 @@ impl PartialEq for BoxedRelativePath {
 }
 
 impl Eq for BoxedRelativePath {
-    ghost laws = { on_equiv components steps_eq-equiv };
+    ghost laws = { (by_components components).equivalence };
 }
 
 impl PartialOrd for BoxedRelativePath {
     ghost partial_cmp = { as_partial_cmp (on components steps_cmp) };
 
-    ghost laws = { partial_order_from_agreeing_total (on components steps_cmp)
-        (on_total components steps_cmp-total) (λ _ _. refl)
-        (λ x y. steps_eq-ties (components x) (components y)) };
+    ghost laws = { partial_ord_law (by_components components) };
 
     fn partial_cmp(&self, other: &Self) -> Option<Ordering> {
         Some(self.cmp(other))
@@ -139,11 +136,11 @@ impl PartialOrd for BoxedRelativePath {
 impl Ord for BoxedRelativePath {
     ghost cmp = { on components steps_cmp };
 
-    ghost total = { on_total components steps_cmp-total };
+    ghost total = { (by_components components).total };
 
     ghost matches_partial_cmp = { λ _ _. refl };
 
-    ghost matches_eq = { λ x y. steps_eq-ties (components x) (components y) };
+    ghost matches_eq = { (by_components components).agree };
 
     fn cmp(&self, other: &Self) -> Ordering {
         self.as_relative_path().cmp(&other.as_relative_path())
@@ -151,9 +148,9 @@ impl Ord for BoxedRelativePath {
 }
 
 impl Hash for BoxedRelativePath {
-    ghost hash_input = { λ boxed. fed (components boxed) };
+    ghost hash_input = { fed_by components };
 
-    ghost respects_eq = { λ x y. fed-steps_eq (components x) (components y) };
+    ghost respects_eq = { fed_alike components components };
 
     fn hash<H: Hasher>(&self, state: &mut H) {
         self.as_relative_path().hash(state);

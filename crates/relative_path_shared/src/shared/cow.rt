@@ -1,12 +1,11 @@
 //! The relative path that is borrowed or owned.
 ghost use Rattle.std.specs.Prelude.{◌≡◌, ◌↔◌, IsTrue};
-ghost use Rattle.std.specs.Cmp.{on_equiv, on_total, partial_equiv_from_equiv, partial_order_from_agreeing_total};
 ghost use Rattle.std.specs.Ordering.{on, as_partial_cmp};
 ghost use Rattle.std.proofs.Common.{refl};
-ghost use Rattle.relative_path.specs.Comparing.{steps_eq, steps_cmp, fed};
-ghost use Rattle.relative_path.specs.ComparingLaws.{steps_cmp-total, steps_eq-equiv, steps_eq-ties, fed-steps_eq};
+ghost use Rattle.relative_path.specs.Comparing.{steps_eq, steps_cmp, fed_by};
+ghost use Rattle.relative_path.specs.ComparingLaws.{partial_eq_law, partial_ord_law, by_components, fed_alike};
 ghost use Rattle.relative_path.specs.RelativePath.{path_text};
-ghost use Rattle.relative_path_shared.specs.Cow.{cow_text, cow_components};
+ghost use Rattle.relative_path_shared.specs.CowRelativePath.{cow_text, cow_components};
 ghost use Rattle.relative_path_shared.specs.declared.shared.cow.CowRelativePath.TheVariants.{Borrowed, Owned};
 
 use relative_path::{RelativePath, RelativePathBuf};
@@ -67,7 +66,7 @@ impl From<RelativePathBuf> for CowRelativePath<'_> {
 impl PartialEq for CowRelativePath<'_> {
     ghost eq = { on cow_components steps_eq };
 
-    ghost laws = { partial_equiv_from_equiv (on_equiv cow_components steps_eq-equiv) };
+    ghost laws = { partial_eq_law (by_components cow_components) };
 
     fn eq(&self, other: &Self) -> bool
         ensures value { result ≡ steps_eq (cow_components self.now) (cow_components other.now) }
@@ -78,15 +77,13 @@ impl PartialEq for CowRelativePath<'_> {
 }
 
 impl Eq for CowRelativePath<'_> {
-    ghost laws = { on_equiv cow_components steps_eq-equiv };
+    ghost laws = { (by_components cow_components).equivalence };
 }
 
 impl PartialOrd for CowRelativePath<'_> {
     ghost partial_cmp = { as_partial_cmp (on cow_components steps_cmp) };
 
-    ghost laws = { partial_order_from_agreeing_total (on cow_components steps_cmp)
-        (on_total cow_components steps_cmp-total) (λ _ _. refl)
-        (λ x y. steps_eq-ties (cow_components x) (cow_components y)) };
+    ghost laws = { partial_ord_law (by_components cow_components) };
 
     fn partial_cmp(&self, other: &Self) -> Option<Ordering> {
         Some(self.cmp(other))
@@ -96,11 +93,11 @@ impl PartialOrd for CowRelativePath<'_> {
 impl Ord for CowRelativePath<'_> {
     ghost cmp = { on cow_components steps_cmp };
 
-    ghost total = { on_total cow_components steps_cmp-total };
+    ghost total = { (by_components cow_components).total };
 
     ghost matches_partial_cmp = { λ _ _. refl };
 
-    ghost matches_eq = { λ x y. steps_eq-ties (cow_components x) (cow_components y) };
+    ghost matches_eq = { (by_components cow_components).agree };
 
     fn cmp(&self, other: &Self) -> Ordering {
         self.as_relative_path().cmp(&other.as_relative_path())
@@ -108,9 +105,9 @@ impl Ord for CowRelativePath<'_> {
 }
 
 impl Hash for CowRelativePath<'_> {
-    ghost hash_input = { λ cow. fed (cow_components cow) };
+    ghost hash_input = { fed_by cow_components };
 
-    ghost respects_eq = { λ x y. fed-steps_eq (cow_components x) (cow_components y) };
+    ghost respects_eq = { fed_alike cow_components cow_components };
 
     fn hash<H: Hasher>(&self, state: &mut H) {
         self.as_relative_path().hash(state);

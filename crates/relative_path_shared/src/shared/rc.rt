@@ -1,12 +1,11 @@
 //! The shared relative path.
 ghost use Rattle.std.specs.Prelude.{◌≡◌, ◌↔◌, List, ℕ, IfErr, IfOk, IsTrue};
 ghost use Rattle.std.specs.Rc.{rc_str_bytes};
-ghost use Rattle.std.specs.Cmp.{on_equiv, on_total, partial_equiv_from_equiv, partial_order_from_agreeing_total};
 ghost use Rattle.std.specs.Ordering.{on, as_partial_cmp};
 ghost use Rattle.std.proofs.Common.{refl};
 ghost use Rattle.relative_path.specs.Steps.{components};
-ghost use Rattle.relative_path.specs.Comparing.{steps_eq, steps_cmp, fed};
-ghost use Rattle.relative_path.specs.ComparingLaws.{steps_cmp-total, steps_eq-equiv, steps_eq-ties, fed-steps_eq};
+ghost use Rattle.relative_path.specs.Comparing.{steps_eq, steps_cmp, fed_by};
+ghost use Rattle.relative_path.specs.ComparingLaws.{partial_eq_law, partial_ord_law, by_components, fed_alike};
 ghost use Rattle.relative_path.specs.RelativePath.{path_text};
 
 use relative_path::{RelativePath, RelativePathBuf};
@@ -109,7 +108,7 @@ impl RcRelativePath {
 impl PartialEq for RcRelativePath {
     ghost eq = { on components steps_eq };
 
-    ghost laws = { partial_equiv_from_equiv (on_equiv components steps_eq-equiv) };
+    ghost laws = { partial_eq_law (by_components components) };
 
     fn eq(&self, other: &Self) -> bool
         ensures value { result ≡ steps_eq (components self.now) (components other.now) }
@@ -120,15 +119,13 @@ impl PartialEq for RcRelativePath {
 }
 
 impl Eq for RcRelativePath {
-    ghost laws = { on_equiv components steps_eq-equiv };
+    ghost laws = { (by_components components).equivalence };
 }
 
 impl PartialOrd for RcRelativePath {
     ghost partial_cmp = { as_partial_cmp (on components steps_cmp) };
 
-    ghost laws = { partial_order_from_agreeing_total (on components steps_cmp)
-        (on_total components steps_cmp-total) (λ _ _. refl)
-        (λ x y. steps_eq-ties (components x) (components y)) };
+    ghost laws = { partial_ord_law (by_components components) };
 
     fn partial_cmp(&self, other: &Self) -> Option<Ordering> {
         Some(self.cmp(other))
@@ -138,11 +135,11 @@ impl PartialOrd for RcRelativePath {
 impl Ord for RcRelativePath {
     ghost cmp = { on components steps_cmp };
 
-    ghost total = { on_total components steps_cmp-total };
+    ghost total = { (by_components components).total };
 
     ghost matches_partial_cmp = { λ _ _. refl };
 
-    ghost matches_eq = { λ x y. steps_eq-ties (components x) (components y) };
+    ghost matches_eq = { (by_components components).agree };
 
     fn cmp(&self, other: &Self) -> Ordering {
         self.as_relative_path().cmp(&other.as_relative_path())
@@ -150,9 +147,9 @@ impl Ord for RcRelativePath {
 }
 
 impl Hash for RcRelativePath {
-    ghost hash_input = { λ shared. fed (components shared) };
+    ghost hash_input = { fed_by components };
 
-    ghost respects_eq = { λ x y. fed-steps_eq (components x) (components y) };
+    ghost respects_eq = { fed_alike components components };
 
     fn hash<H: Hasher>(&self, state: &mut H) {
         self.as_relative_path().hash(state);
