@@ -180,10 +180,7 @@ pub trait BufExt {
 impl BufExt for RelativePathBuf {
     ghost text = { λ buf. buf.text };
 
-    fn into_boxed_relative_path(
-        self,
-        alloc: Global,
-    ) -> Result<BoxedRelativePath, RelativePathBuf> {
+    fn into_boxed_relative_path(self, alloc: Global) -> Result<BoxedRelativePath, RelativePathBuf> {
         BoxedRelativePath::from_buf(alloc, self)
     }
 }

@@ -64,10 +64,7 @@ impl RcRelativePath {
     /// let path = RcRelativePath::from_buf(alloc, buf);
     /// assert!(rt; path.is_ok_and(|path| path.as_relative_path().as_str() == "foo/bar"));
     /// ```
-    pub fn from_buf(
-        alloc: Global,
-        buf: RelativePathBuf,
-    ) -> Result<RcRelativePath, RelativePathBuf>
+    pub fn from_buf(alloc: Global, buf: RelativePathBuf) -> Result<RcRelativePath, RelativePathBuf>
         ensures ok { IfOk result (λ shared. shared ≡ buf.text) }
         ensures err { IfErr result (λ kept. kept ≡ buf) }
     {
