@@ -96,8 +96,8 @@ pub fn boxed_from_value(alloc: Global, value: &Value) -> Result<BoxedRelativePat
     ensures ok { IfOk result (λ boxed. string_text value.now ≡ Some boxed) }
     ensures not_a_string { IsErrOf result NotAString ↔ (string_text value.now ≡ None) }
 {
-    let path = view_value(value)?;
-    Ok(BoxedRelativePath::from_text(alloc, path.as_str())?)
+    let text = view_value(value)?.as_str();
+    Ok(BoxedRelativePath::from_text(alloc, text)?)
 }
 
 /// The text of a value that is a string, as a view of it.

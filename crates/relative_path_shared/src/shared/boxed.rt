@@ -15,7 +15,7 @@ use std::cmp::Ordering;
 use std::hash::{Hash, Hasher};
 use std::marker::Model;
 
-/// A relative path that owns its text and doesn't grow: a key for a map that lives long.
+/// A relative path in a box: it owns its text and doesn't grow, as suits a map's key.
 ///
 /// It is compared and hashed as its view is; it is printed and asked by `as_relative_path`.
 ///
@@ -157,7 +157,7 @@ impl Hash for BoxedRelativePath {
     }
 }
 
-/// What a buffer can become here. It is for `RelativePathBuf` alone.
+/// The conversion that this crate adds to a buffer. Only `RelativePathBuf` has it.
 pub trait BufExt {
     // The text of the buffer.
     ghost text: { Self → List ℕ };

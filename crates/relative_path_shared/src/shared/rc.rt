@@ -54,7 +54,7 @@ impl RcRelativePath {
         Ok(RcRelativePath { text })
     }
 
-    /// A copy of the buffer's text, to be shared. The buffer is given up once the copy is made.
+    /// A copy of the buffer's text, to be shared. The buffer is dropped once the copy is made.
     ///
     /// It asks for memory twice, and fails only where one of these is refused. A refusal hands the
     /// buffer back.
