@@ -113,8 +113,6 @@ pub fn view_value<'a>(value: &'a Value) -> Result<RelativePath<'a>, FromValueErr
     ensures not_a_string { IsErrOf result NotAString ↔ (string_text value.now ≡ None) }
     ensures only_error { IsOkUnless result NotAString }
 {
-    match value.as_str() {
-        Some(text) => Ok(RelativePath::new(text)),
-        None => Err(FromValueError::NotAString),
-    }
+    let text = value.as_str().ok_or(FromValueError::NotAString)?;
+    Ok(RelativePath::new(text))
 }

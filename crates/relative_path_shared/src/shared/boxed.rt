@@ -17,7 +17,8 @@ use std::marker::Model;
 
 /// A relative path in a box: it owns its text and doesn't grow, as suits a map's key.
 ///
-/// It is compared and hashed as its view is; it is printed and asked by `as_relative_path`.
+/// It is compared and hashed as its view is; printing and the queries are reached by
+/// `as_relative_path`.
 ///
 /// ```
 /// let boxed = BoxedRelativePath::from_text(alloc, "a//b")?;

@@ -14,8 +14,8 @@ use std::hash::{Hash, Hasher};
 
 /// A relative path that is borrowed or owned.
 ///
-/// It is compared and hashed as its view is, whichever it is; it is printed and asked by
-/// `as_relative_path`.
+/// It is compared and hashed as its view is, whichever it is; printing and the queries are reached
+/// by `as_relative_path`.
 ///
 /// ```
 /// let borrowed = CowRelativePath::from(RelativePath::new("a//b"));

@@ -17,7 +17,8 @@ use std::rc::RcStr;
 
 /// A relative path whose text several owners share within one thread.
 ///
-/// It is compared and hashed as its view is; it is printed and asked by `as_relative_path`.
+/// It is compared and hashed as its view is; printing and the queries are reached by
+/// `as_relative_path`.
 ///
 /// ```
 /// let path = RcRelativePath::from_path_text(alloc, RelativePath::new("a//b"))?;
@@ -38,7 +39,8 @@ impl Model for RcRelativePath {
 impl RcRelativePath {
     /// A copy of the path's text, to be shared.
     ///
-    /// It asks for memory twice, and fails only where one of these is refused.
+    /// It asks for memory twice, for the text and for the count of its owners, and fails only where
+    /// one of these is refused.
     ///
     /// ```
     /// let path = RcRelativePath::from_path_text(alloc, RelativePath::new("foo/bar"))?;
@@ -68,10 +70,7 @@ impl RcRelativePath {
         ensures ok { IfOk result (λ shared. shared ≡ buf.text) }
         ensures err { IfErr result (λ kept. kept ≡ buf) }
     {
-        match RcRelativePath::from_path_text(alloc, buf.as_relative_path()) {
-            Ok(shared) => Ok(shared),
-            Err(AllocError) => Err(buf),
-        }
+        RcRelativePath::from_path_text(alloc, buf.as_relative_path()).map_err(|_| buf)
     }
 
     /// One more owner of the same text.
