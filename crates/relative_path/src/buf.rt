@@ -1,5 +1,5 @@
 //! The owned relative path.
-ghost use Rattle.std.specs.Prelude.{◌≡◌, ◌≢◌, ◌≤◌, ◌<◌, ◌+◌, ◌↔◌, ◌++◌, [], ◌∷◌, if◌then◌else◌, ℕ, List, length, take, None, Some, IsSome, IfOk, IsOk, OnOk, OnErr, MatchResult, IsTrue};
+ghost use Rattle.std.specs.Prelude.{◌≡◌, ◌≢◌, ◌≤◌, ◌<◌, ◌+◌, ◌↔◌, ◌++◌, [], ◌∷◌, if◌then◌else◌, ℕ, List, length, take, None, Some, IsSome, IfOk, IsOk, OnOk, OnErr, MatchResult, IsTrue, string_bytes};
 ghost use Rattle.relative_path.specs.Steps.{slash, components};
 ghost use Rattle.relative_path.specs.Editing.{pushed, with_piece, with_separator, IsPopped};
 ghost use Rattle.relative_path.specs.Naming.{file_name_of, dotted, IsNamed, IsExtended};
@@ -12,6 +12,7 @@ ghost use Rattle.std.specs.Iterator.{IsFiniteIterable};
 ghost use Rattle.std.specs.Fmt.{styled_text, debug_str};
 ghost use Rattle.std.specs.Str.{IsUtf8};
 ghost use Rattle.std.specs.Ordering.{on, as_partial_cmp};
+ghost use Rattle.std.specs.String.{string_capacity};
 ghost use Rattle.std.proofs.Common.{refl};
 
 use crate::editing::{dotted_len, needs_separator, pushed_len, strip_slash};
@@ -383,6 +384,51 @@ impl RelativePathBuf {
         ensures { path_text result ≡ self.now.text }
     {
         RelativePath::new(self.text.as_str())
+    }
+
+    /// The text, in the memory and with the room that the buffer has. It takes no memory.
+    ///
+    /// ```
+    /// let text = RelativePathBuf::from_text(alloc, "foo//bar")?.into_string();
+    /// assert_eq!(rt; text.as_str(), "foo//bar");
+    /// ```
+    pub fn into_string(self) -> String
+        ensures text { string_bytes result ≡ self.text }
+        ensures room { string_capacity result ≡ self.room }
+    {
+        self.text
+    }
+}
+
+/// The buffer with this text, whatever the text is, in the memory and with the room that the
+/// `String` has. It takes no memory.
+///
+/// ```
+/// let text = String::from_str(alloc, "foo//bar")?;
+/// let buf = RelativePathBuf::from(text);
+/// assert_eq!(rt; buf.as_relative_path().as_str(), "foo//bar");
+/// ```
+impl From<String> for RelativePathBuf {
+    ghost from_gives = { λ text buf.
+        (buf.text ≡ string_bytes text) × (buf.room ≡ string_capacity text) };
+
+    fn from(text: String) -> RelativePathBuf {
+        RelativePathBuf { text }
+    }
+}
+
+/// The text, as `into_string` gives it.
+///
+/// ```
+/// let text = String::from(RelativePathBuf::from_text(alloc, "foo//bar")?);
+/// assert_eq!(rt; text.as_str(), "foo//bar");
+/// ```
+impl From<RelativePathBuf> for String {
+    ghost from_gives = { λ buf text.
+        (string_bytes text ≡ buf.text) × (string_capacity text ≡ buf.room) };
+
+    fn from(buf: RelativePathBuf) -> String {
+        buf.into_string()
     }
 }
 
