@@ -27,6 +27,7 @@ loop-filled-preserved g c =
       room = search rules;
       filled = search rules;
       came = Consumes-more _ _ _ _ _ _ _ _ _ c.as_mut_slice.ensures.value (search rules) read.front c.loop-filled.invariant.came read.came;
+      some = search rules;
       reads = search rules;
       failures = search rules;
       flushes = search rules;
