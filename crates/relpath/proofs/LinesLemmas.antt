@@ -45,8 +45,9 @@ lines_of-last text none some = ap without_empty_last (slice_split-last line_feed
 pub lines_of-next : (text line rest : List ℕ) → text ≡ line ++ line_feed ∷ rest → Lacks line_feed line
     → lines_of text ≡ line ∷ lines_of rest
 lines_of-next text line rest e none =
+    let some = length-slice_split is_line_feed rest in
     ap without_empty_last (slice_split-next line_feed text line rest e none)
-    ∙ without_empty_last-cons line (slice_split is_line_feed rest) (omega (arith, length-slice_split is_line_feed rest))
+    ∙ without_empty_last-cons line (slice_split is_line_feed rest) (omega (arith, some))
 
 -- one more field is moved into the room
 pub fields-more : (fields : List (List ℕ)) (room : List (Bor (List ℕ))) (count : ℕ) (field : Bor (List ℕ))

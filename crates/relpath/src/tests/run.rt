@@ -15,6 +15,10 @@ const SIX_LINES: &[u8] =
 const SIX_ANSWERS: &[u8] =
     b"= c/d\n= \n! wrong number of fields\n! unknown command\n! unknown command\n= ../foo/baz.txt\n";
 
+const MANY_FIELDS: &[u8] = b"normalize\ta\t\t\t\t\t\t\t\n\tnormalize\ta\t\t\t\t\t\t\t\n";
+
+const MANY_FIELDS_ANSWERS: &[u8] = b"! wrong number of fields\n! unknown command\n";
+
 const NOTHING: &[u8] = b"";
 
 const UNKNOWN_COMMAND: &[u8] = b"! unknown command\n";
@@ -50,6 +54,12 @@ fn answers_the_lines_of_an_input(rt: HostRuntime) -> Result<(), Fail> {
         ("six lines", Source::new(SIX_LINES), 2, SIX_ANSWERS),
         ("seven bytes a read", short_reads, 15, SIX_ANSWERS),
         ("a byte a read", single_bytes, 65_537, UNKNOWN_COMMAND),
+        (
+            "many fields",
+            Source::new(MANY_FIELDS),
+            2,
+            MANY_FIELDS_ANSWERS,
+        ),
         ("the longest path", longest, 2, answer.as_bytes()),
     ] {
         let (result, calls, written) = outcome(rt.alloc(), source);
