@@ -1,6 +1,13 @@
 //! The commands, and the answer that each gives.
-ghost use Rattle.std.specs.Prelude.{◌≡◌, ◌++◌, string_bytes, OnOk};
-ghost use Rattle.relpath.specs.Command.{Answers, Adds, is_command, path_answer, words_answer};
+ghost use Rattle.std.specs.Prelude.{◌≡◌, ◌<◌, ◌++◌, length, map, string_bytes, OnOk};
+ghost use Rattle.relpath.specs.Command.{
+  Answers,
+  AnswersFields,
+  Adds,
+  is_command,
+  path_answer,
+  words_answer,
+};
 
 use crate::lines::{MAX_FIELDS, split_fields};
 use relative_path::{RelativePath, RelativePathBuf};
@@ -11,7 +18,16 @@ pub fn answer_line(alloc: Global, line: &str, output: &mut String) -> Result<(),
     ensures { OnOk result (Adds (Answers line.now) (string_bytes output.old) (string_bytes output.new)) }
 {
     let mut room = [""; MAX_FIELDS];
-    match split_fields(line, &mut room) {
+    answer_fields(alloc, split_fields(line, &mut room), output)
+}
+
+/// Adds the answer to the fields of a line, the command first.
+fn answer_fields(alloc: Global, fields: &[&str], output: &mut String) -> Result<(), AllocError>
+    requires { 0 < length fields.now }
+    ensures { OnOk result (Adds (AnswersFields (map (λ field. field.now) fields.now))
+        (string_bytes output.old) (string_bytes output.new)) }
+{
+    match fields {
         ["normalize", path] => add_path(output, &RelativePath::new(path).normalize(alloc)?),
         [command, ..] if is_command(command) => add_words(output, "wrong number of fields"),
         _ => add_words(output, "unknown command"),
