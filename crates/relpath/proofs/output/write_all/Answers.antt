@@ -3,7 +3,7 @@ use Rattle.std.proofs.Common.{rules, ◌-◌, drop, length, length-drop, arith}
 use Rattle.std.proofs.KnownBytes.{Appends-trans}
 use Rattle.std.proofs.Math.Seq.{take-add}
 use Rattle.std.proofs.lemmas.List.{take_all}
-use Rattle.relpath.proofs.output.write_output.Goals as goal
+use Rattle.relpath.proofs.output.write_all.Goals as goal
 
 pub loop-written-preserved : goal.loop-written-preserved
 loop-written-preserved g c =
