@@ -1,0 +1,357 @@
+-- The shortest way from one place to another, and from one normal list to another; where normal lists lead apart.
+use Rattle.std.proofs.Common.{◌≡◌, ◌≢◌, ◌⊎◌, ◌↔◌, ℕ, zero, suc, ◌+◌, ◌-◌, ◌<◌, ◌≤◌, true, cond, bytes_eq, List, [], ◌∷◌, ◌++◌, length, take, map, replicate, Some, None, option_and_then, refl, sym, ap, ◌∙◌, subst, inl, inr, append_assoc, append-nil, arith, length-append}
+use Rattle.std.specs.Prelude.{⊤}
+use Rattle.std.proofs.lemmas.Bool.{cond-true, cond-false, cases_Bool, cases_lt}
+use Rattle.std.proofs.lemmas.List.{length_push, length-replicate, replicate-append-replicate, take-replicate, map-append}
+use Rattle.std.proofs.lemmas.Slice.Eq.{bytes_eq-Decides}
+use Rattle.relative_path.specs.Steps.{Step, cur, up, name}
+use Rattle.relative_path.specs.Walk.{walk, IsSame}
+use Rattle.relative_path.specs.Normalizing.{AreNames, IsNormal, IsNormalForm, climb}
+use Rattle.relative_path.specs.Relating.{Leads, IsReachable, IsShortest, LeadsApart}
+use Rattle.relative_path.proofs.WalkLemmas.{walk-append, IsSame-refl, IsSame-sym, IsSame-trans, IsSame-append_left, IsSame-append_right, IsSame-name_up}
+use Rattle.relative_path.proofs.NormalStepsLemmas.{names_of, IsNormal-parts, walk-normal, walk-normal_none}
+
+-- ---- the shortest way from a place to a place
+
+-- the way from a place to a place: up to where they part, and down
+abbrev pub way : List (List ℕ) → List (List ℕ) → List Step
+way [] ns = map name ns
+way (m ∷ ms) [] = replicate (suc (length ms)) up
+way (m ∷ ms) (n ∷ ns) = cond (bytes_eq m n) (way ms ns) (replicate (suc (length ms)) up ++ map name (n ∷ ns))
+
+bytes_eq-same : (n : List ℕ) → bytes_eq n n ≡ true
+bytes_eq-same n = (bytes_eq-Decides n n).1 refl
+
+way-same : (ns : List (List ℕ)) → way ns ns ≡ []
+way-same [] = refl
+way-same (n ∷ ns) = cond-true (bytes_eq n n) _ _ (bytes_eq-same n) ∙ way-same ns
+
+length-snoc : (ms : List (List ℕ)) (n : List ℕ) → length (ms ++ n ∷ []) ≡ suc (length ms)
+length-snoc ms n = omega (arith, length_push ms n)
+
+-- one name more on the place that the way starts from is a `..` more, or a name less
+way-push : (ms : List (List ℕ)) (n : List ℕ) (ns : List (List ℕ))
+    → (way (ms ++ n ∷ []) ns ≡ up ∷ way ms ns) ⊎ (way ms ns ≡ name n ∷ way (ms ++ n ∷ []) ns)
+way-push [] n [] = inl refl
+way-push [] n (k ∷ ks) = elim (cases_Bool (bytes_eq n k)) [
+  | inl e ↦ inr (rw (cond-true (bytes_eq n k) _ _ e) (ap (λ x. name x ∷ map name ks) (sym ((bytes_eq-Decides n k).0 e))))
+  | inr e ↦ inl (cond-false (bytes_eq n k) _ _ e)
+]
+way-push (m ∷ ms) n [] = inl (ap (λ k. replicate (suc k) up) (length-snoc ms n))
+way-push (m ∷ ms) n (k ∷ ks) = elim (cases_Bool (bytes_eq m k)) [
+  | inl e ↦ rw (cond-true (bytes_eq m k) _ _ e, cond-true (bytes_eq m k) _ _ e) (way-push ms n ks)
+  | inr e ↦ inl (rw (cond-false (bytes_eq m k) _ _ e, cond-false (bytes_eq m k) _ _ e) (ap (λ x. replicate (suc x) up ++ map name (k ∷ ks)) (length-snoc ms n)))
+]
+
+-- a place but the top is the place above it and one name
+above_name : (n : List ℕ) (ns : List (List ℕ)) → (last : List ℕ) × (n ∷ ns ≡ take (length ns) (n ∷ ns) ++ last ∷ [])
+above_name n [] = (n, refl)
+above_name n (m ∷ ms) = let rest = above_name m ms in (rest.0, ap (λ x. n ∷ x) rest.1)
+
+-- what is no shorter than the way, with one step more
+way_shortest-up : (place : List (List ℕ)) (n : List ℕ) (ns : List (List ℕ)) (s : List Step)
+    → (length (way place ns) < length s) ⊎ (s ≡ way place ns)
+    → (length (way (place ++ n ∷ []) ns) < length (up ∷ s)) ⊎ (up ∷ s ≡ way (place ++ n ∷ []) ns)
+way_shortest-up place n ns s before = elim (way-push place n ns) [
+  | inl more ↦ elim before [
+    | inl longer ↦ inl (let e = ap length more in omega arith)
+    | inr is ↦ inr (ap (λ x. up ∷ x) is ∙ sym more)
+  ]
+  | inr less ↦ elim before [
+    | inl longer ↦ inl (let e = ap length less in omega arith)
+    | inr is ↦ inl (let e = ap length less in let e' = ap length is in omega arith)
+  ]
+]
+
+way_shortest-name : (place : List (List ℕ)) (n : List ℕ) (ns : List (List ℕ)) (s : List Step)
+    → (length (way (place ++ n ∷ []) ns) < length s) ⊎ (s ≡ way (place ++ n ∷ []) ns)
+    → (length (way place ns) < length (name n ∷ s)) ⊎ (name n ∷ s ≡ way place ns)
+way_shortest-name place n ns s before = elim (way-push place n ns) [
+  | inl more ↦ elim before [
+    | inl longer ↦ inl (let e = ap length more in omega arith)
+    | inr is ↦ inl (let e = ap length more in let e' = ap length is in omega arith)
+  ]
+  | inr less ↦ elim before [
+    | inl longer ↦ inl (let e = ap length less in omega arith)
+    | inr is ↦ inr (ap (λ x. name n ∷ x) is ∙ sym less)
+  ]
+]
+
+-- each list that leads from a place to a place is longer than the way, or is the way
+pub way_shortest : (ms ns : List (List ℕ)) (s : List Step) → walk ms s ≡ Some ns
+    → (length (way ms ns) < length s) ⊎ (s ≡ way ms ns)
+way_shortest ms ns [] leads =
+    let same : ms ≡ ns = cc in
+    inr (sym (ap (λ x. way x ns) same ∙ way-same ns))
+way_shortest ms ns (cur ∷ s) leads = elim (way_shortest ms ns s leads) [
+  | inl longer ↦ inl (omega arith)
+  | inr is ↦ inl (let e = ap length is in omega arith)
+]
+way_shortest [] ns (up ∷ s) leads = absurd (cc)
+way_shortest (m ∷ ms) ns (up ∷ s) leads =
+    let place = take (length ms) (m ∷ ms) in
+    let last = above_name m ms in
+    let stepped = way_shortest-up place last.0 ns s (way_shortest place ns s leads) in
+    subst (λ x. (length (way x ns) < length (up ∷ s)) ⊎ (up ∷ s ≡ way x ns)) (sym last.1) stepped
+way_shortest ms ns (name n ∷ s) leads = way_shortest-name ms n ns s (way_shortest (ms ++ n ∷ []) ns s leads)
+
+-- ---- where the way parts
+
+-- one of them is empty, or they begin with different names
+abbrev pub ArePartedAtOnce : List (List ℕ) → List (List ℕ) → Type 0
+ArePartedAtOnce [] ns = ⊤
+ArePartedAtOnce (m ∷ ms) [] = ⊤
+ArePartedAtOnce (m ∷ ms) (n ∷ ns) = m ≢ n
+
+-- so many `..`, and then the names
+abbrev pub normal_steps : ℕ → List (List ℕ) → List Step
+normal_steps ups ns = replicate ups up ++ map name ns
+
+way-parted : (ms ns : List (List ℕ)) → ArePartedAtOnce ms ns → way ms ns ≡ normal_steps (length ms) ns
+way-parted [] ns parted = refl
+way-parted (m ∷ ms) [] parted = sym (append-nil (replicate (suc (length ms)) up))
+way-parted (m ∷ ms) (n ∷ ns) parted = elim (cases_Bool (bytes_eq m n)) [
+  | inl e ↦ absurd (parted ((bytes_eq-Decides m n).0 e))
+  | inr e ↦ cond-false (bytes_eq m n) _ _ e
+]
+
+way-append : (front ms ns : List (List ℕ)) → way (front ++ ms) (front ++ ns) ≡ way ms ns
+way-append [] ms ns = refl
+way-append (n ∷ front) ms ns = cond-true (bytes_eq n n) _ _ (bytes_eq-same n) ∙ way-append front ms ns
+
+-- ---- the parts of a normal list
+
+pub IsNormal-normal_steps : (ups : ℕ) (ns : List (List ℕ)) → IsNormal (normal_steps ups ns)
+IsNormal-normal_steps zero [] = tt
+IsNormal-normal_steps zero (n ∷ ns) = AreNames-map ns
+  where
+    AreNames-map : (ns : List (List ℕ)) → AreNames (map name ns)
+    AreNames-map [] = tt
+    AreNames-map (n ∷ ns) = AreNames-map ns
+IsNormal-normal_steps (suc ups) ns = IsNormal-normal_steps ups ns
+
+pub climb-normal_steps : (ups : ℕ) (ns : List (List ℕ)) → climb (normal_steps ups ns) ≡ ups
+climb-normal_steps zero [] = refl
+climb-normal_steps zero (n ∷ ns) = refl
+climb-normal_steps (suc ups) ns = ap (λ k. suc k) (climb-normal_steps ups ns)
+
+names_of-normal_steps : (ups : ℕ) (ns : List (List ℕ)) → names_of (normal_steps ups ns) ≡ ns
+names_of-normal_steps zero [] = refl
+names_of-normal_steps zero (n ∷ ns) = ap (λ x. n ∷ x) (names_of-normal_steps zero ns)
+names_of-normal_steps (suc ups) ns = names_of-normal_steps ups ns
+
+walk-normal_steps_none : (base : List (List ℕ)) (ups : ℕ) (ns : List (List ℕ)) → length base < ups
+    → walk base (normal_steps ups ns) ≡ None
+walk-normal_steps_none base ups ns short =
+    let climbs = climb-normal_steps ups ns in
+    walk-normal_none base (normal_steps ups ns) (IsNormal-normal_steps ups ns) (omega arith)
+
+walk-normal_steps : (base : List (List ℕ)) (ups : ℕ) (ns : List (List ℕ)) → ups ≤ length base
+    → walk base (normal_steps ups ns) ≡ Some (take (length base - ups) base ++ ns)
+walk-normal_steps base ups ns long =
+    let climbs = climb-normal_steps ups ns in
+    let names = names_of-normal_steps ups ns in
+    let leads = walk-normal base (normal_steps ups ns) (IsNormal-normal_steps ups ns) (omega arith) in
+    rw (climbs, names) at leads
+
+normal_steps-append : (ups : ℕ) (front ns : List (List ℕ))
+    → normal_steps ups (front ++ ns) ≡ normal_steps ups front ++ map name ns
+normal_steps-append ups front ns =
+    ap (λ x. replicate ups up ++ x) (map-append name front ns) ∙ sym (append_assoc (replicate ups up) (map name front) (map name ns))
+
+normal_steps-ups : (ups more : ℕ) (ns : List (List ℕ))
+    → replicate ups up ++ normal_steps more ns ≡ normal_steps (ups + more) ns
+normal_steps-ups ups more ns =
+    sym (append_assoc (replicate ups up) (replicate more up) (map name ns)) ∙ ap (λ x. x ++ map name ns) (replicate-append-replicate ups more up)
+
+-- from a base of as many names as its `..`, a normal list leads to its own names
+walk-normal_steps_level : (base : List (List ℕ)) (ups : ℕ) (ns : List (List ℕ)) → length base ≡ ups
+    → walk base (normal_steps ups ns) ≡ Some ns
+walk-normal_steps_level base ups ns level =
+    let none : length base - ups ≡ zero = omega arith in
+    walk-normal_steps base ups ns (omega arith) ∙ ap (λ k. Some (take k base ++ ns)) none
+
+-- ---- lists that lead
+
+replicate-up_more : (k : ℕ) (ds : List Step) → replicate (suc k) up ++ ds ≡ replicate k up ++ up ∷ ds
+replicate-up_more zero ds = refl
+replicate-up_more (suc k) ds = ap (λ x. up ∷ x) (replicate-up_more k ds)
+
+-- names and as many `..` lead nowhere else
+IsSame-names_ups : (ns : List (List ℕ)) (ds : List Step) → IsSame (map name ns ++ (replicate (length ns) up ++ ds)) ds
+IsSame-names_ups [] ds = IsSame-refl ds
+IsSame-names_ups (n ∷ ns) ds =
+    let inner = IsSame-append_left (name n ∷ []) _ _ (IsSame-names_ups ns (up ∷ ds)) in
+    let shifted = ap (λ x. name n ∷ (map name ns ++ x)) (replicate-up_more (length ns) ds) in
+    subst (λ x. IsSame x ds) (sym shifted) (IsSame-trans _ _ _ inner (IsSame-name_up [] ds n))
+
+-- below a common front, up the names left of the source and down the names left of the target
+Leads-level : (ups : ℕ) (front ms ns : List (List ℕ))
+    → Leads (normal_steps ups (front ++ ms)) (normal_steps (length ms) ns) (normal_steps ups (front ++ ns))
+Leads-level ups front ms ns =
+    let start = normal_steps ups front in
+    let source : normal_steps ups (front ++ ms) ++ normal_steps (length ms) ns ≡ start ++ (map name ms ++ normal_steps (length ms) ns) =
+    ap (λ x. x ++ normal_steps (length ms) ns) (normal_steps-append ups front ms) ∙ append_assoc start (map name ms) (normal_steps (length ms) ns) in
+    rw (source, normal_steps-append ups front ns) (IsSame-append_left start _ _ (IsSame-names_ups ms (map name ns)))
+
+-- where the target climbs higher, up the source's names and as far as it climbs higher, and down the target's names
+Leads-higher : (ups more : ℕ) (ms ns : List (List ℕ))
+    → Leads (normal_steps ups ms) (normal_steps (length ms + more) ns) (normal_steps (ups + more) ns)
+Leads-higher ups more ms ns =
+    let source : normal_steps ups ms ++ normal_steps (length ms + more) ns ≡ replicate ups up ++ (map name ms ++ (replicate (length ms) up ++ normal_steps more ns)) =
+    append_assoc (replicate ups up) (map name ms) (normal_steps (length ms + more) ns) ∙ ap (λ x. replicate ups up ++ (map name ms ++ x)) (sym (normal_steps-ups (length ms) more ns)) in
+    rw (source, ← normal_steps-ups ups more ns) (IsSame-append_left (replicate ups up) _ _ (IsSame-names_ups ms (normal_steps more ns)))
+
+-- ---- the shortest of them
+
+walk_on : (base ms ns : List (List ℕ)) (cs s ds : List Step) → walk base cs ≡ Some ms → walk base ds ≡ Some ns
+    → Leads cs s ds → walk ms s ≡ Some ns
+walk_on base ms ns cs s ds source target leads =
+    ap (option_and_then (λ place. walk place s)) (sym source) ∙ sym (walk-append base cs s) ∙ leads.everywhere base ∙ target
+
+-- a list that leads is the shortest if from some base it is the way
+IsShortest-from : (base ms ns : List (List ℕ)) (cs r ds : List Step) → walk base cs ≡ Some ms → walk base ds ≡ Some ns
+    → way ms ns ≡ r → Leads cs r ds → IsShortest cs r ds
+IsShortest-from base ms ns cs r ds source target is leads = record {
+  leads = leads;
+  shortest = λ s other. subst (λ x. (length x < length s) ⊎ (s ≡ x)) is (way_shortest ms ns s (walk_on base ms ns cs s ds source target other));
+}
+
+pub IsShortest-level : (ups : ℕ) (front ms ns : List (List ℕ)) → ArePartedAtOnce ms ns
+    → IsShortest (normal_steps ups (front ++ ms)) (normal_steps (length ms) ns) (normal_steps ups (front ++ ns))
+IsShortest-level ups front ms ns parted =
+    let base : List (List ℕ) = replicate ups [] in
+    let len = length-replicate {A = List ℕ} ups [] in
+    IsShortest-from base (front ++ ms) (front ++ ns) _ _ _ (walk-normal_steps_level base ups (front ++ ms) len) (walk-normal_steps_level base ups (front ++ ns) len) (way-append front ms ns ∙ way-parted ms ns parted) (Leads-level ups front ms ns)
+
+-- a name that is not the first of these
+abbrev other_name : List (List ℕ) → List ℕ
+other_name [] = []
+other_name (n ∷ ns) = 0 ∷ n
+
+other_name-parted : (k : ℕ) (ms ns : List (List ℕ)) → ArePartedAtOnce (replicate (suc k) (other_name ns) ++ ms) ns
+other_name-parted k ms [] = tt
+other_name-parted k ms (n ∷ ns) = λ same. let e = ap length same in omega arith
+
+pub IsShortest-higher : (ups more : ℕ) (ms ns : List (List ℕ)) → 0 < more
+    → IsShortest (normal_steps ups ms) (normal_steps (length ms + more) ns) (normal_steps (ups + more) ns)
+IsShortest-higher ups zero ms ns higher = absurd (omega arith)
+IsShortest-higher ups (suc k) ms ns higher =
+    let other = other_name ns in
+    let base : List (List ℕ) = replicate (ups + suc k) other in
+    let len = length-replicate {A = List ℕ} (ups + suc k) other in
+    let place : List (List ℕ) = replicate (suc k) other ++ ms in
+    let above : length base - ups ≡ suc k = omega arith in
+    let source : walk base (normal_steps ups ms) ≡ Some place =
+    walk-normal_steps base ups ms (omega arith) ∙ ap (λ j. Some (take j base ++ ms)) above ∙ ap (λ x. Some (x ++ ms)) (take-replicate (suc k) (ups + suc k) other (omega arith)) in
+    let counted : length place ≡ length ms + suc k = omega (arith, length-append (replicate (suc k) other) ms, length-replicate (suc k) other) in
+    let is = way-parted place ns (other_name-parted k ms ns) ∙ ap (λ j. normal_steps j ns) counted in
+    IsShortest-from base place ns _ _ _ source (walk-normal_steps_level base (ups + suc k) ns len) is (Leads-higher ups (suc k) ms ns)
+
+-- ---- where none leads
+
+pub unreachable_higher : (ups more : ℕ) (ms ns : List (List ℕ)) → more < ups
+    → IsReachable (normal_steps ups ms) (normal_steps more ns) → ⊥
+unreachable_higher ups more ms ns higher (r, leads) =
+    let base : List (List ℕ) = replicate more [] in
+    let len = length-replicate {A = List ℕ} more [] in
+    let none = walk-normal_steps_none base ups ms (omega arith) in
+    let some = walk-normal_steps_level base more ns len in
+    let joined = walk-append base (normal_steps ups ms) r in
+    let same = leads.everywhere base in
+    let lost : walk base (normal_steps ups ms ++ r) ≡ None = joined ∙ ap (option_and_then (λ place. walk place r)) none in
+    absurd (cc)
+
+-- ---- where two normal lists lead apart
+
+pub LeadsApart-higher : (ups more : ℕ) (ms ns : List (List ℕ)) → ups < more
+    → LeadsApart (normal_steps ups ms) (normal_steps more ns) ups
+LeadsApart-higher ups more ms ns higher = record {
+  apart = λ base level same.
+      let some = walk-normal_steps_level base ups ms level in
+      let none = walk-normal_steps_none base more ns (omega arith) in
+      absurd (cc);
+  together = λ base short. walk-normal_steps_none base ups ms short ∙ sym (walk-normal_steps_none base more ns (omega arith));
+}
+
+pub LeadsApart-names : (ups : ℕ) (ms ns : List (List ℕ)) → ms ≢ ns
+    → LeadsApart (normal_steps ups ms) (normal_steps ups ns) ups
+LeadsApart-names ups ms ns other = record {
+  apart = λ base level same.
+      let from_ms = walk-normal_steps_level base ups ms level in
+      let from_ns = walk-normal_steps_level base ups ns level in
+      other (cc);
+  together = λ base short. walk-normal_steps_none base ups ms short ∙ sym (walk-normal_steps_none base ups ns short);
+}
+
+pub LeadsApart-sym : (cs ds : List Step) (n : ℕ) → LeadsApart cs ds n → LeadsApart ds cs n
+LeadsApart-sym cs ds n h = record {
+  apart = λ base level same. h.apart base level (sym same);
+  together = λ base short. sym (h.together base short);
+}
+
+-- lists that lead apart do so at one number alone
+pub LeadsApart-unique : (cs ds : List Step) (m n : ℕ) → LeadsApart cs ds m → LeadsApart cs ds n → m ≡ n
+LeadsApart-unique cs ds m n at_m at_n =
+    let not_less = not_before m n at_m at_n in
+    let not_more = not_before n m at_n at_m in
+    omega arith
+  where
+    not_before : (k l : ℕ) → LeadsApart cs ds k → LeadsApart cs ds l → k < l → ⊥
+    not_before k l at_k at_l less =
+        let base : List (List ℕ) = replicate k [] in
+        let len = length-replicate {A = List ℕ} k [] in
+        at_k.apart base len (at_l.together base (omega arith))
+
+pub LeadsApart-not_same : (cs ds : List Step) (n : ℕ) → LeadsApart cs ds n → IsSame cs ds → ⊥
+LeadsApart-not_same cs ds n h same =
+    let base : List (List ℕ) = replicate n [] in
+    h.apart base (length-replicate {A = List ℕ} n []) (same.everywhere base)
+
+-- ---- lists that lead to the same places stand for one another
+
+pub Leads-same : (f g r t u : List Step) → IsSame f g → IsSame t u → Leads f r t → Leads g r u
+Leads-same f g r t u from to leads =
+    IsSame-trans _ _ _ (IsSame-append_right g f r (IsSame-sym f g from)) (IsSame-trans _ _ _ leads to)
+
+pub IsReachable-same : (f g t u : List Step) → IsSame f g → IsSame t u → IsReachable f t → IsReachable g u
+IsReachable-same f g t u from to (r, leads) = (r, Leads-same f g r t u from to leads)
+
+pub IsShortest-same : (f g r t u : List Step) → IsSame f g → IsSame t u → IsShortest f r t → IsShortest g r u
+IsShortest-same f g r t u from to h = record {
+  leads = Leads-same f g r t u from to h.leads;
+  shortest = λ s other. h.shortest s (Leads-same g f s u t (IsSame-sym f g from) (IsSame-sym t u to) other);
+}
+
+pub LeadsApart-same : (cs cs' ds ds' : List Step) (n : ℕ) → IsSame cs cs' → IsSame ds ds' → LeadsApart cs ds n
+    → LeadsApart cs' ds' n
+LeadsApart-same cs cs' ds ds' n first second h = record {
+  apart = λ base level same. h.apart base level (first.everywhere base ∙ same ∙ sym (second.everywhere base));
+  together = λ base short. sym (first.everywhere base) ∙ h.together base short ∙ second.everywhere base;
+}
+
+-- ---- a list leads exactly if the source's normal form climbs no higher
+
+reachable_climb : (fs ts : List Step) → IsNormal fs → IsNormal ts → IsReachable fs ts ↔ (climb fs ≤ climb ts)
+reachable_climb fs ts normal_fs normal_ts =
+    let source = IsNormal-parts fs normal_fs in
+    let target = IsNormal-parts ts normal_ts in (
+      λ reachable. elim (cases_lt (climb ts) (climb fs)) [
+        | inl higher ↦ absurd (unreachable_higher _ _ _ _ higher (subst (λ x. IsReachable x (normal_steps (climb ts) (names_of ts))) source (subst (IsReachable fs) target reachable)))
+        | inr lower ↦ lower
+      ],
+      λ lower.
+          let more = climb ts - climb fs in
+          let climbs : climb fs + more ≡ climb ts = omega arith in
+          let leads = Leads-higher (climb fs) more (names_of fs) (names_of ts) in
+          let leads' = subst (λ k. Leads (normal_steps (climb fs) (names_of fs)) (normal_steps (length (names_of fs) + more) (names_of ts)) (normal_steps k (names_of ts))) climbs leads in
+          subst (λ x. IsReachable x ts) (sym source) (subst (IsReachable (normal_steps (climb fs) (names_of fs))) (sym target) (normal_steps (length (names_of fs) + more) (names_of ts), leads')),
+    )
+
+pub IsReachable-climb : (f t fs ts : List Step) → IsNormalForm f fs → IsNormalForm t ts
+    → IsReachable f t ↔ (climb fs ≤ climb ts)
+IsReachable-climb f t fs ts from to =
+    let climbs = reachable_climb fs ts from.normal to.normal in (
+      λ reachable. climbs.0 (IsReachable-same f fs t ts from.same to.same reachable),
+      λ lower. IsReachable-same fs f ts t (IsSame-sym f fs from.same) (IsSame-sym t ts to.same) (climbs.1 lower),
+    )
