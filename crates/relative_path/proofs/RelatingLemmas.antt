@@ -34,17 +34,22 @@ way-push : (ms : List (List ℕ)) (n : List ℕ) (ns : List (List ℕ))
     → (way (ms ++ n ∷ []) ns ≡ up ∷ way ms ns) ⊎ (way ms ns ≡ name n ∷ way (ms ++ n ∷ []) ns)
 way-push [] n [] = inl refl
 way-push [] n (k ∷ ks) = elim (cases_Bool (bytes_eq n k)) [
-  | inl e ↦ inr (rw (cond-true (bytes_eq n k) _ _ e) (ap (λ x. name x ∷ map name ks) (sym ((bytes_eq-Decides n k).0 e))))
+  | inl e ↦
+      let same : k ≡ n = sym ((bytes_eq-Decides n k).0 e) in
+      inr (rw (cond-true (bytes_eq n k) _ _ e) (ap (λ x. name x ∷ map name ks) same))
   | inr e ↦ inl (cond-false (bytes_eq n k) _ _ e)
 ]
 way-push (m ∷ ms) n [] = inl (ap (λ k. replicate (suc k) up) (length-snoc ms n))
 way-push (m ∷ ms) n (k ∷ ks) = elim (cases_Bool (bytes_eq m k)) [
   | inl e ↦ rw (cond-true (bytes_eq m k) _ _ e, cond-true (bytes_eq m k) _ _ e) (way-push ms n ks)
-  | inr e ↦ inl (rw (cond-false (bytes_eq m k) _ _ e, cond-false (bytes_eq m k) _ _ e) (ap (λ x. replicate (suc x) up ++ map name (k ∷ ks)) (length-snoc ms n)))
+  | inr e ↦
+      let more = ap (λ x. replicate (suc x) up ++ map name (k ∷ ks)) (length-snoc ms n) in
+      inl (rw (cond-false (bytes_eq m k) _ _ e, cond-false (bytes_eq m k) _ _ e) more)
 ]
 
 -- a place but the top is the place above it and one name
-above_name : (n : List ℕ) (ns : List (List ℕ)) → (last : List ℕ) × (n ∷ ns ≡ take (length ns) (n ∷ ns) ++ last ∷ [])
+above_name : (n : List ℕ) (ns : List (List ℕ))
+    → (last : List ℕ) × (n ∷ ns ≡ take (length ns) (n ∷ ns) ++ last ∷ [])
 above_name n [] = (n, refl)
 above_name n (m ∷ ms) = let rest = above_name m ms in (rest.0, ap (λ x. n ∷ x) rest.1)
 
@@ -104,10 +109,10 @@ ArePartedAtOnce (m ∷ ms) [] = ⊤
 ArePartedAtOnce (m ∷ ms) (n ∷ ns) = m ≢ n
 
 -- so many `..`, and then the names
-abbrev pub normal_steps : ℕ → List (List ℕ) → List Step
-normal_steps ups ns = replicate ups up ++ map name ns
+abbrev pub climbed : ℕ → List (List ℕ) → List Step
+climbed ups ns = replicate ups up ++ map name ns
 
-way-parted : (ms ns : List (List ℕ)) → ArePartedAtOnce ms ns → way ms ns ≡ normal_steps (length ms) ns
+way-parted : (ms ns : List (List ℕ)) → ArePartedAtOnce ms ns → way ms ns ≡ climbed (length ms) ns
 way-parted [] ns parted = refl
 way-parted (m ∷ ms) [] parted = sym (append-nil (replicate (suc (length ms)) up))
 way-parted (m ∷ ms) (n ∷ ns) parted = elim (cases_Bool (bytes_eq m n)) [
@@ -121,55 +126,57 @@ way-append (n ∷ front) ms ns = cond-true (bytes_eq n n) _ _ (bytes_eq-same n) 
 
 -- ---- the parts of a normal list
 
-pub IsNormal-normal_steps : (ups : ℕ) (ns : List (List ℕ)) → IsNormal (normal_steps ups ns)
-IsNormal-normal_steps zero [] = tt
-IsNormal-normal_steps zero (n ∷ ns) = AreNames-map ns
+pub IsNormal-climbed : (ups : ℕ) (ns : List (List ℕ)) → IsNormal (climbed ups ns)
+IsNormal-climbed zero [] = tt
+IsNormal-climbed zero (n ∷ ns) = AreNames-map ns
   where
     AreNames-map : (ns : List (List ℕ)) → AreNames (map name ns)
     AreNames-map [] = tt
     AreNames-map (n ∷ ns) = AreNames-map ns
-IsNormal-normal_steps (suc ups) ns = IsNormal-normal_steps ups ns
+IsNormal-climbed (suc ups) ns = IsNormal-climbed ups ns
 
-pub climb-normal_steps : (ups : ℕ) (ns : List (List ℕ)) → climb (normal_steps ups ns) ≡ ups
-climb-normal_steps zero [] = refl
-climb-normal_steps zero (n ∷ ns) = refl
-climb-normal_steps (suc ups) ns = ap (λ k. suc k) (climb-normal_steps ups ns)
+pub climb-climbed : (ups : ℕ) (ns : List (List ℕ)) → climb (climbed ups ns) ≡ ups
+climb-climbed zero [] = refl
+climb-climbed zero (n ∷ ns) = refl
+climb-climbed (suc ups) ns = ap (λ k. suc k) (climb-climbed ups ns)
 
-names_of-normal_steps : (ups : ℕ) (ns : List (List ℕ)) → names_of (normal_steps ups ns) ≡ ns
-names_of-normal_steps zero [] = refl
-names_of-normal_steps zero (n ∷ ns) = ap (λ x. n ∷ x) (names_of-normal_steps zero ns)
-names_of-normal_steps (suc ups) ns = names_of-normal_steps ups ns
+names_of-climbed : (ups : ℕ) (ns : List (List ℕ)) → names_of (climbed ups ns) ≡ ns
+names_of-climbed zero [] = refl
+names_of-climbed zero (n ∷ ns) = ap (λ x. n ∷ x) (names_of-climbed zero ns)
+names_of-climbed (suc ups) ns = names_of-climbed ups ns
 
-walk-normal_steps_none : (base : List (List ℕ)) (ups : ℕ) (ns : List (List ℕ)) → length base < ups
-    → walk base (normal_steps ups ns) ≡ None
-walk-normal_steps_none base ups ns short =
-    let climbs = climb-normal_steps ups ns in
-    walk-normal_none base (normal_steps ups ns) (IsNormal-normal_steps ups ns) (omega arith)
+walk-climbed_none : (base : List (List ℕ)) (ups : ℕ) (ns : List (List ℕ)) → length base < ups
+    → walk base (climbed ups ns) ≡ None
+walk-climbed_none base ups ns short =
+    let climbs = climb-climbed ups ns in
+    walk-normal_none base (climbed ups ns) (IsNormal-climbed ups ns) (omega arith)
 
-walk-normal_steps : (base : List (List ℕ)) (ups : ℕ) (ns : List (List ℕ)) → ups ≤ length base
-    → walk base (normal_steps ups ns) ≡ Some (take (length base - ups) base ++ ns)
-walk-normal_steps base ups ns long =
-    let climbs = climb-normal_steps ups ns in
-    let names = names_of-normal_steps ups ns in
-    let leads = walk-normal base (normal_steps ups ns) (IsNormal-normal_steps ups ns) (omega arith) in
+walk-climbed : (base : List (List ℕ)) (ups : ℕ) (ns : List (List ℕ)) → ups ≤ length base
+    → walk base (climbed ups ns) ≡ Some (take (length base - ups) base ++ ns)
+walk-climbed base ups ns long =
+    let climbs = climb-climbed ups ns in
+    let names = names_of-climbed ups ns in
+    let leads = walk-normal base (climbed ups ns) (IsNormal-climbed ups ns) (omega arith) in
     rw (climbs, names) at leads
 
-normal_steps-append : (ups : ℕ) (front ns : List (List ℕ))
-    → normal_steps ups (front ++ ns) ≡ normal_steps ups front ++ map name ns
-normal_steps-append ups front ns =
-    ap (λ x. replicate ups up ++ x) (map-append name front ns) ∙ sym (append_assoc (replicate ups up) (map name front) (map name ns))
+climbed-append : (ups : ℕ) (front ns : List (List ℕ))
+    → climbed ups (front ++ ns) ≡ climbed ups front ++ map name ns
+climbed-append ups front ns =
+    let names = map-append name front ns in
+    ap (λ x. replicate ups up ++ x) names ∙ sym (append_assoc (replicate ups up) (map name front) (map name ns))
 
-normal_steps-ups : (ups more : ℕ) (ns : List (List ℕ))
-    → replicate ups up ++ normal_steps more ns ≡ normal_steps (ups + more) ns
-normal_steps-ups ups more ns =
-    sym (append_assoc (replicate ups up) (replicate more up) (map name ns)) ∙ ap (λ x. x ++ map name ns) (replicate-append-replicate ups more up)
+climbed-ups : (ups more : ℕ) (ns : List (List ℕ))
+    → replicate ups up ++ climbed more ns ≡ climbed (ups + more) ns
+climbed-ups ups more ns =
+    let joined = replicate-append-replicate ups more up in
+    sym (append_assoc (replicate ups up) (replicate more up) (map name ns)) ∙ ap (λ x. x ++ map name ns) joined
 
 -- from a base of as many names as its `..`, a normal list leads to its own names
-walk-normal_steps_level : (base : List (List ℕ)) (ups : ℕ) (ns : List (List ℕ)) → length base ≡ ups
-    → walk base (normal_steps ups ns) ≡ Some ns
-walk-normal_steps_level base ups ns level =
+walk-climbed_level : (base : List (List ℕ)) (ups : ℕ) (ns : List (List ℕ)) → length base ≡ ups
+    → walk base (climbed ups ns) ≡ Some ns
+walk-climbed_level base ups ns level =
     let none : length base - ups ≡ zero = omega arith in
-    walk-normal_steps base ups ns (omega arith) ∙ ap (λ k. Some (take k base ++ ns)) none
+    walk-climbed base ups ns (omega arith) ∙ ap (λ k. Some (take k base ++ ns)) none
 
 -- ---- lists that lead
 
@@ -187,42 +194,58 @@ IsSame-names_ups (n ∷ ns) ds =
 
 -- below a common front, up the names left of the source and down the names left of the target
 Leads-level : (ups : ℕ) (front ms ns : List (List ℕ))
-    → Leads (normal_steps ups (front ++ ms)) (normal_steps (length ms) ns) (normal_steps ups (front ++ ns))
+    → Leads (climbed ups (front ++ ms)) (climbed (length ms) ns) (climbed ups (front ++ ns))
 Leads-level ups front ms ns =
-    let start = normal_steps ups front in
-    let source : normal_steps ups (front ++ ms) ++ normal_steps (length ms) ns ≡ start ++ (map name ms ++ normal_steps (length ms) ns) =
-    ap (λ x. x ++ normal_steps (length ms) ns) (normal_steps-append ups front ms) ∙ append_assoc start (map name ms) (normal_steps (length ms) ns) in
-    rw (source, normal_steps-append ups front ns) (IsSame-append_left start _ _ (IsSame-names_ups ms (map name ns)))
+    let start = climbed ups front in
+    let onward = climbed (length ms) ns in
+    let cut = ap (λ x. x ++ onward) (climbed-append ups front ms) in
+    let source = cut ∙ append_assoc start (map name ms) onward in
+    rw (source, climbed-append ups front ns) (IsSame-append_left start _ _ (IsSame-names_ups ms (map name ns)))
 
 -- where the target climbs higher, up the source's names and as far as it climbs higher, and down the target's names
 Leads-higher : (ups more : ℕ) (ms ns : List (List ℕ))
-    → Leads (normal_steps ups ms) (normal_steps (length ms + more) ns) (normal_steps (ups + more) ns)
+    → Leads (climbed ups ms) (climbed (length ms + more) ns) (climbed (ups + more) ns)
 Leads-higher ups more ms ns =
-    let source : normal_steps ups ms ++ normal_steps (length ms + more) ns ≡ replicate ups up ++ (map name ms ++ (replicate (length ms) up ++ normal_steps more ns)) =
-    append_assoc (replicate ups up) (map name ms) (normal_steps (length ms + more) ns) ∙ ap (λ x. replicate ups up ++ (map name ms ++ x)) (sym (normal_steps-ups (length ms) more ns)) in
-    rw (source, ← normal_steps-ups ups more ns) (IsSame-append_left (replicate ups up) _ _ (IsSame-names_ups ms (normal_steps more ns)))
+    let start = replicate ups up in
+    let cut = ap (λ x. start ++ (map name ms ++ x)) (sym (climbed-ups (length ms) more ns)) in
+    let source = append_assoc start (map name ms) (climbed (length ms + more) ns) ∙ cut in
+    let onward = IsSame-append_left start _ _ (IsSame-names_ups ms (climbed more ns)) in
+    rw (source, ← climbed-ups ups more ns) onward
 
 -- ---- the shortest of them
 
-walk_on : (base ms ns : List (List ℕ)) (cs s ds : List Step) → walk base cs ≡ Some ms → walk base ds ≡ Some ns
-    → Leads cs s ds → walk ms s ≡ Some ns
-walk_on base ms ns cs s ds source target leads =
-    ap (option_and_then (λ place. walk place s)) (sym source) ∙ sym (walk-append base cs s) ∙ leads.everywhere base ∙ target
+-- from the base, cs lead to ms and ds to ns
+record LeadFrom (base ms ns : List (List ℕ)) (cs ds : List Step) : Type 0 where
+  source : walk base cs ≡ Some ms
+  target : walk base ds ≡ Some ns
+
+walk-LeadFrom : (base ms ns : List (List ℕ)) (cs s ds : List Step) → LeadFrom base ms ns cs ds → Leads cs s ds
+    → walk ms s ≡ Some ns
+walk-LeadFrom base ms ns cs s ds at leads =
+    let first = ap (option_and_then (λ place. walk place s)) (sym at.source) in
+    first ∙ sym (walk-append base cs s) ∙ leads.everywhere base ∙ at.target
 
 -- a list that leads is the shortest if from some base it is the way
-IsShortest-from : (base ms ns : List (List ℕ)) (cs r ds : List Step) → walk base cs ≡ Some ms → walk base ds ≡ Some ns
-    → way ms ns ≡ r → Leads cs r ds → IsShortest cs r ds
-IsShortest-from base ms ns cs r ds source target is leads = record {
+IsShortest-from : (base ms ns : List (List ℕ)) (cs r ds : List Step) → LeadFrom base ms ns cs ds → way ms ns ≡ r
+    → Leads cs r ds → IsShortest cs r ds
+IsShortest-from base ms ns cs r ds at is leads = record {
   leads = leads;
-  shortest = λ s other. subst (λ x. (length x < length s) ⊎ (s ≡ x)) is (way_shortest ms ns s (walk_on base ms ns cs s ds source target other));
+  shortest = λ s other.
+      let longer = way_shortest ms ns s (walk-LeadFrom base ms ns cs s ds at other) in
+      subst (λ x. (length x < length s) ⊎ (s ≡ x)) is longer;
 }
 
 pub IsShortest-level : (ups : ℕ) (front ms ns : List (List ℕ)) → ArePartedAtOnce ms ns
-    → IsShortest (normal_steps ups (front ++ ms)) (normal_steps (length ms) ns) (normal_steps ups (front ++ ns))
+    → IsShortest (climbed ups (front ++ ms)) (climbed (length ms) ns) (climbed ups (front ++ ns))
 IsShortest-level ups front ms ns parted =
     let base : List (List ℕ) = replicate ups [] in
     let len = length-replicate {A = List ℕ} ups [] in
-    IsShortest-from base (front ++ ms) (front ++ ns) _ _ _ (walk-normal_steps_level base ups (front ++ ms) len) (walk-normal_steps_level base ups (front ++ ns) len) (way-append front ms ns ∙ way-parted ms ns parted) (Leads-level ups front ms ns)
+    let at : LeadFrom base (front ++ ms) (front ++ ns) (climbed ups (front ++ ms)) (climbed ups (front ++ ns)) = record {
+      source = walk-climbed_level base ups (front ++ ms) len;
+      target = walk-climbed_level base ups (front ++ ns) len;
+    } in
+    let is = way-append front ms ns ∙ way-parted ms ns parted in
+    IsShortest-from _ _ _ _ _ _ at is (Leads-level ups front ms ns)
 
 -- a name that is not the first of these
 abbrev other_name : List (List ℕ) → List ℕ
@@ -234,7 +257,7 @@ other_name-parted k ms [] = tt
 other_name-parted k ms (n ∷ ns) = λ same. let e = ap length same in omega arith
 
 pub IsShortest-higher : (ups more : ℕ) (ms ns : List (List ℕ)) → 0 < more
-    → IsShortest (normal_steps ups ms) (normal_steps (length ms + more) ns) (normal_steps (ups + more) ns)
+    → IsShortest (climbed ups ms) (climbed (length ms + more) ns) (climbed (ups + more) ns)
 IsShortest-higher ups zero ms ns higher = absurd (omega arith)
 IsShortest-higher ups (suc k) ms ns higher =
     let other = other_name ns in
@@ -242,46 +265,52 @@ IsShortest-higher ups (suc k) ms ns higher =
     let len = length-replicate {A = List ℕ} (ups + suc k) other in
     let place : List (List ℕ) = replicate (suc k) other ++ ms in
     let above : length base - ups ≡ suc k = omega arith in
-    let source : walk base (normal_steps ups ms) ≡ Some place =
-    walk-normal_steps base ups ms (omega arith) ∙ ap (λ j. Some (take j base ++ ms)) above ∙ ap (λ x. Some (x ++ ms)) (take-replicate (suc k) (ups + suc k) other (omega arith)) in
-    let counted : length place ≡ length ms + suc k = omega (arith, length-append (replicate (suc k) other) ms, length-replicate (suc k) other) in
-    let is = way-parted place ns (other_name-parted k ms ns) ∙ ap (λ j. normal_steps j ns) counted in
-    IsShortest-from base place ns _ _ _ source (walk-normal_steps_level base (ups + suc k) ns len) is (Leads-higher ups (suc k) ms ns)
+    let kept = ap (λ j. Some (take j base ++ ms)) above in
+    let names = ap (λ x. Some (x ++ ms)) (take-replicate (suc k) (ups + suc k) other (omega arith)) in
+    let at : LeadFrom base place ns (climbed ups ms) (climbed (ups + suc k) ns) = record {
+      source = walk-climbed base ups ms (omega arith) ∙ kept ∙ names;
+      target = walk-climbed_level base (ups + suc k) ns len;
+    } in
+    let joined = length-append (replicate (suc k) other) ms in
+    let counted : length place ≡ length ms + suc k = omega (arith, joined, length-replicate (suc k) other) in
+    let is = way-parted place ns (other_name-parted k ms ns) ∙ ap (λ j. climbed j ns) counted in
+    IsShortest-from _ _ _ _ _ _ at is (Leads-higher ups (suc k) ms ns)
 
 -- ---- where none leads
 
 pub unreachable_higher : (ups more : ℕ) (ms ns : List (List ℕ)) → more < ups
-    → IsReachable (normal_steps ups ms) (normal_steps more ns) → ⊥
+    → IsReachable (climbed ups ms) (climbed more ns) → ⊥
 unreachable_higher ups more ms ns higher (r, leads) =
     let base : List (List ℕ) = replicate more [] in
     let len = length-replicate {A = List ℕ} more [] in
-    let none = walk-normal_steps_none base ups ms (omega arith) in
-    let some = walk-normal_steps_level base more ns len in
-    let joined = walk-append base (normal_steps ups ms) r in
+    let none = walk-climbed_none base ups ms (omega arith) in
+    let some = walk-climbed_level base more ns len in
+    let joined = walk-append base (climbed ups ms) r in
     let same = leads.everywhere base in
-    let lost : walk base (normal_steps ups ms ++ r) ≡ None = joined ∙ ap (option_and_then (λ place. walk place r)) none in
+    let lost = joined ∙ ap (option_and_then (λ place. walk place r)) none in
     absurd (cc)
 
 -- ---- where two normal lists lead apart
 
 pub LeadsApart-higher : (ups more : ℕ) (ms ns : List (List ℕ)) → ups < more
-    → LeadsApart (normal_steps ups ms) (normal_steps more ns) ups
+    → LeadsApart (climbed ups ms) (climbed more ns) ups
 LeadsApart-higher ups more ms ns higher = record {
   apart = λ base level same.
-      let some = walk-normal_steps_level base ups ms level in
-      let none = walk-normal_steps_none base more ns (omega arith) in
+      let some = walk-climbed_level base ups ms level in
+      let none = walk-climbed_none base more ns (omega arith) in
       absurd (cc);
-  together = λ base short. walk-normal_steps_none base ups ms short ∙ sym (walk-normal_steps_none base more ns (omega arith));
+  together = λ base short.
+      walk-climbed_none base ups ms short ∙ sym (walk-climbed_none base more ns (omega arith));
 }
 
 pub LeadsApart-names : (ups : ℕ) (ms ns : List (List ℕ)) → ms ≢ ns
-    → LeadsApart (normal_steps ups ms) (normal_steps ups ns) ups
+    → LeadsApart (climbed ups ms) (climbed ups ns) ups
 LeadsApart-names ups ms ns other = record {
   apart = λ base level same.
-      let from_ms = walk-normal_steps_level base ups ms level in
-      let from_ns = walk-normal_steps_level base ups ns level in
+      let from_ms = walk-climbed_level base ups ms level in
+      let from_ns = walk-climbed_level base ups ns level in
       other (cc);
-  together = λ base short. walk-normal_steps_none base ups ms short ∙ sym (walk-normal_steps_none base ups ns short);
+  together = λ base short. walk-climbed_none base ups ms short ∙ sym (walk-climbed_none base ups ns short);
 }
 
 pub LeadsApart-sym : (cs ds : List Step) (n : ℕ) → LeadsApart cs ds n → LeadsApart ds cs n
@@ -332,26 +361,27 @@ LeadsApart-same cs cs' ds ds' n first second h = record {
 
 -- ---- a list leads exactly if the source's normal form climbs no higher
 
-reachable_climb : (fs ts : List Step) → IsNormal fs → IsNormal ts → IsReachable fs ts ↔ (climb fs ≤ climb ts)
-reachable_climb fs ts normal_fs normal_ts =
-    let source = IsNormal-parts fs normal_fs in
-    let target = IsNormal-parts ts normal_ts in (
-      λ reachable. elim (cases_lt (climb ts) (climb fs)) [
-        | inl higher ↦ absurd (unreachable_higher _ _ _ _ higher (subst (λ x. IsReachable x (normal_steps (climb ts) (names_of ts))) source (subst (IsReachable fs) target reachable)))
-        | inr lower ↦ lower
-      ],
-      λ lower.
-          let more = climb ts - climb fs in
-          let climbs : climb fs + more ≡ climb ts = omega arith in
-          let leads = Leads-higher (climb fs) more (names_of fs) (names_of ts) in
-          let leads' = subst (λ k. Leads (normal_steps (climb fs) (names_of fs)) (normal_steps (length (names_of fs) + more) (names_of ts)) (normal_steps k (names_of ts))) climbs leads in
-          subst (λ x. IsReachable x ts) (sym source) (subst (IsReachable (normal_steps (climb fs) (names_of fs))) (sym target) (normal_steps (length (names_of fs) + more) (names_of ts), leads')),
-    )
+reachable_climbed : (ups more : ℕ) (ms ns : List (List ℕ)) → IsReachable (climbed ups ms) (climbed more ns) ↔ (ups ≤ more)
+reachable_climbed ups more ms ns = (
+  λ reachable. elim (cases_lt more ups) [
+    | inl higher ↦ absurd (unreachable_higher ups more ms ns higher reachable)
+    | inr lower ↦ lower
+  ],
+  λ lower.
+      let climbs : ups + (more - ups) ≡ more = omega arith in
+      let onward = climbed (length ms + (more - ups)) ns in
+      let leads = Leads-higher ups (more - ups) ms ns in
+      (onward, subst (λ k. Leads (climbed ups ms) onward (climbed k ns)) climbs leads),
+)
 
 pub IsReachable-climb : (f t fs ts : List Step) → IsNormalForm f fs → IsNormalForm t ts
     → IsReachable f t ↔ (climb fs ≤ climb ts)
 IsReachable-climb f t fs ts from to =
-    let climbs = reachable_climb fs ts from.normal to.normal in (
-      λ reachable. climbs.0 (IsReachable-same f fs t ts from.same to.same reachable),
-      λ lower. IsReachable-same fs f ts t (IsSame-sym f fs from.same) (IsSame-sym t ts to.same) (climbs.1 lower),
+    let source = IsNormal-parts fs from.normal in
+    let target = IsNormal-parts ts to.normal in
+    let climbs = reachable_climbed (climb fs) (climb ts) (names_of fs) (names_of ts) in
+    let there = λ (reachable : IsReachable f t). IsReachable-same f fs t ts from.same to.same reachable in
+    let back = IsReachable-same fs f ts t (IsSame-sym f fs from.same) (IsSame-sym t ts to.same) in (
+      λ reachable. climbs.0 (rw (← source, ← target) (there reachable)),
+      λ lower. back (rw (source, target) (climbs.1 lower)),
     )
