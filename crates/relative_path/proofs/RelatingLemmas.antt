@@ -1,15 +1,17 @@
 -- The shortest way from one place to another, and from one normal list to another; where normal lists lead apart.
-use Rattle.std.proofs.Common.{◌≡◌, ◌≢◌, ◌⊎◌, ◌↔◌, ℕ, zero, suc, ◌+◌, ◌-◌, ◌<◌, ◌≤◌, true, cond, bytes_eq, List, [], ◌∷◌, ◌++◌, length, take, map, replicate, Some, None, option_and_then, refl, sym, ap, ◌∙◌, subst, inl, inr, append_assoc, append-nil, arith, length-append}
-use Rattle.std.specs.Prelude.{⊤}
+use Rattle.std.proofs.Common.{◌≡◌, ◌≢◌, ◌⊎◌, ◌↔◌, ℕ, zero, suc, ◌+◌, ◌-◌, ◌<◌, ◌≤◌, true, cond, bytes_eq, List, [], ◌∷◌, ◌++◌, length, take, map, replicate, Option, Some, None, IsNone, MatchOption, true≢false, option_and_then, refl, sym, ap, ◌∙◌, subst, inl, inr, append_assoc, append-nil, arith, length-append, get_or, drop, length-drop}
+use Rattle.std.specs.Prelude.{⊤, min}
 use Rattle.std.proofs.lemmas.Bool.{cond-true, cond-false, cases_Bool, cases_lt}
-use Rattle.std.proofs.lemmas.List.{length_push, length-replicate, replicate-append-replicate, take-replicate, map-append}
+use Rattle.std.proofs.lemmas.List.{length_push, length-replicate, replicate-append-replicate, take-replicate, map-append, take-append-drop, drop_more, drop_all}
 use Rattle.std.proofs.lemmas.Slice.Eq.{bytes_eq-Decides}
-use Rattle.relative_path.specs.Steps.{Step, cur, up, name}
+use Rattle.relative_path.specs.Steps.{Step, cur, up, name, components, spell}
 use Rattle.relative_path.specs.Walk.{walk, IsSame}
-use Rattle.relative_path.specs.Normalizing.{AreNames, IsNormal, IsNormalForm, climb}
-use Rattle.relative_path.specs.Relating.{Leads, IsReachable, IsShortest, LeadsApart}
+use Rattle.relative_path.specs.Normalizing.{IsNormalForm, climb}
+use Rattle.relative_path.specs.NormalForm.{climbed}
+use Rattle.relative_path.specs.Relating.{Leads, IsReachable, IsShortest, IsShortestText, LeadsApart}
 use Rattle.relative_path.proofs.WalkLemmas.{walk-append, IsSame-refl, IsSame-sym, IsSame-trans, IsSame-append_left, IsSame-append_right, IsSame-name_up}
 use Rattle.relative_path.proofs.NormalStepsLemmas.{names_of, IsNormal-parts, walk-normal, walk-normal_none}
+use Rattle.relative_path.proofs.NormalFormLemmas.{IsNormal-climbed}
 
 -- ---- the shortest way from a place to a place
 
@@ -108,10 +110,6 @@ ArePartedAtOnce [] ns = ⊤
 ArePartedAtOnce (m ∷ ms) [] = ⊤
 ArePartedAtOnce (m ∷ ms) (n ∷ ns) = m ≢ n
 
--- so many `..`, and then the names
-abbrev pub climbed : ℕ → List (List ℕ) → List Step
-climbed ups ns = replicate ups up ++ map name ns
-
 way-parted : (ms ns : List (List ℕ)) → ArePartedAtOnce ms ns → way ms ns ≡ climbed (length ms) ns
 way-parted [] ns parted = refl
 way-parted (m ∷ ms) [] parted = sym (append-nil (replicate (suc (length ms)) up))
@@ -125,15 +123,6 @@ way-append [] ms ns = refl
 way-append (n ∷ front) ms ns = cond-true (bytes_eq n n) _ _ (bytes_eq-same n) ∙ way-append front ms ns
 
 -- ---- the parts of a normal list
-
-pub IsNormal-climbed : (ups : ℕ) (ns : List (List ℕ)) → IsNormal (climbed ups ns)
-IsNormal-climbed zero [] = tt
-IsNormal-climbed zero (n ∷ ns) = AreNames-map ns
-  where
-    AreNames-map : (ns : List (List ℕ)) → AreNames (map name ns)
-    AreNames-map [] = tt
-    AreNames-map (n ∷ ns) = AreNames-map ns
-IsNormal-climbed (suc ups) ns = IsNormal-climbed ups ns
 
 pub climb-climbed : (ups : ℕ) (ns : List (List ℕ)) → climb (climbed ups ns) ≡ ups
 climb-climbed zero [] = refl
@@ -240,9 +229,11 @@ pub IsShortest-level : (ups : ℕ) (front ms ns : List (List ℕ)) → AreParted
 IsShortest-level ups front ms ns parted =
     let base : List (List ℕ) = replicate ups [] in
     let len = length-replicate {A = List ℕ} ups [] in
-    let at : LeadFrom base (front ++ ms) (front ++ ns) (climbed ups (front ++ ms)) (climbed ups (front ++ ns)) = record {
-      source = walk-climbed_level base ups (front ++ ms) len;
-      target = walk-climbed_level base ups (front ++ ns) len;
+    let source = front ++ ms in
+    let target = front ++ ns in
+    let at : LeadFrom base source target (climbed ups source) (climbed ups target) = record {
+      source = walk-climbed_level base ups source len;
+      target = walk-climbed_level base ups target len;
     } in
     let is = way-append front ms ns ∙ way-parted ms ns parted in
     IsShortest-from _ _ _ _ _ _ at is (Leads-level ups front ms ns)
@@ -361,7 +352,8 @@ LeadsApart-same cs cs' ds ds' n first second h = record {
 
 -- ---- a list leads exactly if the source's normal form climbs no higher
 
-reachable_climbed : (ups more : ℕ) (ms ns : List (List ℕ)) → IsReachable (climbed ups ms) (climbed more ns) ↔ (ups ≤ more)
+reachable_climbed : (ups more : ℕ) (ms ns : List (List ℕ))
+    → IsReachable (climbed ups ms) (climbed more ns) ↔ (ups ≤ more)
 reachable_climbed ups more ms ns = (
   λ reachable. elim (cases_lt more ups) [
     | inl higher ↦ absurd (unreachable_higher ups more ms ns higher reachable)
@@ -385,3 +377,90 @@ IsReachable-climb f t fs ts from to =
       λ reachable. climbs.0 (rw (← source, ← target) (there reachable)),
       λ lower. back (rw (source, target) (climbs.1 lower)),
     )
+
+-- ---- the way as the code finds it
+
+parted_nil : (ms : List (List ℕ)) → ArePartedAtOnce ms []
+parted_nil [] = tt
+parted_nil (m ∷ ms) = tt
+
+parted_drop : (k : ℕ) (ms ns : List (List ℕ))
+    → (k < length ms → k < length ns → get_or ms k [] ≢ get_or ns k []) → ArePartedAtOnce (drop k ms) (drop k ns)
+parted_drop k ms ns other = elim (cases_lt k (length ms)) [
+  | inl inside ↦ elim (cases_lt k (length ns)) [
+    | inl inside' ↦ rw (drop_more ms k [] inside, drop_more ns k [] inside') (other inside inside')
+    | inr past ↦ rw (drop_all k ns past) (parted_nil (drop k ms))
+  ]
+  | inr past ↦ rw (drop_all k ms past) tt
+]
+
+-- where both climb as high and have just their first k names in common
+pub IsShortest-common : (ups k : ℕ) (ms ns : List (List ℕ)) → take k ms ≡ take k ns
+    → (k < length ms → k < length ns → get_or ms k [] ≢ get_or ns k [])
+    → IsShortest (climbed ups ms) (climbed (length ms - k) (drop k ns)) (climbed ups ns)
+IsShortest-common ups k ms ns common other =
+    let source : take k ms ++ drop k ms ≡ ms = take-append-drop k ms in
+    let target : take k ms ++ drop k ns ≡ ns = ap (λ x. x ++ drop k ns) common ∙ take-append-drop k ns in
+    let level = IsShortest-level ups (take k ms) (drop k ms) (drop k ns) (parted_drop k ms ns other) in
+    rw (source, target, length-drop k ms) at level
+
+-- where the target climbs higher
+pub IsShortest-climbs : (ups more : ℕ) (ms ns : List (List ℕ)) → ups < more
+    → IsShortest (climbed ups ms) (climbed (length ms + (more - ups)) ns) (climbed more ns)
+IsShortest-climbs ups more ms ns higher =
+    let climbs : ups + (more - ups) ≡ more = omega arith in
+    let onward = climbed (length ms + (more - ups)) ns in
+    let shortest = IsShortest-higher ups (more - ups) ms ns (omega arith) in
+    subst (λ k. IsShortest (climbed ups ms) onward (climbed k ns)) climbs shortest
+
+-- two normal lists that differ lead apart at the lower climb
+pub LeadsApart-lower : (ups more : ℕ) (ms ns : List (List ℕ)) → (ups ≡ more → ms ≢ ns)
+    → LeadsApart (climbed ups ms) (climbed more ns) (min ups more)
+LeadsApart-lower ups more ms ns other = elim (cases_lt ups more) [
+  | inl less ↦
+      let lower : ups ≡ min ups more = omega arith in
+      subst (LeadsApart _ _) lower (LeadsApart-higher ups more ms ns less)
+  | inr no_less ↦ elim (cases_lt more ups) [
+    | inl more_less ↦
+        let lower : more ≡ min ups more = omega arith in
+        subst (LeadsApart _ _) lower (LeadsApart-sym _ _ more (LeadsApart-higher more ups ns ms more_less))
+    | inr no_more ↦
+        let same : ups ≡ more = omega arith in
+        let lower : ups ≡ min ups more = omega arith in
+        let names = subst (LeadsApart _ _) lower (LeadsApart-names ups ms ns (other same)) in
+        subst (λ k. LeadsApart (climbed ups ms) (climbed k ns) (min ups more)) same names
+  ]
+]
+
+-- ---- the text of the way
+
+pub IsShortestText-spelled : (f t r : List Step) (text : List ℕ) → components (spell r) ≡ r → text ≡ spell r
+    → IsShortest f r t → IsShortestText f t text
+IsShortestText-spelled f t r text whole spelled shortest =
+    let same : components text ≡ r = ap components spelled ∙ whole in
+    record {
+      spelled = spelled ∙ ap spell (sym same);
+      shortest = rw same shortest;
+    }
+
+-- ---- where two lists lead apart, told by lists that lead to the same places
+
+pub same_parting : (cs cs' ds ds' : List Step) (r : Option ℕ) → IsSame cs cs' → IsSame ds ds'
+    → MatchOption r (IsSame cs' ds') (LeadsApart cs' ds') → MatchOption r (IsSame cs ds) (LeadsApart cs ds)
+same_parting cs cs' ds ds' None first second same =
+    IsSame-trans _ _ _ first (IsSame-trans _ _ _ same (IsSame-sym ds ds' second))
+same_parting cs cs' ds ds' (Some n) first second apart =
+    LeadsApart-same cs' cs ds' ds n (IsSame-sym cs cs' first) (IsSame-sym ds ds' second) apart
+
+pub parting_none : (cs ds : List Step) (r : Option ℕ) → MatchOption r (IsSame cs ds) (LeadsApart cs ds)
+    → IsNone r ↔ IsSame cs ds
+parting_none cs ds None same = (λ _. same, λ _. refl)
+parting_none cs ds (Some n) apart =
+    (λ none. absurd (true≢false none), λ same. absurd (LeadsApart-not_same cs ds n apart same))
+
+pub parting_some : (cs ds : List Step) (r : Option ℕ) → MatchOption r (IsSame cs ds) (LeadsApart cs ds)
+    → (n : ℕ) → (r ≡ Some n) ↔ LeadsApart cs ds n
+parting_some cs ds None same n = (λ some. absurd (cc), λ apart. absurd (LeadsApart-not_same cs ds n apart same))
+parting_some cs ds (Some m) apart n =
+    let is = λ (some : Some m ≡ Some n). let e : m ≡ n = cc in subst (LeadsApart cs ds) e apart in
+    (is, λ at_n. ap Some (LeadsApart-unique cs ds m n apart at_n))
