@@ -26,6 +26,7 @@ pub fn answer(alloc: Global, line: &str) -> Result<String, Refusal> {
         "with_file_name" => with_file_name(alloc, call.two()?),
         "with_extension" => with_extension(alloc, call.two()?),
         "normalize" => normalize(alloc, call.one()?),
+        "relative" => relative(alloc, call.two()?),
         "push" => push(alloc, call.two()?),
         "pop" => pop(alloc, call.one()?),
         "set_file_name" => set_file_name(alloc, call.two()?),
@@ -128,6 +129,11 @@ fn with_extension(alloc: Global, (path, extension): (&str, &str)) -> Result<Stri
 
 fn normalize(alloc: Global, path: &str) -> Result<String, Refusal> {
     text_of(alloc, &RelativePath::new(path).normalize(alloc)?)
+}
+
+fn relative(alloc: Global, (from, to): (&str, &str)) -> Result<String, Refusal> {
+    let way = RelativePath::new(from).relative(alloc, RelativePath::new(to))?;
+    text_of(alloc, &way)
 }
 
 fn push(alloc: Global, (base, path): (&str, &str)) -> Result<String, Refusal> {

@@ -12,3 +12,4 @@ pub mod NormalizingLemmas
 pub mod CountingLemmas
 pub mod SpansLemmas
 pub mod NormalFormLemmas
+pub mod RelatingLemmas

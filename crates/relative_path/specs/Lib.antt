@@ -3,6 +3,7 @@ pub mod Walk
 pub mod Normalizing
 pub mod Spans
 pub mod NormalForm
+pub mod Relating
 pub mod Slices
 pub mod Editing
 pub mod Prefixing

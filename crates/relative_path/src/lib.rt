@@ -14,5 +14,6 @@ mod normal_form;
 mod normalizing;
 mod path;
 mod prefixing;
+mod relating;
 mod slashes;
 mod spans;

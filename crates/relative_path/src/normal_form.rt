@@ -18,9 +18,9 @@ use std::alloc::{AllocError, Global};
 // As many `..` as it climbs, and then the names.
 #[derive(Drop)]
 pub(crate) struct NormalForm<'a> {
-    sources: Sources<'a>,
-    climb: usize,
-    names: Vec<Span>,
+    pub(crate) sources: Sources<'a>,
+    pub(crate) climb: usize,
+    pub(crate) names: Vec<Span>,
     ghost cut: { All (CutsName sources) names.items },
 }
 
@@ -29,8 +29,9 @@ impl<'a> NormalForm<'a> {
 
     // The normal form of a path. It asks for memory once, for a table of as many names as the path has components.
     pub(crate) fn of(alloc: Global, path: RelativePath<'a>) -> Result<NormalForm<'a>, AllocError>
-        ensures { IfOk result
+        ensures normal_form { IfOk result
             (λ form. IsNormalFormOf (path_components path.entry) (form_steps form)) }
+        ensures room { IfOk result (λ form. form_len form ≤ form_room form) }
     {
         let sources = Sources {
             first: path.as_str(),

@@ -1,5 +1,5 @@
 //! The borrowed relative path.
-ghost use Rattle.std.specs.Prelude.{◌≡◌, ◌≢◌, ◌≤◌, ◌↔◌, ◌++◌, [], ◌∷◌, IfOk, IsOk, IfSome, IsSome, IsTrue, Some, List, ℕ, length};
+ghost use Rattle.std.specs.Prelude.{◌≡◌, ◌≢◌, ◌≤◌, ◌↔◌, ◌++◌, [], ◌∷◌, IfOk, IsOk, IfSome, IsSome, IsNone, IsTrue, Some, List, ℕ, length};
 ghost use Rattle.relative_path.specs.Steps.{Step, name, components};
 ghost use Rattle.relative_path.specs.Editing.{pushed, IsPopped};
 ghost use Rattle.relative_path.specs.Components.{text_left, iter_text_left};
@@ -10,7 +10,9 @@ ghost use Rattle.std.specs.Fmt.{styled_text, debug_str};
 ghost use Rattle.std.specs.Option.{option_copied, option_map, option_and_then};
 ghost use Rattle.std.specs.Ordering.{on, as_partial_cmp};
 ghost use Rattle.std.proofs.Common.{refl};
-ghost use Rattle.relative_path.specs.Normalizing.{IsNormal, IsNormalTextOf};
+ghost use Rattle.relative_path.specs.Normalizing.{IsNormal, IsNormalTextOf, IsNormalForm, climb};
+ghost use Rattle.relative_path.specs.Relating.{IsReachable, IsShortestText, LeadsApart};
+ghost use Rattle.relative_path.specs.Walk.{IsSame};
 ghost use Rattle.relative_path.specs.Prefixing.{StartsWith, EndsWith, IsDropped};
 ghost use Rattle.relative_path.specs.RelativePath.{path_text, path_components, display_text};
 
@@ -21,6 +23,7 @@ use crate::naming::{base_of, last_component, split_name, without_extension};
 use crate::normal_form::NormalForm;
 use crate::normalizing::follow;
 use crate::prefixing::path_after;
+use crate::relating::{Way, parting};
 use std::alloc::{AllocError, Global};
 use std::cmp::Ordering;
 use std::fmt;
@@ -392,6 +395,99 @@ impl<'a> RelativePath<'a> {
         for component in self.components() {
             follow(out, component);
         }
+    }
+
+    /// The shortest path that leads from where this path leads to where `to` leads, whatever base
+    /// both start from.
+    ///
+    /// The answer is empty where both lead to the same, and also where no path leads on from this
+    /// one, as from `..` to `a`: [`RelativePath::try_relative`] tells these apart. It asks for
+    /// memory at most three times, for a table of each path's names and for the answer, and fails
+    /// only where that is refused or the answer would be longer than a text can be.
+    ///
+    /// ```
+    /// let from = RelativePath::new("a/b/c/d");
+    /// let way = from.relative(alloc, RelativePath::new("a/b/e/f"))?;
+    /// assert_eq!(rt; way.as_relative_path().as_str(), "../../e/f");
+    /// ```
+    pub fn relative(
+        self,
+        alloc: Global,
+        to: RelativePath<'_>,
+    ) -> Result<RelativePathBuf, AllocError>
+        ensures shortest { IfOk result
+            (λ way. IsReachable (path_components self.entry) (path_components to.entry)
+            → IsShortestText (path_components self.entry) (path_components to.entry) way.text) }
+        ensures unreachable { IfOk result
+            (λ way. ¬ IsReachable (path_components self.entry) (path_components to.entry)
+            → way.text ≡ []) }
+        ensures climbs { (from_steps to_steps : List Step)
+            → IsNormalForm (path_components self.entry) from_steps
+            → IsNormalForm (path_components to.entry) to_steps
+            → IsReachable (path_components self.entry) (path_components to.entry)
+            ↔ (climb from_steps ≤ climb to_steps) }
+    {
+        let way = self.try_relative(alloc, to)?;
+        Ok(way.unwrap_or_else(|| RelativePathBuf::new(alloc)))
+    }
+
+    /// The path that [`RelativePath::relative`] answers, or `None` where no path leads from where
+    /// this path leads to where `to` leads.
+    ///
+    /// It asks for memory at most three times, for a table of each path's names and for the answer,
+    /// and fails only where that is refused or the answer would be longer than a text can be.
+    ///
+    /// ```
+    /// let path = RelativePath::new("a");
+    /// assert!(rt; path.try_relative(alloc, RelativePath::new(".."))?.is_some());
+    /// assert!(rt; RelativePath::new("..").try_relative(alloc, path)?.is_none());
+    /// ```
+    pub fn try_relative(
+        self,
+        alloc: Global,
+        to: RelativePath<'_>,
+    ) -> Result<Option<RelativePathBuf>, AllocError>
+        ensures none { IfOk result
+            (λ way. IsNone way
+            ↔ (¬ IsReachable (path_components self.entry) (path_components to.entry))) }
+        ensures shortest { IfOk result
+            (λ found. IfSome found
+            (λ way. IsShortestText (path_components self.entry) (path_components to.entry) way.text)) }
+    {
+        let from = NormalForm::of(alloc, self)?;
+        let to = NormalForm::of(alloc, to)?;
+        let Some(way) = Way::between(&from, &to) else {
+            return Ok(None);
+        };
+        Ok(Some(to.spelled_past(alloc, way.climb, way.skipped)?))
+    }
+
+    /// The fewest names a base can have from which this path and `path` lead to different places,
+    /// or only one of them leads to a place; `None` where both lead to the same from every base.
+    ///
+    /// It asks for memory twice at most, for a table of each path's names, and fails only where
+    /// that is refused.
+    ///
+    /// ```
+    /// let path = RelativePath::new("../a");
+    /// assert_eq!(rt; path.leads_apart(alloc, RelativePath::new("../b"))?, Some(1));
+    /// assert_eq!(rt; path.leads_apart(alloc, RelativePath::new("../a/."))?, None);
+    /// ```
+    pub fn leads_apart(
+        self,
+        alloc: Global,
+        path: RelativePath<'_>,
+    ) -> Result<Option<usize>, AllocError>
+        ensures none { IfOk result
+            (λ apart. IsNone apart
+            ↔ IsSame (path_components self.entry) (path_components path.entry)) }
+        ensures some { IfOk result
+            (λ apart. (n : ℕ) → (apart ≡ Some n)
+            ↔ LeadsApart (path_components self.entry) (path_components path.entry) n) }
+    {
+        let form = NormalForm::of(alloc, self)?;
+        let other = NormalForm::of(alloc, path)?;
+        Ok(parting(&form, &other))
     }
 }
 

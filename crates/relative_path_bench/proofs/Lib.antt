@@ -1,1 +1,2 @@
+pub mod RelatingLemmas
 pub mod WalkingLemmas

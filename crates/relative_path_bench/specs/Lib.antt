@@ -1,1 +1,2 @@
+pub mod Relating
 pub mod Walking

@@ -6,4 +6,5 @@ mod naming;
 mod normalizing;
 mod printing;
 mod readme;
+mod relating;
 mod walking;
