@@ -6,11 +6,12 @@ use Rattle.std.proofs.lemmas.Iterator.{YieldsList}
 use Rattle.std.proofs.lemmas.Iterator.Consumers.{YieldsList-from_shown}
 use Rattle.std.proofs.lemmas.List.{nil_from_length, get_or_at, drop_all}
 use Rattle.std.proofs.lemmas.List.Elements.{All-weaker, recursion_from_All}
+use Rattle.std.proofs.iter.runs.Sources.{from_front}
 use Rattle.relative_path.specs.declared.component.Component.{Component}
 use Rattle.relative_path.specs.declared.component.Components.{Components}
 use Rattle.relative_path.specs.Steps.{slash, is_slash, classed, components}
 use Rattle.relative_path.specs.Slices.{IsRest, IsFront}
-use Rattle.relative_path.specs.Components.{step_of, text_left, components_left, TakesFirst, TakesLast}
+use Rattle.relative_path.specs.Components.{step_of, text_left, components_left, TakesFirst, TakesLast, TakesFirstText, text_of, iter_text_left, texts_left, GivesComponents, GivesTextsOfComponents}
 use Rattle.relative_path.proofs.StepsLemmas.{HasNoSlash, components-nil, components-append, components_whole}
 use Rattle.relative_path.proofs.SlicesLemmas.{IsSuffix, IsSuffix-drop, IsSuffix-trans, IsPrefix, IsPrefix-append, IsPrefix-trans, IsShortestPrefix-from, IsShortestPrefix-nil}
 
@@ -135,3 +136,11 @@ MakesProgress-TakesLast s t (Some c) (joined, _) =
 pub YieldsList-components : (s : Components) (text : List ℕ) → text_left s ≡ text → YieldsList (λ s taken t. TakesFirst (text_left s) taken (text_left t)) step_of s (components text)
 YieldsList-components s text same =
     subst (λ x. YieldsList (λ s taken t. TakesFirst (text_left s) taken (text_left t)) step_of s (components x)) same (YieldsList-from_shown (λ s taken t. TakesFirst (text_left s) taken (text_left t)) step_of components_left (λ s t taken. ap length taken.0) (λ s c t taken. taken.0) s)
+
+pub GivesComponents-shown : GivesComponents
+GivesComponents-shown =
+    from_front (λ s taken t. TakesFirst (text_left s) taken (text_left t)) step_of components_left (λ s t taken. ap length taken.0) (λ s c t taken. taken.0)
+
+pub GivesTextsOfComponents-shown : GivesTextsOfComponents
+GivesTextsOfComponents-shown =
+    from_front (λ s taken t. TakesFirstText (iter_text_left s) taken (iter_text_left t)) text_of texts_left (λ s t taken. ap length taken.0) (λ s c t taken. taken.0)

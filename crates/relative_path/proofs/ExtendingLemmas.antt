@@ -3,15 +3,13 @@ use Rattle.std.proofs.Common.{◌≡◌, ℕ, suc, ◌+◌, ◌<◌, ◌≤◌, 
 use Rattle.std.specs.List.{slice_get}
 use Rattle.std.proofs.lemmas.Bool.{cond_both}
 use Rattle.std.proofs.lemmas.List.{map-append, drop_all}
-use Rattle.std.proofs.iter.Next.{Yields-more}
-use Rattle.std.proofs.iter.Yields.{gives_left, gives_Drains}
 use Rattle.std.proofs.iter.runs.Made.{run, to_end, to_item}
 use Rattle.relative_path.specs.declared.path.RelativePath.{RelativePath}
 use Rattle.relative_path.specs.Steps.{slash}
 use Rattle.relative_path.specs.Editing.{pushed, with_separator, unslashed}
 use Rattle.relative_path.specs.RelativePath.{path_text}
 use Rattle.relative_path.specs.RelativePathBuf.{Buffer}
-use Rattle.relative_path.specs.Extending.{pushed_all, StopsWithin, ReadsTexts, GivesTexts, PushesAll, PushesUntilFull, PushesWholeRun, PushesRunUntilFull}
+use Rattle.relative_path.specs.Extending.{pushed_all, StopsWithin, ReadsTexts, PushesAll, PushesUntilFull, PushesWholeRun, StopsRun}
 
 pub pushed_all-append : (text : List ℕ) (ps qs : List (List ℕ)) → pushed_all text (ps ++ qs) ≡ pushed_all (pushed_all text ps) qs
 pushed_all-append text [] qs = refl
@@ -62,33 +60,21 @@ front_texts (x ∷ xs) (u ∷ texts) within reads =
     ap₂ (λ y ys. y ∷ ys) (sym (reads 0)) (front_texts xs texts (omega arith) (λ k. reads (suc k)))
 
 module _ {U T : Type 0} (becomes : U → T → Type 0) (steps : T → Option RelativePath → T → Type 0) (iter : U) where
-  pub texts-PushesAll : (old new : List ℕ) (texts : List (List ℕ)) → PushesAll becomes steps iter old new
-      → GivesTexts becomes steps iter texts → new ≡ pushed_all old texts
-  texts-PushesAll old new texts (it, xs, is, drains, text) gives =
-      text ∙ ap (pushed_all old) (gives_Drains steps path_text xs texts it (gives it is) drains)
-
   pub PushesWholeRun-from : (old new : List ℕ) → PushesAll becomes steps iter old new → PushesWholeRun becomes steps iter old new
   PushesWholeRun-from old new (it, xs, is, drains, text) =
       let read : (texts : List (List ℕ)) → length xs ≡ length texts → ReadsTexts (run steps it xs true (to_end steps it xs drains)) texts → map path_text xs ≡ texts =
       λ texts long reads. sym (front_texts xs texts (omega (arith, long)) reads ∙ ap (λ ys. map path_text xs ++ ys) (drop_all (length xs) texts (omega (arith, long))) ∙ append-nil (map path_text xs)) in
       (it, is, (run steps it xs true (to_end steps it xs drains), refl, refl, λ texts long reads. text ∙ ap (pushed_all old) (read texts long reads)))
 
-  module _ (old new : Buffer) (room : old.room ≤ new.room) where
-    pub StopsWithin-PushesUntilFull : (texts : List (List ℕ)) → PushesUntilFull becomes steps iter old new
-        → GivesTexts becomes steps iter texts → StopsWithin old new texts
-    StopsWithin-PushesUntilFull texts (it, xs, x, u, is, ran, text, stopped) gives =
-        let left = gives_left steps path_text (xs ++ x ∷ []) texts it u (gives it is) (Yields-more steps it xs ran.0 x u ran.1 ran.2) in
-        StopsWithin-from old new (map path_text xs) (path_text x) left.0 texts (left.1 ∙ ap (λ ys. ys ++ left.0) (map-append path_text xs (x ∷ []))) text stopped room
-
-    pub PushesRunUntilFull-from : PushesUntilFull becomes steps iter old new → PushesRunUntilFull becomes steps iter old new
-    PushesRunUntilFull-from (it, xs, x, u, is, ran, text, stopped) =
-        let all = xs ++ x ∷ [] in (
-          it,
-          is,
-          (
-            run steps it all false (to_item steps it u xs x ran),
-            refl,
-            λ texts within reads.
-                StopsWithin-from old new (map path_text xs) (path_text x) (drop (length all) texts) texts (front_texts all texts within reads ∙ ap (λ ys. ys ++ drop (length all) texts) (map-append path_text xs (x ∷ []))) text stopped room,
-          ),
-        )
+  pub StopsRun-from : (old new : Buffer) → old.room ≤ new.room → PushesUntilFull becomes steps iter old new → StopsRun becomes steps iter old new
+  StopsRun-from old new room (it, xs, x, u, is, ran, text, stopped) =
+      let all = xs ++ x ∷ [] in (
+        it,
+        is,
+        (
+          run steps it all false (to_item steps it u xs x ran),
+          refl,
+          λ texts within reads.
+              StopsWithin-from old new (map path_text xs) (path_text x) (drop (length all) texts) texts (front_texts all texts within reads ∙ ap (λ ys. ys ++ drop (length all) texts) (map-append path_text xs (x ∷ []))) text stopped room,
+        ),
+      )

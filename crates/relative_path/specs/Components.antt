@@ -1,5 +1,6 @@
 -- What `Component` and `Components` show, and what a call of `next` or `next_back` gives.
 use Rattle.std.specs.Prelude.{◌≡◌, ℕ, List, [], ◌∷◌, ◌++◌, map, Option, MatchOption}
+use Rattle.std.specs.Iterator.Runs.{EveryRun, ItemsMapTo}
 use Rattle.std.specs.Borrow.{Bor}
 use Rattle.relative_path.specs.declared.component.Component.{Component}
 use Rattle.relative_path.specs.declared.component.Component.TheVariants.{CurDir, ParentDir, Normal}
@@ -63,3 +64,15 @@ TakesFirstText = TakesFirstBy text_of component_texts
 -- the last component was taken, as its text
 abbrev pub TakesLastText : List ℕ → Option (Bor (List ℕ)) → List ℕ → Type 0
 TakesLastText = TakesLastBy text_of component_texts
+
+-- each run of a walk reads the components that it had left, in order
+abbrev pub GivesComponents : Type 0
+GivesComponents =
+    EveryRun {S = Components} (λ s taken t. TakesFirst (text_left s) taken (text_left t))
+    (λ run. ItemsMapTo run step_of (components_left run.from))
+
+-- the same of an `Iter`, which gives their texts
+abbrev pub GivesTextsOfComponents : Type 0
+GivesTextsOfComponents =
+    EveryRun {S = Iter} (λ s taken t. TakesFirstText (iter_text_left s) taken (iter_text_left t))
+    (λ run. ItemsMapTo run text_of (texts_left run.from))

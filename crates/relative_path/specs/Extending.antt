@@ -1,6 +1,6 @@
 -- Pushes of many paths, one after another.
 use Rattle.std.specs.Prelude.{◌≡◌, ℕ, ◌+◌, ◌<◌, ◌≤◌, List, map, fold, take, length, slice_index_or, Option, Some, IfSome}
-use Rattle.std.specs.Iterator.{AlwaysYields, Drains, YieldsThen}
+use Rattle.std.specs.Iterator.{Drains, YieldsThen}
 use Rattle.std.specs.Iterator.Runs.{Run, SomeRun, WholeRun}
 use Rattle.relative_path.specs.declared.path.RelativePath.{RelativePath}
 use Rattle.relative_path.specs.Editing.{pushed}
@@ -26,10 +26,6 @@ ReadsTexts run texts =
 
 -- an iterator, told by what `into_iter` makes of it and by its calls of `next`
 module _ {U T : Type 0} (becomes : U → T → Type 0) (steps : T → Option RelativePath → T → Type 0) where
-  -- it gives paths with these texts, in order, and then `None`, whatever its calls may give
-  abbrev pub GivesTexts : U → List (List ℕ) → Type 0
-  GivesTexts iter texts = (it : T) → becomes iter it → AlwaysYields steps path_text it texts
-
   -- each path that it gave was pushed
   abbrev pub PushesAll : U → List ℕ → List ℕ → Type 0
   PushesAll iter old new = (it : T) × (paths : List RelativePath) × becomes iter it × Drains steps it paths
@@ -42,12 +38,12 @@ module _ {U T : Type 0} (becomes : U → T → Type 0) (steps : T → Option Rel
       × (new.text ≡ pushed_all old.text (map path_text paths))
       × (new.room < length (pushed new.text (path_text refused)))
 
-  -- `PushesAll`, by the texts at each place of the run
+  -- the same, told by places: the new text is the fold over each list of texts that all paths of the run have
   abbrev pub PushesWholeRun : U → List ℕ → List ℕ → Type 0
   PushesWholeRun iter old new = (it : T) × becomes iter it × WholeRun steps it (λ run.
       (texts : List (List ℕ)) → run.len ≡ length texts → ReadsTexts run texts → new ≡ pushed_all old texts)
 
-  -- `PushesUntilFull`, by the texts at each place of the run
-  abbrev pub PushesRunUntilFull : U → Buffer → Buffer → Type 0
-  PushesRunUntilFull iter old new = (it : T) × becomes iter it × SomeRun steps it (λ run.
+  -- the same of a refusal: it stopped within each list of texts whose first ones the paths of the run have
+  abbrev pub StopsRun : U → Buffer → Buffer → Type 0
+  StopsRun iter old new = (it : T) × becomes iter it × SomeRun steps it (λ run.
       (texts : List (List ℕ)) → run.len ≤ length texts → ReadsTexts run texts → StopsWithin old new texts)

@@ -5,7 +5,7 @@ ghost use Rattle.relative_path.specs.Editing.{pushed, with_piece, with_separator
 ghost use Rattle.relative_path.specs.Naming.{file_name_of, dotted, IsNamed, IsExtended};
 ghost use Rattle.relative_path.specs.Comparing.{steps_eq, steps_cmp, fed_by};
 ghost use Rattle.relative_path.specs.ComparingLaws.{partial_eq_law, partial_ord_law, by_components, fed_alike};
-ghost use Rattle.relative_path.specs.Extending.{pushed_all, GivesTexts, PushesAll, PushesUntilFull, PushesWholeRun, PushesRunUntilFull, StopsWithin};
+ghost use Rattle.relative_path.specs.Extending.{PushesAll, PushesUntilFull, PushesWholeRun, StopsRun};
 ghost use Rattle.relative_path.specs.RelativePath.{path_text, path_components};
 ghost use Rattle.relative_path.specs.RelativePathBuf.{buffer_components, ExceedsRoom};
 ghost use Rattle.std.specs.Iterator.{IsFiniteIterable};
@@ -109,12 +109,10 @@ impl RelativePathBuf {
         paths: I,
     ) -> Result<RelativePathBuf, AllocError>
         requires { IsFiniteIterable I.into_iter_gives I.IntoIter.can_next I.IntoIter.remaining paths }
-        ensures ran { IfOk result
+        ensures ok { IfOk result
             (λ buf. PushesAll I.into_iter_gives I.IntoIter.next_gives paths [] buf.text) }
         ensures runs { IfOk result
             (λ buf. PushesWholeRun I.into_iter_gives I.IntoIter.next_gives paths [] buf.text) }
-        ensures ok { (texts : List (List ℕ)) → GivesTexts I.into_iter_gives I.IntoIter.next_gives paths texts
-            → IfOk result (λ buf. buf.text ≡ pushed_all [] texts) }
     {
         let mut buf = RelativePathBuf::new(alloc);
         buf.extend(paths)?;
@@ -356,16 +354,14 @@ impl RelativePathBuf {
         paths: I,
     ) -> Result<(), AllocError>
         requires { IsFiniteIterable I.into_iter_gives I.IntoIter.can_next I.IntoIter.remaining paths }
-        ensures ran { MatchResult result
-            (λ _. PushesAll I.into_iter_gives I.IntoIter.next_gives paths self.old.text self.new.text)
-            (λ _. PushesUntilFull I.into_iter_gives I.IntoIter.next_gives paths self.old self.new) }
-        ensures runs { MatchResult result
-            (λ _. PushesWholeRun I.into_iter_gives I.IntoIter.next_gives paths self.old.text self.new.text)
-            (λ _. PushesRunUntilFull I.into_iter_gives I.IntoIter.next_gives paths self.old self.new) }
-        ensures ok { (texts : List (List ℕ)) → GivesTexts I.into_iter_gives I.IntoIter.next_gives paths texts
-            → OnOk result (self.new.text ≡ pushed_all self.old.text texts) }
-        ensures err { (texts : List (List ℕ)) → GivesTexts I.into_iter_gives I.IntoIter.next_gives paths texts
-            → OnErr result (StopsWithin self.old self.new texts) }
+        ensures ok { OnOk result
+            (PushesAll I.into_iter_gives I.IntoIter.next_gives paths self.old.text self.new.text) }
+        ensures err { OnErr result
+            (PushesUntilFull I.into_iter_gives I.IntoIter.next_gives paths self.old self.new) }
+        ensures runs { OnOk result
+            (PushesWholeRun I.into_iter_gives I.IntoIter.next_gives paths self.old.text self.new.text) }
+        ensures stops { OnErr result
+            (StopsRun I.into_iter_gives I.IntoIter.next_gives paths self.old self.new) }
         ensures room { self.old.room ≤ self.new.room }
     {
         for path in paths {

@@ -2,7 +2,7 @@
 ghost use Rattle.std.specs.Prelude.{◌≡◌, ◌≢◌, ◌≤◌, ◌↔◌, ◌++◌, [], ◌∷◌, IfOk, IsOk, IfSome, IsSome, IsNone, IsTrue, Some, List, ℕ, length};
 ghost use Rattle.relative_path.specs.Steps.{Step, name, components};
 ghost use Rattle.relative_path.specs.Editing.{pushed, IsPopped};
-ghost use Rattle.relative_path.specs.Components.{text_left, iter_text_left};
+ghost use Rattle.relative_path.specs.Components.{GivesComponents, GivesTextsOfComponents, text_left, iter_text_left};
 ghost use Rattle.relative_path.specs.Naming.{file_name_of, stem_of, extension_of, IsNamed, IsExtended};
 ghost use Rattle.relative_path.specs.Comparing.{steps_eq, steps_cmp, fed_by};
 ghost use Rattle.relative_path.specs.ComparingLaws.{partial_eq_law, partial_ord_law, by_components, fed_alike};
@@ -115,7 +115,8 @@ impl<'a> RelativePath<'a> {
     /// assert_eq!(rt; components.next_back(), Some(Component::Normal("bar")));
     /// ```
     pub fn components(self) -> Components<'a>
-        ensures { text_left result ≡ path_text self.entry }
+        ensures text { text_left result ≡ path_text self.entry }
+        ensures runs { GivesComponents }
     {
         Components::new(self.text)
     }
@@ -127,7 +128,8 @@ impl<'a> RelativePath<'a> {
     /// assert_eq!(rt; texts.next(), Some("foo"));
     /// ```
     pub fn iter(self) -> Iter<'a>
-        ensures { iter_text_left result ≡ path_text self.entry }
+        ensures text { iter_text_left result ≡ path_text self.entry }
+        ensures runs { GivesTextsOfComponents }
     {
         Iter::new(self.text)
     }

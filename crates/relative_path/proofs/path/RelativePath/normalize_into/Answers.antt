@@ -10,7 +10,7 @@ pub loop-component-init : goal.loop-component-init
 loop-component-init c =
     let left = c.into_iter-component-iterator.ensures.into_iter_gives in
     record {
-      normalizes = rw (c.requires.empty, left, c.components-component-items.ensures) (Normalizes-start (path_text c.args.self));
+      normalizes = rw (c.requires.empty, left, c.components-component-items.ensures.text) (Normalizes-start (path_text c.args.self));
       fits = c.requires.room;
       room = omega arith;
     }
