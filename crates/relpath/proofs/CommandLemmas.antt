@@ -10,7 +10,8 @@ use Rattle.relpath.specs.declared.lines.TheConstants.{MAX_FIELDS}
 same_count : (arguments : List (List ℕ)) (n : ℕ) → n < 4
     → (length arguments == n) ≡ (length (take 4 arguments) == n)
 same_count arguments n l = tell (eqb_tells (length arguments) n) where
-  tell : (((length arguments == n) ≡ true) × (length arguments ≡ n)) ⊎ (((length arguments == n) ≡ false) × (length arguments ≢ n))
+  tell : (((length arguments == n) ≡ true) × (length arguments ≡ n))
+      ⊎ (((length arguments == n) ≡ false) × (length arguments ≢ n))
       → (length arguments == n) ≡ (length (take 4 arguments) == n)
   tell (inl (e, same)) = e ∙ sym (eq-eqb _ _ (omega (arith, length-take 4 arguments)))
   tell (inr (e, other)) = e ∙ sym (ne_eqb _ _ (λ same. other (omega (arith, length-take 4 arguments))))

@@ -4,4 +4,5 @@ use Rattle.relpath.proofs.command.answer_line.Goals as goal
 
 pub returns : goal.returns
 returns c =
-    Adds-shown c.args.line.now c.split_fields.result.now c.answer_fields.result _ _ c.split_fields.ensures.fields c.answer_fields.ensures
+    let shown = c.split_fields.ensures.fields in
+    Adds-shown c.args.line.now c.split_fields.result.now c.answer_fields.result _ _ shown c.answer_fields.ensures
