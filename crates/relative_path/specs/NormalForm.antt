@@ -27,17 +27,21 @@ pub record IsNormalFormOf (cs ds : List Step) : Type 0 where
   pub of_text : components (spell ds) ≡ ds
   pub no_longer : length (spell ds) ≤ length (spell cs)
 
+-- how many `..` a form begins with
+abbrev pub form_climb : NormalForm → ℕ
+form_climb form = form.climb
+
 -- the names of a form
 abbrev pub form_names : NormalForm → List (List ℕ)
 form_names form = map (span_text form.sources) form.names.items
 
 -- the components that a form stands for
 abbrev pub form_steps : NormalForm → List Step
-form_steps form = climbed form.climb (form_names form)
+form_steps form = climbed (form_climb form) (form_names form)
 
 -- how many components these are
 abbrev pub form_len : NormalForm → ℕ
-form_len form = form.climb + vec_len form.names
+form_len form = form_climb form + vec_len form.names
 
 -- how many names the table can have
 abbrev pub form_room : NormalForm → ℕ

@@ -1,6 +1,7 @@
 //! Normal forms as a count of climbs and a table of names, each a span of a text.
-ghost use Rattle.std.specs.Prelude.{◌≡◌, ◌+◌, ◌≤◌, ◌<◌, ◌^◌, ◌++◌, [], ◌∷◌, drop, fold, length, map, replicate, IfOk, MatchOption};
-ghost use Rattle.std.specs.List.{All};
+ghost use Rattle.std.specs.Prelude.{◌≡◌, ◌+◌, ◌≤◌, ◌<◌, ◌^◌, ◌++◌, [], ◌∷◌, drop, fold, length, map, replicate, slice_index_or, IfOk, MatchOption};
+ghost use Rattle.std.specs.List.{All, common_prefix_len};
+ghost use Rattle.std.specs.Str.{bytes_eq};
 ghost use Rattle.relative_path.specs.Components.{step_of};
 ghost use Rattle.relative_path.specs.Editing.{with_piece};
 ghost use Rattle.relative_path.specs.RelativePath.{path_text, path_components};
@@ -25,7 +26,7 @@ pub(crate) struct NormalForm<'a> {
 }
 
 impl<'a> NormalForm<'a> {
-    ghost use Rattle.relative_path.specs.NormalForm.{climbed, padded_len, form_names, form_steps, form_len, form_room, Reduces, IsNormalFormOf};
+    ghost use Rattle.relative_path.specs.NormalForm.{climbed, padded_len, form_climb, form_names, form_steps, form_len, form_room, Reduces, IsNormalFormOf};
 
     // The normal form of a path. It asks for memory once, for a table of as many names as the path has components.
     pub(crate) fn of(alloc: Global, path: RelativePath<'a>) -> Result<NormalForm<'a>, AllocError>
@@ -59,6 +60,41 @@ impl<'a> NormalForm<'a> {
         Ok(form.follow(Source::First).follow(Source::Second))
     }
 
+    // How many `..` the form begins with.
+    pub(crate) fn climb(&self) -> usize
+        ensures { result ≡ form_climb self.now }
+    {
+        self.climb
+    }
+
+    // How many names the form has.
+    pub(crate) fn names_len(&self) -> usize
+        ensures { result ≡ length (form_names self.now) }
+    {
+        self.names.len()
+    }
+
+    // The name at this index.
+    fn name(&self, index: usize) -> &'a str
+        requires { index < length (form_names self.now) }
+        ensures { result.now ≡ slice_index_or (form_names self.now) index [] }
+    {
+        self.sources.cut(self.names[index])
+    }
+
+    // How many names both forms begin with.
+    pub(crate) fn common_len(&self, other: &NormalForm<'_>) -> usize
+        ensures { result ≡ common_prefix_len bytes_eq (form_names self.now) (form_names other.now) }
+    {
+        let most = self.names_len().min(other.names_len());
+        for index in 0..most {
+            if self.name(index) != other.name(index) {
+                return index;
+            }
+        }
+        most
+    }
+
     // The text that spells the form, in memory of its own. It asks for memory once, for just this text.
     pub(crate) fn spelled(&self, alloc: Global) -> Result<RelativePathBuf, AllocError>
         ensures { IfOk result (λ buf. buf.text ≡ spell (form_steps self.now)) }
@@ -75,8 +111,10 @@ impl<'a> NormalForm<'a> {
         skipped: usize,
     ) -> Result<RelativePathBuf, AllocError>
         requires { skipped ≤ length (form_names self.now) }
-        ensures { IfOk result
+        ensures text { IfOk result
             (λ buf. buf.text ≡ spell (climbed climb (drop skipped (form_names self.now)))) }
+        ensures components { IfOk result
+            (λ buf. components buf.text ≡ climbed climb (drop skipped (form_names self.now))) }
     {
         let len = self.spelled_len(climb, skipped).ok_or(AllocError)?;
         let mut buf = RelativePathBuf::with_capacity(alloc, len)?;
