@@ -1,4 +1,4 @@
-use Rattle.std.proofs.Common.{drop, length, arith, bytes_eq, length-drop}
+use Rattle.std.proofs.Common.{drop, arith, bytes_eq, length-drop}
 use Rattle.std.proofs.lemmas.List.Sums.{common_prefix_len-le}
 use Rattle.relative_path.specs.NormalForm.{form_names}
 use Rattle.relative_path.proofs.normal_form.NormalForm.common_len.Goals as goal

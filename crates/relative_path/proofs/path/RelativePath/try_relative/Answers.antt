@@ -27,4 +27,4 @@ returns-clause-shortest c =
     let shortest = IsShortest-same _ _ _ _ _ from to c.in-Some.ensures.shortest in
     let way = c.in-Some.way in
     let proper = AreProper-climbed way.climb _ (AreProper-names_past c.in_ok-to.to way.skipped) in
-    IsShortestText-spelled _ _ _ _ (components-spell _ proper) c.in_ok-spelled_past.ensures shortest
+    IsShortestText-spelled _ _ _ _ (components-spell _ proper) c.in_ok-spelled_past.ensures.text shortest
