@@ -1,13 +1,8 @@
 //! The forms that own or share a text, and the buffer's way to them.
 use crate::{BoxedRelativePath, BufExt, CowRelativePath, RcRelativePath};
 use relative_path::{RelativePath, RelativePathBuf};
-use std::alloc::{AllocError, Global};
 use std::boxed::BoxedStr;
 use std::test::Fail;
-
-fn buf_of(alloc: Global, text: &str) -> Result<RelativePathBuf, AllocError> {
-    RelativePathBuf::from_text(alloc, text)
-}
 
 #[test]
 fn boxes_show_the_text(rt: HostRuntime) -> Result<(), Fail> {
@@ -19,12 +14,14 @@ fn boxes_show_the_text(rt: HostRuntime) -> Result<(), Fail> {
     assert_eq!(rt; cloned.as_relative_path().as_str(), text, "clone");
     let taken = BoxedRelativePath::from(BoxedStr::from_str(alloc, text)?);
     assert_eq!(rt; taken.as_relative_path().as_str(), text, "From<BoxedStr>");
-    let boxed = BoxedRelativePath::from_buf(alloc, buf_of(alloc, text)?).ok();
+    let boxed = BoxedRelativePath::from_buf(alloc, RelativePathBuf::from_text(alloc, text)?).ok();
     assert!(rt;
         boxed.is_some_and(|path| path.as_relative_path().as_str() == text),
         "from_buf"
     );
-    let boxed = buf_of(alloc, text)?.into_boxed_relative_path(alloc).ok();
+    let boxed = RelativePathBuf::from_text(alloc, text)?
+        .into_boxed_relative_path(alloc)
+        .ok();
     assert!(rt;
         boxed.is_some_and(|path| path.as_relative_path().as_str() == text),
         "into_boxed_relative_path"
@@ -48,11 +45,12 @@ fn owners_share_the_text(rt: HostRuntime) -> Result<(), Fail> {
     Ok(())
 }
 
+// Either outcome: it runs with memory at hand, and with each request for memory refused.
 #[test]
 fn a_buffer_is_shared_or_handed_back(rt: HostRuntime) -> Result<(), Fail> {
     let alloc = rt.alloc();
     let text = "a//b";
-    match RcRelativePath::from_buf(alloc, buf_of(alloc, text)?) {
+    match RcRelativePath::from_buf(alloc, RelativePathBuf::from_text(alloc, text)?) {
         Ok(path) => assert_eq!(rt; path.as_relative_path().as_str(), text, "shared"),
         Err(buf) => assert_eq!(rt; buf.as_relative_path().as_str(), text, "handed back"),
     }
@@ -64,7 +62,7 @@ fn either_form_shows_the_text(rt: HostRuntime) -> Result<(), Fail> {
     let text = "a//b";
     let borrowed = CowRelativePath::from(RelativePath::new(text));
     assert_eq!(rt; borrowed.as_relative_path().as_str(), text, "borrowed");
-    let owned = CowRelativePath::from(buf_of(rt.alloc(), text)?);
+    let owned = CowRelativePath::from(RelativePathBuf::from_text(rt.alloc(), text)?);
     assert_eq!(rt; owned.as_relative_path().as_str(), text, "owned");
     Ok(())
 }
@@ -73,7 +71,9 @@ fn either_form_shows_the_text(rt: HostRuntime) -> Result<(), Fail> {
 fn strings_become_buffers_and_back(rt: HostRuntime) -> Result<(), Fail> {
     let alloc = rt.alloc();
     assert_eq!(rt;
-        buf_of(alloc, "//a/")?.into_string().as_str(),
+        RelativePathBuf::from_text(alloc, "//a/")?
+            .into_string()
+            .as_str(),
         "//a/",
         "into_string"
     );
