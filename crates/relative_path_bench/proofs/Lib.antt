@@ -1,1 +1,3 @@
+pub mod JoiningLemmas
+pub mod NamingLemmas
 pub mod WalkingLemmas
