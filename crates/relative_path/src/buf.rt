@@ -2,7 +2,7 @@
 ghost use Rattle.std.specs.Prelude.{◌≡◌, ◌≢◌, ◌≤◌, ◌<◌, ◌+◌, ◌↔◌, ◌++◌, [], ◌∷◌, if◌then◌else◌, ℕ, List, length, take, None, Some, IsSome, IfOk, IsOk, OnOk, OnErr, MatchResult, IsTrue, string_bytes};
 ghost use Rattle.relative_path.specs.Steps.{slash, components};
 ghost use Rattle.relative_path.specs.Editing.{pushed, with_piece, with_separator, IsPopped};
-ghost use Rattle.relative_path.specs.Naming.{file_name_of, dotted, IsNamed, IsExtended};
+ghost use Rattle.relative_path.specs.Naming.{file_name_of, extension_of, is_plain_extension, dotted, IsNamed, IsExtended};
 ghost use Rattle.relative_path.specs.Comparing.{steps_eq, steps_cmp, fed_by};
 ghost use Rattle.relative_path.specs.ComparingLaws.{partial_eq_law, partial_ord_law, by_components, fed_alike};
 ghost use Rattle.relative_path.specs.Extending.{PushesAll, PushesUntilFull, PushesWholeRun, StopsRun};
@@ -10,6 +10,7 @@ ghost use Rattle.relative_path.specs.RelativePath.{path_text, path_components};
 ghost use Rattle.relative_path.specs.RelativePathBuf.{buffer_components, ExceedsRoom};
 ghost use Rattle.std.specs.Iterator.{IsFiniteIterable};
 ghost use Rattle.std.specs.Fmt.{styled_text, debug_str};
+ghost use Rattle.std.specs.Option.{option_and_then};
 ghost use Rattle.std.specs.Str.{IsUtf8};
 ghost use Rattle.std.specs.Ordering.{on, as_partial_cmp};
 ghost use Rattle.std.specs.String.{string_capacity};
@@ -265,6 +266,8 @@ impl RelativePathBuf {
     pub fn set_extension(&mut self, extension: &str) -> Result<bool, AllocError>
         ensures answer { IfOk result (λ set. IsTrue set ↔ IsSome (file_name_of self.old.text)) }
         ensures ok { OnOk result (IsExtended self.old.text extension.now self.new.text) }
+        ensures extension { IfOk result (λ set. IsTrue set → IsTrue (is_plain_extension extension.now)
+            → option_and_then extension_of (file_name_of self.new.text) ≡ Some extension.now) }
         ensures err { OnErr result (self.new.text ≡ self.old.text) }
         ensures full { OnErr result
             (ExceedsRoom (IsExtended self.old.text extension.now) self.old.room) }

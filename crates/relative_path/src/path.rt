@@ -1,9 +1,9 @@
 //! The borrowed relative path.
-ghost use Rattle.std.specs.Prelude.{◌≡◌, ◌≢◌, ◌≤◌, ◌↔◌, ◌++◌, [], ◌∷◌, IfOk, IsOk, IfSome, IsSome, IsNone, IsTrue, Some, List, ℕ, length};
+ghost use Rattle.std.specs.Prelude.{◌≡◌, ◌≢◌, ◌≤◌, ◌↔◌, ◌++◌, [], ◌∷◌, IfOk, IsOk, IfSome, IsSome, IsNone, IsTrue, Some, List, ℕ, length, slice_get};
 ghost use Rattle.relative_path.specs.Steps.{Step, name, components};
-ghost use Rattle.relative_path.specs.Editing.{pushed, IsPopped};
+ghost use Rattle.relative_path.specs.Editing.{pushed, IsPopped, kept_len};
 ghost use Rattle.relative_path.specs.Components.{GivesComponents, GivesTextsOfComponents, text_left, iter_text_left};
-ghost use Rattle.relative_path.specs.Naming.{file_name_of, stem_of, extension_of, IsNamed, IsExtended};
+ghost use Rattle.relative_path.specs.Naming.{file_name_of, stem_of, extension_of, IsNamed, IsExtended, IsStemAndExtension};
 ghost use Rattle.relative_path.specs.Comparing.{steps_eq, steps_cmp, fed_by};
 ghost use Rattle.relative_path.specs.ComparingLaws.{partial_eq_law, partial_ord_law, by_components, fed_alike};
 ghost use Rattle.std.specs.Fmt.{styled_text, debug_str};
@@ -15,6 +15,7 @@ ghost use Rattle.relative_path.specs.Relating.{IsReachable, IsShortestText, Lead
 ghost use Rattle.relative_path.specs.Walk.{IsSame};
 ghost use Rattle.relative_path.specs.Prefixing.{StartsWith, EndsWith, IsDropped};
 ghost use Rattle.relative_path.specs.RelativePath.{path_text, path_components, display_text};
+ghost use Rattle.relative_path.specs.Walk.{LeadsInTurn};
 
 use crate::buf::RelativePathBuf;
 use crate::component::{Component, Components, Iter};
@@ -101,6 +102,8 @@ impl<'a> RelativePath<'a> {
             (λ joined. joined.text ≡ pushed (path_text self.entry) (path_text path.entry)) }
         ensures components { IfOk result
             (λ joined. components joined.text ≡ path_components self.entry ++ path_components path.entry) }
+        ensures in_turn { IfOk result (λ joined. LeadsInTurn (path_components self.entry)
+            (path_components path.entry) (components joined.text)) }
     {
         let len = pushed_len(self.text, path.text);
         let mut joined = RelativePathBuf::with_room(alloc, self.text, len)?;
@@ -177,7 +180,9 @@ impl<'a> RelativePath<'a> {
     /// assert_eq!(rt; RelativePath::new("foo/..").file_name(), None);
     /// ```
     pub fn file_name(self) -> Option<&'a str>
-        ensures { option_copied result ≡ file_name_of (path_text self.entry) }
+        ensures text { option_copied result ≡ file_name_of (path_text self.entry) }
+        ensures placed { IfSome result (λ file_name. slice_get (path_components self.entry)
+            (kept_len (path_components self.entry)) ≡ Some (name file_name.now)) }
     {
         last_component(self).name
     }
@@ -288,7 +293,9 @@ impl<'a> RelativePath<'a> {
     /// assert_eq!(rt; RelativePath::new(".foo").file_stem(), Some(".foo"));
     /// ```
     pub fn file_stem(self) -> Option<&'a str>
-        ensures { option_copied result ≡ option_map stem_of (file_name_of (path_text self.entry)) }
+        ensures text { option_copied result ≡ option_map stem_of (file_name_of (path_text self.entry)) }
+        ensures joined { IfSome result (λ stem. IfSome (file_name_of (path_text self.entry))
+            (λ file_name. IsStemAndExtension file_name stem.now (extension_of file_name))) }
     {
         self.file_name().map(|name| split_name(name).0)
     }
@@ -354,6 +361,8 @@ impl<'a> RelativePath<'a> {
     ) -> Result<RelativePathBuf, AllocError>
         ensures normal_form { IfOk result (λ normal. IsNormalTextOf
             (path_components self.entry ++ path_components path.entry) normal.text) }
+        ensures in_turn { IfOk result (λ normal. LeadsInTurn (path_components self.entry)
+            (path_components path.entry) (components normal.text)) }
     {
         NormalForm::of_both(alloc, self, path)?.spelled(alloc)
     }
@@ -374,6 +383,8 @@ impl<'a> RelativePath<'a> {
             (λ normal. IsNormalTextOf (components (path_text self.entry)) normal.text) }
         ensures no_longer { IfOk result
             (λ normal. length normal.text ≤ length (path_text self.entry)) }
+        ensures normal_stays { IfOk result (λ normal. IsNormal (path_components self.entry)
+            → components normal.text ≡ path_components self.entry) }
     {
         NormalForm::of(alloc, self)?.spelled(alloc)
     }

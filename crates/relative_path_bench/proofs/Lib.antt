@@ -1,2 +1,4 @@
 pub mod RelatingLemmas
+pub mod JoiningLemmas
+pub mod NamingLemmas
 pub mod WalkingLemmas

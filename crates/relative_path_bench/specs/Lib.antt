@@ -1,2 +1,4 @@
 pub mod Relating
+pub mod Joining
+pub mod Naming
 pub mod Walking
