@@ -25,6 +25,7 @@ pub fn answer(alloc: Global, line: &str) -> Result<String, Refusal> {
         "join" => join(alloc, call.two()?),
         "with_file_name" => with_file_name(alloc, call.two()?),
         "with_extension" => with_extension(alloc, call.two()?),
+        "join_normalized" => join_normalized(alloc, call.two()?),
         "normalize" => normalize(alloc, call.one()?),
         "relative" => relative(alloc, call.two()?),
         "push" => push(alloc, call.two()?),
@@ -125,6 +126,11 @@ fn with_extension(alloc: Global, (path, extension): (&str, &str)) -> Result<Stri
         alloc,
         &RelativePath::new(path).with_extension(alloc, extension)?,
     )
+}
+
+fn join_normalized(alloc: Global, (path, other): (&str, &str)) -> Result<String, Refusal> {
+    let normal = RelativePath::new(path).join_normalized(alloc, RelativePath::new(other))?;
+    text_of(alloc, &normal)
 }
 
 fn normalize(alloc: Global, path: &str) -> Result<String, Refusal> {

@@ -2,6 +2,7 @@
 mod comparing;
 mod decompositions;
 mod editing;
+mod joining;
 mod naming;
 mod normalizing;
 mod printing;
