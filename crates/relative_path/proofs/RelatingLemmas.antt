@@ -1,8 +1,9 @@
 -- The shortest way from one place to another, and from one normal list to another; where normal lists lead apart.
-use Rattle.std.proofs.Common.{◌≡◌, ◌≢◌, ◌⊎◌, ◌↔◌, ℕ, zero, suc, ◌+◌, ◌-◌, ◌<◌, ◌≤◌, true, cond, bytes_eq, List, [], ◌∷◌, ◌++◌, length, take, map, replicate, Option, Some, None, IsNone, MatchOption, true≢false, option_and_then, refl, sym, ap, ◌∙◌, subst, inl, inr, append_assoc, append-nil, arith, length-append, get_or, drop, length-drop}
-use Rattle.std.specs.Prelude.{⊤, min}
+use Rattle.std.proofs.Common.{◌≡◌, ◌≢◌, ◌⊎◌, ◌↔◌, ℕ, zero, suc, ◌+◌, ◌-◌, ◌<◌, ◌≤◌, true, cond, bytes_eq, List, [], ◌∷◌, ◌++◌, length, take, map, replicate, Option, Some, None, IsNone, MatchOption, true≢false, option_and_then, refl, sym, ap, ◌∙◌, subst, inl, inr, append_assoc, append-nil, arith, length-append, drop}
+use Rattle.std.specs.Prelude.{min}
+use Rattle.std.specs.List.{common_prefix_len}
 use Rattle.std.proofs.lemmas.Bool.{cond-true, cond-false, cases_Bool, cases_lt}
-use Rattle.std.proofs.lemmas.List.{length_push, length-replicate, replicate-append-replicate, take-replicate, map-append, take-append-drop, drop_more, drop_all}
+use Rattle.std.proofs.lemmas.List.{length_push, length-replicate, replicate-append-replicate, take-replicate}
 use Rattle.std.proofs.lemmas.Slice.Eq.{bytes_eq-Decides}
 use Rattle.relative_path.specs.Steps.{Step, cur, up, name, components, spell}
 use Rattle.relative_path.specs.Walk.{walk, IsSame}
@@ -102,25 +103,37 @@ way_shortest (m ∷ ms) ns (up ∷ s) leads =
     subst (λ x. (length (way x ns) < length (up ∷ s)) ⊎ (up ∷ s ≡ way x ns)) (sym last.1) stepped
 way_shortest ms ns (name n ∷ s) leads = way_shortest-name ms n ns s (way_shortest (ms ++ n ∷ []) ns s leads)
 
--- ---- where the way parts
-
--- one of them is empty, or they begin with different names
-abbrev pub ArePartedAtOnce : List (List ℕ) → List (List ℕ) → Type 0
-ArePartedAtOnce [] ns = ⊤
-ArePartedAtOnce (m ∷ ms) [] = ⊤
-ArePartedAtOnce (m ∷ ms) (n ∷ ns) = m ≢ n
-
-way-parted : (ms ns : List (List ℕ)) → ArePartedAtOnce ms ns → way ms ns ≡ climbed (length ms) ns
-way-parted [] ns parted = refl
-way-parted (m ∷ ms) [] parted = sym (append-nil (replicate (suc (length ms)) up))
-way-parted (m ∷ ms) (n ∷ ns) parted = elim (cases_Bool (bytes_eq m n)) [
-  | inl e ↦ absurd (parted ((bytes_eq-Decides m n).0 e))
-  | inr e ↦ cond-false (bytes_eq m n) _ _ e
+-- the way, told by how many names both places begin with
+pub way-common : (ms ns : List (List ℕ))
+    → way ms ns ≡ climbed (length ms - common_prefix_len bytes_eq ms ns) (drop (common_prefix_len bytes_eq ms ns) ns)
+way-common [] ns = refl
+way-common (m ∷ ms) [] =
+    let whole : suc (length ms) - 0 ≡ suc (length ms) = omega arith in
+    sym (append-nil (replicate (suc (length ms)) up)) ∙ ap (λ k. climbed k []) (sym whole)
+way-common (m ∷ ms) (n ∷ ns) = elim (cases_Bool (bytes_eq m n)) [
+  | inl e ↦
+      let common = common_prefix_len bytes_eq ms ns in
+      let next : 1 + common ≡ suc common = omega arith in
+      let left : length ms - common ≡ suc (length ms) - suc common = omega arith in
+      let rest = way-common ms ns ∙ ap (λ k. climbed k (drop common ns)) left in
+      rw (cond-true (bytes_eq m n) _ _ e, cond-true (bytes_eq m n) _ _ e, next) rest
+  | inr e ↦
+      let whole : suc (length ms) ≡ suc (length ms) - 0 = omega arith in
+      rw (cond-false (bytes_eq m n) _ _ e, cond-false (bytes_eq m n) _ _ e) (ap (λ k. climbed k (n ∷ ns)) whole)
 ]
 
-way-append : (front ms ns : List (List ℕ)) → way (front ++ ms) (front ++ ns) ≡ way ms ns
-way-append [] ms ns = refl
-way-append (n ∷ front) ms ns = cond-true (bytes_eq n n) _ _ (bytes_eq-same n) ∙ way-append front ms ns
+-- a name that is not the first of these
+abbrev other_name : List (List ℕ) → List ℕ
+other_name [] = []
+other_name (n ∷ ns) = 0 ∷ n
+
+-- from under such a name the way is all the way up, and down
+way-other_name : (ms ns : List (List ℕ)) → way (other_name ns ∷ ms) ns ≡ climbed (suc (length ms)) ns
+way-other_name ms [] = sym (append-nil (replicate (suc (length ms)) up))
+way-other_name ms (n ∷ ns) = elim (cases_Bool (bytes_eq (0 ∷ n) n)) [
+  | inl e ↦ absurd (let same = ap length ((bytes_eq-Decides (0 ∷ n) n).0 e) in omega arith)
+  | inr e ↦ cond-false (bytes_eq (0 ∷ n) n) _ _ e
+]
 
 -- ---- the parts of a normal list
 
@@ -147,12 +160,6 @@ walk-climbed base ups ns long =
     let names = names_of-climbed ups ns in
     let leads = walk-normal base (climbed ups ns) (IsNormal-climbed ups ns) (omega arith) in
     rw (climbs, names) at leads
-
-climbed-append : (ups : ℕ) (front ns : List (List ℕ))
-    → climbed ups (front ++ ns) ≡ climbed ups front ++ map name ns
-climbed-append ups front ns =
-    let names = map-append name front ns in
-    ap (λ x. replicate ups up ++ x) names ∙ sym (append_assoc (replicate ups up) (map name front) (map name ns))
 
 climbed-ups : (ups more : ℕ) (ns : List (List ℕ))
     → replicate ups up ++ climbed more ns ≡ climbed (ups + more) ns
@@ -181,15 +188,25 @@ IsSame-names_ups (n ∷ ns) ds =
     let shifted = ap (λ x. name n ∷ (map name ns ++ x)) (replicate-up_more (length ns) ds) in
     subst (λ x. IsSame x ds) (sym shifted) (IsSame-trans _ _ _ inner (IsSame-name_up [] ds n))
 
--- below a common front, up the names left of the source and down the names left of the target
-Leads-level : (ups : ℕ) (front ms ns : List (List ℕ))
-    → Leads (climbed ups (front ++ ms)) (climbed (length ms) ns) (climbed ups (front ++ ns))
-Leads-level ups front ms ns =
-    let start = climbed ups front in
-    let onward = climbed (length ms) ns in
-    let cut = ap (λ x. x ++ onward) (climbed-append ups front ms) in
-    let source = cut ∙ append_assoc start (map name ms) onward in
-    rw (source, climbed-append ups front ns) (IsSame-append_left start _ _ (IsSame-names_ups ms (map name ns)))
+-- down the names of a place, and then the way from there to another
+IsSame-way : (ms ns : List (List ℕ)) → IsSame (map name ms ++ way ms ns) (map name ns)
+IsSame-way [] ns = IsSame-refl (map name ns)
+IsSame-way (m ∷ ms) [] =
+    subst (λ x. IsSame (map name (m ∷ ms) ++ x) []) (append-nil _) (IsSame-names_ups (m ∷ ms) [])
+IsSame-way (m ∷ ms) (n ∷ ns) = elim (cases_Bool (bytes_eq m n)) [
+  | inl e ↦
+      let same : name m ≡ name n = ap name ((bytes_eq-Decides m n).0 e) in
+      let below = IsSame-append_left (name m ∷ []) _ _ (IsSame-way ms ns) in
+      let P : Step → Type 0 = λ c. IsSame (name m ∷ (map name ms ++ way ms ns)) (c ∷ map name ns) in
+      rw (cond-true (bytes_eq m n) _ _ e) (subst P same below)
+  | inr e ↦ rw (cond-false (bytes_eq m n) _ _ e) (IsSame-names_ups (m ∷ ms) (map name (n ∷ ns)))
+]
+
+-- where both climb as high, the way from the source's names to the target's
+Leads-level : (ups : ℕ) (ms ns : List (List ℕ)) → Leads (climbed ups ms) (way ms ns) (climbed ups ns)
+Leads-level ups ms ns =
+    let start = replicate ups up in
+    rw (append_assoc start (map name ms) (way ms ns)) (IsSame-append_left start _ _ (IsSame-way ms ns))
 
 -- where the target climbs higher, up the source's names and as far as it climbs higher, and down the target's names
 Leads-higher : (ups more : ℕ) (ms ns : List (List ℕ))
@@ -224,28 +241,15 @@ IsShortest-from base ms ns cs r ds at is leads = record {
       subst (λ x. (length x < length s) ⊎ (s ≡ x)) is longer;
 }
 
-pub IsShortest-level : (ups : ℕ) (front ms ns : List (List ℕ)) → ArePartedAtOnce ms ns
-    → IsShortest (climbed ups (front ++ ms)) (climbed (length ms) ns) (climbed ups (front ++ ns))
-IsShortest-level ups front ms ns parted =
+pub IsShortest-level : (ups : ℕ) (ms ns : List (List ℕ)) → IsShortest (climbed ups ms) (way ms ns) (climbed ups ns)
+IsShortest-level ups ms ns =
     let base : List (List ℕ) = replicate ups [] in
     let len = length-replicate {A = List ℕ} ups [] in
-    let source = front ++ ms in
-    let target = front ++ ns in
-    let at : LeadFrom base source target (climbed ups source) (climbed ups target) = record {
-      source = walk-climbed_level base ups source len;
-      target = walk-climbed_level base ups target len;
+    let at : LeadFrom base ms ns (climbed ups ms) (climbed ups ns) = record {
+      source = walk-climbed_level base ups ms len;
+      target = walk-climbed_level base ups ns len;
     } in
-    let is = way-append front ms ns ∙ way-parted ms ns parted in
-    IsShortest-from _ _ _ _ _ _ at is (Leads-level ups front ms ns)
-
--- a name that is not the first of these
-abbrev other_name : List (List ℕ) → List ℕ
-other_name [] = []
-other_name (n ∷ ns) = 0 ∷ n
-
-other_name-parted : (k : ℕ) (ms ns : List (List ℕ)) → ArePartedAtOnce (replicate (suc k) (other_name ns) ++ ms) ns
-other_name-parted k ms [] = tt
-other_name-parted k ms (n ∷ ns) = λ same. let e = ap length same in omega arith
+    IsShortest-from _ _ _ _ _ _ at refl (Leads-level ups ms ns)
 
 pub IsShortest-higher : (ups more : ℕ) (ms ns : List (List ℕ)) → 0 < more
     → IsShortest (climbed ups ms) (climbed (length ms + more) ns) (climbed (ups + more) ns)
@@ -264,7 +268,7 @@ IsShortest-higher ups (suc k) ms ns higher =
     } in
     let joined = length-append (replicate (suc k) other) ms in
     let counted : length place ≡ length ms + suc k = omega (arith, joined, length-replicate (suc k) other) in
-    let is = way-parted place ns (other_name-parted k ms ns) ∙ ap (λ j. climbed j ns) counted in
+    let is = way-other_name (replicate k other ++ ms) ns ∙ ap (λ j. climbed j ns) counted in
     IsShortest-from _ _ _ _ _ _ at is (Leads-higher ups (suc k) ms ns)
 
 -- ---- where none leads
@@ -380,38 +384,45 @@ IsReachable-climb f t fs ts from to =
 
 -- ---- the way as the code finds it
 
-parted_nil : (ms : List (List ℕ)) → ArePartedAtOnce ms []
-parted_nil [] = tt
-parted_nil (m ∷ ms) = tt
+common_prefix_len-same : (ns : List (List ℕ)) → common_prefix_len bytes_eq ns ns ≡ length ns
+common_prefix_len-same [] = refl
+common_prefix_len-same (n ∷ ns) =
+    cond-true (bytes_eq n n) _ _ (bytes_eq-same n) ∙ (let rest = common_prefix_len-same ns in omega arith)
 
-parted_drop : (k : ℕ) (ms ns : List (List ℕ))
-    → (k < length ms → k < length ns → get_or ms k [] ≢ get_or ns k []) → ArePartedAtOnce (drop k ms) (drop k ns)
-parted_drop k ms ns other = elim (cases_lt k (length ms)) [
-  | inl inside ↦ elim (cases_lt k (length ns)) [
-    | inl inside' ↦ rw (drop_more ms k [] inside, drop_more ns k [] inside') (other inside inside')
-    | inr past ↦ rw (drop_all k ns past) (parted_nil (drop k ms))
-  ]
-  | inr past ↦ rw (drop_all k ms past) tt
+same_from_common : (ms ns : List (List ℕ)) → common_prefix_len bytes_eq ms ns ≡ length ms
+    → common_prefix_len bytes_eq ms ns ≡ length ns → ms ≡ ns
+same_from_common [] [] all all' = refl
+same_from_common [] (n ∷ ns) all all' = absurd (omega (arith, all'))
+same_from_common (m ∷ ms) [] all all' = absurd (omega (arith, all))
+same_from_common (m ∷ ms) (n ∷ ns) all all' = elim (cases_Bool (bytes_eq m n)) [
+  | inl e ↦
+      let counted = sym (cond-true (bytes_eq m n) (1 + common_prefix_len bytes_eq ms ns) 0 e) in
+      let first = counted ∙ all in
+      let second = counted ∙ all' in
+      let same = (bytes_eq-Decides m n).0 e in
+      let rest = same_from_common ms ns (omega arith) (omega arith) in
+      cc
+  | inr e ↦
+      let none = sym (cond-false (bytes_eq m n) (1 + common_prefix_len bytes_eq ms ns) 0 e) ∙ all in
+      absurd (omega arith)
 ]
 
--- where both climb as high and have just their first k names in common
-pub IsShortest-common : (ups k : ℕ) (ms ns : List (List ℕ)) → take k ms ≡ take k ns
-    → (k < length ms → k < length ns → get_or ms k [] ≢ get_or ns k [])
-    → IsShortest (climbed ups ms) (climbed (length ms - k) (drop k ns)) (climbed ups ns)
-IsShortest-common ups k ms ns common other =
-    let source : take k ms ++ drop k ms ≡ ms = take-append-drop k ms in
-    let target : take k ms ++ drop k ns ≡ ns = ap (λ x. x ++ drop k ns) common ∙ take-append-drop k ns in
-    let level = IsShortest-level ups (take k ms) (drop k ms) (drop k ns) (parted_drop k ms ns other) in
-    rw (source, target, length-drop k ms) at level
+-- two lists are the same exactly if they have all their names in common
+pub common_all : (ms ns : List (List ℕ))
+    → ((common_prefix_len bytes_eq ms ns ≡ length ms) × (common_prefix_len bytes_eq ms ns ≡ length ns)) ↔ (ms ≡ ns)
+common_all ms ns = (
+  λ all. same_from_common ms ns all.0 all.1,
+  λ same. (
+    ap (common_prefix_len bytes_eq ms) (sym same) ∙ common_prefix_len-same ms,
+    ap (λ x. common_prefix_len bytes_eq x ns) same ∙ common_prefix_len-same ns,
+  ),
+)
 
--- where the target climbs higher
-pub IsShortest-climbs : (ups more : ℕ) (ms ns : List (List ℕ)) → ups < more
-    → IsShortest (climbed ups ms) (climbed (length ms + (more - ups)) ns) (climbed more ns)
-IsShortest-climbs ups more ms ns higher =
-    let climbs : ups + (more - ups) ≡ more = omega arith in
-    let onward = climbed (length ms + (more - ups)) ns in
-    let shortest = IsShortest-higher ups (more - ups) ms ns (omega arith) in
-    subst (λ k. IsShortest (climbed ups ms) onward (climbed k ns)) climbs shortest
+-- where both climb as high
+pub IsShortest-common : (ups : ℕ) (ms ns : List (List ℕ)) → let common = common_prefix_len bytes_eq ms ns in
+    IsShortest (climbed ups ms) (climbed (length ms - common) (drop common ns)) (climbed ups ns)
+IsShortest-common ups ms ns =
+    subst (λ r. IsShortest (climbed ups ms) r (climbed ups ns)) (way-common ms ns) (IsShortest-level ups ms ns)
 
 -- two normal lists that differ lead apart at the lower climb
 pub LeadsApart-lower : (ups more : ℕ) (ms ns : List (List ℕ)) → (ups ≡ more → ms ≢ ns)
@@ -434,14 +445,12 @@ LeadsApart-lower ups more ms ns other = elim (cases_lt ups more) [
 
 -- ---- the text of the way
 
-pub IsShortestText-spelled : (f t r : List Step) (text : List ℕ) → components (spell r) ≡ r → text ≡ spell r
+pub IsShortestText-spelled : (f t r : List Step) (text : List ℕ) → components text ≡ r → text ≡ spell r
     → IsShortest f r t → IsShortestText f t text
-IsShortestText-spelled f t r text whole spelled shortest =
-    let same : components text ≡ r = ap components spelled ∙ whole in
-    record {
-      spelled = spelled ∙ ap spell (sym same);
-      shortest = rw same shortest;
-    }
+IsShortestText-spelled f t r text same spelled shortest = record {
+  spelled = spelled ∙ ap spell (sym same);
+  shortest = rw same shortest;
+}
 
 -- ---- where two lists lead apart, told by lists that lead to the same places
 

@@ -19,9 +19,9 @@ use std::alloc::{AllocError, Global};
 // As many `..` as it climbs, and then the names.
 #[derive(Drop)]
 pub(crate) struct NormalForm<'a> {
-    pub(crate) sources: Sources<'a>,
-    pub(crate) climb: usize,
-    pub(crate) names: Vec<Span>,
+    sources: Sources<'a>,
+    climb: usize,
+    names: Vec<Span>,
     ghost cut: { All (CutsName sources) names.items },
 }
 
@@ -32,7 +32,7 @@ impl<'a> NormalForm<'a> {
     pub(crate) fn of(alloc: Global, path: RelativePath<'a>) -> Result<NormalForm<'a>, AllocError>
         ensures normal_form { IfOk result
             (λ form. IsNormalFormOf (path_components path.entry) (form_steps form)) }
-        ensures room { IfOk result (λ form. form_len form ≤ form_room form) }
+        ensures few { IfOk result (λ form. form_len form < 2 ^ 63) }
     {
         let sources = Sources {
             first: path.as_str(),

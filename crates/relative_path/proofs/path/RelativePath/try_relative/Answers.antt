@@ -1,7 +1,5 @@
 use Rattle.std.proofs.Common.{refl, true≢false}
-use Rattle.relative_path.proofs.StepsLemmas.{components-spell}
 use Rattle.relative_path.proofs.WalkLemmas.{IsSame-sym}
-use Rattle.relative_path.proofs.NormalFormLemmas.{AreProper-climbed, AreProper-names_past}
 use Rattle.relative_path.proofs.RelatingLemmas.{IsReachable-same, IsShortest-same, IsShortestText-spelled}
 use Rattle.relative_path.proofs.path.RelativePath.try_relative.Goals as goal
 
@@ -25,6 +23,5 @@ returns-clause-shortest c =
     let from = IsSame-sym _ _ c.in_ok-from.ensures.normal_form.same in
     let to = IsSame-sym _ _ c.in_ok-to.ensures.normal_form.same in
     let shortest = IsShortest-same _ _ _ _ _ from to c.in-Some.ensures.shortest in
-    let way = c.in-Some.way in
-    let proper = AreProper-climbed way.climb _ (AreProper-names_past c.in_ok-to.to way.skipped) in
-    IsShortestText-spelled _ _ _ _ (components-spell _ proper) c.in_ok-spelled_past.ensures.text shortest
+    let spelled = c.in_ok-spelled_past.ensures in
+    IsShortestText-spelled _ _ _ _ spelled.components spelled.text shortest
