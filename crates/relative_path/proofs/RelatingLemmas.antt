@@ -473,3 +473,9 @@ parting_some cs ds None same n = (λ some. absurd (cc), λ apart. absurd (LeadsA
 parting_some cs ds (Some m) apart n =
     let is = λ (some : Some m ≡ Some n). let e : m ≡ n = cc in subst (LeadsApart cs ds) e apart in
     (is, λ at_n. ap Some (LeadsApart-unique cs ds m n apart at_n))
+
+-- what leads to the middle, and then on from there, leads to the end
+pub Leads-through : (f r middle s t : List Step) → Leads f r middle → Leads middle s t → Leads f (r ++ s) t
+Leads-through f r middle s t first second =
+    rw (← append_assoc f r s)
+    (IsSame-trans ((f ++ r) ++ s) (middle ++ s) t (IsSame-append_right (f ++ r) middle s first) second)

@@ -1,9 +1,9 @@
 //! The borrowed relative path.
 ghost use Rattle.std.specs.Prelude.{◌≡◌, ◌≢◌, ◌≤◌, ◌↔◌, ◌++◌, [], ◌∷◌, IfOk, IsOk, IfSome, IsSome, IsNone, IsTrue, Some, List, ℕ, length, slice_get};
 ghost use Rattle.relative_path.specs.Steps.{Step, name, components};
-ghost use Rattle.relative_path.specs.Editing.{pushed, IsPopped, kept_len};
+ghost use Rattle.relative_path.specs.Editing.{kept_len, pushed, IsPopped};
 ghost use Rattle.relative_path.specs.Components.{GivesComponents, GivesTextsOfComponents, text_left, iter_text_left};
-ghost use Rattle.relative_path.specs.Naming.{file_name_of, stem_of, extension_of, IsNamed, IsExtended, IsStemAndExtension};
+ghost use Rattle.relative_path.specs.Naming.{file_name_of, stem_of, extension_of, IsStemAndExtension, IsNamed, IsExtended};
 ghost use Rattle.relative_path.specs.Comparing.{steps_eq, steps_cmp, fed_by};
 ghost use Rattle.relative_path.specs.ComparingLaws.{partial_eq_law, partial_ord_law, by_components, fed_alike};
 ghost use Rattle.std.specs.Fmt.{styled_text, debug_str};
@@ -11,11 +11,10 @@ ghost use Rattle.std.specs.Option.{option_copied, option_map, option_and_then};
 ghost use Rattle.std.specs.Ordering.{on, as_partial_cmp};
 ghost use Rattle.std.proofs.Common.{refl};
 ghost use Rattle.relative_path.specs.Normalizing.{IsNormal, IsNormalTextOf, IsNormalForm, climb};
-ghost use Rattle.relative_path.specs.Relating.{IsReachable, IsShortestText, LeadsApart};
-ghost use Rattle.relative_path.specs.Walk.{IsSame};
+ghost use Rattle.relative_path.specs.Relating.{Leads, IsReachable, IsShortestText, LeadsApart};
+ghost use Rattle.relative_path.specs.Walk.{IsSame, LeadsInTurn};
 ghost use Rattle.relative_path.specs.Prefixing.{StartsWith, EndsWith, IsDropped};
 ghost use Rattle.relative_path.specs.RelativePath.{path_text, path_components, display_text};
-ghost use Rattle.relative_path.specs.Walk.{LeadsInTurn};
 
 use crate::buf::RelativePathBuf;
 use crate::component::{Component, Components, Iter};
@@ -439,6 +438,9 @@ impl<'a> RelativePath<'a> {
             → IsNormalForm (path_components to.entry) to_steps
             → IsReachable (path_components self.entry) (path_components to.entry)
             ↔ (climb from_steps ≤ climb to_steps) }
+        ensures through { (middle r s : List Step) → Leads (path_components self.entry) r middle
+            → Leads middle s (path_components to.entry)
+            → Leads (path_components self.entry) (r ++ s) (path_components to.entry) }
     {
         let way = self.try_relative(alloc, to)?;
         Ok(way.unwrap_or_else(|| RelativePathBuf::new(alloc)))

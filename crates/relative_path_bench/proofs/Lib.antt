@@ -1,4 +1,4 @@
-pub mod RelatingLemmas
+pub mod WalkingLemmas
 pub mod JoiningLemmas
 pub mod NamingLemmas
-pub mod WalkingLemmas
+pub mod RelatingLemmas

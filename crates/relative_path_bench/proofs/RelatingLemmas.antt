@@ -1,8 +1,9 @@
 -- Lists that lead to the same, and the one normal text of each.
-use Rattle.std.proofs.Common.{◌≡◌, ◌↔◌, ◌⊎◌, ℕ, List, [], ◌++◌, Option, Some, None, inl, inr, refl, sym, ap, ◌∙◌, subst, append-nil}
+use Rattle.std.proofs.Common.{◌≡◌, ◌↔◌, ◌⊎◌, ℕ, ◌+◌, ◌≤◌, List, [], ◌++◌, length, Option, Some, None, inl, inr, refl, sym, ap, ◌∙◌, subst, append-nil, arith, length-append}
 use Rattle.relative_path.specs.Steps.{Step, pieces, components}
 use Rattle.relative_path.specs.Walk.{walk, IsSame}
 use Rattle.relative_path.specs.Normalizing.{IsNormalTextOf}
+use Rattle.relative_path.specs.Relating.{Leads, IsShortest}
 use Rattle.relative_path_bench.specs.Relating.{EndAt, ClimbAway, EndAlike}
 
 IsSame-from_alike : (cs ds : List Step) → EndAlike cs ds → IsSame cs ds
@@ -47,3 +48,10 @@ unfolding components pieces
 IsNormalTextOf-empty cs way text none normal =
     let alone : cs ++ components way ≡ cs = ap (λ x. cs ++ components x) none ∙ append-nil cs in
     subst (λ ds. IsNormalTextOf ds text) alone normal
+
+-- of the shortest lists, the direct one is no longer than one through the middle
+pub shortest_through : (f t r r' s : List Step) → IsShortest f r t → Leads f (r' ++ s) t → length r ≤ length r' + length s
+shortest_through f t r r' s direct through = elim (direct.shortest (r' ++ s) through) [
+  | inl shorter ↦ omega (arith, length-append r' s)
+  | inr same ↦ omega (arith, ap length same, length-append r' s)
+]

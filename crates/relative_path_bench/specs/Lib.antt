@@ -1,4 +1,4 @@
-pub mod Relating
+pub mod Walking
 pub mod Joining
 pub mod Naming
-pub mod Walking
+pub mod Relating

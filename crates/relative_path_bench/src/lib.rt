@@ -5,7 +5,7 @@ pub use self::joining::{associative, from_paths_law, join_law, join_normalized_l
 pub use self::naming::{extension_law, parent_law, stem_law};
 pub use self::normalizing::{normalize_twice, normalized_law};
 pub use self::prefixing::strip_law;
-pub use self::relating::{leads_back, same_law, try_law};
+pub use self::relating::{leads_back, same_law, triangle, try_law};
 pub use self::walking::{End, Taken, take_in_turn};
 
 mod joining;

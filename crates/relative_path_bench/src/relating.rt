@@ -1,10 +1,10 @@
 //! The way from one path to another, and paths that lead to the same.
-ghost use Rattle.std.specs.Prelude.{◌≡◌, ◌↔◌, ◌++◌, ℕ, IfOk, IfSome, IsNone, Some};
+ghost use Rattle.std.specs.Prelude.{◌≡◌, ◌≤◌, ◌↔◌, ◌+◌, ◌++◌, ℕ, List, length, IfOk, IfSome, IsNone, Some};
 ghost use Rattle.relative_path.specs.Normalizing.{IsNormalTextOf};
-ghost use Rattle.relative_path.specs.Relating.{IsReachable, IsShortestText, LeadsApart};
+ghost use Rattle.relative_path.specs.Relating.{Leads, IsReachable, IsShortestText, LeadsApart};
 ghost use Rattle.relative_path.specs.RelativePath.{path_components};
-ghost use Rattle.relative_path.specs.Steps.{components};
-ghost use Rattle.relative_path_bench.specs.Relating.{EndAlike};
+ghost use Rattle.relative_path.specs.Steps.{Step, components};
+ghost use Rattle.relative_path_bench.specs.Relating.{EndAlike, IsWay};
 
 use relative_path::{RelativePath, RelativePathBuf};
 use std::alloc::{AllocError, Global};
@@ -69,6 +69,45 @@ pub fn same_law(
     let normal = path.normalize(alloc)?;
     let other_normal = other.normalize(alloc)?;
     Ok((normal, other_normal, path.leads_apart(alloc, other)?))
+}
+
+/// The ways from `a` to `c`, from `a` to `b`, and from `b` to `c`.
+///
+/// Where paths lead from `a` to `b` and from `b` to `c`, the way from `a` to `c` has no more
+/// components than the other two together. It asks for memory for the three, and fails only where
+/// that is refused.
+///
+/// ```
+/// let [a, b, c] = ["a/b", "a", "c"].map(RelativePath::new);
+/// let (a_c, a_b, b_c) = triangle(alloc, a, b, c)?;
+/// assert_eq!(rt; a_c.as_relative_path().as_str(), "../../c");
+/// assert_eq!(rt; a_b.as_relative_path().as_str(), "..");
+/// assert_eq!(rt; b_c.as_relative_path().as_str(), "../c");
+/// ```
+pub fn triangle(
+    alloc: Global,
+    a: RelativePath<'_>,
+    b: RelativePath<'_>,
+    c: RelativePath<'_>,
+) -> Result<(RelativePathBuf, RelativePathBuf, RelativePathBuf), AllocError>
+    ensures a_c { IfOk result
+        (λ ways. IsWay (path_components a.entry) (path_components c.entry) ways.0.text) }
+    ensures a_b { IfOk result
+        (λ ways. IsWay (path_components a.entry) (path_components b.entry) ways.1.text) }
+    ensures b_c { IfOk result
+        (λ ways. IsWay (path_components b.entry) (path_components c.entry) ways.2.text) }
+    ensures transitive { (r s : List Step) → Leads (path_components a.entry) r (path_components b.entry)
+        → Leads (path_components b.entry) s (path_components c.entry)
+        → Leads (path_components a.entry) (r ++ s) (path_components c.entry) }
+    ensures triangle { IfOk result
+        (λ ways. IsReachable (path_components a.entry) (path_components b.entry)
+        → IsReachable (path_components b.entry) (path_components c.entry)
+        → length (components ways.0.text)
+        ≤ length (components ways.1.text) + length (components ways.2.text)) }
+{
+    let a_c = a.relative(alloc, c)?;
+    let a_b = a.relative(alloc, b)?;
+    Ok((a_c, a_b, b.relative(alloc, c)?))
 }
 
 /// The way from `from` to `to`, and `from` followed by it in normal form; `None` exactly if no path
