@@ -412,10 +412,12 @@ impl<'a> RelativePath<'a> {
     /// The shortest path that leads from where this path leads to where `to` leads, whatever base
     /// both start from.
     ///
-    /// The answer is empty where both lead to the same, and also where no path leads on from this
-    /// one, as from `..` to `a`: [`RelativePath::try_relative`] tells these apart. It asks for
-    /// memory at most three times, for a table of each path's names and for the answer, and fails
-    /// only where that is refused or the answer would be longer than a text can be.
+    /// The answer is empty where both lead to the same, and also where no path leads from here to
+    /// there, as from `..` to `a`: [`RelativePath::try_relative`] tells these apart.
+    ///
+    /// It asks for memory three times, for a table of a span for each component of either path, and
+    /// for the answer's text, and fails only where one is refused or no memory could hold the text.
+    /// Of an empty table or an empty text it asks for none.
     ///
     /// ```
     /// let from = RelativePath::new("a/b/c/d");
@@ -449,8 +451,9 @@ impl<'a> RelativePath<'a> {
     /// The path that [`RelativePath::relative`] answers, or `None` where no path leads from where
     /// this path leads to where `to` leads.
     ///
-    /// It asks for memory at most three times, for a table of each path's names and for the answer,
-    /// and fails only where that is refused or the answer would be longer than a text can be.
+    /// It asks for memory three times, for a table of a span for each component of either path, and
+    /// for the answer's text, and fails only where one is refused or no memory could hold the text.
+    /// Of an empty table or an empty text, and of a text where no path leads, it asks for none.
     ///
     /// ```
     /// let path = RelativePath::new("a");
@@ -480,8 +483,8 @@ impl<'a> RelativePath<'a> {
     /// The fewest names a base can have from which this path and `path` lead to different places,
     /// or only one of them leads to a place; `None` where both lead to the same from every base.
     ///
-    /// It asks for memory twice at most, for a table of each path's names, and fails only where
-    /// that is refused.
+    /// It asks for memory twice, for a table of a span for each component of either path, and fails
+    /// only where one is refused. Of an empty table it asks for none.
     ///
     /// ```
     /// let path = RelativePath::new("../a");
