@@ -29,7 +29,9 @@ pub fn answer(alloc: Global, line: &str) -> Result<String, Refusal> {
         "join" => join(alloc, call.two()?),
         "with_file_name" => with_file_name(alloc, call.two()?),
         "with_extension" => with_extension(alloc, call.two()?),
+        "join_normalized" => join_normalized(alloc, call.two()?),
         "normalize" => normalize(alloc, call.one()?),
+        "relative" => relative(alloc, call.two()?),
         "push" => push(alloc, call.two()?),
         "pop" => pop(alloc, call.one()?),
         "set_file_name" => set_file_name(alloc, call.two()?),
@@ -152,8 +154,18 @@ fn with_extension(alloc: Global, (path, extension): (&str, &str)) -> Result<Stri
     )
 }
 
+fn join_normalized(alloc: Global, (path, other): (&str, &str)) -> Result<String, Refusal> {
+    let normal = RelativePath::new(path).join_normalized(alloc, RelativePath::new(other))?;
+    text_of(alloc, &normal)
+}
+
 fn normalize(alloc: Global, path: &str) -> Result<String, Refusal> {
     text_of(alloc, &RelativePath::new(path).normalize(alloc)?)
+}
+
+fn relative(alloc: Global, (from, to): (&str, &str)) -> Result<String, Refusal> {
+    let way = RelativePath::new(from).relative(alloc, RelativePath::new(to))?;
+    text_of(alloc, &way)
 }
 
 fn push(alloc: Global, (base, path): (&str, &str)) -> Result<String, Refusal> {

@@ -8,4 +8,9 @@ pub mod EditingLemmas
 pub mod PrefixingLemmas
 pub mod ExtendingLemmas
 pub mod NamingLemmas
+pub mod FileNameLemmas
 pub mod NormalizingLemmas
+pub mod CountingLemmas
+pub mod SpansLemmas
+pub mod NormalFormLemmas
+pub mod RelatingLemmas

@@ -95,14 +95,14 @@ IsSplit-dot n (b ∷ bs) extension (joined, other) nonempty =
 -- ---- the text of the last component
 
 -- the text has no slash, or a last one
-last_slash : (text : List ℕ) → HasNoSlash text ⊎ ((xs : List ℕ) × (ys : List ℕ) × (text ≡ xs ++ slash ∷ ys) × HasNoSlash ys)
+pub last_slash : (text : List ℕ) → HasNoSlash text ⊎ ((xs : List ℕ) × (ys : List ℕ) × (text ≡ xs ++ slash ∷ ys) × HasNoSlash ys)
 last_slash [] = inl tt
 last_slash (b ∷ bs) = elim (last_slash bs) [
   | inl none ↦ ⊎_elim (λ e. inr ([], bs, ap (λ x. x ∷ bs) (eqb-true b slash e), none)) (λ e. inl (e, none)) (cases_Bool (is_slash b))
   | inr (xs, ys, joined, none) ↦ inr (b ∷ xs, ys, ap (λ x. b ∷ x) joined, none)
 ]
 
-last_same : (cs ds : List Step) (c d : Step) → cs ++ c ∷ [] ≡ ds ++ d ∷ [] → c ≡ d
+pub last_same : (cs ds : List Step) (c d : Step) → cs ++ c ∷ [] ≡ ds ++ d ∷ [] → c ≡ d
 last_same cs ds c d e =
     let count : length ds ≡ length cs = omega (arith, ap length e, length-append cs (c ∷ []), length-append ds (d ∷ [])) in
     sym (get_or_at cs c [] c (length cs) refl) ∙ ap (λ l. get_or l (length cs) c) e ∙ get_or_at ds d [] c (length cs) count
@@ -126,11 +126,11 @@ ends_in_last text cs c end last = elim (last_slash text) [
 
 -- ---- the end of a path
 
-slice_get-at : (cs : List Step) (c : Step) (ds : List Step) → slice_get (cs ++ c ∷ ds) (length cs) ≡ Some c
+pub slice_get-at : (cs : List Step) (c : Step) (ds : List Step) → slice_get (cs ++ c ∷ ds) (length cs) ≡ Some c
 slice_get-at [] c ds = refl
 slice_get-at (b ∷ cs) c ds = slice_get-at cs c ds
 
-others-curs : (n : ℕ) → others (replicate n cur) ≡ []
+pub others-curs : (n : ℕ) → others (replicate n cur) ≡ []
 others-curs zero = refl
 others-curs (suc n) = others-curs n
 
@@ -139,7 +139,7 @@ others-at cs c n other =
     filter-append (λ d. not (is_cur d)) cs (c ∷ replicate n cur)
     ∙ ap (λ ds. others cs ++ ds) (cond-true _ _ _ (ap not other) ∙ ap (λ ds. c ∷ ds) (others-curs n))
 
-last_other-at : (cs : List Step) (c : Step) (n : ℕ) → is_cur c ≡ false → last_other (cs ++ c ∷ replicate n cur) ≡ Some c
+pub last_other-at : (cs : List Step) (c : Step) (n : ℕ) → is_cur c ≡ false → last_other (cs ++ c ∷ replicate n cur) ≡ Some c
 last_other-at cs c n other =
     let index : length (others cs ++ c ∷ []) - 1 ≡ length (others cs) = omega (arith, length-append (others cs) (c ∷ [])) in
     ap (λ ds. slice_get ds (length ds - 1)) (others-at cs c n other)
@@ -221,7 +221,7 @@ module _ (through head n stem : List ℕ) (extension : Option (Bor (List ℕ))) 
 -- ---- the texts that the setters leave
 
 -- the text with that extension, where its file name is that one
-abbrev IsExtendedAt : List ℕ → List ℕ → List ℕ → Option (List ℕ) → Type 0
+abbrev pub IsExtendedAt : List ℕ → List ℕ → List ℕ → Option (List ℕ) → Type 0
 IsExtendedAt text e extended named = MatchOption named (extended ≡ text)
     (λ n. (head : List ℕ) × IsCut text (kept_len (components text) + 1) (head ++ n) × (extended ≡ head ++ stem_of n ++ dotted e))
 

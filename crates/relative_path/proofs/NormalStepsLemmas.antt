@@ -4,17 +4,10 @@ use Rattle.std.proofs.lemmas.List.{append_cancel_left, length-replicate}
 use Rattle.std.specs.List.{list_all, prefix_len}
 use Rattle.relative_path.specs.Steps.{Step, cur, up, name, slash, step_text, spell}
 use Rattle.relative_path.specs.Walk.{walk, IsSame}
-use Rattle.relative_path.specs.Normalizing.{AreNames, IsNormal}
+use Rattle.relative_path.specs.Normalizing.{AreNames, IsNormal, climb}
 use Rattle.relative_path.proofs.WalkLemmas.{IsSame-sym}
 
 -- ---- the parts of a normal list
-
--- how many `..` come first
-abbrev pub climb : List Step → ℕ
-climb [] = zero
-climb (cur ∷ cs) = zero
-climb (up ∷ cs) = suc (climb cs)
-climb (name n ∷ cs) = zero
 
 -- the names, without the other steps
 abbrev pub names_of : List Step → List (List ℕ)

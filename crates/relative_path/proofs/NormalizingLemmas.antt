@@ -207,3 +207,7 @@ IsNormal-push_up cs normal other = elim (last_view cs) [
     push_up ds cur h none = absurd (IsNormal-not_cur ds h)
     push_up ds up h none = IsNormal-push_up_after_up ds h
     push_up ds (name n) h none = absurd (none n refl)
+
+-- a normal list is what its normal text has
+pub components-IsNormalTextOf : (cs : List Step) (text : List ℕ) → IsNormalTextOf cs text → IsNormal cs → components text ≡ cs
+components-IsNormalTextOf cs text of normal = sym (normal_unique cs (components text) normal of.normal_text.normal of.same)

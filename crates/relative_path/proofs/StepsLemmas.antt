@@ -165,7 +165,7 @@ components-spell (c ∷ []) proper = proper.0
 components-spell (c ∷ d ∷ cs) proper =
     components-append (step_text c) (spell (d ∷ cs)) ∙ ap₂ (λ xs ys. xs ++ ys) proper.0 (components-spell (d ∷ cs) proper.1)
 
-AreProper-append : (cs ds : List Step) → AreProper cs → AreProper ds → AreProper (cs ++ ds)
+pub AreProper-append : (cs ds : List Step) → AreProper cs → AreProper ds → AreProper (cs ++ ds)
 AreProper-append [] ds proper proper' = proper'
 AreProper-append (c ∷ cs) ds proper proper' = (proper.0, AreProper-append cs ds proper.1 proper')
 

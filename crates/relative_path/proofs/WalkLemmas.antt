@@ -2,7 +2,7 @@
 use Rattle.std.proofs.Common.{◌≡◌, ℕ, List, [], ◌∷◌, ◌++◌, length, take, Option, Some, None, option_and_then, refl, sym, ap, ◌∙◌, arith}
 use Rattle.std.proofs.lemmas.List.{take_at, length_push}
 use Rattle.relative_path.specs.Steps.{Step, cur, up, name}
-use Rattle.relative_path.specs.Walk.{above, walk, IsSame}
+use Rattle.relative_path.specs.Walk.{above, walk, IsSame, LeadsInTurn}
 
 -- the place where steps lead from a place that may be none
 abbrev walk_from : List Step → Option (List (List ℕ)) → Option (List (List ℕ))
@@ -50,3 +50,7 @@ IsSame-cur cs ds = IsSame-append_left cs (cur ∷ ds) ds (record { everywhere = 
 pub IsSame-name_up : (cs ds : List Step) (n : List ℕ) → IsSame (cs ++ name n ∷ up ∷ ds) (cs ++ ds)
 IsSame-name_up cs ds n =
     IsSame-append_left cs (name n ∷ up ∷ ds) ds (record { everywhere = λ base. ap (walk_from ds) (above-push base n) })
+
+-- what leads where two lists together lead does so in turn
+pub LeadsInTurn-same : (cs ds es : List Step) → IsSame (cs ++ ds) es → LeadsInTurn cs ds es
+LeadsInTurn-same cs ds es same = record { everywhere = λ base. sym (same.everywhere base) ∙ walk-append base cs ds }

@@ -1,6 +1,9 @@
 pub mod Steps
 pub mod Walk
 pub mod Normalizing
+pub mod Spans
+pub mod NormalForm
+pub mod Relating
 pub mod Slices
 pub mod Editing
 pub mod Prefixing

@@ -1,8 +1,8 @@
 -- File names, their stems and extensions, and the texts that setting them leaves.
-use Rattle.std.specs.Prelude.{◌≡◌, ℕ, ◌+◌, ◌-◌, Bool, not, ◌==◌, List, [], ◌∷◌, ◌++◌, Option, Some, None, MatchOption, length, slice_get, if◌then◌else◌}
+use Rattle.std.specs.Prelude.{◌≡◌, ℕ, ◌+◌, ◌-◌, Bool, not, ◌&&◌, ◌==◌, List, [], ◌∷◌, ◌++◌, Option, Some, None, MatchOption, length, slice_get, if◌then◌else◌}
 use Rattle.std.specs.Option.{option_and_then}
-use Rattle.std.specs.List.{filter, before_last, after_last}
-use Rattle.relative_path.specs.Steps.{Step, cur, up, name, dot, is_not_empty, components}
+use Rattle.std.specs.List.{filter, list_all, before_last, after_last}
+use Rattle.relative_path.specs.Steps.{Step, cur, up, name, dot, is_slash, is_not_empty, components}
 use Rattle.relative_path.specs.Slices.{IsCut}
 use Rattle.relative_path.specs.Editing.{is_cur, kept_len, pushed, IsPopped}
 
@@ -43,6 +43,18 @@ stem_of n = if has_stem n then before_last is_dot n else n
 -- what stands after the last dot, if something stands before it
 abbrev pub extension_of : List ℕ → Option (List ℕ)
 extension_of n = if has_stem n then Some (after_last is_dot n) else None
+
+-- the name is the stem alone, or the stem, a dot and the extension
+abbrev pub IsStemAndExtension : List ℕ → List ℕ → Option (List ℕ) → Type 0
+IsStemAndExtension n stem extension = MatchOption extension (n ≡ stem) (λ e. n ≡ stem ++ dot ∷ e)
+
+-- the byte is no dot and no slash
+abbrev pub is_plain_byte : ℕ → Bool
+is_plain_byte b = not (is_dot b) && not (is_slash b)
+
+-- the text can be a whole extension: it has a byte, and each byte is no dot and no slash
+abbrev pub is_plain_extension : List ℕ → Bool
+is_plain_extension e = is_not_empty e && list_all is_plain_byte e
 
 -- base is what a new file name is pushed onto: what `pop` leaves of a text with a file name, else the text
 abbrev pub IsBase : List ℕ → List ℕ → Type 0

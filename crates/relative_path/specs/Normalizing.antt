@@ -1,5 +1,5 @@
 -- Normal forms: `..` components first, then names only.
-use Rattle.std.specs.Prelude.{◌≡◌, ℕ, List, [], ◌∷◌, ⊤}
+use Rattle.std.specs.Prelude.{◌≡◌, ℕ, zero, suc, List, [], ◌∷◌, ⊤}
 use Rattle.relative_path.specs.Steps.{Step, cur, up, name, components, spell}
 use Rattle.relative_path.specs.Walk.{IsSame}
 
@@ -16,6 +16,18 @@ IsNormal [] = ⊤
 IsNormal (cur ∷ cs) = ⊥
 IsNormal (up ∷ cs) = IsNormal cs
 IsNormal (name n ∷ cs) = AreNames cs
+
+-- how many `..` come first
+abbrev pub climb : List Step → ℕ
+climb [] = zero
+climb (cur ∷ cs) = zero
+climb (up ∷ cs) = suc (climb cs)
+climb (name n ∷ cs) = zero
+
+-- ds is normal and leads where cs leads from every base
+pub record IsNormalForm (cs ds : List Step) : Type 0 where
+  pub normal : IsNormal ds
+  pub same : IsSame cs ds
 
 -- the text is its components joined by single slashes, and they are normal
 pub record IsNormalText (text : List ℕ) : Type 0 where

@@ -18,3 +18,7 @@ walk base (name n ∷ cs) = walk (base ++ n ∷ []) cs
 -- from every base both lead to the same place, or both to none
 pub record IsSame (cs ds : List Step) : Type 0 where
   pub everywhere : (base : List (List ℕ)) → walk base cs ≡ walk base ds
+
+-- from every base, es leads where ds leads from where cs leads
+pub record LeadsInTurn (cs ds es : List Step) : Type 0 where
+  pub everywhere : (base : List (List ℕ)) → walk base es ≡ option_and_then (λ place. walk place ds) (walk base cs)

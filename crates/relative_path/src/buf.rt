@@ -1,18 +1,19 @@
 //! The owned relative path.
-ghost use Rattle.std.specs.Prelude.{◌≡◌, ◌≢◌, ◌≤◌, ◌<◌, ◌+◌, ◌↔◌, ◌++◌, [], ◌∷◌, if◌then◌else◌, length, take, None, Some, IsSome, IfOk, IsOk, OnOk, OnErr, IsTrue};
+ghost use Rattle.std.specs.Prelude.{◌≡◌, ◌≢◌, ◌≤◌, ◌<◌, ◌+◌, ◌↔◌, ◌++◌, [], ◌∷◌, if◌then◌else◌, ℕ, List, length, take, None, Some, IsSome, IfOk, IsOk, OnOk, OnErr, MatchResult, IsTrue, string_bytes};
 ghost use Rattle.relative_path.specs.Steps.{slash, components};
-ghost use Rattle.relative_path.specs.Editing.{pushed, with_separator, IsPopped};
-ghost use Rattle.relative_path.specs.Naming.{file_name_of, dotted, IsNamed, IsExtended};
-ghost use Rattle.relative_path.specs.Editing as spec;
+ghost use Rattle.relative_path.specs.Editing.{pushed, with_piece, with_separator, IsPopped};
+ghost use Rattle.relative_path.specs.Naming.{file_name_of, extension_of, is_plain_extension, dotted, IsNamed, IsExtended};
 ghost use Rattle.relative_path.specs.Comparing.{steps_eq, steps_cmp, fed_by};
 ghost use Rattle.relative_path.specs.ComparingLaws.{partial_eq_law, partial_ord_law, by_components, fed_alike};
 ghost use Rattle.relative_path.specs.Extending.{PushesAll, PushesUntilFull, PushesWholeRun, StopsRun};
-ghost use Rattle.relative_path.specs.RelativePath.{path_text};
+ghost use Rattle.relative_path.specs.RelativePath.{path_text, path_components};
 ghost use Rattle.relative_path.specs.RelativePathBuf.{buffer_components, ExceedsRoom};
 ghost use Rattle.std.specs.Iterator.{IsFiniteIterable};
 ghost use Rattle.std.specs.Fmt.{styled_text, debug_str};
+ghost use Rattle.std.specs.Option.{option_and_then};
 ghost use Rattle.std.specs.Str.{IsUtf8};
 ghost use Rattle.std.specs.Ordering.{on, as_partial_cmp};
+ghost use Rattle.std.specs.String.{string_capacity};
 ghost use Rattle.std.proofs.Common.{refl};
 
 use crate::editing::{dotted_len, needs_separator, pushed_len, strip_slash};
@@ -185,6 +186,8 @@ impl RelativePathBuf {
     /// ```
     pub fn push(&mut self, path: RelativePath<'_>) -> Result<(), AllocError>
         ensures ok { OnOk result (self.new.text ≡ pushed self.old.text (path_text path.entry)) }
+        ensures components { OnOk result
+            (components self.new.text ≡ components self.old.text ++ path_components path.entry) }
         ensures err { OnErr result (self.new.text ≡ self.old.text) }
         ensures full { OnErr result
             (self.old.room < length (pushed self.old.text (path_text path.entry))) }
@@ -193,11 +196,32 @@ impl RelativePathBuf {
     {
         let len = pushed_len(self.text.as_str(), path.as_str());
         self.reserve_to(len)?;
+        self.push_reserved(path);
+        Ok(())
+    }
+
+    // Adds a path behind this one, within the room there is.
+    pub(crate) fn push_reserved(&mut self, path: RelativePath<'_>)
+        requires { length (pushed self.old.text (path_text path)) ≤ self.old.room }
+        ensures text { self.new.text ≡ pushed self.old.text (path_text path.entry) }
+        ensures room { self.old.room ≤ self.new.room }
+    {
         if needs_separator(self.text.as_str()) {
             self.text.push_str("/").unwrap();
         }
         self.text.push_str(strip_slash(path.as_str())).unwrap();
-        Ok(())
+    }
+
+    // Adds a piece: behind a slash, or alone to the empty text.
+    pub(crate) fn push_piece(&mut self, piece: &str)
+        requires { length (with_piece self.old.text piece.now) ≤ self.old.room }
+        ensures text { self.new.text ≡ with_piece self.old.text piece.now }
+        ensures room { self.old.room ≤ self.new.room }
+    {
+        if !self.text.is_empty() {
+            self.text.push_str("/").unwrap();
+        }
+        self.text.push_str(piece).unwrap();
     }
 
     /// Replaces the file name, or pushes one if the path has none.
@@ -223,7 +247,7 @@ impl RelativePathBuf {
         let len = pushed_len(base, file_name);
         self.reserve_to(len)?;
         self.cut_to(base_len);
-        self.push(RelativePath::new(file_name)).unwrap();
+        self.push_reserved(RelativePath::new(file_name));
         Ok(())
     }
 
@@ -242,6 +266,8 @@ impl RelativePathBuf {
     pub fn set_extension(&mut self, extension: &str) -> Result<bool, AllocError>
         ensures answer { IfOk result (λ set. IsTrue set ↔ IsSome (file_name_of self.old.text)) }
         ensures ok { OnOk result (IsExtended self.old.text extension.now self.new.text) }
+        ensures extension { IfOk result (λ set. IsTrue set → IsTrue (is_plain_extension extension.now)
+            → option_and_then extension_of (file_name_of self.new.text) ≡ Some extension.now) }
         ensures err { OnErr result (self.new.text ≡ self.old.text) }
         ensures full { OnErr result
             (ExceedsRoom (IsExtended self.old.text extension.now) self.old.room) }
@@ -357,6 +383,51 @@ impl RelativePathBuf {
         ensures { path_text result ≡ self.now.text }
     {
         RelativePath::new(self.text.as_str())
+    }
+
+    /// The text, in the memory and with the room that the buffer has. It takes no memory.
+    ///
+    /// ```
+    /// let text = RelativePathBuf::from_text(alloc, "foo//bar")?.into_string();
+    /// assert_eq!(rt; text.as_str(), "foo//bar");
+    /// ```
+    pub fn into_string(self) -> String
+        ensures text { string_bytes result ≡ self.text }
+        ensures room { string_capacity result ≡ self.room }
+    {
+        self.text
+    }
+}
+
+/// The buffer with this text, whatever the text is, in the memory and with the room that the
+/// `String` has. It takes no memory.
+///
+/// ```
+/// let text = String::from_str(alloc, "foo//bar")?;
+/// let buf = RelativePathBuf::from(text);
+/// assert_eq!(rt; buf.as_relative_path().as_str(), "foo//bar");
+/// ```
+impl From<String> for RelativePathBuf {
+    ghost from_gives = { λ text buf.
+        (buf.text ≡ string_bytes text) × (buf.room ≡ string_capacity text) };
+
+    fn from(text: String) -> RelativePathBuf {
+        RelativePathBuf { text }
+    }
+}
+
+/// The text, as `into_string` gives it.
+///
+/// ```
+/// let text = String::from(RelativePathBuf::from_text(alloc, "foo//bar")?);
+/// assert_eq!(rt; text.as_str(), "foo//bar");
+/// ```
+impl From<RelativePathBuf> for String {
+    ghost from_gives = { λ buf text.
+        (string_bytes text ≡ buf.text) × (string_capacity text ≡ buf.room) };
+
+    fn from(buf: RelativePathBuf) -> String {
+        buf.into_string()
     }
 }
 

@@ -7,9 +7,13 @@ pub use self::path::{Display, RelativePath, StripPrefixError};
 
 mod buf;
 mod component;
+mod counting;
 mod editing;
 mod naming;
+mod normal_form;
 mod normalizing;
 mod path;
 mod prefixing;
+mod relating;
 mod slashes;
+mod spans;

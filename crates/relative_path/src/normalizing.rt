@@ -27,18 +27,9 @@ pub(crate) fn follow(out: &mut RelativePathBuf, component: Component<'_>)
         Component::ParentDir if ends_in_name(out.as_relative_path()) => {
             out.pop();
         }
-        Component::ParentDir => push_within(out, ".."),
-        Component::Normal(name) => push_within(out, name),
+        Component::ParentDir => out.push_reserved(RelativePath::new("..")),
+        Component::Normal(name) => out.push_reserved(RelativePath::new(name)),
     }
-}
-
-// Pushes a text onto a buffer that has room for it.
-fn push_within(out: &mut RelativePathBuf, text: &str)
-    requires room { length (pushed out.old.text text.now) ≤ out.old.room }
-    ensures text { out.new.text ≡ pushed out.old.text text.now }
-    ensures room { out.old.room ≤ out.new.room }
-{
-    out.push(RelativePath::new(text)).unwrap();
 }
 
 // Whether the last component is a name.

@@ -1,16 +1,18 @@
 //! The borrowed relative path.
-ghost use Rattle.std.specs.Prelude.{◌≡◌, ◌≢◌, ◌≤◌, ◌↔◌, ◌++◌, [], ◌∷◌, IfOk, IsOk, IfSome, IsSome, IsTrue, Some, List, ℕ, length};
+ghost use Rattle.std.specs.Prelude.{◌≡◌, ◌≢◌, ◌≤◌, ◌↔◌, ◌++◌, [], ◌∷◌, IfOk, IsOk, IfSome, IsSome, IsNone, IsTrue, Some, List, ℕ, length, slice_get};
 ghost use Rattle.relative_path.specs.Steps.{Step, name, components};
-ghost use Rattle.relative_path.specs.Editing.{pushed, IsPopped};
+ghost use Rattle.relative_path.specs.Editing.{kept_len, pushed, IsPopped};
 ghost use Rattle.relative_path.specs.Components.{GivesComponents, GivesTextsOfComponents, text_left, iter_text_left};
-ghost use Rattle.relative_path.specs.Naming.{file_name_of, stem_of, extension_of, IsNamed, IsExtended};
+ghost use Rattle.relative_path.specs.Naming.{file_name_of, stem_of, extension_of, IsStemAndExtension, IsNamed, IsExtended};
 ghost use Rattle.relative_path.specs.Comparing.{steps_eq, steps_cmp, fed_by};
 ghost use Rattle.relative_path.specs.ComparingLaws.{partial_eq_law, partial_ord_law, by_components, fed_alike};
 ghost use Rattle.std.specs.Fmt.{styled_text, debug_str};
 ghost use Rattle.std.specs.Option.{option_copied, option_map, option_and_then};
 ghost use Rattle.std.specs.Ordering.{on, as_partial_cmp};
 ghost use Rattle.std.proofs.Common.{refl};
-ghost use Rattle.relative_path.specs.Normalizing.{IsNormal, IsNormalTextOf};
+ghost use Rattle.relative_path.specs.Normalizing.{IsNormal, IsNormalTextOf, IsNormalForm, climb};
+ghost use Rattle.relative_path.specs.Relating.{Leads, IsReachable, IsShortestText, LeadsApart};
+ghost use Rattle.relative_path.specs.Walk.{IsSame, LeadsInTurn};
 ghost use Rattle.relative_path.specs.Prefixing.{StartsWith, EndsWith, IsDropped};
 ghost use Rattle.relative_path.specs.RelativePath.{path_text, path_components, display_text};
 
@@ -18,8 +20,10 @@ use crate::buf::RelativePathBuf;
 use crate::component::{Component, Components, Iter};
 use crate::editing::{dotted_len, pushed_len};
 use crate::naming::{base_of, last_component, split_name, without_extension};
+use crate::normal_form::NormalForm;
 use crate::normalizing::follow;
 use crate::prefixing::path_after;
+use crate::relating::{Way, parting};
 use std::alloc::{AllocError, Global};
 use std::cmp::Ordering;
 use std::fmt;
@@ -93,12 +97,16 @@ impl<'a> RelativePath<'a> {
     /// assert_eq!(rt; joined.as_relative_path().as_str(), "foo/bar");
     /// ```
     pub fn join(self, alloc: Global, path: RelativePath<'_>) -> Result<RelativePathBuf, AllocError>
-        ensures { IfOk result
+        ensures text { IfOk result
             (λ joined. joined.text ≡ pushed (path_text self.entry) (path_text path.entry)) }
+        ensures components { IfOk result
+            (λ joined. components joined.text ≡ path_components self.entry ++ path_components path.entry) }
+        ensures in_turn { IfOk result (λ joined. LeadsInTurn (path_components self.entry)
+            (path_components path.entry) (components joined.text)) }
     {
         let len = pushed_len(self.text, path.text);
         let mut joined = RelativePathBuf::with_room(alloc, self.text, len)?;
-        joined.push(path).unwrap();
+        joined.push_reserved(path);
         Ok(joined)
     }
 
@@ -171,7 +179,9 @@ impl<'a> RelativePath<'a> {
     /// assert_eq!(rt; RelativePath::new("foo/..").file_name(), None);
     /// ```
     pub fn file_name(self) -> Option<&'a str>
-        ensures { option_copied result ≡ file_name_of (path_text self.entry) }
+        ensures text { option_copied result ≡ file_name_of (path_text self.entry) }
+        ensures placed { IfSome result (λ file_name. slice_get (path_components self.entry)
+            (kept_len (path_components self.entry)) ≡ Some (name file_name.now)) }
     {
         last_component(self).name
     }
@@ -282,7 +292,9 @@ impl<'a> RelativePath<'a> {
     /// assert_eq!(rt; RelativePath::new(".foo").file_stem(), Some(".foo"));
     /// ```
     pub fn file_stem(self) -> Option<&'a str>
-        ensures { option_copied result ≡ option_map stem_of (file_name_of (path_text self.entry)) }
+        ensures text { option_copied result ≡ option_map stem_of (file_name_of (path_text self.entry)) }
+        ensures joined { IfSome result (λ stem. IfSome (file_name_of (path_text self.entry))
+            (λ file_name. IsStemAndExtension file_name stem.now (extension_of file_name))) }
     {
         self.file_name().map(|name| split_name(name).0)
     }
@@ -329,11 +341,37 @@ impl<'a> RelativePath<'a> {
         Ok(extended)
     }
 
+    /// The only normal path that leads where this path, and then `path`, lead: the answer of
+    /// `normalize` for both joined.
+    ///
+    /// It asks for memory twice, for a table of a span for each component of both paths, and for
+    /// the answer's text, and fails only where one is refused. Of an empty table or an empty text
+    /// it asks for none.
+    ///
+    /// ```
+    /// let foo = RelativePath::new("x/y");
+    /// let normal = foo.join_normalized(alloc, RelativePath::new("../z"))?;
+    /// assert_eq!(rt; normal.as_relative_path().as_str(), "x/z");
+    /// ```
+    pub fn join_normalized(
+        self,
+        alloc: Global,
+        path: RelativePath<'_>,
+    ) -> Result<RelativePathBuf, AllocError>
+        ensures normal_form { IfOk result (λ normal. IsNormalTextOf
+            (path_components self.entry ++ path_components path.entry) normal.text) }
+        ensures in_turn { IfOk result (λ normal. LeadsInTurn (path_components self.entry)
+            (path_components path.entry) (components normal.text)) }
+    {
+        NormalForm::of_both(alloc, self, path)?.spelled(alloc)
+    }
+
     /// The only normal path that leads where this one leads: `..` first, then names, with single
     /// slashes between.
     ///
-    /// It asks for memory once, for as many bytes as this path has, and fails only where that is
-    /// refused.
+    /// It asks for memory twice, for a table of a span for each of its components, and for the
+    /// answer's text, and fails only where one is refused. Of an empty table or an empty text it
+    /// asks for none.
     ///
     /// ```
     /// let normal = RelativePath::new("../foo/./bar/../baz.txt").normalize(alloc)?;
@@ -344,10 +382,10 @@ impl<'a> RelativePath<'a> {
             (λ normal. IsNormalTextOf (components (path_text self.entry)) normal.text) }
         ensures no_longer { IfOk result
             (λ normal. length normal.text ≤ length (path_text self.entry)) }
+        ensures normal_stays { IfOk result (λ normal. IsNormal (path_components self.entry)
+            → components normal.text ≡ path_components self.entry) }
     {
-        let mut normal = RelativePathBuf::with_capacity(alloc, self.text.len())?;
-        self.normalize_into(&mut normal);
-        Ok(normal)
+        NormalForm::of(alloc, self)?.spelled(alloc)
     }
 
     /// Writes the text of `normalize` into an empty buffer with room for this path. It takes no
@@ -369,6 +407,102 @@ impl<'a> RelativePath<'a> {
         for component in self.components() {
             follow(out, component);
         }
+    }
+
+    /// The shortest path that leads from where this path leads to where `to` leads, whatever base
+    /// both start from.
+    ///
+    /// The answer is empty where both lead to the same, and also where no path leads on from this
+    /// one, as from `..` to `a`: [`RelativePath::try_relative`] tells these apart. It asks for
+    /// memory at most three times, for a table of each path's names and for the answer, and fails
+    /// only where that is refused or the answer would be longer than a text can be.
+    ///
+    /// ```
+    /// let from = RelativePath::new("a/b/c/d");
+    /// let way = from.relative(alloc, RelativePath::new("a/b/e/f"))?;
+    /// assert_eq!(rt; way.as_relative_path().as_str(), "../../e/f");
+    /// ```
+    pub fn relative(
+        self,
+        alloc: Global,
+        to: RelativePath<'_>,
+    ) -> Result<RelativePathBuf, AllocError>
+        ensures shortest { IfOk result
+            (λ way. IsReachable (path_components self.entry) (path_components to.entry)
+            → IsShortestText (path_components self.entry) (path_components to.entry) way.text) }
+        ensures unreachable { IfOk result
+            (λ way. ¬ IsReachable (path_components self.entry) (path_components to.entry)
+            → way.text ≡ []) }
+        ensures climbs { (from_steps to_steps : List Step)
+            → IsNormalForm (path_components self.entry) from_steps
+            → IsNormalForm (path_components to.entry) to_steps
+            → IsReachable (path_components self.entry) (path_components to.entry)
+            ↔ (climb from_steps ≤ climb to_steps) }
+        ensures through { (middle r s : List Step) → Leads (path_components self.entry) r middle
+            → Leads middle s (path_components to.entry)
+            → Leads (path_components self.entry) (r ++ s) (path_components to.entry) }
+    {
+        let way = self.try_relative(alloc, to)?;
+        Ok(way.unwrap_or_else(|| RelativePathBuf::new(alloc)))
+    }
+
+    /// The path that [`RelativePath::relative`] answers, or `None` where no path leads from where
+    /// this path leads to where `to` leads.
+    ///
+    /// It asks for memory at most three times, for a table of each path's names and for the answer,
+    /// and fails only where that is refused or the answer would be longer than a text can be.
+    ///
+    /// ```
+    /// let path = RelativePath::new("a");
+    /// assert!(rt; path.try_relative(alloc, RelativePath::new(".."))?.is_some());
+    /// assert!(rt; RelativePath::new("..").try_relative(alloc, path)?.is_none());
+    /// ```
+    pub fn try_relative(
+        self,
+        alloc: Global,
+        to: RelativePath<'_>,
+    ) -> Result<Option<RelativePathBuf>, AllocError>
+        ensures none { IfOk result
+            (λ way. IsNone way
+            ↔ (¬ IsReachable (path_components self.entry) (path_components to.entry))) }
+        ensures shortest { IfOk result
+            (λ found. IfSome found
+            (λ way. IsShortestText (path_components self.entry) (path_components to.entry) way.text)) }
+    {
+        let from = NormalForm::of(alloc, self)?;
+        let to = NormalForm::of(alloc, to)?;
+        let Some(way) = Way::between(&from, &to) else {
+            return Ok(None);
+        };
+        Ok(Some(to.spelled_past(alloc, way.climb, way.skipped)?))
+    }
+
+    /// The fewest names a base can have from which this path and `path` lead to different places,
+    /// or only one of them leads to a place; `None` where both lead to the same from every base.
+    ///
+    /// It asks for memory twice at most, for a table of each path's names, and fails only where
+    /// that is refused.
+    ///
+    /// ```
+    /// let path = RelativePath::new("../a");
+    /// assert_eq!(rt; path.leads_apart(alloc, RelativePath::new("../b"))?, Some(1));
+    /// assert_eq!(rt; path.leads_apart(alloc, RelativePath::new("../a/."))?, None);
+    /// ```
+    pub fn leads_apart(
+        self,
+        alloc: Global,
+        path: RelativePath<'_>,
+    ) -> Result<Option<usize>, AllocError>
+        ensures none { IfOk result
+            (λ apart. IsNone apart
+            ↔ IsSame (path_components self.entry) (path_components path.entry)) }
+        ensures some { IfOk result
+            (λ apart. (n : ℕ) → (apart ≡ Some n)
+            ↔ LeadsApart (path_components self.entry) (path_components path.entry) n) }
+    {
+        let form = NormalForm::of(alloc, self)?;
+        let other = NormalForm::of(alloc, path)?;
+        Ok(parting(&form, &other))
     }
 }
 

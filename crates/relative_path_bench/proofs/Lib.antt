@@ -1,1 +1,4 @@
 pub mod WalkingLemmas
+pub mod JoiningLemmas
+pub mod NamingLemmas
+pub mod RelatingLemmas

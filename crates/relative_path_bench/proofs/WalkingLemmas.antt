@@ -1,8 +1,8 @@
 -- Calls at either end of a walk, one after another.
-use Rattle.std.proofs.Common.{◌≡◌, ℕ, suc, zero, ◌+◌, ◌-◌, ◌<◌, ◌≤◌, ◌↔◌, List, [], ◌∷◌, ◌++◌, length, take, drop, get_or, Option, Some, None, IsSome, is_some, MatchOption, sym, refl, ap, ap₂, ◌∙◌, subst, append_assoc, append-nil, arith, true≢false, length-append, length-drop, length-take-le}
+use Rattle.std.proofs.Common.{◌≡◌, ℕ, suc, zero, ◌-◌, ◌<◌, ◌↔◌, List, [], ◌∷◌, ◌++◌, length, take, drop, get_or, Option, Some, None, IsSome, sym, refl, ap, ◌∙◌, subst, append_assoc, append-nil, arith, true≢false, length-append, length-drop, length-take-le}
 use Rattle.relative_path.specs.declared.component.Component.{Component}
-use Rattle.relative_path.specs.Steps.{Step, components}
-use Rattle.relative_path.specs.Components.{step_of, TakesFirst, TakesLast}
+use Rattle.relative_path.specs.Steps.{components}
+use Rattle.relative_path.specs.Components.{step_of}
 use Rattle.relative_path_bench.specs.declared.walking.End.{End}
 use Rattle.relative_path_bench.specs.declared.walking.End.TheVariants.{Front, Back}
 use Rattle.relative_path_bench.specs.Walking.{TakesAt, TakesInTurn, firsts, lasts, IsTakenInTurn}

@@ -1,1 +1,4 @@
 pub mod Walking
+pub mod Joining
+pub mod Naming
+pub mod Relating

@@ -5,7 +5,8 @@ use Rattle.std.proofs.Math.Seq.{take-add, take-append_seam}
 use Rattle.std.specs.Io.KnownBytes.{Consumes}
 
 -- what holds of the error that a result has
-pub IfErr-at : {X E : Type 0} (r : Result X E) (P : E → Type 0) (e : E) → IsErrAnd r (λ f. f ≡ e) → P e → IfErr r P
+pub IfErr-at : {X E : Type 0} (r : Result X E) (P : E → Type 0) (e : E)
+    → IsErrAnd r (λ f. f ≡ e) → P e → IfErr r P
 IfErr-at (Ok x) P e is h = tt
 IfErr-at (Err f) P e is h = subst P (sym is) h
 
@@ -14,10 +15,10 @@ take-over : (n : ℕ) (xs ys : List ℕ) → n ≡ length xs → take n (xs ++ y
 take-over n xs ys e = ap (λ m. take m (xs ++ ys)) e ∙ take-append_seam xs ys
 
 -- after one more read, into the whole of the buffer, behind its filled bytes
-pub Consumes-more : (old mid new : Option (List ℕ)) (filled count room : ℕ) (buffer before after : List ℕ)
+pub Consumes-next : (old mid new : Option (List ℕ)) (filled count room : ℕ) (buffer before after : List ℕ)
     → before ≡ buffer → room ≡ length after → take filled after ≡ take filled before
     → Consumes old mid (take filled buffer) → Consumes mid new (take count (drop filled after))
     → Consumes old new (take (filled + count) (take room (after ++ drop (length after) buffer)))
-Consumes-more old mid new filled count room buffer before after same whole front came more =
+Consumes-next old mid new filled count room buffer before after same whole front came more =
     rw (take-over room after (drop (length after) buffer) whole, take-add filled count after, front, same)
     (Consumes-trans old mid new _ _ came more)

@@ -1,6 +1,7 @@
 pub mod Meter
 pub mod Fault
 pub mod Lines
-pub mod Answers
+pub mod Command
 pub mod Output
+pub mod Input
 pub mod Run

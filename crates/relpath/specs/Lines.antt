@@ -1,6 +1,7 @@
 -- The lines of an input, and the fields of a line.
-use Rattle.std.specs.Prelude.{ℕ, Bool, ◌==◌, List, [], ◌∷◌}
+use Rattle.std.specs.Prelude.{ℕ, Bool, ◌==◌, List, [], ◌∷◌, Option, Some, None}
 use Rattle.std.specs.List.{slice_split}
+use denote.Ref.{Bor}
 
 -- `b'\n'`
 abbrev pub line_feed : ℕ
@@ -23,16 +24,21 @@ abbrev pub last_line : List ℕ → List (List ℕ)
 last_line [] = []
 last_line (b ∷ bs) = (b ∷ bs) ∷ []
 
--- the pieces as lines
-abbrev pub ended : List (List ℕ) → List (List ℕ)
-ended [] = []
-ended (piece ∷ []) = last_line piece
-ended (piece ∷ next ∷ more) = piece ∷ ended (next ∷ more)
+-- the pieces without the last, where that is empty
+abbrev pub without_empty_last : List (List ℕ) → List (List ℕ)
+without_empty_last [] = []
+without_empty_last (piece ∷ []) = last_line piece
+without_empty_last (piece ∷ next ∷ more) = piece ∷ without_empty_last (next ∷ more)
 
 -- the input cut at each line feed; what stands after the last is a line if it isn't empty
 abbrev pub lines_of : List ℕ → List (List ℕ)
-lines_of input = ended (slice_split is_line_feed input)
+lines_of input = without_empty_last (slice_split is_line_feed input)
 
 -- the line cut at each tab
 abbrev pub fields_of : List ℕ → List (List ℕ)
 fields_of line = slice_split is_tab line
+
+-- the fields of the text that is left of a line, if any is left
+abbrev pub fields_left : Option (Bor (List ℕ)) → List (List ℕ)
+fields_left None = []
+fields_left (Some text) = fields_of text.now

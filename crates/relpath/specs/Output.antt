@@ -1,15 +1,15 @@
 -- The output of an input.
 use Rattle.std.specs.Prelude.{◌≡◌, ℕ, List, [], ◌∷◌, ◌++◌}
-use Rattle.relpath.specs.Lines.{lines_of}
-use Rattle.relpath.specs.Answers.{Answers}
+use Rattle.relpath.specs.Lines.{line_feed, lines_of}
+use Rattle.relpath.specs.Command.{Answers}
 
--- the output is the answers to the lines, one for each, in order
-abbrev pub AnswersAll : List (List ℕ) → List ℕ → Type 0
-AnswersAll [] output = output ≡ []
-AnswersAll (line ∷ lines) output =
-    (answer : List ℕ) × (rest : List ℕ) × Answers line answer × AnswersAll lines rest
-    × (output ≡ answer ++ rest)
+-- the output is the answers to the lines, one for each, in order, each with a line feed
+abbrev pub AnswersLines : List (List ℕ) → List ℕ → Type 0
+AnswersLines [] output = output ≡ []
+AnswersLines (line ∷ lines) output =
+    (answer : List ℕ) × (rest : List ℕ) × Answers line answer × AnswersLines lines rest
+    × (output ≡ answer ++ line_feed ∷ rest)
 
 -- the output is the answers to the lines of the input
 abbrev pub IsOutput : List ℕ → List ℕ → Type 0
-IsOutput input output = AnswersAll (lines_of input) output
+IsOutput input output = AnswersLines (lines_of input) output

@@ -1,45 +1,60 @@
-//! The commands, and the answer line that each gives.
-ghost use Rattle.std.specs.Prelude.{◌≡◌, map, string_bytes, IfOk};
-ghost use Rattle.relative_path.specs.RelativePath.{path_text};
-ghost use Rattle.relpath.specs.Answers.{path_line, words_line, AnswersCommand, AnswersNormalize};
+//! The commands, and the answer that each gives.
+ghost use Rattle.std.specs.Prelude.{◌≡◌, ◌<◌, ◌++◌, length, map, string_bytes, OnOk};
+ghost use Rattle.relpath.specs.Command.{
+  Answers,
+  AnswersFields,
+  Adds,
+  is_command,
+  path_answer,
+  words_answer,
+};
 
-use relative_path::RelativePath;
+use crate::lines::{MAX_FIELDS, split_fields};
+use relative_path::{RelativePath, RelativePathBuf};
 use std::alloc::{AllocError, Global};
 
-/// The answer line to a command and the fields after it.
-pub fn answer_command(alloc: Global, command: &str, fields: &[&str]) -> Result<String, AllocError>
-    ensures { IfOk result (λ answer.
-        AnswersCommand command.now (map (λ field. field.now) fields.now) (string_bytes answer)) }
+/// Adds the answer to a line, whose first field is the command.
+pub fn answer_line(alloc: Global, line: &str, output: &mut String) -> Result<(), AllocError>
+    ensures { OnOk result (Adds (Answers line.now) (string_bytes output.old) (string_bytes output.new)) }
 {
-    match command {
-        "normalize" => answer_normalize(alloc, fields),
-        _ => refusal(alloc, "unknown command"),
+    let mut room = [""; MAX_FIELDS];
+    answer_fields(alloc, split_fields(line, &mut room), output)
+}
+
+/// Adds the answer to the fields of a line, the command first.
+fn answer_fields(alloc: Global, fields: &[&str], output: &mut String) -> Result<(), AllocError>
+    requires { 0 < length fields.now }
+    ensures { OnOk result (Adds (AnswersFields (map (λ field. field.now) fields.now))
+        (string_bytes output.old) (string_bytes output.new)) }
+{
+    match fields {
+        ["normalize", path] => add_path(output, &RelativePath::new(path).normalize(alloc)?),
+        [command, ..] if is_command(command) => add_words(output, "wrong number of fields"),
+        _ => add_words(output, "unknown command"),
     }
 }
 
-/// `normalize`, path: the path's normal text.
-fn answer_normalize(alloc: Global, fields: &[&str]) -> Result<String, AllocError>
-    ensures { IfOk result (λ answer.
-        AnswersNormalize (map (λ field. field.now) fields.now) (string_bytes answer)) }
+/// Whether a command has this name.
+fn is_command(name: &str) -> bool
+    ensures { result ≡ is_command name.now }
 {
-    let [path] = fields else {
-        return refusal(alloc, "wrong number of fields");
-    };
-    let normal = RelativePath::new(path).normalize(alloc)?;
-    path_answer(alloc, normal.as_relative_path())
+    matches!(name, "normalize")
 }
 
-/// The answer line of a path.
-fn path_answer(alloc: Global, path: RelativePath<'_>) -> Result<String, AllocError>
-    ensures { IfOk result (λ answer. string_bytes answer ≡ path_line (path_text path.entry)) }
+/// Adds the answer that gives a path.
+fn add_path(output: &mut String, path: &RelativePathBuf) -> Result<(), AllocError>
+    ensures { OnOk result
+        (string_bytes output.new ≡ string_bytes output.old ++ path_answer path.now.text) }
 {
-    let text = path.as_str();
-    format!(in alloc; "= {text}\n")
+    output.push_str("= ")?;
+    output.push_str(path.as_relative_path().as_str())
 }
 
-/// The answer line of words.
-fn refusal(alloc: Global, words: &str) -> Result<String, AllocError>
-    ensures { IfOk result (λ answer. string_bytes answer ≡ words_line words.now) }
+/// Adds the answer that refuses in words.
+fn add_words(output: &mut String, words: &str) -> Result<(), AllocError>
+    ensures { OnOk result
+        (string_bytes output.new ≡ string_bytes output.old ++ words_answer words.now) }
 {
-    format!(in alloc; "! {words}\n")
+    output.push_str("! ")?;
+    output.push_str(words)
 }

@@ -1,8 +1,16 @@
 //! Reading the whole input.
 ghost use Rattle.std.specs.Prelude.{◌≡◌, ◌+◌, ◌<◌, ◌≤◌, take, drop, length, vec_len, is_err, IfOk, IfErr, OnOk, OnErr};
-ghost use Rattle.std.specs.Io.KnownBytes.{Consumes, IsAtEnd, Keeps};
-ghost use Rattle.relpath.specs.Meter.{inner_of, calls_of, flushes_of, failures_of, IsFresh, CountsCall};
-ghost use Rattle.relpath.specs.Run.{StopsShort};
+ghost use Rattle.relpath.specs.Input.{max_input_len, IsRead, StopsShort};
+ghost use Rattle.relpath.specs.Meter.{
+  calls_of,
+  flushes_of,
+  failures_of,
+  IsFresh,
+  CountsCall,
+  Gives,
+  HasEnded,
+  KeepsBytes,
+};
 
 use crate::fault::Fault;
 use crate::meter::Meter;
@@ -12,16 +20,16 @@ use std::io::Read;
 /// How many bytes an input may have.
 pub const MAX_INPUT: usize = 65_536;
 
-/// Reads until a read gives no byte, or until more bytes came than an input may have.
+/// Reads until a read gives no byte, or until more bytes came than an input may have. Memory is
+/// asked for once, before the first read.
 pub fn read_input<R: Read>(alloc: Global, reader: &mut Meter<R>) -> Result<Vec<u8>, Fault>
     requires { IsFresh reader.old }
-    ensures input { IfOk result (λ input. Consumes
-        (R.remaining (inner_of reader.old)) (R.remaining (inner_of reader.new)) input.items) }
-    ensures end { OnOk result (IsAtEnd (R.remaining (inner_of reader.new))) }
-    ensures within { IfOk result (λ input. vec_len input ≤ MAX_INPUT) }
-    ensures failures { OnOk result (failures_of reader.new ≡ 0) }
+    ensures input { IfOk result (λ input. Gives R.remaining reader.old reader.new input.items) }
+    ensures end { OnOk result (HasEnded R.remaining reader.new) }
+    ensures within { IfOk result (λ input. vec_len input ≤ max_input_len) }
+    ensures read { OnOk result (IsRead reader.new) }
     ensures fault { IfErr result (λ fault. StopsShort R.remaining reader.old reader.new fault) }
-    ensures reads { calls_of reader.new ≤ MAX_INPUT + 1 }
+    ensures reads { calls_of reader.new ≤ max_input_len + 1 }
     ensures flushes { flushes_of reader.new ≡ 0 }
 {
     let mut input = buffer(alloc)?;
@@ -39,7 +47,7 @@ pub fn read_input<R: Read>(alloc: Global, reader: &mut Meter<R>) -> Result<Vec<u
 
 /// Room for a byte more than an input may have.
 fn buffer(alloc: Global) -> Result<Vec<u8>, AllocError>
-    ensures { IfOk result (λ buffer. vec_len buffer ≡ MAX_INPUT + 1) }
+    ensures { IfOk result (λ buffer. vec_len buffer ≡ max_input_len + 1) }
 {
     vec![in alloc; 0; MAX_INPUT + 1]
 }
@@ -55,12 +63,10 @@ fn read_more<R: Read>(
     requires failures { failures_of reader.old < u64.MAX }
     ensures front { take filled input.new ≡ take filled input.old }
     ensures within { IfOk result (λ count. filled + count ≤ length input.new) }
-    ensures came { IfOk result (λ count. Consumes
-        (R.remaining (inner_of reader.old)) (R.remaining (inner_of reader.new))
-        (take count (drop filled input.new))) }
-    ensures end { IfOk result (λ count. count ≡ 0 → IsAtEnd (R.remaining (inner_of reader.new))) }
-    ensures err { OnErr result
-        (Keeps (R.remaining (inner_of reader.old)) (R.remaining (inner_of reader.new))) }
+    ensures came { IfOk result (λ count.
+        Gives R.remaining reader.old reader.new (take count (drop filled input.new))) }
+    ensures end { IfOk result (λ count. count ≡ 0 → HasEnded R.remaining reader.new) }
+    ensures err { OnErr result (KeepsBytes R.remaining reader.old reader.new) }
     ensures fault { IfErr result (λ fault. fault ≡ Fault.Read) }
     ensures counts { CountsCall reader.old reader.new (is_err result) }
 {

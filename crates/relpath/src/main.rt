@@ -1,4 +1,4 @@
-//! `relpath`: a filter that answers commands on relative paths, a line for a line.
+//! `relpath`: answers commands on relative paths, a line for a line.
 //!
 //! ```text
 //! $ printf 'normalize\ta/../b\n' | relpath
@@ -6,29 +6,23 @@
 //! ```
 #![tactic(auto)]
 
-use crate::filter::run;
+use crate::fault::report;
 use crate::meter::Meter;
 use std::process::ExitCode;
 
-mod answers;
 mod command;
 mod fault;
-mod filter;
 mod input;
+mod lines;
 mod meter;
 mod output;
+mod run;
 #[cfg(test)]
 mod tests;
 
 fn main(rt: HostRuntime) -> ExitCode {
     let mut reader = Meter::new(rt.stdin());
     let mut writer = Meter::new(rt.stdout());
-    match run(rt.alloc(), &mut reader, &mut writer) {
-        Ok(()) => ExitCode::SUCCESS,
-        Err(fault) => {
-            // Nobody is left to tell where standard error fails too.
-            let _ = eprintln!(rt; "relpath: {fault}");
-            ExitCode::FAILURE
-        }
-    }
+    let ended = run::run(rt.alloc(), &mut reader, &mut writer);
+    report(ended, &mut Meter::new(rt.stderr()))
 }

@@ -1,7 +1,7 @@
 //! Counts of the calls made of a reader or a writer.
 ghost use Rattle.std.specs.Prelude.{◌≡◌, ◌<◌, is_err};
 ghost use Rattle.std.specs.Io.{ReadsAtMost, WritesAtMost};
-ghost use Rattle.std.specs.Io.KnownBytes.{ReadConsumes, WriteAppends, Keeps};
+ghost use Rattle.std.specs.Io.KnownBytes.{ReadConsumes, WriteAppends};
 
 use std::io::{Read, Result, Write};
 
@@ -112,7 +112,7 @@ impl<T> Meter<T> {
 }
 
 impl<R: Read> Meter<R> {
-    ghost use Rattle.relpath.specs.Meter.{inner_of, calls_of, failures_of, CountsCall};
+    ghost use Rattle.relpath.specs.Meter.{calls_of, failures_of, CountsCall, bytes_of};
 
     /// Passes a read on.
     pub fn read(&mut self, buf: &mut [u8]) -> Result<usize>
@@ -120,7 +120,7 @@ impl<R: Read> Meter<R> {
         requires failures { failures_of self.old < u64.MAX }
         ensures bound { ReadsAtMost result buf.new }
         ensures bytes { ReadConsumes
-            (R.remaining (inner_of self.old)) (R.remaining (inner_of self.new)) result buf.new }
+            (bytes_of R.remaining self.old) (bytes_of R.remaining self.new) result buf.new }
         ensures counts { CountsCall self.old self.new (is_err result) }
     {
         let result = self.inner.read(buf);
@@ -131,13 +131,14 @@ impl<R: Read> Meter<R> {
 
 impl<W: Write> Meter<W> {
     ghost use Rattle.relpath.specs.Meter.{
-      inner_of,
       calls_of,
       flushes_of,
       failures_of,
       CountsCall,
       CountsFlush,
       is_failed_write,
+      bytes_of,
+      KeepsBytes,
     };
 
     /// Passes a write on.
@@ -146,7 +147,7 @@ impl<W: Write> Meter<W> {
         requires failures { failures_of self.old < u64.MAX }
         ensures bound { WritesAtMost result buf.now }
         ensures bytes { WriteAppends
-            (W.contents (inner_of self.old)) (W.contents (inner_of self.new)) result buf.now }
+            (bytes_of W.contents self.old) (bytes_of W.contents self.new) result buf.now }
         ensures counts { CountsCall self.old self.new (is_failed_write result buf.now) }
     {
         let result = self.inner.write(buf);
@@ -162,7 +163,7 @@ impl<W: Write> Meter<W> {
     pub fn flush(&mut self) -> Result<()>
         requires flushes { flushes_of self.old < u64.MAX }
         requires failures { failures_of self.old < u64.MAX }
-        ensures bytes { Keeps (W.contents (inner_of self.old)) (W.contents (inner_of self.new)) }
+        ensures bytes { KeepsBytes W.contents self.old self.new }
         ensures counts { CountsFlush self.old self.new (is_err result) }
     {
         let result = self.inner.flush();

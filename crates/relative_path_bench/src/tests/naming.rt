@@ -1,49 +1,18 @@
 //! Parents, file names, stems and extensions.
+use super::decompositions::DECOMPOSITIONS;
 use relative_path::RelativePath;
-
-// A text, its parent and its file name.
-const DECOMPOSITIONS: [(&str, Option<&str>, Option<&str>); 27] = [
-    ("", None, None),
-    ("foo", Some(""), Some("foo")),
-    ("/", Some(""), None),
-    ("/foo", Some(""), Some("foo")),
-    ("foo/", Some(""), Some("foo")),
-    ("/foo/", Some(""), Some("foo")),
-    ("foo/bar", Some("foo"), Some("bar")),
-    ("/foo/bar", Some("/foo"), Some("bar")),
-    ("///foo///", Some(""), Some("foo")),
-    ("///foo///bar", Some("///foo"), Some("bar")),
-    ("./.", Some(""), None),
-    ("/..", Some(""), None),
-    ("../", Some(""), None),
-    ("foo/.", Some(""), Some("foo")),
-    ("foo/./", Some(""), Some("foo")),
-    ("foo/..", Some("foo"), None),
-    ("foo/../", Some("foo"), None),
-    ("foo/./bar", Some("foo/."), Some("bar")),
-    ("foo/../bar", Some("foo/.."), Some("bar")),
-    ("./a", Some("."), Some("a")),
-    (".", Some(""), None),
-    ("./", Some(""), None),
-    ("a/b", Some("a"), Some("b")),
-    ("a//b", Some("a"), Some("b")),
-    ("a/./b", Some("a/."), Some("b")),
-    ("a/b/c", Some("a/b"), Some("c")),
-    (".foo", Some(""), Some(".foo")),
-];
 
 #[test]
 fn splits_off_file_names(rt: HostRuntime) {
-    for (text, parent, file_name) in DECOMPOSITIONS {
-        let path = RelativePath::new(text);
-        assert_eq!(rt;
-            path.parent().map(RelativePath::as_str),
-            parent,
-            "parent of {text:?}"
-        );
-        assert_eq!(rt; path.file_name(), file_name, "file name of {text:?}");
-        assert_eq!(rt; path.file_stem(), file_name, "stem of {text:?}");
-        assert_eq!(rt; path.extension(), None, "extension of {text:?}");
+    for rows in DECOMPOSITIONS {
+        for (text, _, parent, file_name) in rows {
+            let path = RelativePath::new(text);
+            let found = path.parent().map(RelativePath::as_str);
+            assert_eq!(rt; found, *parent, "parent of {text:?}");
+            assert_eq!(rt; path.file_name(), *file_name, "file name of {text:?}");
+            assert_eq!(rt; path.file_stem(), *file_name, "stem of {text:?}");
+            assert_eq!(rt; path.extension(), None, "extension of {text:?}");
+        }
     }
 }
 

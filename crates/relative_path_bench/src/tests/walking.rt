@@ -1,51 +1,24 @@
 //! The components of a path, from either end.
+use super::decompositions::DECOMPOSITIONS;
 use crate::{End, take_in_turn};
 use relative_path::{Component, RelativePath};
 use std::test::Fail;
 
-const DECOMPOSITIONS: [(&str, &[&str]); 27] = [
-    ("", &[]),
-    ("foo", &["foo"]),
-    ("/", &[]),
-    ("/foo", &["foo"]),
-    ("foo/", &["foo"]),
-    ("/foo/", &["foo"]),
-    ("foo/bar", &["foo", "bar"]),
-    ("/foo/bar", &["foo", "bar"]),
-    ("///foo///", &["foo"]),
-    ("///foo///bar", &["foo", "bar"]),
-    ("./.", &[".", "."]),
-    ("/..", &[".."]),
-    ("../", &[".."]),
-    ("foo/.", &["foo", "."]),
-    ("foo/./", &["foo", "."]),
-    ("foo/..", &["foo", ".."]),
-    ("foo/../", &["foo", ".."]),
-    ("foo/./bar", &["foo", ".", "bar"]),
-    ("foo/../bar", &["foo", "..", "bar"]),
-    ("./a", &[".", "a"]),
-    (".", &["."]),
-    ("./", &["."]),
-    ("a/b", &["a", "b"]),
-    ("a//b", &["a", "b"]),
-    ("a/./b", &["a", ".", "b"]),
-    ("a/b/c", &["a", "b", "c"]),
-    (".foo", &[".foo"]),
-];
-
 #[test]
 fn gives_the_texts_of_the_components(rt: HostRuntime) -> Result<(), Fail> {
-    for (text, expected) in DECOMPOSITIONS {
-        let path = RelativePath::new(text);
-        let texts: Vec<&str> = path.iter().collect(rt.alloc())?;
-        assert_eq!(rt; texts.as_slice(), expected, "iter of {text:?}");
-        let texts: Vec<&str> = path.into_iter().collect(rt.alloc())?;
-        assert_eq!(rt; texts.as_slice(), expected, "into_iter of {text:?}");
-        let backwards: Vec<&str> = path.iter().rev().collect(rt.alloc())?;
-        assert!(rt;
-            backwards.iter().rev().eq(expected.iter()),
-            "iter of {text:?}, back to front"
-        );
+    for rows in DECOMPOSITIONS {
+        for (text, expected, _, _) in rows {
+            let path = RelativePath::new(text);
+            let texts: Vec<&str> = path.iter().collect(rt.alloc())?;
+            assert_eq!(rt; texts.as_slice(), *expected, "iter of {text:?}");
+            let texts: Vec<&str> = path.into_iter().collect(rt.alloc())?;
+            assert_eq!(rt; texts.as_slice(), *expected, "into_iter of {text:?}");
+            let backwards: Vec<&str> = path.iter().rev().collect(rt.alloc())?;
+            assert!(rt;
+                backwards.iter().rev().eq(expected.iter()),
+                "iter of {text:?}, back to front"
+            );
+        }
     }
     Ok(())
 }

@@ -28,17 +28,17 @@ returns-in-ParentDir-2 c =
     let alone : IsProper (step_of c.args.component) = c.requires.alone in
     let ends = IsNormal-push_up (components text) c.requires.normal.normal (λ ds n e. true≢false
     (sym (c.if-ends_in_name.ensures.1 (ds, n, ap components c.as_relative_path.ensures ∙ e)))) in
-    let f : Follows text (step_of c.args.component) c.push_within.new.out.text =
-    rw (c.push_within.ensures.text, c.in-ParentDir-2.is)
+    let f : Follows text (step_of c.args.component) c.push_reserved.new.self.text =
+    rw (c.push_reserved.ensures.text, c.new.ensures, c.in-ParentDir-2.is)
     (Follows-push text c.requires.normal _ (rw c.in-ParentDir-2.is at alone) ends) in
-    record { normal = f.normal_text; same = f.same; no_longer = f.no_longer; room = c.push_within.ensures.room }
+    record { normal = f.normal_text; same = f.same; no_longer = f.no_longer; room = c.push_reserved.ensures.room }
 
 pub returns-in-Normal : goal.returns-in-Normal
 returns-in-Normal c =
     let text = c.args.out.now.text in
     let alone : IsProper (step_of c.args.component) = c.requires.alone in
     let ends = IsNormal-push_name (components text) c.in-Normal.name.now c.requires.normal.normal in
-    let f : Follows text (step_of c.args.component) c.push_within-in-Normal.new.out.text =
-    rw (c.push_within-in-Normal.ensures.text, c.in-Normal.is)
+    let f : Follows text (step_of c.args.component) c.push_reserved-in-Normal.new.self.text =
+    rw (c.push_reserved-in-Normal.ensures.text, c.new-in-Normal.ensures, c.in-Normal.is)
     (Follows-push text c.requires.normal _ (rw c.in-Normal.is at alone) ends) in
-    record { normal = f.normal_text; same = f.same; no_longer = f.no_longer; room = c.push_within-in-Normal.ensures.room }
+    record { normal = f.normal_text; same = f.same; no_longer = f.no_longer; room = c.push_reserved-in-Normal.ensures.room }

@@ -1,8 +1,8 @@
-use Rattle.std.proofs.Common.{◌≡◌, ◌++◌, [], ◌∷◌, ◌≤◌, length, take, get_or, sym, ap, ◌∙◌, subst, arith, take_all}
+use Rattle.std.proofs.Common.{get_or, subst, take_all}
 use Rattle.std.proofs.lemmas.List.{take_more}
 use Rattle.relative_path.specs.RelativePath.{path_text}
 use Rattle.relative_path.specs.Components.{text_left}
-use Rattle.relative_path_bench.specs.declared.walking.End.TheVariants.{Front, Back}
+use Rattle.relative_path_bench.specs.declared.walking.End.TheVariants.{Front}
 use Rattle.relative_path_bench.specs.Walking.{TakesAt, TakesInTurn}
 use Rattle.relative_path_bench.proofs.WalkingLemmas.{TakesInTurn-push, IsTakenInTurn-from}
 use Rattle.relative_path_bench.proofs.walking.take_in_turn.Goals as goal

@@ -1,7 +1,7 @@
 -- Each read adds what came behind the filled bytes.
 use Rattle.std.proofs.Common.{rules, ◌≡◌, ◌+◌, length-take, arith}
 use Rattle.std.proofs.KnownBytes.{Consumes-kept}
-use Rattle.relpath.proofs.InputLemmas.{IfErr-at, Consumes-more}
+use Rattle.relpath.proofs.InputLemmas.{IfErr-at, Consumes-next}
 use Rattle.relpath.proofs.input.read_input.Goals as goal
 
 pub returns-in_err-count-clause-fault : goal.returns-in_err-count-clause-fault
@@ -17,16 +17,21 @@ pub returns-then-count-eq0-clause-input : goal.returns-then-count-eq0-clause-inp
 returns-then-count-eq0-clause-input g c =
     let read = c.in_ok-count.ensures in
     let no_more : c.loop-filled.filled + c.in_ok-count.count ≡ c.loop-filled.filled = omega arith in
+    let before = c.loop-filled.invariant in
+    let buffer = c.as_mut_slice.ensures.value in
     rw (c.truncate.ensures.items, ← no_more)
-    (Consumes-more _ _ _ _ _ _ _ _ _ c.as_mut_slice.ensures.value (search rules) read.front c.loop-filled.invariant.came read.came)
+    (Consumes-next _ _ _ _ _ _ _ _ _ buffer (search rules) read.front before.came read.came)
 
 pub loop-filled-preserved : goal.loop-filled-preserved
 loop-filled-preserved g c =
     let read = c.in_ok-count.ensures in
+    let before = c.loop-filled.invariant in
+    let buffer = c.as_mut_slice.ensures.value in
     record {
       room = search rules;
       filled = search rules;
-      came = Consumes-more _ _ _ _ _ _ _ _ _ c.as_mut_slice.ensures.value (search rules) read.front c.loop-filled.invariant.came read.came;
+      came = Consumes-next _ _ _ _ _ _ _ _ _ buffer (search rules) read.front before.came read.came;
+      some = search rules;
       reads = search rules;
       failures = search rules;
       flushes = search rules;

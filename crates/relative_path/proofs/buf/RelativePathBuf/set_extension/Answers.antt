@@ -5,6 +5,7 @@ use Rattle.relative_path.specs.Naming.{IsExtended, dotted}
 use Rattle.relative_path.specs.RelativePath.{path_text}
 use Rattle.relative_path.proofs.SlicesLemmas.{length-IsPrefix}
 use Rattle.relative_path.proofs.NamingLemmas.{IsPrefix-IsExtended, IsExtended-push, ExceedsRoom-extended}
+use Rattle.relative_path.proofs.FileNameLemmas.{extension-IsExtended}
 use Rattle.relative_path.proofs.buf.RelativePathBuf.set_extension.Goals as goal
 
 pub returns-in_err-reserve_to-clause-full : goal.returns-in_err-reserve_to-clause-full
@@ -43,3 +44,8 @@ returns-clause-ok c =
     let added = c.push_extension.ensures.text ∙ ap (λ x. x ++ dotted c.args.extension.now) cut in
     rw (added, ← c.as_relative_path.ensures)
     (IsExtended-push _ _ _ (c.in-Some.ensures.found.0 refl) c.in-Some.ensures.text)
+
+pub returns-clause-extension : goal.returns-clause-extension
+returns-clause-extension c = λ _ plain.
+    let some = rw c.as_relative_path.ensures at (c.in-Some.ensures.found.0 refl) in
+    extension-IsExtended c.args.self.now.text c.args.extension.now _ plain some (returns-clause-ok c)

@@ -28,5 +28,5 @@ returns-clause-ok c =
     let text = c.as_relative_path.ensures ∙ sym c.in_ok-reserve_to.ensures.text in
     let front = rw (text, ← c.as_str-base.ensures) at (IsPrefix-IsBase _ _ c.base_of.ensures) in
     let cut = c.cut_to.ensures.text ∙ sym front.front ∙ c.as_str-base.ensures in
-    let pushed_on = (rw c.unwrap.ensures at c.push.ensures.ok) ∙ ap₂ pushed cut c.new.ensures in
+    let pushed_on = c.push_reserved.ensures.text ∙ ap₂ pushed cut c.new.ensures in
     (path_text c.base_of.result, rw (← c.as_relative_path.ensures) c.base_of.ensures, pushed_on)

@@ -1,0 +1,203 @@
+-- Where a file name stands among the components, what it is cut into, and what a new extension makes of it.
+use Rattle.std.proofs.Common.{◌≡◌, ◌≢◌, ◌⊎◌, ℕ, zero, suc, ◌-◌, ◌<◌, Bool, true, false, true≢false, not, List, [], ◌∷◌, ◌++◌, All, length, get_or, take, drop, replicate, reverse, Option, Some, None, inl, inr, sym, refl, ap, ◌∙◌, subst, arith, append_assoc, length-append, eqb-true, take-append-drop}
+use Rattle.std.proofs.Math.Seq.{drop-cons}
+use Rattle.std.proofs.lemmas.Bool.{cond_both, and_parts, not-false, not-true, eqb-false}
+use Rattle.std.proofs.lemmas.List.{get_or-reverse, length-reverse, take_more}
+use Rattle.std.proofs.lemmas.List.Sums.{prefix_len_stops}
+use Rattle.std.proofs.lemmas.List.Elements.{All-from_recursion}
+use Rattle.std.proofs.lemmas.Option.{slice_get_within, get_or_from_slice_get}
+use Rattle.std.specs.List.{AllByRecursion, list_all, suffix_len, before_last, after_last}
+use Rattle.std.specs.Option.{option_and_then}
+use Rattle.std.specs.Prelude.{slice_get, IsSome, IsTrue}
+use Rattle.relative_path.specs.Steps.{slash, dot, is_not_empty, Step, cur, up, name, step_text, classed, components}
+use Rattle.relative_path.specs.Editing.{is_cur, kept_len}
+use Rattle.relative_path.specs.Naming.{name_of, last_name, file_name_of, is_dot, has_stem, stem_of, extension_of, is_plain_byte, is_plain_extension, dotted, IsExtended}
+use Rattle.relative_path.proofs.StepsLemmas.{HasNoSlash, IsProper, AreProper, components-nil, components-append, components-trailing_slash, components_whole, step_text-classed, AreProper-components, HasNoSlash-proper, nonempty_proper}
+use Rattle.relative_path.proofs.EditingLemmas.{kept_len-curs, kept_len-push}
+use Rattle.relative_path.proofs.NamingLemmas.{IsExtendedAt, IsSplit-dot, last_slash, last_same, slice_get-at, others-curs, last_other-at}
+
+-- ---- where the file name stands
+
+-- the last component that is no `.` stands before the `.`s at the end
+record EndsIn (cs : List Step) : Type 0 where
+  front : List Step
+  last : Step
+  curs : ℕ
+  other : is_cur last ≡ false
+  joined : cs ≡ front ++ last ∷ replicate curs cur
+
+ends_in : (cs : List Step) → ((k : ℕ) × (cs ≡ replicate k cur)) ⊎ EndsIn cs
+ends_in [] = inl (0, refl)
+ends_in (c ∷ cs) = elim (ends_in cs) [
+  | inl (k, alone) ↦ first c k alone
+  | inr e ↦ inr (record { front = c ∷ e.front; last = e.last; curs = e.curs; other = e.other; joined = ap (λ ds. c ∷ ds) e.joined })
+]
+  where
+    first : (c : Step) (k : ℕ) → cs ≡ replicate k cur → ((j : ℕ) × (c ∷ cs ≡ replicate j cur)) ⊎ EndsIn (c ∷ cs)
+    first cur k alone = inl (suc k, ap (λ ds. cur ∷ ds) alone)
+    first up k alone = inr (record { front = []; last = up; curs = k; other = refl; joined = ap (λ ds. up ∷ ds) alone })
+    first (name n) k alone = inr (record { front = []; last = name n; curs = k; other = refl; joined = ap (λ ds. name n ∷ ds) alone })
+
+is_name : (c : Step) (n : List ℕ) → name_of c ≡ Some n → c ≡ name n
+is_name cur n is = absurd (cc)
+is_name up n is = absurd (cc)
+is_name (name m) n is = cc
+
+-- the file name is the component behind those that a parent keeps
+pub slice_get-last_name : (cs : List Step) (n : List ℕ) → last_name cs ≡ Some n → slice_get cs (kept_len cs) ≡ Some (name n)
+slice_get-last_name cs n named = elim (ends_in cs) [
+  | inl (k, alone) ↦
+      let none = ap last_name alone ∙ ap (λ ds. option_and_then name_of (slice_get ds (length ds - 1))) (others-curs k) in
+      absurd (cc)
+  | inr e ↦
+      let last = ap last_name e.joined ∙ ap (option_and_then name_of) (last_other-at e.front e.last e.curs e.other) in
+      let is : e.last ≡ name n = is_name e.last n (sym last ∙ named) in
+      let whole : cs ≡ (e.front ++ e.last ∷ []) ++ replicate e.curs cur = e.joined ∙ sym (append_assoc e.front (e.last ∷ []) (replicate e.curs cur)) in
+      let kept : kept_len cs ≡ length e.front = ap kept_len whole ∙ kept_len-curs (e.front ++ e.last ∷ []) e.curs ∙ kept_len-push e.front e.last e.other in
+      ap (slice_get cs) kept ∙ ap (λ ds. slice_get ds (length e.front)) e.joined ∙ slice_get-at e.front e.last _ ∙ ap Some is
+]
+
+-- ---- what a name is cut into
+
+-- the byte is no dot
+abbrev no_dot : ℕ → Bool
+no_dot b = not (is_dot b)
+
+-- the byte before those that are no dots is a dot
+last_is_dot : (n : List ℕ) → suffix_len no_dot n < length n → get_or n (length n - suffix_len no_dot n - 1) 0 ≡ dot
+last_is_dot n less =
+    let count = length-reverse n in
+    let index : length n - 1 - suffix_len no_dot n ≡ length n - suffix_len no_dot n - 1 = omega arith in
+    let there = get_or-reverse n (suffix_len no_dot n) 0 less ∙ ap (λ i. get_or n i 0) index in
+    let stops = prefix_len_stops no_dot (reverse n) 0 (omega arith) in
+    eqb-true _ dot (not-false _ (ap no_dot (sym there) ∙ stops))
+
+parts_at_dot : (n : List ℕ) → has_stem n ≡ true → n ≡ before_last is_dot n ++ dot ∷ after_last is_dot n
+parts_at_dot n stem =
+    let k = length n - suffix_len no_dot n - 1 in
+    let short : 0 < k = stem_len k stem in
+    let less : suffix_len no_dot n < length n = omega arith in
+    let after : suc k ≡ length n - suffix_len no_dot n = omega arith in
+    let rest : drop k n ≡ dot ∷ after_last is_dot n = drop-cons n k 0 (omega arith) ∙ ap (λ b. b ∷ drop (suc k) n) (last_is_dot n less) ∙ ap (λ i. dot ∷ drop i n) after in
+    sym (take-append-drop k n) ∙ ap (λ bs. take k n ++ bs) rest
+  where
+    stem_len : (k : ℕ) → is_not_empty (take k n) ≡ true → 0 < k
+    stem_len zero stem = absurd (true≢false (sym stem))
+    stem_len (suc k) stem = omega arith
+
+-- ---- a new extension
+
+HasNoSlash-append_left : (xs ys : List ℕ) → HasNoSlash (xs ++ ys) → HasNoSlash xs
+HasNoSlash-append_left [] ys none = tt
+HasNoSlash-append_left (b ∷ bs) ys none = (none.0, HasNoSlash-append_left bs ys none.1)
+
+HasNoSlash-append : (xs ys : List ℕ) → HasNoSlash xs → HasNoSlash ys → HasNoSlash (xs ++ ys)
+HasNoSlash-append [] ys none none' = none'
+HasNoSlash-append (b ∷ bs) ys none none' = (none.0, HasNoSlash-append bs ys none.1 none')
+
+-- the bytes of a plain extension
+HasNoSlash-plain : (e : List ℕ) → list_all is_plain_byte e ≡ true → HasNoSlash e
+HasNoSlash-plain [] plain = tt
+HasNoSlash-plain (b ∷ bs) plain =
+    let both = and_parts _ _ plain in
+    (not-true _ (and_parts _ _ both.0).1, HasNoSlash-plain bs both.1)
+
+no_dot-plain : (e : List ℕ) → list_all is_plain_byte e ≡ true → All (λ b. b ≢ dot) e
+no_dot-plain e plain = All-from_recursion (λ b. b ≢ dot) e (each e plain)
+  where
+    each : (bs : List ℕ) → list_all is_plain_byte bs ≡ true → AllByRecursion (λ b. b ≢ dot) bs
+    each [] plain = tt
+    each (b ∷ bs) plain =
+        let both = and_parts _ _ plain in
+        (eqb-false b dot (not-true _ (and_parts _ _ both.0).0), each bs both.1)
+
+-- what stands before the last component: nothing, or a text that ends in a slash
+head_ends : (head n : List ℕ) (cs : List Step) → components (head ++ n) ≡ cs ++ name n ∷ [] → 0 < length n → HasNoSlash n
+    → (head ≡ []) ⊎ ((xs : List ℕ) × (head ≡ xs ++ slash ∷ []))
+head_ends head n cs last nonempty none = elim (last_slash head) [
+  | inl whole ↦
+      let one = components_whole (head ++ n) (omega (arith, length-append head n)) (HasNoSlash-append head n whole none) in
+      inl (alone head (last_same cs [] (name n) (classed (head ++ n)) (sym last ∙ one)))
+  | inr (xs, ys, joined, whole) ↦
+      let one = components_whole (ys ++ n) (omega (arith, length-append ys n)) (HasNoSlash-append ys n whole none) in
+      let parts = ap (λ x. components (x ++ n)) joined ∙ ap components (append_assoc xs (slash ∷ ys) n) ∙ components-append xs (ys ++ n) ∙ ap (λ ds. components xs ++ ds) one in
+      let empty = alone ys (last_same cs (components xs) (name n) (classed (ys ++ n)) (sym last ∙ parts)) in
+      inr (xs, joined ∙ ap (λ bs. xs ++ slash ∷ bs) empty)
+]
+  where
+    alone : (bs : List ℕ) → name n ≡ classed (bs ++ n) → bs ≡ []
+    alone [] same = refl
+    alone (b ∷ bs) same =
+        let text = ap length (ap step_text same ∙ step_text-classed ((b ∷ bs) ++ n)) in
+        absurd (omega (arith, text, length-append (b ∷ bs) n))
+
+-- another last component in its place
+components-replaced : (head n m : List ℕ) (cs : List Step) → components (head ++ n) ≡ cs ++ name n ∷ [] → 0 < length n → HasNoSlash n
+    → 0 < length m → HasNoSlash m → components (head ++ m) ≡ components head ++ classed m ∷ []
+components-replaced head n m cs last nonempty none nonempty' none' = elim (head_ends head n cs last nonempty none) [
+  | inl empty ↦ ap (λ x. components (x ++ m)) empty ∙ components_whole m nonempty' none' ∙ ap (λ ds. ds ++ classed m ∷ []) (sym components-nil) ∙ ap (λ x. components x ++ classed m ∷ []) (sym empty)
+  | inr (xs, ends) ↦
+      ap (λ x. components (x ++ m)) ends ∙ ap components (append_assoc xs (slash ∷ []) m) ∙ components-append xs m
+      ∙ ap (λ ds. components xs ++ ds) (components_whole m nonempty' none')
+      ∙ ap (λ ds. ds ++ classed m ∷ []) (sym (components-trailing_slash xs) ∙ ap components (sym ends))
+]
+
+-- a text of three bytes and more is a name
+name-classed : (m : List ℕ) → 2 < length m → classed m ≡ name m
+name-classed m long = named (classed m) (step_text-classed m)
+  where
+    named : (c : Step) → step_text c ≡ m → c ≡ name m
+    named cur text = absurd (omega (arith, ap length text))
+    named up text = absurd (omega (arith, ap length text))
+    named (name k) text = ap name text
+
+stem_nonempty : (n : List ℕ) → 0 < length n → 0 < length (stem_of n)
+stem_nonempty n nonempty =
+    cond_both (has_stem n) (before_last is_dot n) n (λ x. 0 < length x) (λ stem. long (before_last is_dot n) stem) (λ _. nonempty)
+  where
+    long : (x : List ℕ) → is_not_empty x ≡ true → 0 < length x
+    long [] stem = absurd (true≢false (sym stem))
+    long (b ∷ bs) stem = omega arith
+
+-- the stem of a name has no slash
+HasNoSlash-stem : (n : List ℕ) → HasNoSlash n → HasNoSlash (stem_of n)
+HasNoSlash-stem n none =
+    cond_both (has_stem n) (before_last is_dot n) n HasNoSlash
+    (λ stem. HasNoSlash-append_left (before_last is_dot n) (dot ∷ after_last is_dot n) (subst HasNoSlash (parts_at_dot n stem) none)) (λ _. none)
+
+AreProper-last : (cs : List Step) (c : Step) → AreProper (cs ++ c ∷ []) → IsProper c
+AreProper-last [] c proper = proper.0
+AreProper-last (d ∷ cs) c proper = AreProper-last cs c proper.1
+
+-- the stem, a dot and a plain extension in place of the last component, which is a name
+file_name-replaced : (head n e : List ℕ) (cs : List Step) → components (head ++ n) ≡ cs ++ name n ∷ []
+    → is_not_empty e ≡ true → list_all is_plain_byte e ≡ true
+    → option_and_then extension_of (file_name_of (head ++ stem_of n ++ dotted e)) ≡ Some e
+file_name-replaced head n [] cs last some plain = absurd (true≢false (sym some))
+file_name-replaced head n (b ∷ bs) cs last some plain =
+    let m = stem_of n ++ dot ∷ b ∷ bs in
+    let proper = AreProper-last cs (name n) (subst AreProper last (AreProper-components (head ++ n))) in
+    let none = HasNoSlash-proper (name n) proper in
+    let stem = stem_nonempty n (nonempty_proper (name n) proper) in
+    let len = length-append (stem_of n) (dot ∷ b ∷ bs) in
+    let none' = HasNoSlash-append (stem_of n) (dot ∷ b ∷ bs) (HasNoSlash-stem n none) (refl, HasNoSlash-plain (b ∷ bs) plain) in
+    let parts = ap components (append_assoc head (stem_of n) (dot ∷ b ∷ bs)) ∙ components-replaced head n m cs last (nonempty_proper (name n) proper) none (omega arith) none' ∙ ap (λ c. components head ++ c ∷ []) (name-classed m (omega arith)) in
+    let named = ap last_name parts ∙ ap (option_and_then name_of) (last_other-at (components head) (name m) 0 refl) in
+    let split = IsSplit-dot m (stem_of n) (b ∷ bs) (refl, no_dot-plain (b ∷ bs) plain) (λ empty. omega (arith, empty)) in
+    ap (option_and_then extension_of) named ∙ split.extension_is
+
+-- where a plain extension was set, the file name has it
+pub extension-IsExtended : (text e extended : List ℕ) → IsTrue (is_plain_extension e) → IsSome (file_name_of text) → IsExtended text e extended
+    → option_and_then extension_of (file_name_of extended) ≡ Some e
+extension-IsExtended text e extended plain found is = at (file_name_of text) refl found is
+  where
+    at : (o : Option (List ℕ)) → file_name_of text ≡ o → IsSome o → IsExtendedAt text e extended o → option_and_then extension_of (file_name_of extended) ≡ Some e
+    at None named some is = absurd (cc)
+    at (Some n) named some (head, cut, is) =
+        let bytes = and_parts _ _ plain in
+        let cs = components text in
+        let placed = slice_get-last_name cs n named in
+        let inside = slice_get_within cs (kept_len cs) (name n) placed in
+        let last = cut.same_components ∙ take_more cs (kept_len cs) cur inside
+        ∙ ap (λ c. take (kept_len cs) cs ++ c ∷ []) (get_or_from_slice_get cs (kept_len cs) (name n) cur placed) in
+        ap (λ t. option_and_then extension_of (file_name_of t)) is ∙ file_name-replaced head n e (take (kept_len cs) cs) last bytes.0 bytes.1

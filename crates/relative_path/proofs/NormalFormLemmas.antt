@@ -1,0 +1,230 @@
+-- Climbs and names: that they are normal, what one component more does to them, and the text that spells them.
+use Rattle.std.proofs.Common.{◌≡◌, ℕ, zero, suc, ◌+◌, ◌-◌, ◌<◌, ◌≤◌, true, List, [], ◌∷◌, ◌++◌, All, Option, Some, None, map, replicate, length, drop, sym, refl, ap, ◌∙◌, subst, append_assoc, append-nil, arith, length-append, length-take, length-drop, get_or, fold, ◌*◌}
+use Rattle.std.specs.List.{AllByRecursion}
+use Rattle.std.specs.Option.{is_some, option_to_list}
+use Rattle.std.proofs.lemmas.List.Elements.{recursion_from_All, All-from_recursion, All-drop}
+use Rattle.std.proofs.lemmas.List.Sums.{fold-append}
+use Rattle.std.proofs.lemmas.List.{drop_more, replicate_more, map_push}
+use Rattle.relative_path.specs.Steps.{Step, cur, up, name, slash, dot, step_text, components, spell}
+use Rattle.relative_path.specs.Editing.{with_piece}
+use Rattle.relative_path.specs.Walk.{IsSame}
+use Rattle.relative_path.specs.Normalizing.{AreNames, IsNormal, IsNormalTextOf}
+use Rattle.relative_path.specs.declared.normal_form.NormalForm.{NormalForm}
+use Rattle.relative_path.specs.declared.spans.Sources.{Sources}
+use Rattle.relative_path.specs.declared.spans.Span.{Span}
+use Rattle.relative_path.specs.Spans.{source_text, span_text, Cuts, CutsName}
+use Rattle.relative_path.specs.NormalForm.{climbed, form_names, form_steps, padded_len, Reduces, IsNormalFormOf}
+use Rattle.relative_path.proofs.StepsLemmas.{IsProper, components_whole, AreProper, components-spell, nonempty_proper}
+use Rattle.relative_path.proofs.NormalStepsLemmas.{normal_unique}
+use Rattle.relative_path.proofs.WalkLemmas.{IsSame-refl, IsSame-sym, IsSame-trans, IsSame-append_right, IsSame-cur, IsSame-name_up}
+
+-- ---- reducing a list of components
+
+padded_len-append : (cs ds : List Step) → padded_len (cs ++ ds) ≡ padded_len cs + padded_len ds
+padded_len-append [] ds = omega arith
+padded_len-append (c ∷ cs) ds = omega (arith, padded_len-append cs ds)
+
+pub Reduces-refl : (cs : List Step) → Reduces cs cs
+Reduces-refl cs = record { same = IsSame-refl cs; no_longer = omega arith }
+
+pub Reduces-trans : {cs ds es : List Step} → Reduces cs ds → Reduces ds es → Reduces cs es
+Reduces-trans {cs} {ds} {es} h i = record {
+  same = IsSame-trans cs ds es h.same i.same;
+  no_longer = let first = h.no_longer in let second = i.no_longer in omega arith;
+}
+
+-- the same components after both
+pub Reduces-append_right : {cs ds : List Step} (es : List Step) → Reduces cs ds → Reduces (cs ++ es) (ds ++ es)
+Reduces-append_right {cs} {ds} es h = record {
+  same = IsSame-append_right cs ds es h.same;
+  no_longer = let shorter = h.no_longer in omega (arith, padded_len-append cs es, padded_len-append ds es);
+}
+
+-- a `.` is dropped
+pub Reduces-cur : (cs : List Step) → Reduces (cs ++ cur ∷ []) cs
+Reduces-cur cs = record {
+  same = subst (IsSame (cs ++ cur ∷ [])) (append-nil cs) (IsSame-cur cs []);
+  no_longer = omega (arith, padded_len-append cs (cur ∷ []));
+}
+
+-- a `..` drops the name before it
+pub Reduces-name_up : (cs : List Step) (n : List ℕ) → Reduces ((cs ++ name n ∷ []) ++ up ∷ []) cs
+Reduces-name_up cs n = record {
+  same = rw (append_assoc cs (name n ∷ []) (up ∷ [])) (subst (IsSame (cs ++ name n ∷ up ∷ [])) (append-nil cs) (IsSame-name_up cs [] n));
+  no_longer = omega (arith, padded_len-append (cs ++ name n ∷ []) (up ∷ []), padded_len-append cs (name n ∷ []));
+}
+
+-- one component more taken off what is left
+pub Reduces-step : (source cs ds : List Step) (c : Step) (left rest : List Step)
+    → Reduces source (cs ++ left) → left ≡ c ∷ rest → Reduces (cs ++ c ∷ []) ds → Reduces source (ds ++ rest)
+Reduces-step source cs ds c left rest h first step =
+    let joined = ap (λ x. cs ++ x) first ∙ sym (append_assoc cs (c ∷ []) rest) in
+    Reduces-trans (subst (Reduces source) joined h) (Reduces-append_right rest step)
+
+-- ---- one component more
+
+-- a name comes last
+pub climbed-push : (climb : ℕ) (names : List (List ℕ)) (n : List ℕ) → climbed climb names ++ name n ∷ [] ≡ climbed climb (names ++ n ∷ [])
+climbed-push climb names n =
+    append_assoc (replicate climb up) (map name names) (name n ∷ []) ∙ ap (λ ds. replicate climb up ++ ds) (sym (map_push name names n))
+
+-- without a name before it a `..` is one climb more
+pub climbed-up : (climb : ℕ) → climbed climb [] ++ up ∷ [] ≡ climbed (climb + 1) []
+climbed-up climb =
+    ap (λ cs. cs ++ up ∷ []) (append-nil (replicate climb up)) ∙ replicate_more climb up ∙ sym (append-nil (replicate (climb + 1) up))
+
+-- a `..` drops the last name of a table
+pub Reduces-pop : {X : Type 0} (f : X → List ℕ) (climb : ℕ) (xs ys : List X) (r : Option X)
+    → xs ≡ ys ++ option_to_list r → is_some r ≡ true
+    → Reduces (climbed climb (map f xs) ++ up ∷ []) (climbed climb (map f ys))
+Reduces-pop f climb xs ys None joined some = absurd (cc)
+Reduces-pop f climb xs ys (Some x) joined some =
+    let last = ap (λ zs. climbed climb (map f zs)) joined ∙ ap (climbed climb) (map_push f ys x) ∙ sym (climbed-push climb (map f ys) (f x)) in
+    subst (λ cs. Reduces (cs ++ up ∷ []) (climbed climb (map f ys))) (sym last) (Reduces-name_up _ (f x))
+
+-- ---- climbs and names are normal
+
+AreNames-map : (names : List (List ℕ)) → AreNames (map name names)
+AreNames-map [] = tt
+AreNames-map (n ∷ ns) = AreNames-map ns
+
+pub IsNormal-climbed : (climb : ℕ) (names : List (List ℕ)) → IsNormal (climbed climb names)
+IsNormal-climbed zero [] = tt
+IsNormal-climbed zero (n ∷ ns) = AreNames-map ns
+IsNormal-climbed (suc climb) names = IsNormal-climbed climb names
+
+-- ---- the text that spells climbs and names
+
+AreProper-names : (names : List (List ℕ)) → AllByRecursion (λ n. IsProper (name n)) names → AreProper (map name names)
+AreProper-names [] proper = tt
+AreProper-names (n ∷ ns) proper = (proper.0, AreProper-names ns proper.1)
+
+pub AreProper-climbed : (climb : ℕ) (names : List (List ℕ)) → AllByRecursion (λ n. IsProper (name n)) names → AreProper (climbed climb names)
+AreProper-climbed zero names proper = AreProper-names names proper
+AreProper-climbed (suc climb) names proper = (IsProper-up, AreProper-climbed climb names proper)
+  where
+    IsProper-up : IsProper up
+    IsProper-up = components_whole (dot ∷ dot ∷ []) (omega arith) (refl, (refl, tt))
+
+length-spell-padded : (c : Step) (cs : List Step) → length (spell (c ∷ cs)) + 1 ≡ padded_len (c ∷ cs)
+length-spell-padded c [] = omega arith
+length-spell-padded c (d ∷ cs) = omega (arith, length-append (step_text c) (slash ∷ spell (d ∷ cs)), length-spell-padded d cs)
+
+pub length-spell : (cs : List Step) → length (spell cs) ≡ padded_len cs - 1
+length-spell [] = omega arith
+length-spell (c ∷ cs) = omega (arith, length-spell-padded c cs)
+
+-- what reduces a list to climbs and proper names gives its normal form
+pub IsNormalFormOf-Reduces : (cs : List Step) (climb : ℕ) (names : List (List ℕ))
+    → Reduces cs (climbed climb names) → AllByRecursion (λ n. IsProper (name n)) names → IsNormalFormOf cs (climbed climb names)
+IsNormalFormOf-Reduces cs climb names reduces proper = record {
+  normal = IsNormal-climbed climb names;
+  same = reduces.same;
+  of_text = components-spell (climbed climb names) (AreProper-climbed climb names proper);
+  no_longer = let shorter = reduces.no_longer in omega (arith, length-spell cs, length-spell (climbed climb names));
+}
+
+-- the names of a table are proper
+AreProper-cut : (sources : Sources) (spans : List Span) → AllByRecursion (CutsName sources) spans
+    → AllByRecursion (λ n. IsProper (name n)) (map (span_text sources) spans)
+AreProper-cut sources [] cut = tt
+AreProper-cut sources (span ∷ spans) cut = (cut.0.whole, AreProper-cut sources spans cut.1)
+
+pub AreProper-names_of_form : (form : NormalForm) → AllByRecursion (λ n. IsProper (name n)) (form_names form)
+AreProper-names_of_form form =
+    AreProper-cut form.sources form.names.items (recursion_from_All (CutsName form.sources) form.names.items form.cut)
+
+pub AreProper-names_past : (form : NormalForm) (skipped : ℕ) → AllByRecursion (λ n. IsProper (name n)) (drop skipped (form_names form))
+AreProper-names_past form skipped =
+    let P : List ℕ → Type 0 = λ n. IsProper (name n) in
+    recursion_from_All P _ (All-drop P skipped (form_names form) (All-from_recursion P (form_names form) (AreProper-names_of_form form)))
+
+-- what reduces a list to the components of a form makes it the list's normal form
+pub IsNormalFormOf-form : (cs : List Step) (form : NormalForm) → Reduces cs (form_steps form) → IsNormalFormOf cs (form_steps form)
+IsNormalFormOf-form cs form reduces = IsNormalFormOf-Reduces cs form.climb (form_names form) reduces (AreProper-names_of_form form)
+
+-- ---- writing pieces one behind another
+
+length-with_piece_le : (text p : List ℕ) → length text ≤ length (with_piece text p)
+length-with_piece_le [] p = omega arith
+length-with_piece_le (b ∷ bs) p = omega (arith, length-append bs (slash ∷ p))
+
+pub length-with_pieces_le : (text : List ℕ) (ps : List (List ℕ)) → length text ≤ length (fold with_piece text ps)
+length-with_pieces_le text [] = omega arith
+length-with_pieces_le text (p ∷ ps) = omega (arith, length-with_piece_le text p, length-with_pieces_le (with_piece text p) ps)
+
+-- where all pieces fit, the first one does
+pub with_piece_fits : (text : List ℕ) (ps : List (List ℕ)) (p : List ℕ) (rest : List (List ℕ)) (room : ℕ)
+    → ps ≡ p ∷ rest → length (fold with_piece text ps) ≤ room → length (with_piece text p) ≤ room
+with_piece_fits text ps p rest room first fits =
+    omega (arith, length-with_pieces_le (with_piece text p) rest, ap (λ x. length (fold with_piece text x)) first)
+
+pub replicate_first : {X : Type 0} (n i : ℕ) (x : X) → i < n → replicate (n - i) x ≡ x ∷ replicate (n - (i + 1)) x
+replicate_first n i x less = ap (λ k. replicate k x) (let e : n - i ≡ suc (n - (i + 1)) = omega arith in e)
+
+with_pieces-solid : (b : ℕ) (bs : List ℕ) (c : Step) (cs : List Step)
+    → fold with_piece (b ∷ bs) (map step_text (c ∷ cs)) ≡ (b ∷ bs) ++ slash ∷ spell (c ∷ cs)
+with_pieces-solid b bs c [] = refl
+with_pieces-solid b bs c (d ∷ cs) =
+    with_pieces-solid b (bs ++ slash ∷ step_text c) d cs ∙ append_assoc (b ∷ bs) (slash ∷ step_text c) (slash ∷ spell (d ∷ cs))
+
+-- the texts of proper components one behind another spell them
+pub with_pieces-spell : (cs : List Step) → AreProper cs → fold with_piece [] (map step_text cs) ≡ spell cs
+with_pieces-spell [] proper = refl
+with_pieces-spell (c ∷ []) proper = refl
+with_pieces-spell (c ∷ d ∷ cs) proper = behind (step_text c) (nonempty_proper c proper.0)
+  where
+    behind : (p : List ℕ) → 0 < length p → fold with_piece p (map step_text (d ∷ cs)) ≡ p ++ slash ∷ spell (d ∷ cs)
+    behind [] none = absurd (omega arith)
+    behind (b ∷ bs) some = with_pieces-solid b bs d cs
+
+map_step_text-names : (names : List (List ℕ)) → map step_text (map name names) ≡ names
+map_step_text-names [] = refl
+map_step_text-names (n ∷ ns) = ap (λ ps. n ∷ ps) (map_step_text-names ns)
+
+map_step_text-climbed : (climb : ℕ) (names : List (List ℕ)) → map step_text (climbed climb names) ≡ replicate climb (step_text up) ++ names
+map_step_text-climbed zero names = map_step_text-names names
+map_step_text-climbed (suc climb) names = ap (λ ps. step_text up ∷ ps) (map_step_text-climbed climb names)
+
+-- climbs, and behind them names
+pub with_pieces-climbed : (climb : ℕ) (names : List (List ℕ)) → AllByRecursion (λ n. IsProper (name n)) names
+    → fold with_piece (fold with_piece [] (replicate climb (step_text up))) names ≡ spell (climbed climb names)
+with_pieces-climbed climb names proper =
+    sym (fold-append with_piece [] (replicate climb (step_text up)) names) ∙ ap (fold with_piece []) (sym (map_step_text-climbed climb names)) ∙ with_pieces-spell (climbed climb names) (AreProper-climbed climb names proper)
+
+-- ---- counting bytes
+
+pub padded_len-climbed : (climb : ℕ) (names : List (List ℕ)) → padded_len (climbed climb names) ≡ 3 * climb + padded_len (map name names)
+padded_len-climbed zero names = omega arith
+padded_len-climbed (suc climb) names = omega (arith, padded_len-climbed climb names)
+
+pub length-padded_le : (names : List (List ℕ)) → length names ≤ padded_len (map name names)
+length-padded_le [] = omega arith
+length-padded_le (n ∷ ns) = omega (arith, length-padded_le ns)
+
+-- a span is as long as what it cuts out
+pub length-Cuts : {sources : Sources} {span : Span} {c : Step} → Cuts sources span c → span.end - span.start ≡ length (span_text sources span)
+length-Cuts {sources} {span} {c} cuts =
+    let text = source_text sources span.source in
+    let fits = cuts.end.0 in
+    let ordered = cuts.in_order in
+    omega (arith, length-take (span.end - span.start) (drop span.start text), length-drop span.start text)
+
+-- the names from an index on, counted with the span at that index
+pub padded_len-span : (sources : Sources) (spans : List Span) (i : ℕ) (d : Span) → i < length spans → All (CutsName sources) spans
+    → padded_len (map name (map (span_text sources) (drop i spans)))
+    ≡ ((get_or spans i d).end - (get_or spans i d).start) + 1 + padded_len (map name (map (span_text sources) (drop (i + 1) spans)))
+padded_len-span sources spans i d less cut =
+    let more = ap (λ xs. padded_len (map name (map (span_text sources) xs))) (drop_more spans i d less) in
+    omega (arith, length-Cuts (cut i d less))
+
+-- the text that spells a normal form is the only normal text that leads where the components lead
+pub IsNormalTextOf-spell : (cs ds : List Step) (text : List ℕ) → IsNormalFormOf cs ds → text ≡ spell ds → IsNormalTextOf cs text
+IsNormalTextOf-spell cs ds text form spelled =
+    let is : components text ≡ ds = ap components spelled ∙ form.of_text in
+    record {
+      normal_text = record { spelled = spelled ∙ ap spell (sym is); normal = rw is form.normal };
+      same = rw is form.same;
+      only = λ other normal leads.
+          normal.spelled ∙ ap spell (normal_unique (components other) ds normal.normal form.normal (IsSame-trans _ _ _ (IsSame-sym _ _ leads) form.same)) ∙ sym spelled;
+    }

@@ -1,0 +1,44 @@
+use Rattle.std.proofs.Common.{◌+◌, length, refl, sym, ap, ◌∙◌, subst, arith}
+use Rattle.std.specs.Str.{IsUtf8}
+use Rattle.relative_path.specs.Components.{step_of}
+use Rattle.relative_path.specs.Spans.{source_text}
+use Rattle.relative_path.specs.Steps.{components}
+use Rattle.relative_path.proofs.NormalFormLemmas.{Reduces-refl, Reduces-step}
+use Rattle.relative_path.proofs.SpansLemmas.{IsLeft-suffix, IsLeft-rest, Cuts-first}
+use Rattle.relative_path.proofs.normal_form.NormalForm.follow.Goals as goal
+
+pub loop-component-init : goal.loop-component-init
+loop-component-init c =
+    let shown = c.as_str.ensures ∙ c.as_relative_path.ensures in
+    let left = c.new-components.ensures in
+    let whole = ap components left ∙ c.without_leading_slashes.ensures.same in
+    let trimmed = c.without_leading_slashes.ensures in
+    record {
+      can_next = tt;
+      is_finite = tt;
+      sources = refl;
+      left = rw (shown, left) (IsLeft-suffix _ _ trimmed.suffix c.without_leading_slashes.utf8 trimmed.start);
+      steps = rw whole (Reduces-refl _);
+      len = rw whole (omega arith);
+      room = refl;
+    }
+
+pub take-requires-clause-cuts : goal.take-requires-clause-cuts
+take-requires-clause-cuts c =
+    let sources = c.loop-component.invariant.sources in
+    Cuts-first c.loop-component.self.sources _ c.text-text.result.now _ (step_of c.in-Some.component) _ (c.text-text.ensures ∙ ap (λ x. source_text x c.args.source) (sym sources)) c.loop-component.invariant.left c.in-Some.ensures.steps.0 (ap (λ x. c.loop-component.start + length x) c.as_str-in-Some.ensures)
+
+pub loop-component-preserved : goal.loop-component-preserved
+loop-component-preserved c =
+    let invariant = c.loop-component.invariant in
+    let first = c.in-Some.ensures.steps in
+    let shown = c.as_str-in-Some-2.ensures ∙ c.as_relative_path-in-Some.ensures in
+    record {
+      can_next = tt;
+      is_finite = tt;
+      sources = c.take.ensures.sources ∙ invariant.sources;
+      left = rw shown (IsLeft-rest invariant.left first.1 (subst IsUtf8 shown c.as_str-in-Some-2.utf8));
+      steps = Reduces-step _ _ _ _ _ _ invariant.steps first.0 c.take.ensures.steps;
+      len = let step = c.take.ensures.len in let before = invariant.len in omega (arith, ap length first.0);
+      room = c.take.ensures.room ∙ invariant.room;
+    }

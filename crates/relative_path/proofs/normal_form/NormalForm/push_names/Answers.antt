@@ -1,0 +1,16 @@
+use Rattle.std.proofs.Common.{◌+◌, ◌≤◌, ◌∷◌, ap, sym, ◌∙◌, map, drop, fold, length, arith}
+use Rattle.std.proofs.lemmas.List.{drop_more}
+use Rattle.relative_path.specs.Editing.{with_piece}
+use Rattle.relative_path.specs.Spans.{span_text}
+use Rattle.relative_path.proofs.NormalFormLemmas.{with_piece_fits}
+use Rattle.relative_path.proofs.normal_form.NormalForm.push_names.Goals as goal
+
+pub push_piece-requires : goal.push_piece-requires
+push_piece-requires c =
+    let f = span_text c.args.self.now.sources in
+    let items = c.names_past-span-items.result.now in
+    let i = c.loop-span.span-index in
+    let first = ap (map f) (drop_more items i _ c.loop-span-test.true) ∙ ap (λ n. n ∷ map f (drop (i + 1) items)) (sym c.cut.ensures) in
+    let whole = ap length c.loop-span.invariant.text in
+    let fits : length (fold with_piece c.loop-span.buf.text (map f (drop i items))) ≤ c.loop-span.buf.room = omega (arith, c.loop-span.invariant.room, c.requires.room) in
+    with_piece_fits c.loop-span.buf.text _ c.cut.result.now _ c.loop-span.buf.room first fits

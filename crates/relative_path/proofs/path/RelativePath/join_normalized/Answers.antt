@@ -1,0 +1,12 @@
+use Rattle.std.proofs.lemmas.Result.{IfOk-weaker}
+use Rattle.relative_path.proofs.NormalFormLemmas.{IsNormalTextOf-spell}
+use Rattle.relative_path.proofs.WalkLemmas.{LeadsInTurn-same}
+use Rattle.relative_path.proofs.path.RelativePath.join_normalized.Goals as goal
+
+pub returns-clause-normal_form : goal.returns-clause-normal_form
+returns-clause-normal_form c =
+    IfOk-weaker c.spelled.result _ _ (λ normal spelled. IsNormalTextOf-spell _ _ normal.text c.in_ok-of_both.ensures spelled) c.spelled.ensures
+
+pub returns-clause-in_turn : goal.returns-clause-in_turn
+returns-clause-in_turn c =
+    IfOk-weaker c.spelled.result _ _ (λ normal spelled. LeadsInTurn-same _ _ _ (IsNormalTextOf-spell _ _ normal.text c.in_ok-of_both.ensures spelled).same) c.spelled.ensures

@@ -1,0 +1,48 @@
+-- Normal forms as the code holds them: a count of climbs, and a table of names, each a span of a text.
+use Rattle.std.specs.Prelude.{◌≡◌, ℕ, ◌+◌, ◌≤◌, List, [], ◌∷◌, ◌++◌, map, replicate, length, vec_len, vec_capacity}
+use Rattle.relative_path.specs.declared.normal_form.NormalForm.{NormalForm}
+use Rattle.relative_path.specs.Steps.{Step, up, name, step_text, components, spell}
+use Rattle.relative_path.specs.Walk.{IsSame}
+use Rattle.relative_path.specs.Normalizing.{IsNormal}
+use Rattle.relative_path.specs.Spans.{span_text}
+
+-- as many `..`, and then the names
+abbrev pub climbed : ℕ → List (List ℕ) → List Step
+climbed climb names = replicate climb up ++ map name names
+
+-- how many bytes the components have, with a slash behind each
+abbrev pub padded_len : List Step → ℕ
+padded_len [] = 0
+padded_len (c ∷ cs) = length (step_text c) + 1 + padded_len cs
+
+-- ds lead where cs lead, and have no more bytes
+pub record Reduces (cs ds : List Step) : Type 0 where
+  pub same : IsSame cs ds
+  pub no_longer : padded_len ds ≤ padded_len cs
+
+-- ds are normal, lead where cs lead, and are the components of a text that is no longer than the text of cs
+pub record IsNormalFormOf (cs ds : List Step) : Type 0 where
+  pub normal : IsNormal ds
+  pub same : IsSame cs ds
+  pub of_text : components (spell ds) ≡ ds
+  pub no_longer : length (spell ds) ≤ length (spell cs)
+
+-- how many `..` a form begins with
+abbrev pub form_climb : NormalForm → ℕ
+form_climb form = form.climb
+
+-- the names of a form
+abbrev pub form_names : NormalForm → List (List ℕ)
+form_names form = map (span_text form.sources) form.names.items
+
+-- the components that a form stands for
+abbrev pub form_steps : NormalForm → List Step
+form_steps form = climbed (form_climb form) (form_names form)
+
+-- how many components these are
+abbrev pub form_len : NormalForm → ℕ
+form_len form = form_climb form + vec_len form.names
+
+-- how many names the table can have
+abbrev pub form_room : NormalForm → ℕ
+form_room form = vec_capacity form.names

@@ -1,0 +1,234 @@
+//! Normal forms as a count of climbs and a table of names, each a span of a text.
+ghost use Rattle.std.specs.Prelude.{◌≡◌, ◌+◌, ◌≤◌, ◌<◌, ◌^◌, ◌++◌, [], ◌∷◌, drop, fold, length, map, replicate, slice_index_or, IfOk, MatchOption};
+ghost use Rattle.std.specs.List.{All, common_prefix_len};
+ghost use Rattle.std.specs.Str.{bytes_eq};
+ghost use Rattle.relative_path.specs.Components.{step_of};
+ghost use Rattle.relative_path.specs.Editing.{with_piece};
+ghost use Rattle.relative_path.specs.RelativePath.{path_text, path_components};
+ghost use Rattle.relative_path.specs.Spans.{source_text, span_text, Cuts, CutsName};
+ghost use Rattle.relative_path.specs.Steps.{up, components, spell, step_text};
+
+use crate::buf::RelativePathBuf;
+use crate::component::{Component, Components};
+use crate::counting::component_count;
+use crate::path::RelativePath;
+use crate::slashes::without_leading_slashes;
+use crate::spans::{Source, Sources, Span};
+use std::alloc::{AllocError, Global};
+
+// As many `..` as it climbs, and then the names.
+#[derive(Drop)]
+pub(crate) struct NormalForm<'a> {
+    sources: Sources<'a>,
+    climb: usize,
+    names: Vec<Span>,
+    ghost cut: { All (CutsName sources) names.items },
+}
+
+impl<'a> NormalForm<'a> {
+    ghost use Rattle.relative_path.specs.NormalForm.{climbed, padded_len, form_climb, form_names, form_steps, form_len, form_room, Reduces, IsNormalFormOf};
+
+    // The normal form of a path. It asks for memory once, for a table of as many names as the path has components.
+    pub(crate) fn of(alloc: Global, path: RelativePath<'a>) -> Result<NormalForm<'a>, AllocError>
+        ensures normal_form { IfOk result
+            (λ form. IsNormalFormOf (path_components path.entry) (form_steps form)) }
+        ensures few { IfOk result (λ form. form_len form < 2 ^ 63) }
+    {
+        let sources = Sources {
+            first: path.as_str(),
+            second: "",
+        };
+        let form = NormalForm::with_room(alloc, sources, component_count(path.as_str()))?;
+        Ok(form.follow(Source::First))
+    }
+
+    // The normal form of a path and another one followed from where it leads.
+    pub(crate) fn of_both(
+        alloc: Global,
+        path: RelativePath<'a>,
+        other: RelativePath<'a>,
+    ) -> Result<NormalForm<'a>, AllocError>
+        ensures { IfOk result (λ form. IsNormalFormOf
+            (path_components path.entry ++ path_components other.entry) (form_steps form)) }
+    {
+        let sources = Sources {
+            first: path.as_str(),
+            second: other.as_str(),
+        };
+        let room = component_count(path.as_str()) + component_count(other.as_str());
+        let form = NormalForm::with_room(alloc, sources, room)?;
+        Ok(form.follow(Source::First).follow(Source::Second))
+    }
+
+    // How many `..` the form begins with.
+    pub(crate) fn climb(&self) -> usize
+        ensures { result ≡ form_climb self.now }
+    {
+        self.climb
+    }
+
+    // How many names the form has.
+    pub(crate) fn names_len(&self) -> usize
+        ensures { result ≡ length (form_names self.now) }
+    {
+        self.names.len()
+    }
+
+    // The name at this index.
+    fn name(&self, index: usize) -> &'a str
+        requires { index < length (form_names self.now) }
+        ensures { result.now ≡ slice_index_or (form_names self.now) index [] }
+    {
+        self.sources.cut(self.names[index])
+    }
+
+    // How many names both forms begin with.
+    pub(crate) fn common_len(&self, other: &NormalForm<'_>) -> usize
+        ensures { result ≡ common_prefix_len bytes_eq (form_names self.now) (form_names other.now) }
+    {
+        let most = self.names_len().min(other.names_len());
+        for index in 0..most {
+            if self.name(index) != other.name(index) {
+                return index;
+            }
+        }
+        most
+    }
+
+    // The text that spells the form, in memory of its own. It asks for memory once, for just this text.
+    pub(crate) fn spelled(&self, alloc: Global) -> Result<RelativePathBuf, AllocError>
+        ensures { IfOk result (λ buf. buf.text ≡ spell (form_steps self.now)) }
+    {
+        self.spelled_past(alloc, self.climb, 0)
+    }
+
+    // The text that spells so many `..` and the names without the first so many, in memory of its
+    // own. It asks for memory once, for just this text.
+    pub(crate) fn spelled_past(
+        &self,
+        alloc: Global,
+        climb: usize,
+        skipped: usize,
+    ) -> Result<RelativePathBuf, AllocError>
+        requires { skipped ≤ length (form_names self.now) }
+        ensures text { IfOk result
+            (λ buf. buf.text ≡ spell (climbed climb (drop skipped (form_names self.now)))) }
+        ensures components { IfOk result
+            (λ buf. components buf.text ≡ climbed climb (drop skipped (form_names self.now))) }
+    {
+        let len = self.spelled_len(climb, skipped).ok_or(AllocError)?;
+        let mut buf = RelativePathBuf::with_capacity(alloc, len)?;
+        push_climb(&mut buf, climb);
+        self.push_names(&mut buf, skipped);
+        Ok(buf)
+    }
+
+    // How many bytes that text has, if with a slash behind it they are no more than a `usize` holds.
+    fn spelled_len(&self, climb: usize, skipped: usize) -> Option<usize>
+        requires { skipped ≤ length (form_names self.now) }
+        ensures { let steps = climbed climb (drop skipped (form_names self.now)) in
+            MatchOption result (2 ^ 64 ≤ padded_len steps) (λ len. len ≡ length (spell steps)) }
+    {
+        let names = self.names_past(skipped);
+        let mut len = climb.checked_mul(3)?.checked_add(names.len())?;
+        for span in names {
+            len = len.checked_add(span.end - span.start)?;
+        }
+        Some(len.saturating_sub(1))
+    }
+
+    // The spans of the names without the first so many.
+    fn names_past(&self, skipped: usize) -> &[Span]
+        requires { skipped ≤ length (form_names self.now) }
+        ensures names { map (span_text self.now.sources) result.now
+            ≡ drop skipped (form_names self.now) }
+        ensures cut { All (CutsName self.now.sources) result.now }
+    {
+        &self.names[skipped..]
+    }
+
+    // Adds the names without the first so many.
+    fn push_names(&self, buf: &mut RelativePathBuf, skipped: usize)
+        requires skipped { skipped ≤ length (form_names self.now) }
+        requires room { length (fold with_piece buf.old.text (drop skipped (form_names self.now)))
+            ≤ buf.old.room }
+        ensures { buf.new.text ≡ fold with_piece buf.old.text (drop skipped (form_names self.now)) }
+    {
+        for span in self.names_past(skipped) {
+            buf.push_piece(self.sources.cut(*span));
+        }
+    }
+
+    // The normal form of nothing, with room for so many names.
+    fn with_room(
+        alloc: Global,
+        sources: Sources<'a>,
+        room: usize,
+    ) -> Result<NormalForm<'a>, AllocError>
+        ensures steps { IfOk result (λ form. form_steps form ≡ []) }
+        ensures len { IfOk result (λ form. form_len form ≡ 0) }
+        ensures room { IfOk result (λ form. room ≤ form_room form) }
+        ensures sources { IfOk result (λ form. form.sources ≡ sources.entry) }
+    {
+        Ok(NormalForm {
+            sources,
+            climb: 0,
+            names: Vec::with_capacity(alloc, room)?,
+        })
+    }
+
+    // Follows one component more, which the span cuts out.
+    fn take(&mut self, component: Component<'_>, span: Span)
+        requires cuts { Cuts self.old.sources span (step_of component) }
+        requires room { form_len self.old < form_room self.old }
+        ensures steps { Reduces (form_steps self.old ++ step_of component.entry ∷ [])
+            (form_steps self.new) }
+        ensures len { form_len self.new ≤ form_len self.old + 1 }
+        ensures room { form_room self.new ≡ form_room self.old }
+        ensures sources { self.new.sources ≡ self.old.sources }
+    {
+        match component {
+            Component::CurDir => {}
+            Component::ParentDir => {
+                if self.names.pop().is_none() {
+                    self.climb += 1;
+                }
+            }
+            Component::Normal(_) => self.names.push_reserved(span),
+        }
+    }
+
+    // Follows the components of a source, one after another.
+    fn follow(mut self, source: Source) -> NormalForm<'a>
+        requires room { form_len self + length (components (source_text self.sources source))
+            ≤ form_room self }
+        ensures steps { Reduces
+            (form_steps self.entry ++ components (source_text self.entry.sources source))
+            (form_steps result) }
+        ensures len { form_len result
+            ≤ form_len self.entry + length (components (source_text self.entry.sources source)) }
+        ensures room { form_room result ≡ form_room self.entry }
+        ensures sources { result.sources ≡ self.entry.sources }
+    {
+        let text = self.sources.text(source);
+        let mut components = Components::new(without_leading_slashes(text));
+        let mut start = text.len() - components.as_relative_path().as_str().len();
+        while let Some(component) = components.next() {
+            let end = start + component.as_str().len();
+            self.take(component, Span { source, start, end });
+            start = text.len() - components.as_relative_path().as_str().len();
+        }
+        self
+    }
+}
+
+// Adds so many `..`.
+fn push_climb(buf: &mut RelativePathBuf, climb: usize)
+    requires { length (fold with_piece buf.old.text (replicate climb (step_text up))) ≤ buf.old.room }
+    ensures text { buf.new.text ≡ fold with_piece buf.old.text (replicate climb (step_text up)) }
+    ensures room { buf.old.room ≤ buf.new.room }
+{
+    for _ in 0..climb {
+        buf.push_piece("..");
+    }
+}

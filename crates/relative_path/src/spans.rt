@@ -1,0 +1,44 @@
+//! Spans of a text, or of one of two.
+ghost use Rattle.std.specs.Prelude.{◌≡◌};
+ghost use Rattle.relative_path.specs.Spans.{source_text, span_text, CutsName};
+
+// Which of two texts.
+#[derive(Clone, Copy)]
+pub(crate) enum Source {
+    First,
+    Second,
+}
+
+// The texts that spans cut.
+#[derive(Clone, Copy)]
+pub(crate) struct Sources<'a> {
+    pub(crate) first: &'a str,
+    pub(crate) second: &'a str,
+}
+
+impl<'a> Sources<'a> {
+    pub(crate) fn text(self, source: Source) -> &'a str
+        ensures { result.now ≡ source_text self.entry source }
+    {
+        match source {
+            Source::First => self.first,
+            Source::Second => self.second,
+        }
+    }
+
+    // What a span cuts out of its source.
+    pub(crate) fn cut(self, span: Span) -> &'a str
+        requires { CutsName self span }
+        ensures { result.now ≡ span_text self.entry span }
+    {
+        &self.text(span.source)[span.start..span.end]
+    }
+}
+
+// Where a name stands in its source.
+#[derive(Clone, Copy)]
+pub(crate) struct Span {
+    pub(crate) source: Source,
+    pub(crate) start: usize,
+    pub(crate) end: usize,
+}

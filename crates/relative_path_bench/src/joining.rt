@@ -1,0 +1,153 @@
+//! Joins: of two paths and of many, as they are and in normal form.
+ghost use Rattle.std.specs.Prelude.{◌≡◌, ◌++◌, [], List, ℕ, map, IfOk};
+ghost use Rattle.relative_path.specs.Editing.{pushed};
+ghost use Rattle.relative_path.specs.Extending.{pushed_all};
+ghost use Rattle.relative_path.specs.Normalizing.{IsNormalTextOf};
+ghost use Rattle.relative_path.specs.RelativePath.{path_text, path_components};
+ghost use Rattle.relative_path.specs.Steps.{components};
+ghost use Rattle.relative_path.specs.Walk.{LeadsInTurn};
+ghost use Rattle.relative_path_bench.specs.Joining.{IsJoinedFromTheLeft, IsJoinedFromTheRight};
+
+use relative_path::{RelativePath, RelativePathBuf};
+use std::alloc::{AllocError, Global};
+
+/// `path` joined with `other`.
+///
+/// Its components are those of `path` followed by those of `other`, so it leads where `other` leads
+/// from where `path` leads. It asks for memory for its answer, and fails only where that is refused.
+///
+/// ```
+/// let joined = join_law(alloc, RelativePath::new("a/"), RelativePath::new("//b"))?;
+/// assert_eq!(rt; joined.as_relative_path().as_str(), "a//b");
+/// ```
+pub fn join_law(
+    alloc: Global,
+    path: RelativePath<'_>,
+    other: RelativePath<'_>,
+) -> Result<RelativePathBuf, AllocError>
+    ensures text { IfOk result
+        (λ joined. joined.text ≡ pushed (path_text path.entry) (path_text other.entry)) }
+    ensures components { IfOk result
+        (λ joined. components joined.text ≡ path_components path.entry ++ path_components other.entry) }
+    ensures walk { IfOk result (λ joined. LeadsInTurn (path_components path.entry)
+        (path_components other.entry) (components joined.text)) }
+{
+    path.join(alloc, other)
+}
+
+/// The paths pushed onto an empty buffer, by `from_paths` and by a push of each in turn.
+///
+/// Both have the same text. It asks for memory where a push does, and fails only where that is
+/// refused.
+///
+/// ```
+/// let paths = ["a", "/b", "", "c"].map(RelativePath::new);
+/// let (at_once, one_by_one) = from_paths_law(alloc, &paths)?;
+/// assert_eq!(rt; at_once.as_relative_path().as_str(), "a/b/c");
+/// assert_eq!(rt; one_by_one.as_relative_path().as_str(), "a/b/c");
+/// ```
+pub fn from_paths_law(
+    alloc: Global,
+    paths: &[RelativePath<'_>],
+) -> Result<(RelativePathBuf, RelativePathBuf), AllocError>
+    ensures at_once { IfOk result (λ pair. pair.0.text ≡ pushed_all [] (map path_text paths.now)) }
+    ensures one_by_one { IfOk result (λ pair. pair.1.text ≡ pushed_all [] (map path_text paths.now)) }
+    ensures same { IfOk result (λ pair. pair.0.text ≡ pair.1.text) }
+{
+    let at_once = RelativePathBuf::from_paths(alloc, paths.iter().copied())?;
+    let mut one_by_one = RelativePathBuf::new(alloc);
+    for path in paths {
+        one_by_one.push(*path)?;
+    }
+    Ok((at_once, one_by_one))
+}
+
+/// `path` and `other` joined in normal form, and the normal form of their join.
+///
+/// Both have the same text. It asks for memory for these and for the join, and fails only where
+/// that is refused.
+///
+/// ```
+/// let path = RelativePath::new("x/y");
+/// let (joined, normal) = join_normalized_law(alloc, path, RelativePath::new("../z"))?;
+/// assert_eq!(rt; joined.as_relative_path().as_str(), "x/z");
+/// assert_eq!(rt; normal.as_relative_path().as_str(), "x/z");
+/// ```
+pub fn join_normalized_law(
+    alloc: Global,
+    path: RelativePath<'_>,
+    other: RelativePath<'_>,
+) -> Result<(RelativePathBuf, RelativePathBuf), AllocError>
+    ensures joined { IfOk result (λ pair. IsNormalTextOf
+        (path_components path.entry ++ path_components other.entry) pair.0.text) }
+    ensures normal_form { IfOk result (λ pair. IsNormalTextOf
+        (components (pushed (path_text path.entry) (path_text other.entry))) pair.1.text) }
+    ensures same { IfOk result (λ pair. pair.0.text ≡ pair.1.text) }
+{
+    let joined = path.join_normalized(alloc, other)?;
+    let whole = path.join(alloc, other)?;
+    let normal = whole.as_relative_path().normalize(alloc)?;
+    Ok((joined, normal))
+}
+
+/// Three paths joined in normal form: the first two before the third, and the last two before the
+/// first.
+///
+/// Both have the same text. It asks for memory for these and for the two joins on the way, and
+/// fails only where that is refused.
+///
+/// ```
+/// let [a, b, c] = ["a", "../..", "b"].map(RelativePath::new);
+/// let (from_the_left, from_the_right) = associative(alloc, a, b, c)?;
+/// assert_eq!(rt; from_the_left.as_relative_path().as_str(), "../b");
+/// assert_eq!(rt; from_the_right.as_relative_path().as_str(), "../b");
+/// ```
+pub fn associative(
+    alloc: Global,
+    a: RelativePath<'_>,
+    b: RelativePath<'_>,
+    c: RelativePath<'_>,
+) -> Result<(RelativePathBuf, RelativePathBuf), AllocError>
+    ensures from_the_left { IfOk result (λ pair. IsJoinedFromTheLeft (path_components a.entry)
+        (path_components b.entry) (path_components c.entry) pair.0.text) }
+    ensures from_the_right { IfOk result (λ pair. IsJoinedFromTheRight (path_components a.entry)
+        (path_components b.entry) (path_components c.entry) pair.1.text) }
+    ensures same { IfOk result (λ pair. pair.0.text ≡ pair.1.text) }
+{
+    let a_b = a.join_normalized(alloc, b)?;
+    let b_c = b.join_normalized(alloc, c)?;
+    let from_the_left = a_b.as_relative_path().join_normalized(alloc, c)?;
+    let from_the_right = a.join_normalized(alloc, b_c.as_relative_path())?;
+    Ok((from_the_left, from_the_right))
+}
+
+/// The path in normal form, that joined in normal form with the empty path, and the empty path
+/// joined in normal form with it.
+///
+/// All three have the same text. It asks for memory for these, and fails only where that is
+/// refused.
+///
+/// ```
+/// let (normal, before, behind) = unit(alloc, RelativePath::new("a//b/."))?;
+/// assert_eq!(rt; normal.as_relative_path().as_str(), "a/b");
+/// assert_eq!(rt; before.as_relative_path().as_str(), "a/b");
+/// assert_eq!(rt; behind.as_relative_path().as_str(), "a/b");
+/// ```
+pub fn unit(
+    alloc: Global,
+    path: RelativePath<'_>,
+) -> Result<(RelativePathBuf, RelativePathBuf, RelativePathBuf), AllocError>
+    ensures normal_form { IfOk result (λ r. IsNormalTextOf (path_components path.entry) r.0.text) }
+    ensures before { IfOk result
+        (λ r. IsNormalTextOf (components r.0.text ++ components []) r.1.text) }
+    ensures behind { IfOk result
+        (λ r. IsNormalTextOf (components [] ++ components r.0.text) r.2.text) }
+    ensures same_before { IfOk result (λ r. r.1.text ≡ r.0.text) }
+    ensures same_behind { IfOk result (λ r. r.2.text ≡ r.0.text) }
+{
+    let empty = RelativePath::new("");
+    let normal = path.normalize(alloc)?;
+    let before = normal.as_relative_path().join_normalized(alloc, empty)?;
+    let behind = empty.join_normalized(alloc, normal.as_relative_path())?;
+    Ok((normal, before, behind))
+}

@@ -1,0 +1,62 @@
+//! Normal forms.
+ghost use Rattle.std.specs.Prelude.{◌≡◌, ◌≤◌, ◌↔◌, List, ℕ, length, IfOk, IsTrue};
+ghost use Rattle.relative_path.specs.Normalizing.{IsNormal, IsNormalText, IsNormalTextOf};
+ghost use Rattle.relative_path.specs.RelativePath.{path_text, path_components};
+ghost use Rattle.relative_path.specs.Steps.{components};
+ghost use Rattle.relative_path.specs.Walk.{IsSame};
+
+use relative_path::{RelativePath, RelativePathBuf};
+use std::alloc::{AllocError, Global};
+
+/// The path in normal form, and the normal form of that.
+///
+/// Both have the same text, which is not longer than the path's. It asks for memory for both, and
+/// fails only where that is refused.
+///
+/// ```
+/// let (once, twice) = normalize_twice(alloc, RelativePath::new("a/./b"))?;
+/// assert_eq!(rt; once.as_relative_path().as_str(), "a/b");
+/// assert_eq!(rt; twice.as_relative_path().as_str(), "a/b");
+/// ```
+pub fn normalize_twice(
+    alloc: Global,
+    path: RelativePath<'_>,
+) -> Result<(RelativePathBuf, RelativePathBuf), AllocError>
+    ensures once { IfOk result (λ pair. IsNormalTextOf (path_components path.entry) pair.0.text) }
+    ensures twice { IfOk result (λ pair. IsNormalTextOf (components pair.0.text) pair.1.text) }
+    ensures same { IfOk result (λ pair. pair.0.text ≡ pair.1.text) }
+    ensures no_longer { IfOk result
+        (λ pair. length pair.0.text ≤ length (path_text path.entry)) }
+    ensures normal_components { IfOk result (λ pair. IsNormal (components pair.0.text)) }
+    ensures only_normal_text { IfOk result (λ pair. (text : List ℕ) → IsNormalText text
+        → IsSame (path_components path.entry) (components text) → text ≡ pair.0.text) }
+{
+    let once = path.normalize(alloc)?;
+    let twice = once.as_relative_path().normalize(alloc)?;
+    Ok((once, twice))
+}
+
+/// Whether the path's components are normal, and the path in normal form.
+///
+/// They are exactly if both have equal components. It asks for memory for the normal form, and
+/// fails only where that is refused.
+///
+/// ```
+/// let (is_normal, normal) = normalized_law(alloc, RelativePath::new("foo//bar"))?;
+/// assert!(rt; is_normal);
+/// assert_eq!(rt; normal.as_relative_path().as_str(), "foo/bar");
+/// ```
+pub fn normalized_law(
+    alloc: Global,
+    path: RelativePath<'_>,
+) -> Result<(bool, RelativePathBuf), AllocError>
+    ensures is_normal { IfOk result (λ pair. IsTrue pair.0 ↔ IsNormal (path_components path.entry)) }
+    ensures normal_form { IfOk result
+        (λ pair. IsNormalTextOf (path_components path.entry) pair.1.text) }
+    ensures equal { IfOk result
+        (λ pair. IsTrue pair.0 ↔ (path_components path.entry ≡ components pair.1.text)) }
+{
+    let is_normal = path.is_normalized();
+    let normal = path.normalize(alloc)?;
+    Ok((is_normal, normal))
+}

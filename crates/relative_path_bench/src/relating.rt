@@ -1,0 +1,143 @@
+//! The way from one path to another, and paths that lead to the same.
+ghost use Rattle.std.specs.Prelude.{◌≡◌, ◌≤◌, ◌↔◌, ◌+◌, ◌++◌, ℕ, List, length, IfOk, IfSome, IsNone, Some};
+ghost use Rattle.relative_path.specs.Normalizing.{IsNormalTextOf};
+ghost use Rattle.relative_path.specs.Relating.{Leads, IsReachable, IsShortestText, LeadsApart};
+ghost use Rattle.relative_path.specs.RelativePath.{path_components};
+ghost use Rattle.relative_path.specs.Steps.{Step, components};
+ghost use Rattle.relative_path_bench.specs.Relating.{EndAlike, IsWay};
+
+use relative_path::{RelativePath, RelativePathBuf};
+use std::alloc::{AllocError, Global};
+
+/// `from` followed by the way to `to`, and `to`, both in normal form. Where no path leads from
+/// `from` to `to`, the way is empty.
+///
+/// They have the same text exactly if some path leads from `from` to `to`. It asks for memory for
+/// its two answers and for the way, and fails only where that is refused.
+///
+/// ```
+/// let from = RelativePath::new("a/b");
+/// let (back, to) = leads_back(alloc, from, RelativePath::new("a/c"))?;
+/// assert!(rt; back == to);
+/// ```
+pub fn leads_back(
+    alloc: Global,
+    from: RelativePath<'_>,
+    to: RelativePath<'_>,
+) -> Result<(RelativePathBuf, RelativePathBuf), AllocError>
+    ensures there { IfOk result
+        (λ pair. IsReachable (path_components from.entry) (path_components to.entry)
+        → IsNormalTextOf (path_components to.entry) pair.0.text) }
+    ensures stays { IfOk result
+        (λ pair. ¬ IsReachable (path_components from.entry) (path_components to.entry)
+        → IsNormalTextOf (path_components from.entry) pair.0.text) }
+    ensures to { IfOk result (λ pair. IsNormalTextOf (path_components to.entry) pair.1.text) }
+    ensures same { IfOk result (λ pair. (pair.0.text ≡ pair.1.text)
+        ↔ IsReachable (path_components from.entry) (path_components to.entry)) }
+{
+    let way = from.relative(alloc, to)?;
+    let back = from.join_normalized(alloc, way.as_relative_path())?;
+    Ok((back, to.normalize(alloc)?))
+}
+
+/// Both paths in normal form, and where they lead apart.
+///
+/// The two texts are the same exactly if from every base both paths climb above the top or both
+/// end in the same place, and exactly then the third answer is `None`. It asks for memory for
+/// these, and fails only where that is refused.
+///
+/// ```
+/// let path = RelativePath::new("a//b");
+/// let (normal, other, apart) = same_law(alloc, path, RelativePath::new("a/./b"))?;
+/// assert!(rt; normal == other);
+/// assert_eq!(rt; apart, None);
+/// ```
+pub fn same_law(
+    alloc: Global,
+    path: RelativePath<'_>,
+    other: RelativePath<'_>,
+) -> Result<(RelativePathBuf, RelativePathBuf, Option<usize>), AllocError>
+    ensures path { IfOk result (λ r. IsNormalTextOf (path_components path.entry) r.0.text) }
+    ensures other { IfOk result (λ r. IsNormalTextOf (path_components other.entry) r.1.text) }
+    ensures apart { IfOk result (λ r. (n : ℕ) → (r.2 ≡ Some n)
+        ↔ LeadsApart (path_components path.entry) (path_components other.entry) n) }
+    ensures texts { IfOk result (λ r. (r.0.text ≡ r.1.text)
+        ↔ EndAlike (path_components path.entry) (path_components other.entry)) }
+    ensures none { IfOk result (λ r. IsNone r.2
+        ↔ EndAlike (path_components path.entry) (path_components other.entry)) }
+{
+    let normal = path.normalize(alloc)?;
+    let other_normal = other.normalize(alloc)?;
+    Ok((normal, other_normal, path.leads_apart(alloc, other)?))
+}
+
+/// The ways from `a` to `c`, from `a` to `b`, and from `b` to `c`.
+///
+/// Where paths lead from `a` to `b` and from `b` to `c`, the way from `a` to `c` has no more
+/// components than the other two together. It asks for memory for the three, and fails only where
+/// that is refused.
+///
+/// ```
+/// let [a, b, c] = ["a/b", "a", "c"].map(RelativePath::new);
+/// let (a_c, a_b, b_c) = triangle(alloc, a, b, c)?;
+/// assert_eq!(rt; a_c.as_relative_path().as_str(), "../../c");
+/// assert_eq!(rt; a_b.as_relative_path().as_str(), "..");
+/// assert_eq!(rt; b_c.as_relative_path().as_str(), "../c");
+/// ```
+pub fn triangle(
+    alloc: Global,
+    a: RelativePath<'_>,
+    b: RelativePath<'_>,
+    c: RelativePath<'_>,
+) -> Result<(RelativePathBuf, RelativePathBuf, RelativePathBuf), AllocError>
+    ensures a_c { IfOk result
+        (λ ways. IsWay (path_components a.entry) (path_components c.entry) ways.0.text) }
+    ensures a_b { IfOk result
+        (λ ways. IsWay (path_components a.entry) (path_components b.entry) ways.1.text) }
+    ensures b_c { IfOk result
+        (λ ways. IsWay (path_components b.entry) (path_components c.entry) ways.2.text) }
+    ensures transitive { (r s : List Step) → Leads (path_components a.entry) r (path_components b.entry)
+        → Leads (path_components b.entry) s (path_components c.entry)
+        → Leads (path_components a.entry) (r ++ s) (path_components c.entry) }
+    ensures triangle { IfOk result
+        (λ ways. IsReachable (path_components a.entry) (path_components b.entry)
+        → IsReachable (path_components b.entry) (path_components c.entry)
+        → length (components ways.0.text)
+        ≤ length (components ways.1.text) + length (components ways.2.text)) }
+{
+    let a_c = a.relative(alloc, c)?;
+    let a_b = a.relative(alloc, b)?;
+    Ok((a_c, a_b, b.relative(alloc, c)?))
+}
+
+/// The way from `from` to `to`, and `from` followed by it in normal form; `None` exactly if no path
+/// leads from `from` to `to`.
+///
+/// The second text is the one that `to.normalize` answers. It asks for memory for both, and fails
+/// only where that is refused.
+///
+/// ```
+/// let from = RelativePath::new("a/b");
+/// let found = try_law(alloc, from, RelativePath::new("a/c"))?;
+/// assert!(rt; found.is_some_and(|(way, _)| way.as_relative_path().as_str() == "../c"));
+/// ```
+pub fn try_law(
+    alloc: Global,
+    from: RelativePath<'_>,
+    to: RelativePath<'_>,
+) -> Result<Option<(RelativePathBuf, RelativePathBuf)>, AllocError>
+    ensures none { IfOk result (λ found. IsNone found
+        ↔ (¬ IsReachable (path_components from.entry) (path_components to.entry))) }
+    ensures way { IfOk result (λ found. IfSome found (λ pair.
+        IsShortestText (path_components from.entry) (path_components to.entry) pair.0.text)) }
+    ensures there { IfOk result (λ found. IfSome found (λ pair.
+        IsNormalTextOf (path_components from.entry ++ components pair.0.text) pair.1.text)) }
+    ensures to { IfOk result (λ found. IfSome found (λ pair.
+        IsNormalTextOf (path_components to.entry) pair.1.text)) }
+{
+    let Some(way) = from.try_relative(alloc, to)? else {
+        return Ok(None);
+    };
+    let there = from.join_normalized(alloc, way.as_relative_path())?;
+    Ok(Some((way, there)))
+}

@@ -1,0 +1,34 @@
+//! The caller that the README shows.
+ghost use Rattle.std.specs.Prelude.{◌++◌, IfOk};
+ghost use Rattle.relative_path.specs.Normalizing.{IsNormalTextOf};
+ghost use Rattle.relative_path.specs.RelativePath.{path_components};
+
+use relative_path::{RelativePath, RelativePathBuf};
+use std::alloc::{AllocError, Global};
+use std::test::Fail;
+
+/// The file that a link in a directory leads to.
+fn resolve(
+    alloc: Global,
+    directory: RelativePath<'_>,
+    link: RelativePath<'_>,
+) -> Result<RelativePathBuf, AllocError>
+    ensures { IfOk result (λ file.
+        IsNormalTextOf (path_components directory.entry ++ path_components link.entry) file.text) }
+{
+    directory
+        .join(alloc, link)?
+        .as_relative_path()
+        .normalize(alloc)
+}
+
+#[test]
+fn resolves_a_link(rt: HostRuntime) -> Result<(), Fail> {
+    let file = resolve(
+        rt.alloc(),
+        RelativePath::new("docs/guide"),
+        RelativePath::new("../img/./a.png"),
+    )?;
+    assert_eq!(rt; file.as_relative_path().as_str(), "docs/img/a.png");
+    Ok(())
+}

@@ -1,0 +1,2 @@
+pub mod CowRelativePath
+pub mod Json

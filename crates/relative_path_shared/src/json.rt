@@ -1,0 +1,118 @@
+//! Relative paths as JSON strings.
+ghost use Rattle.std.specs.Prelude.{◌≡◌, ◌↔◌, IfOk, IsErrOf, IsOkUnless, Some, None};
+ghost use Rattle.std.specs.Fmt.{styled_text};
+ghost use Rattle.serde_json.specs.Data.{string};
+ghost use Rattle.serde_json.specs.View.{view};
+ghost use Rattle.relative_path.specs.RelativePath.{path_text};
+ghost use Rattle.relative_path_shared.specs.Json.{string_text, error_text};
+ghost use Rattle.relative_path_shared.specs.declared.json.FromValueError.TheVariants.{NotAString, OutOfMemory};
+
+use crate::shared::BoxedRelativePath;
+use relative_path::{RelativePath, RelativePathBuf};
+use serde_json::Value;
+use std::alloc::{AllocError, Global};
+use std::error::Error;
+use std::fmt;
+
+/// Why a value gives no path.
+///
+/// ```
+/// let error = json::view_value(&Value::Null).unwrap_err();
+/// assert_eq!(rt; error, FromValueError::NotAString);
+/// let text = format!(in alloc; "{error}")?; // expected a relative path
+/// ```
+#[derive(Clone, Copy, Debug, PartialEq, Eq)]
+pub enum FromValueError {
+    /// The value isn't a string.
+    NotAString,
+    /// Memory for the text was refused.
+    OutOfMemory,
+}
+
+impl fmt::Display for FromValueError {
+    ghost output = { λ error. Some (error_text error) };
+
+    ghost styled_output = { λ error spec. Some (styled_text spec (error_text error)) };
+
+    fn fmt<W: fmt::Write>(&self, f: &mut fmt::Formatter<W>) -> fmt::Result {
+        f.pad(match self {
+            FromValueError::NotAString => "expected a relative path",
+            FromValueError::OutOfMemory => "out of memory",
+        })
+    }
+}
+
+impl Error for FromValueError {}
+
+impl From<AllocError> for FromValueError {
+    ghost from_gives = { λ _ error. error ≡ OutOfMemory };
+
+    fn from(_: AllocError) -> FromValueError {
+        FromValueError::OutOfMemory
+    }
+}
+
+/// The path's text as a JSON string.
+///
+/// It asks for memory once, and fails only where that is refused.
+///
+/// ```
+/// let value = json::to_value(alloc, RelativePath::new("a//b"))?;
+/// assert_eq!(rt; value.as_str(), Some("a//b"));
+/// ```
+pub fn to_value(alloc: Global, path: RelativePath<'_>) -> Result<Value, AllocError>
+    ensures { IfOk result (λ value. view value ≡ string (path_text path.entry)) }
+{
+    Value::try_from_str(alloc, path.as_str())
+}
+
+/// The text of a value that is a string, as a path in memory of its own.
+///
+/// It asks for memory once, and only for a string: any other value is refused before.
+///
+/// ```
+/// let value = Value::from_str(alloc, "\"a/b\"")?;
+/// let buf = json::from_value(alloc, &value)?;
+/// assert_eq!(rt; buf.as_relative_path().as_str(), "a/b");
+/// ```
+pub fn from_value(alloc: Global, value: &Value) -> Result<RelativePathBuf, FromValueError>
+    ensures ok { IfOk result (λ buf. string_text value.now ≡ Some buf.text) }
+    ensures not_a_string { IsErrOf result NotAString ↔ (string_text value.now ≡ None) }
+{
+    let path = view_value(value)?;
+    Ok(path.to_relative_path_buf(alloc)?)
+}
+
+/// The text of a value that is a string, as a boxed path.
+///
+/// It asks for memory once, and only for a string: any other value is refused before.
+///
+/// ```
+/// let value = Value::from_str(alloc, "\"a/b\"")?;
+/// let boxed = json::boxed_from_value(alloc, &value)?;
+/// assert_eq!(rt; boxed.as_relative_path().as_str(), "a/b");
+/// ```
+pub fn boxed_from_value(alloc: Global, value: &Value) -> Result<BoxedRelativePath, FromValueError>
+    ensures ok { IfOk result (λ boxed. string_text value.now ≡ Some boxed) }
+    ensures not_a_string { IsErrOf result NotAString ↔ (string_text value.now ≡ None) }
+{
+    let text = view_value(value)?.as_str();
+    Ok(BoxedRelativePath::from_text(alloc, text)?)
+}
+
+/// The text of a value that is a string, as a view of it.
+///
+/// It takes no memory, and refuses nothing but a value that isn't a string.
+///
+/// ```
+/// let value = Value::from_str(alloc, "\"a/b\"")?;
+/// assert_eq!(rt; json::view_value(&value)?.as_str(), "a/b");
+/// ```
+pub fn view_value<'a>(value: &'a Value) -> Result<RelativePath<'a>, FromValueError>
+    ensures ok { IfOk result (λ path. string_text value.now ≡ Some (path_text path)) }
+    ensures not_a_string { IsErrOf result NotAString ↔ (string_text value.now ≡ None) }
+    ensures only_error { IsOkUnless result NotAString }
+{
+    let text = value.as_str().ok_or(FromValueError::NotAString)?;
+    Ok(RelativePath::new(text))
+}

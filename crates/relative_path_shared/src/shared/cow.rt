@@ -1,0 +1,115 @@
+//! The relative path that is borrowed or owned.
+ghost use Rattle.std.specs.Prelude.{◌≡◌, ◌↔◌, IsTrue};
+ghost use Rattle.std.specs.Ordering.{on, as_partial_cmp};
+ghost use Rattle.std.proofs.Common.{refl};
+ghost use Rattle.relative_path.specs.Comparing.{steps_eq, steps_cmp, fed_by};
+ghost use Rattle.relative_path.specs.ComparingLaws.{partial_eq_law, partial_ord_law, by_components, fed_alike};
+ghost use Rattle.relative_path.specs.RelativePath.{path_text};
+ghost use Rattle.relative_path_shared.specs.CowRelativePath.{cow_text, cow_components};
+ghost use Rattle.relative_path_shared.specs.declared.shared.cow.CowRelativePath.TheVariants.{Borrowed, Owned};
+
+use relative_path::{RelativePath, RelativePathBuf};
+use std::cmp::Ordering;
+use std::hash::{Hash, Hasher};
+
+/// A relative path that is borrowed or owned.
+///
+/// It is compared and hashed as its view is, whichever it is; printing and the queries are reached
+/// by `as_relative_path`.
+///
+/// ```
+/// let borrowed = CowRelativePath::from(RelativePath::new("a//b"));
+/// let owned = CowRelativePath::from(RelativePathBuf::from_text(alloc, "a/b")?);
+/// assert!(rt; borrowed == owned);
+/// ```
+#[derive(Drop)]
+pub enum CowRelativePath<'a> {
+    /// A view of a text that another owns.
+    Borrowed(RelativePath<'a>),
+    /// A buffer of its own.
+    Owned(RelativePathBuf),
+}
+
+impl CowRelativePath<'_> {
+    /// The path, as a view. It takes no memory.
+    ///
+    /// ```
+    /// let path = CowRelativePath::from(RelativePath::new("foo/bar"));
+    /// assert_eq!(rt; path.as_relative_path().file_name(), Some("bar"));
+    /// ```
+    pub fn as_relative_path(&self) -> RelativePath<'_>
+        ensures { path_text result ≡ cow_text self.now }
+    {
+        match self {
+            CowRelativePath::Borrowed(path) => *path,
+            CowRelativePath::Owned(buf) => buf.as_relative_path(),
+        }
+    }
+}
+
+impl<'a> From<RelativePath<'a>> for CowRelativePath<'a> {
+    ghost from_gives = { λ path cow. cow ≡ Borrowed path };
+
+    fn from(path: RelativePath<'a>) -> CowRelativePath<'a> {
+        CowRelativePath::Borrowed(path)
+    }
+}
+
+impl From<RelativePathBuf> for CowRelativePath<'_> {
+    ghost from_gives = { λ buf cow. cow ≡ Owned buf };
+
+    fn from(buf: RelativePathBuf) -> Self {
+        CowRelativePath::Owned(buf)
+    }
+}
+
+impl PartialEq for CowRelativePath<'_> {
+    ghost eq = { on cow_components steps_eq };
+
+    ghost laws = { partial_eq_law (by_components cow_components) };
+
+    fn eq(&self, other: &Self) -> bool
+        ensures value { result ≡ steps_eq (cow_components self.now) (cow_components other.now) }
+        ensures same { IsTrue result ↔ (cow_components self.now ≡ cow_components other.now) }
+    {
+        self.as_relative_path() == other.as_relative_path()
+    }
+}
+
+impl Eq for CowRelativePath<'_> {
+    ghost laws = { (by_components cow_components).equivalence };
+}
+
+impl PartialOrd for CowRelativePath<'_> {
+    ghost partial_cmp = { as_partial_cmp (on cow_components steps_cmp) };
+
+    ghost laws = { partial_ord_law (by_components cow_components) };
+
+    fn partial_cmp(&self, other: &Self) -> Option<Ordering> {
+        Some(self.cmp(other))
+    }
+}
+
+impl Ord for CowRelativePath<'_> {
+    ghost cmp = { on cow_components steps_cmp };
+
+    ghost total = { (by_components cow_components).total };
+
+    ghost matches_partial_cmp = { λ _ _. refl };
+
+    ghost matches_eq = { (by_components cow_components).agree };
+
+    fn cmp(&self, other: &Self) -> Ordering {
+        self.as_relative_path().cmp(&other.as_relative_path())
+    }
+}
+
+impl Hash for CowRelativePath<'_> {
+    ghost hash_input = { fed_by cow_components };
+
+    ghost respects_eq = { fed_alike cow_components cow_components };
+
+    fn hash<H: Hasher>(&self, state: &mut H) {
+        self.as_relative_path().hash(state);
+    }
+}
