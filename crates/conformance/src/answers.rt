@@ -22,6 +22,10 @@ pub fn answer(alloc: Global, line: &str) -> Result<String, Refusal> {
         "file_name" => file_name(alloc, call.one()?),
         "file_stem" => file_stem(alloc, call.one()?),
         "extension" => extension(alloc, call.one()?),
+        "strip_prefix" => strip_prefix(alloc, call.two()?),
+        "starts_with" => starts_with(alloc, call.two()?),
+        "ends_with" => ends_with(alloc, call.two()?),
+        "is_normalized" => is_normalized(alloc, call.one()?),
         "join" => join(alloc, call.two()?),
         "with_file_name" => with_file_name(alloc, call.two()?),
         "with_extension" => with_extension(alloc, call.two()?),
@@ -32,6 +36,8 @@ pub fn answer(alloc: Global, line: &str) -> Result<String, Refusal> {
         "pop" => pop(alloc, call.one()?),
         "set_file_name" => set_file_name(alloc, call.two()?),
         "set_extension" => set_extension(alloc, call.two()?),
+        "extend" => extend(alloc, call.one_and_more()?),
+        "from_paths" => from_paths(alloc, call.all()),
         _ => Err(Refusal::UnknownCommand),
     }
 }
@@ -112,6 +118,26 @@ fn extension(alloc: Global, path: &str) -> Result<String, Refusal> {
     maybe(alloc, RelativePath::new(path).extension())
 }
 
+fn strip_prefix(alloc: Global, (path, base): (&str, &str)) -> Result<String, Refusal> {
+    let rest = RelativePath::new(path).strip_prefix(RelativePath::new(base))?;
+    Ok(rest.as_str().to_string(alloc)?)
+}
+
+fn starts_with(alloc: Global, (path, base): (&str, &str)) -> Result<String, Refusal> {
+    let starts = RelativePath::new(path).starts_with(RelativePath::new(base));
+    Ok(starts.to_string(alloc)?)
+}
+
+fn ends_with(alloc: Global, (path, child): (&str, &str)) -> Result<String, Refusal> {
+    let ends = RelativePath::new(path).ends_with(RelativePath::new(child));
+    Ok(ends.to_string(alloc)?)
+}
+
+fn is_normalized(alloc: Global, path: &str) -> Result<String, Refusal> {
+    let normalized = RelativePath::new(path).is_normalized();
+    Ok(normalized.to_string(alloc)?)
+}
+
 fn join(alloc: Global, (path, other): (&str, &str)) -> Result<String, Refusal> {
     let joined = RelativePath::new(path).join(alloc, RelativePath::new(other))?;
     text_of(alloc, &joined)
@@ -164,6 +190,17 @@ fn set_extension(alloc: Global, (path, extension): (&str, &str)) -> Result<Strin
     let mut buf = RelativePathBuf::from_text(alloc, path)?;
     let set = buf.set_extension(extension)?;
     told(alloc, set, &buf)
+}
+
+fn extend(alloc: Global, (path, paths): (&str, &[&str])) -> Result<String, Refusal> {
+    let mut buf = RelativePathBuf::from_text(alloc, path)?;
+    buf.extend(paths.iter().map(|path| RelativePath::new(path)))?;
+    text_of(alloc, &buf)
+}
+
+fn from_paths(alloc: Global, paths: &[&str]) -> Result<String, Refusal> {
+    let paths = paths.iter().map(|path| RelativePath::new(path));
+    text_of(alloc, &RelativePathBuf::from_paths(alloc, paths)?)
 }
 
 fn text_of(alloc: Global, buf: &RelativePathBuf) -> Result<String, Refusal> {

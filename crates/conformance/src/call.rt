@@ -34,4 +34,17 @@ impl<'a> Call<'a> {
             _ => Err(Refusal::WrongFieldCount),
         }
     }
+
+    /// The first argument and those behind it, if there is one.
+    pub fn one_and_more(&self) -> Result<(&'a str, &[&'a str]), Refusal> {
+        match self.arguments.split_first() {
+            Some((first, more)) => Ok((*first, more)),
+            None => Err(Refusal::WrongFieldCount),
+        }
+    }
+
+    /// All arguments.
+    pub fn all(&self) -> &[&'a str] {
+        &self.arguments
+    }
 }

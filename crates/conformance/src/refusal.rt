@@ -1,5 +1,6 @@
 //! Why a line is not answered.
 
+use relative_path::StripPrefixError;
 use std::alloc::{AllocError, AllocFailed};
 use std::fmt;
 
@@ -10,6 +11,7 @@ pub enum Refusal {
     WrongFieldCount,
     UnknownStep,
     NotAWidth,
+    StripPrefix,
     OutOfMemory,
 }
 
@@ -20,8 +22,15 @@ impl fmt::Display for Refusal {
             Refusal::WrongFieldCount => "wrong number of fields",
             Refusal::UnknownStep => "unknown step",
             Refusal::NotAWidth => "not a width",
+            Refusal::StripPrefix => "StripPrefixError",
             Refusal::OutOfMemory => "out of memory",
         })
+    }
+}
+
+impl From<StripPrefixError> for Refusal {
+    fn from(_error: StripPrefixError) -> Refusal {
+        Refusal::StripPrefix
     }
 }
 
