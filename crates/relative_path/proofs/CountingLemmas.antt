@@ -28,14 +28,18 @@ begun-split [] = (refl, refl)
 begun-split (b ∷ bs) =
     let more = begun-split bs in
     let split = slice_split is_slash bs in
+    let filled : List (List ℕ) → ℕ = λ ps. length (filter is_not_empty ps) in
     ⊎_elim
-    (λ e. (
-      cond-true (is_slash b) _ _ e ∙ more.0 ∙ ap (λ ps. length (filter is_not_empty ps)) (sym (cond-true (is_slash b) ([] ∷ split) (onto_first b split) e)),
-      cond-true (is_slash b) _ _ e ∙ more.0 ∙ ap later (sym (cond-true (is_slash b) ([] ∷ split) (onto_first b split) e)),
+    (λ e.
+    let slashed = sym (cond-true (is_slash b) ([] ∷ split) (onto_first b split) e) in (
+      cond-true (is_slash b) _ _ e ∙ more.0 ∙ ap filled slashed,
+      cond-true (is_slash b) _ _ e ∙ more.0 ∙ ap later slashed,
     ))
-    (λ e. (
-      cond-false (is_slash b) _ _ e ∙ ap (λ n. 1 + n) more.1 ∙ sym (length-filter-onto_first b split) ∙ ap (λ ps. length (filter is_not_empty ps)) (sym (cond-false (is_slash b) ([] ∷ split) (onto_first b split) e)),
-      cond-false (is_slash b) _ _ e ∙ more.1 ∙ sym (later-onto_first b split) ∙ ap later (sym (cond-false (is_slash b) ([] ∷ split) (onto_first b split) e)),
+    (λ e.
+    let solid = sym (cond-false (is_slash b) ([] ∷ split) (onto_first b split) e) in
+    let first = ap (λ n. 1 + n) more.1 ∙ sym (length-filter-onto_first b split) in (
+      cond-false (is_slash b) _ _ e ∙ first ∙ ap filled solid,
+      cond-false (is_slash b) _ _ e ∙ more.1 ∙ sym (later-onto_first b split) ∙ ap later solid,
     ))
     (cases_Bool (is_slash b))
 

@@ -1,4 +1,4 @@
-use Rattle.std.proofs.Common.{◌-◌, sym, ◌∙◌, ap, length, slice_index, arith}
+use Rattle.std.proofs.Common.{◌≡◌, ◌-◌, sym, ◌∙◌, ap, length, slice_index, arith}
 use Rattle.std.proofs.lemmas.List.{at_drop_all, nil_from_length}
 use Rattle.relative_path.specs.Counting.{begun}
 use Rattle.relative_path.specs.Steps.{is_slash, components}
@@ -8,7 +8,8 @@ use Rattle.relative_path.proofs.counting.component_count.Goals as goal
 
 pub returns-in_default-clause-count : goal.returns-in_default-clause-count
 returns-in_default-clause-count c =
-    let empty = nil_from_length c.args.text.now (omega (arith, c.in_default.ensures.item, ap length c.as_bytes-bytes.ensures.value)) in
+    let none : length c.args.text.now ≡ 0 = omega (arith, c.in_default.ensures.item, ap length c.as_bytes-bytes.ensures.value) in
+    let empty = nil_from_length c.args.text.now none in
     sym (ap (λ text. length (components text)) empty ∙ ap length components-nil)
 
 pub returns-clause-count : goal.returns-clause-count
