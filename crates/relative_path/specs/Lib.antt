@@ -1,6 +1,7 @@
 pub mod Steps
 pub mod Walk
 pub mod Normalizing
+pub mod Counting
 pub mod Spans
 pub mod NormalForm
 pub mod Relating
