@@ -2,8 +2,8 @@
 mod comparing;
 mod decompositions;
 mod editing;
-mod joining;
 mod extending;
+mod joining;
 mod naming;
 mod normalizing;
 mod prefixing;
