@@ -6,6 +6,7 @@ pub use self::component::{Component, Components, Iter};
 pub use self::from_path_error::{FromPathError, FromPathErrorKind};
 pub use self::path::{Display, RelativePath, StripPrefixError};
 pub use self::relative_to_error::{RelativeToError, RelativeToErrorKind};
+pub use self::unix::PathExt;
 
 mod buf;
 mod component;

@@ -3,6 +3,7 @@
 //! A slash at the start is the root, other slashes only separate, and a `.` counts only at the start of a path without
 //! a root. Nothing here asks the file system.
 ghost use Rattle.std.specs.Prelude.{◌≡◌, ◌≢◌, ◌≤◌, ◌<◌, ◌↔◌, ◌+◌, ◌^◌, ◌++◌, [], List, length, replicate, IfOk, IfErr, IsErr, IsErrAnd, IsTrue, MatchOption, Some, None, if◌then◌else◌, string_bytes, ℕ, false};
+ghost use Rattle.std.specs.Path.{path_bytes, path_buf_bytes};
 ghost use Rattle.std.specs.String.{string_capacity};
 ghost use Rattle.relative_path.specs.Components.{components_left};
 ghost use Rattle.relative_path.specs.FromPathError.{from_path_kind};
@@ -22,6 +23,7 @@ use crate::path::RelativePath;
 use crate::relative_to_error::{RelativeToError, RelativeToErrorKind};
 use crate::unix_components::{UnixComponents, has_root, without_idle_end, without_shared};
 use std::alloc::{AllocError, Global};
+use std::path::{Path, PathBuf};
 
 /// The text that going up from a platform path leaves: the shortest part of its front that has the same root and all its
 /// components but the last. A text without a component stays as it is.
@@ -174,6 +176,62 @@ pub fn relative_to(
     let mut answer = climbing(alloc, climb, len)?;
     push_each(&mut answer, path);
     Ok(answer)
+}
+
+/// The call on platform paths that the standard library lacks.
+///
+/// It is closed: it is implemented for [`Path`] and [`PathBuf`] here, and meant for no other type.
+///
+/// ```
+/// let baz = Path::new("/foo/bar/baz");
+/// let path = baz.relative_to(alloc, Path::new("/foo/bar/qux"))?;
+/// assert_eq!(rt; path.as_relative_path().as_str(), "../baz");
+/// ```
+pub trait PathExt {
+    ghost text: { Self → List ℕ };
+
+    /// The relative path from another platform path, the root, to this one: what [`relative_to`]
+    /// answers of their texts.
+    fn relative_to(&self, alloc: Global, root: Path<'_>) -> Result<RelativePathBuf, RelativeToError>
+        ensures prefix_mismatch { IsErrAnd result
+            (λ error. relative_to_kind error ≡ relative_to_kinds.PrefixMismatch)
+            ↔ (has_root (text self.now) ≢ has_root (path_bytes root.entry)) }
+        ensures ambiguous_traversal { IsErrAnd result
+            (λ error. relative_to_kind error ≡ relative_to_kinds.AmbiguousTraversal)
+            ↔ ((has_root (text self.now) ≡ has_root (path_bytes root.entry))
+            × (way_to (text self.now) (path_bytes root.entry) ≡ None)) }
+        ensures kind { IfErr result (λ error. relative_to_kind error ≢ relative_to_kinds.NonUtf8
+            × relative_to_kind error ≢ relative_to_kinds.IllegalComponent) }
+        ensures ok { IfOk result (λ answer. (way : List Step)
+            × (way_to (text self.now) (path_bytes root.entry) ≡ Some way)
+            × (answer.text ≡ spell way)) }
+        ensures leads { IfOk result (λ answer. IsSame
+            (unix_components (path_bytes root.entry) ++ components answer.text)
+            (unix_components (text self.now))) };
+}
+
+impl PathExt for Path<'_> {
+    ghost text = { path_bytes };
+
+    fn relative_to(
+        &self,
+        alloc: Global,
+        root: Path<'_>,
+    ) -> Result<RelativePathBuf, RelativeToError> {
+        relative_to(alloc, self.as_str(), root.as_str())
+    }
+}
+
+impl PathExt for PathBuf {
+    ghost text = { path_buf_bytes };
+
+    fn relative_to(
+        &self,
+        alloc: Global,
+        root: Path<'_>,
+    ) -> Result<RelativePathBuf, RelativeToError> {
+        self.as_path().relative_to(alloc, root)
+    }
 }
 
 // The text, with room for the path behind it.
