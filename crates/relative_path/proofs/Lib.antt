@@ -17,3 +17,4 @@ pub mod RelatingLemmas
 pub mod UnixComponentsLemmas
 pub mod UnixLemmas
 pub mod UnixTextsLemmas
+pub mod UnixWaysLemmas

@@ -29,7 +29,8 @@ unshared_both cs ds c d same =
     let one_more : shared_len (c ∷ cs) (d ∷ ds) ≡ suc (shared_len cs ds) = omega (arith, cond-true (step_eq c d) (1 + shared_len cs ds) 0 same) in
     ap (λ n. (drop n (c ∷ cs), drop n (d ∷ ds))) one_more
 
-pub unshared-both : (cs ds cs' ds' : List Step) (c d : Step) → cs ≡ c ∷ cs' → ds ≡ d ∷ ds' → c ≡ d → unshared cs' ds' ≡ unshared cs ds
+pub unshared-both : (cs ds cs' ds' : List Step) (c d : Step) → cs ≡ c ∷ cs' → ds ≡ d ∷ ds' → c ≡ d
+    → unshared cs' ds' ≡ unshared cs ds
 unshared-both cs ds cs' ds' c d first second same =
     sym (ap₂ unshared first second ∙ unshared_both cs' ds' c d ((step_eq-Decides c d).1 same))
 
@@ -40,7 +41,8 @@ abbrev pub after : Bool → List Step → Bool
 after rooted [] = rooted
 after rooted (c ∷ cs) = true
 
-pub counted-append : (rooted : Bool) (cs ds : List Step) → counted rooted (cs ++ ds) ≡ counted rooted cs ++ counted (after rooted cs) ds
+pub counted-append : (rooted : Bool) (cs ds : List Step)
+    → counted rooted (cs ++ ds) ≡ counted rooted cs ++ counted (after rooted cs) ds
 counted-append true [] ds = refl
 counted-append true (c ∷ cs) ds = filter-append (λ c. not (is_cur c)) (c ∷ cs) ds
 counted-append false [] ds = refl
@@ -67,14 +69,17 @@ nil_from_components text front cs cut none =
     nil_from_length front (let short = cut.shortest 0 (components-nil ∙ sym none) in omega arith)
 
 -- a `.` behind others, or under a root, does not count
-counted_idle : (rooted : Bool) (cs : List Step) → (rooted ≡ true) ⊎ (cs ≢ []) → counted rooted (cs ++ cur ∷ []) ≡ counted rooted cs
+counted_idle : (rooted : Bool) (cs : List Step) → (rooted ≡ true) ⊎ (cs ≢ [])
+    → counted rooted (cs ++ cur ∷ []) ≡ counted rooted cs
 counted_idle true [] idle = refl
 counted_idle true (c ∷ cs) idle = counted-append true (c ∷ cs) (cur ∷ []) ∙ append-nil (counted true (c ∷ cs))
 counted_idle false [] (inl e) = absurd (true≢false (sym e))
 counted_idle false [] (inr some) = absurd (some refl)
 counted_idle false (c ∷ cs) idle = counted-append false (c ∷ cs) (cur ∷ []) ∙ append-nil (counted false (c ∷ cs))
 
-pub LosesIdle-cur : (rooted : Bool) (text left front : List ℕ) (taken : Option Component) → takes_cur taken ≡ true → LosesIdle rooted text left → TakesLast left taken front → (front ≢ []) ⊎ (rooted ≡ true) → LosesIdle rooted text front
+pub LosesIdle-cur : (rooted : Bool) (text left front : List ℕ) (taken : Option Component) → takes_cur taken ≡ true
+    → LosesIdle rooted text left → TakesLast left taken front → (front ≢ []) ⊎ (rooted ≡ true)
+    → LosesIdle rooted text front
 LosesIdle-cur rooted text left front None is h takes idle = absurd (true≢false (sym is))
 LosesIdle-cur rooted text left front (Some c) is h (last, cut) idle =
     let last : components left ≡ components front ++ cur ∷ [] = last ∙ ap (λ d. components front ++ d ∷ []) ((step_eq-Decides (step_of c) cur).0 is) in
@@ -89,13 +94,15 @@ LosesIdle-cur rooted text left front (Some c) is h (last, cut) idle =
 abbrev pub LastCounts : Bool → List Step → Type 0
 LastCounts rooted cs = cs ≢ [] → length (counted rooted (but_last cs)) < length (counted rooted cs)
 
-last_counts : (rooted : Bool) (cs : List Step) (c : Step) → (is_cur c ≡ false) ⊎ ((cs ≡ []) × (rooted ≡ false)) → length (counted rooted cs) < length (counted rooted (cs ++ c ∷ []))
+last_counts : (rooted : Bool) (cs : List Step) (c : Step) → (is_cur c ≡ false) ⊎ ((cs ≡ []) × (rooted ≡ false))
+    → length (counted rooted cs) < length (counted rooted (cs ++ c ∷ []))
 last_counts rooted cs c (inl other) =
     let one = ap length (counted_one (after rooted cs) c other) in
     omega (arith, ap length (counted-append rooted cs (c ∷ [])), length-append (counted rooted cs) (counted (after rooted cs) (c ∷ [])))
 last_counts rooted cs c (inr (none, unrooted)) = rw (none, unrooted) (omega arith)
 
-pub LastCounts-taken : (rooted : Bool) (left front : List ℕ) (taken : Option Component) → TakesLast left taken front → (takes_cur taken ≡ false) ⊎ ((front ≡ []) × (rooted ≡ false)) → LastCounts rooted (components left)
+pub LastCounts-taken : (rooted : Bool) (left front : List ℕ) (taken : Option Component) → TakesLast left taken front
+    → (takes_cur taken ≡ false) ⊎ ((front ≡ []) × (rooted ≡ false)) → LastCounts rooted (components left)
 LastCounts-taken rooted left front None (none, _) counts = λ some. absurd (some none)
 LastCounts-taken rooted left front (Some c) (last, cut) counts = λ _.
     let counts : (is_cur (step_of c) ≡ false) ⊎ ((components front ≡ []) × (rooted ≡ false)) = ⊎_elim (λ e. inl (other (step_of c) e)) (λ h. inr (ap components h.0 ∙ components-nil, h.1)) counts in

@@ -16,7 +16,8 @@ use Rattle.relative_path.proofs.UnixComponentsLemmas.{counted-append, after, Los
 -- ---- a text cut in two
 
 -- the text has no slash, or a first one
-first_slash : (text : List ℕ) → HasNoSlash text ⊎ ((xs : List ℕ) × (ys : List ℕ) × (text ≡ xs ++ slash ∷ ys) × HasNoSlash xs)
+first_slash : (text : List ℕ)
+    → HasNoSlash text ⊎ ((xs : List ℕ) × (ys : List ℕ) × (text ≡ xs ++ slash ∷ ys) × HasNoSlash xs)
 first_slash [] = inl tt
 first_slash (b ∷ bs) = ⊎_elim
     (λ e. inr ([], bs, ap (λ x. x ∷ bs) (eqb-true b slash e), tt))
@@ -27,14 +28,16 @@ first_slash (b ∷ bs) = ⊎_elim
     (cases_Bool (is_slash b))
 
 -- whatever follows a text, only its last piece can change
-components-before : (front : List ℕ) → (cs : List Step) × (x : List ℕ) × HasNoSlash x × ((rest : List ℕ) → components (front ++ rest) ≡ cs ++ components (x ++ rest))
+components-before : (front : List ℕ)
+    → (cs : List Step) × (x : List ℕ) × HasNoSlash x × ((rest : List ℕ) → components (front ++ rest) ≡ cs ++ components (x ++ rest))
 components-before front = elim (last_slash front) [
   | inl none ↦ ([], front, none, λ rest. refl)
   | inr (xs, ys, joined, none) ↦ (components xs, ys, none, λ rest. ap (λ t. components (t ++ rest)) joined ∙ ap components (append_assoc xs (slash ∷ ys) rest) ∙ components-append xs (ys ++ rest))
 ]
 
 -- whatever stands before a text, only its first piece can change
-components-behind : (rest : List ℕ) → (cs : List Step) × (y : List ℕ) × HasNoSlash y × ((front : List ℕ) → components (front ++ rest) ≡ components (front ++ y) ++ cs)
+components-behind : (rest : List ℕ)
+    → (cs : List Step) × (y : List ℕ) × HasNoSlash y × ((front : List ℕ) → components (front ++ rest) ≡ components (front ++ y) ++ cs)
 components-behind rest = elim (first_slash rest) [
   | inl none ↦ ([], rest, none, λ front. sym (append-nil (components (front ++ rest))))
   | inr (xs, ys, joined, none) ↦ (components ys, xs, none, λ front. ap (λ t. components (front ++ t)) joined ∙ ap components (sym (append_assoc front xs (slash ∷ ys))) ∙ components-append (front ++ xs) ys)
@@ -56,7 +59,8 @@ continues front rest =
     let behind = components-behind rest in
     joined before.0 behind.0 before.1 behind.1 before.2 behind.2 (ap components (sym (append-nil front)) ∙ before.3 [] ∙ ap (λ t. before.0 ++ components t) (append-nil before.1)) (before.3 rest ∙ ap (λ cs. before.0 ++ cs) (behind.3 before.1))
   where
-    joined : (cs ds : List Step) (x y : List ℕ) → HasNoSlash x → HasNoSlash y → components front ≡ cs ++ components x → components (front ++ rest) ≡ cs ++ (components (x ++ y) ++ ds) → Continues front rest
+    joined : (cs ds : List Step) (x y : List ℕ) → HasNoSlash x → HasNoSlash y → components front ≡ cs ++ components x
+        → components (front ++ rest) ≡ cs ++ (components (x ++ y) ++ ds) → Continues front rest
     joined cs ds [] y none none' first whole =
         let first : components front ≡ cs = first ∙ ap (λ es. cs ++ es) components-nil ∙ append-nil cs in
         inl (components y ++ ds, whole ∙ ap (λ es. es ++ (components y ++ ds)) (sym first))
@@ -85,7 +89,8 @@ counted_alone true (name n) = inr refl
 counted_alone false c = inr refl
 
 -- a component that is no `.` counts
-counted_first : (rooted : Bool) (c : Step) (cs : List Step) → is_cur c ≡ false → counted rooted (c ∷ cs) ≡ c ∷ without_curs cs
+counted_first : (rooted : Bool) (c : Step) (cs : List Step) → is_cur c ≡ false
+    → counted rooted (c ∷ cs) ≡ c ∷ without_curs cs
 counted_first true cur cs other = absurd (true≢false other)
 counted_first true up cs other = refl
 counted_first true (name n) cs other = refl
@@ -94,14 +99,17 @@ counted_first false c cs other = refl
 head_same : {c d : Step} {ds : List Step} → c ∷ [] ≡ d ∷ ds → c ≡ d
 head_same {c} {d} {ds} e = ap (λ cs. get_or cs 0 c) e
 
-shorter-counted : (rooted : Bool) (front rest : List ℕ) → 0 < length rest → get_or (front ++ rest) (length (front ++ rest) - 1) 0 ≢ slash → LastCounts rooted (components (front ++ rest)) → counted rooted (components front) ≢ counted rooted (components (front ++ rest))
+shorter-counted : (rooted : Bool) (front rest : List ℕ) → 0 < length rest
+    → get_or (front ++ rest) (length (front ++ rest) - 1) 0 ≢ slash → LastCounts rooted (components (front ++ rest))
+    → counted rooted (components front) ≢ counted rooted (components (front ++ rest))
 shorter-counted rooted front rest nonempty end last = λ same. elim (continues front rest) [
   | inl (ds, whole) ↦ added ds whole same (last_view ds)
   | inr (cs, ds, x, y, some, some', first, whole) ↦
       absurd (longer (after rooted cs) ds x y some some' (append_cancel_left (counted rooted cs) _ _ (sym (counted-append rooted cs (classed x ∷ [])) ∙ ap (counted rooted) (sym first) ∙ same ∙ ap (counted rooted) whole ∙ counted-append rooted cs (classed (x ++ y) ∷ ds))))
 ]
   where
-    longer : (rooted' : Bool) (ds : List Step) (x y : List ℕ) → 0 < length x → 0 < length y → counted rooted' (classed x ∷ []) ≢ counted rooted' (classed (x ++ y) ∷ ds)
+    longer : (rooted' : Bool) (ds : List Step) (x y : List ℕ) → 0 < length x → 0 < length y
+        → counted rooted' (classed x ∷ []) ≢ counted rooted' (classed (x ++ y) ∷ ds)
     longer rooted' ds x y some some' same =
         let long : is_cur (classed (x ++ y)) ≡ false = long_other (classed (x ++ y)) (omega (arith, ap length (step_text-classed (x ++ y)), length-append x y)) in
         let kept : counted rooted' (classed x ∷ []) ≡ classed (x ++ y) ∷ without_curs ds = same ∙ counted_first rooted' (classed (x ++ y)) ds long in
@@ -110,7 +118,9 @@ shorter-counted rooted front rest nonempty end last = λ same. elim (continues f
         (λ one. let texts : x ≡ x ++ y = sym (step_text-classed x) ∙ ap step_text (head_same (sym one ∙ kept)) ∙ step_text-classed (x ++ y) in absurd (omega (arith, ap length texts, length-append x y)))
         (counted_alone rooted' (classed x))
 
-    added : (ds : List Step) → components (front ++ rest) ≡ components front ++ ds → counted rooted (components front) ≡ counted rooted (components (front ++ rest)) → (ds ≡ []) ⊎ ((es : List Step) × (c : Step) × (ds ≡ es ++ c ∷ [])) → ⊥
+    added : (ds : List Step) → components (front ++ rest) ≡ components front ++ ds
+        → counted rooted (components front) ≡ counted rooted (components (front ++ rest))
+        → (ds ≡ []) ⊎ ((es : List Step) × (c : Step) × (ds ≡ es ++ c ∷ [])) → ⊥
     added ds whole same (inl none) =
         let shortest = IsShortestPrefix-from (subst (λ t. IsPrefix t (front ++ rest)) (append-nil (front ++ rest)) (IsPrefix-append (front ++ rest) [])) refl end in
         let at = shortest.shortest (length front) (ap components (take_at front rest (length front) refl) ∙ sym (whole ∙ ap (λ es. components front ++ es) none ∙ append-nil (components front))) in
@@ -132,7 +142,8 @@ abbrev pub IsIdleFree : Bool → List ℕ → List ℕ → Type 0
 IsIdleFree rooted text left = LosesIdle rooted text left × LastCounts rooted (components left)
 
 -- without its last component that counts a text has all of them but the last
-counted-front : (rooted : Bool) (cs : List Step) (c : Step) → LastCounts rooted (cs ++ c ∷ []) → (counted rooted cs ≡ but_last (counted rooted (cs ++ c ∷ []))) × (counted rooted (cs ++ c ∷ []) ≢ [])
+counted-front : (rooted : Bool) (cs : List Step) (c : Step) → LastCounts rooted (cs ++ c ∷ [])
+    → (counted rooted cs ≡ but_last (counted rooted (cs ++ c ∷ []))) × (counted rooted (cs ++ c ∷ []) ≢ [])
 counted-front rooted cs c last =
     let some : cs ++ c ∷ [] ≢ [] = λ none. omega (arith, ap length none, length-append cs (c ∷ [])) in
     let fewer = rw (but_last-push cs c) at (last some) in
@@ -143,7 +154,9 @@ counted-front rooted cs c last =
     (counted_alone (after rooted cs) c)
 
 -- the shortest prefix, where it is not the root alone
-shortest-trimmed : (text p : List ℕ) → IsPrefix text p → get_or p (length p - 1) 0 ≢ slash → LastCounts (has_root text) (components p) → has_root p ≡ has_root text → (k : ℕ) → has_root (take k text) ≡ has_root text → unix_components (take k text) ≡ unix_components p → length p ≤ k
+shortest-trimmed : (text p : List ℕ) → IsPrefix text p → get_or p (length p - 1) 0 ≢ slash
+    → LastCounts (has_root text) (components p) → has_root p ≡ has_root text → (k : ℕ)
+    → has_root (take k text) ≡ has_root text → unix_components (take k text) ≡ unix_components p → length p ≤ k
 shortest-trimmed text p prefix end last root k root_k same = ⊎_elim (λ short. absurd (shorter short)) (λ long. long) (cases_lt k (length p))
   where
     shorter : k < length p → ⊥
@@ -154,8 +167,12 @@ shortest-trimmed text p prefix end last root k root_k same = ⊎_elim (λ short.
         let same_front = ap (λ t. counted (has_root text) (components t)) front ∙ ap (λ r. counted r (components (take k text))) (sym root_k) ∙ same ∙ ap (λ r. counted r (components p)) root in
         shorter-counted (has_root text) (take k p) (drop k p) left (subst (λ t. get_or t (length t - 1) 0 ≢ slash) (sym whole) end) (subst (λ t. LastCounts (has_root text) (components t)) (sym whole) last) (same_front ∙ ap (λ t. counted (has_root text) (components t)) (sym whole))
 
-pub IsIdleFree-from : (rooted : Bool) (text left : List ℕ) → left ≡ take (length left) text → get_or left (length left - 1) 0 ≢ slash → counted rooted (components left) ≡ counted rooted (components text) → LastCounts rooted (components left) → IsIdleFree rooted text left
-IsIdleFree-from rooted text left front end same last = (record { prefix = record { front = front }; end = end; same = same }, last)
+pub IsIdleFree-from : {rooted rooted' : Bool} {text text' left : List ℕ} → rooted ≡ rooted' → text ≡ text'
+    → left ≡ take (length left) text → get_or left (length left - 1) 0 ≢ slash
+    → counted rooted (components left) ≡ counted rooted (components text) → LastCounts rooted (components left)
+    → IsIdleFree rooted' text' left
+IsIdleFree-from roots texts front end same last =
+    rw (← roots, ← texts) (record { prefix = record { front = front }; end = end; same = same }, last)
 
 module _ (text end front parent : List ℕ) (taken : Option Component) (some : is_some taken ≡ true) (trimmed : IsIdleFree (has_root text) text end) (takes : TakesLast end taken front) (trimmed' : IsIdleFree (has_root text) front parent) where
   prefix : IsPrefix text parent
@@ -164,7 +181,8 @@ module _ (text end front parent : List ℕ) (taken : Option Component) (some : i
   fronts : (counted (has_root text) (components front) ≡ but_last (unix_components text)) × (unix_components text ≢ [])
   fronts = parts taken some takes
     where
-      parts : (o : Option Component) → is_some o ≡ true → TakesLast end o front → (counted (has_root text) (components front) ≡ but_last (unix_components text)) × (unix_components text ≢ [])
+      parts : (o : Option Component) → is_some o ≡ true → TakesLast end o front
+          → (counted (has_root text) (components front) ≡ but_last (unix_components text)) × (unix_components text ≢ [])
       parts None some takes = absurd (true≢false (sym some))
       parts (Some c) some (last, _) =
           let whole : counted (has_root text) (components front ++ step_of c ∷ []) ≡ unix_components text = ap (counted (has_root text)) (sym last) ∙ trimmed.0.same in
@@ -180,7 +198,8 @@ module _ (text end front parent : List ℕ) (taken : Option Component) (some : i
     shortest = λ _. shortest-trimmed text parent prefix trimmed'.0.end trimmed'.1 root;
   }
     where
-      same_root : (p : List ℕ) → IsPrefix text p → (has_root text ≡ false) ⊎ (length p ≢ 0) → has_root p ≡ has_root text
+      same_root : (p : List ℕ) → IsPrefix text p → (has_root text ≡ false) ⊎ (length p ≢ 0)
+          → has_root p ≡ has_root text
       same_root [] h (inl unrooted) = sym unrooted
       same_root [] h (inr some) = absurd (some refl)
       same_root (b ∷ bs) h _ = has_root-prefix text b bs h

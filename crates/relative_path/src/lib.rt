@@ -24,3 +24,4 @@ mod slashes;
 mod spans;
 pub mod unix;
 mod unix_components;
+mod unix_texts;

@@ -2,17 +2,14 @@
 //!
 //! A slash at the start is the root, other slashes only separate, and a `.` counts only at the start of a path without
 //! a root. Nothing here asks the file system.
-ghost use Rattle.std.specs.Prelude.{◌≡◌, ◌≢◌, ◌≤◌, ◌<◌, ◌↔◌, ◌+◌, ◌^◌, ◌++◌, [], List, length, replicate, IfOk, IfErr, IsErr, IsErrAnd, IsTrue, MatchOption, Some, None, if◌then◌else◌, string_bytes, ℕ, false};
+ghost use Rattle.std.specs.Prelude.{◌≡◌, ◌≢◌, ◌↔◌, ◌++◌, List, ℕ, IfOk, IfErr, IsErr, IsErrAnd, IsTrue, Some, None, false, if◌then◌else◌, string_bytes};
 ghost use Rattle.std.specs.Path.{path_bytes, path_buf_bytes};
-ghost use Rattle.std.specs.String.{string_capacity};
-ghost use Rattle.relative_path.specs.Components.{components_left};
 ghost use Rattle.relative_path.specs.FromPathError.{from_path_kind};
 ghost use Rattle.relative_path.specs.RelativePath.{path_text, path_components};
 ghost use Rattle.relative_path.specs.RelativeToError.{relative_to_kind};
-ghost use Rattle.relative_path.specs.Steps.{Step, up, components, spell};
-ghost use Rattle.relative_path.specs.Unix.{has_root, without_curs, unix_components, added, onto, way_back, way_to, IsAbove, IsLogical};
-ghost use Rattle.relative_path.specs.UnixComponents.{unix_left};
-ghost use Rattle.relative_path.specs.Walk.{walk, IsSame};
+ghost use Rattle.relative_path.specs.Steps.{Step, components, spell};
+ghost use Rattle.relative_path.specs.Unix.{has_root, without_curs, unix_components, onto, way_to, IsAbove, IsLogical};
+ghost use Rattle.relative_path.specs.Walk.{IsSame};
 ghost use Rattle.relative_path.specs.declared.from_path_error.FromPathErrorKind.TheVariants as from_path_kinds;
 ghost use Rattle.relative_path.specs.declared.relative_to_error.RelativeToErrorKind.TheVariants as relative_to_kinds;
 
@@ -21,7 +18,8 @@ use crate::component::Component;
 use crate::from_path_error::{FromPathError, FromPathErrorKind};
 use crate::path::RelativePath;
 use crate::relative_to_error::{RelativeToError, RelativeToErrorKind};
-use crate::unix_components::{UnixComponents, has_root, without_idle_end, without_shared};
+use crate::unix_components::{UnixComponents, depth, has_root, without_idle_end, without_shared};
+use crate::unix_texts::{add_piece, base_with_room, climbing, push_each, way_len};
 use std::alloc::{AllocError, Global};
 use std::path::{Path, PathBuf};
 
@@ -232,82 +230,4 @@ impl PathExt for PathBuf {
     ) -> Result<RelativePathBuf, RelativeToError> {
         self.as_path().relative_to(alloc, root)
     }
-}
-
-// The text, with room for the path behind it.
-fn base_with_room(alloc: Global, base: &str, path: RelativePath<'_>) -> Result<String, AllocError>
-    ensures text { IfOk result (λ text. string_bytes text ≡ base.now) }
-    ensures room { IfOk result
-        (λ text. length base.now + length (path_text path.entry) + 1 ≤ string_capacity text) }
-{
-    let mut text = String::with_capacity(alloc, base.len() + path.as_str().len() + 1)?;
-    text.push_str(base).unwrap();
-    Ok(text)
-}
-
-// Adds a piece to a text that has room for it.
-fn add_piece(text: &mut String, piece: &str)
-    requires { length (added (string_bytes text.old) piece.now) ≤ string_capacity text.old }
-    ensures text { string_bytes text.new ≡ added (string_bytes text.old) piece.now }
-    ensures room { string_capacity text.old ≤ string_capacity text.new }
-{
-    if !text.is_empty() {
-        text.push_str("/").unwrap();
-    }
-    text.push_str(piece).unwrap();
-}
-
-// A path of so many `..`, with room for `room` bytes.
-fn climbing(alloc: Global, climb: usize, room: usize) -> Result<RelativePathBuf, AllocError>
-    requires { length (spell (replicate climb up)) ≤ room }
-    ensures text { IfOk result (λ path. path.text ≡ spell (replicate climb up)) }
-    ensures room { IfOk result (λ path. room ≤ path.room) }
-{
-    let mut path = RelativePathBuf::with_capacity(alloc, room)?;
-    for _ in 0..climb {
-        path.push(RelativePath::new("..")).unwrap();
-    }
-    Ok(path)
-}
-
-// Pushes each component onto a normally spelled path with room for all.
-fn push_each(path: &mut RelativePathBuf, left: UnixComponents<'_>)
-    requires spelled { path.old.text ≡ spell (components path.old.text) }
-    requires room { length (spell (components path.old.text ++ unix_left left)) ≤ path.old.room }
-    ensures { path.new.text ≡ spell (components path.old.text ++ unix_left left.entry) }
-{
-    for component in left {
-        path.push(component.as_relative_path()).unwrap();
-    }
-}
-
-// How many names lie between the top and where the components lead from there; none where they climb above it.
-fn depth(left: UnixComponents<'_>) -> Option<usize>
-    ensures { MatchOption result (walk [] (unix_left left.entry) ≡ None)
-        (λ depth. (place : List (List ℕ)) × (walk [] (unix_left left.entry) ≡ Some place)
-        × (depth ≡ length place)) }
-{
-    // A text has fewer components than a number can count.
-    prove!(left.as_str().len() < usize::MAX);
-    let mut depth: usize = 0;
-    for component in left {
-        match component {
-            Component::CurDir => {}
-            Component::ParentDir => depth = depth.checked_sub(1)?,
-            Component::Normal(_) => depth += 1,
-        }
-    }
-    Some(depth)
-}
-
-// How many bytes so many `..` and the components have, with single slashes between; none where no text can have as many.
-fn way_len(climb: usize, left: UnixComponents<'_>) -> Option<usize>
-    ensures { MatchOption result (2 ^ 63 ≤ length (spell (replicate climb up ++ unix_left left.entry)))
-        (λ len. len ≡ length (spell (replicate climb up ++ unix_left left.entry))) }
-{
-    let mut len = climb.checked_mul(3)?;
-    for component in left {
-        len = len.checked_add(component.as_str().len() + 1)?;
-    }
-    Some(len.saturating_sub(1))
 }

@@ -1,11 +1,12 @@
 //! The components of a platform path under the Unix rules.
-ghost use Rattle.std.specs.Prelude.{◌≡◌, ◌≢◌, ◌<◌, ◌-◌, [], length, take, drop, slice_index};
+ghost use Rattle.std.specs.Prelude.{◌≡◌, ◌≢◌, ◌<◌, ◌-◌, [], ℕ, List, length, take, drop, slice_index, MatchOption, Some, None};
 ghost use Rattle.std.specs.Iterator.{YieldsFirstBy, item_count};
 ghost use Rattle.relative_path.specs.Components.{step_of};
 ghost use Rattle.relative_path.specs.RelativePath.{path_text, path_components};
 ghost use Rattle.relative_path.specs.Steps.{slash, components};
 ghost use Rattle.relative_path.specs.Unix.{has_root, without_curs, without_inner_curs, counted, unix_components, but_last, shared_len};
 ghost use Rattle.relative_path.specs.UnixComponents.{unix_left};
+ghost use Rattle.relative_path.specs.Walk.{walk};
 
 use crate::component::Component;
 use crate::path::RelativePath;
@@ -83,6 +84,25 @@ pub(crate) fn without_shared<'a, 'b>(
             _ => return left,
         }
     }
+}
+
+// How many names lie between the top and where the components lead from there; none where they climb above it.
+pub(crate) fn depth(left: UnixComponents<'_>) -> Option<usize>
+    ensures { MatchOption result (walk [] (unix_left left.entry) ≡ None)
+        (λ depth. (place : List (List ℕ)) × (walk [] (unix_left left.entry) ≡ Some place)
+        × (depth ≡ length place)) }
+{
+    // A text has fewer components than a number can count.
+    prove!(left.as_str().len() < usize::MAX);
+    let mut depth: usize = 0;
+    for component in left {
+        match component {
+            Component::CurDir => {}
+            Component::ParentDir => depth = depth.checked_sub(1)?,
+            Component::Normal(_) => depth += 1,
+        }
+    }
+    Some(depth)
 }
 
 // Whether the text begins with a slash.

@@ -4,7 +4,7 @@ use Rattle.relative_path.specs.Walk.{IsSame}
 use Rattle.relative_path.specs.UnixComponents.{unix_left}
 use Rattle.relative_path.specs.Unix.{unix_components, shared_len}
 use Rattle.relative_path.proofs.NormalStepsLemmas.{length-spell-append_le}
-use Rattle.relative_path.proofs.UnixTextsLemmas.{components-climb, way_to-from, IsSame-way}
+use Rattle.relative_path.proofs.UnixWaysLemmas.{components-climb, way_to-from, IsSame-way}
 use Rattle.relative_path.proofs.unix.relative_to.Goals as goal
 
 pub climbing-requires : goal.climbing-requires

@@ -2,7 +2,7 @@ use Rattle.std.proofs.Common.{◌≡◌, ◌-◌, ◌∙◌, ◌++◌, replicate
 use Rattle.relative_path.specs.Steps.{up, components, spell}
 use Rattle.relative_path.proofs.StepsLemmas.{components-nil}
 use Rattle.relative_path.proofs.UnixTextsLemmas.{Spells, Spells-fits, Spells-push, Spells-roomier, Spells-end, IsProper-up, replicate_first, IsOk-otherwise}
-use Rattle.relative_path.proofs.unix.climbing.Goals as goal
+use Rattle.relative_path.proofs.unix_texts.climbing.Goals as goal
 
 pub loop-init : goal.loop-init
 loop-init c =

@@ -1,6 +1,6 @@
 use Rattle.std.proofs.Common.{arith, ap, length}
 use Rattle.relative_path.proofs.UnixTextsLemmas.{length-inner_le}
-use Rattle.relative_path.proofs.unix.depth.Goals as goal
+use Rattle.relative_path.proofs.unix_components.depth.Goals as goal
 
 pub overflow_add-depth : goal.overflow_add-depth
 overflow_add-depth c =

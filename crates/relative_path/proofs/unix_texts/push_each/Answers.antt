@@ -5,7 +5,7 @@ use Rattle.relative_path.specs.UnixComponents.{unix_left}
 use Rattle.relative_path.specs.declared.unix_components.UnixComponents.{UnixComponents}
 use Rattle.relative_path.proofs.StepsLemmas.{IsProper, AreProper}
 use Rattle.relative_path.proofs.UnixTextsLemmas.{AreProper-inner, Spells, Spells-fits, Spells-push, Spells-roomier, Spells-end, IsOk-otherwise}
-use Rattle.relative_path.proofs.unix.push_each.Goals as goal
+use Rattle.relative_path.proofs.unix_texts.push_each.Goals as goal
 
 proper_first : (walk : UnixComponents) (c : Step) (left : List Step) → unix_left walk ≡ c ∷ left → IsProper c
 proper_first walk c left first = (subst AreProper first (AreProper-inner (path_text walk.left))).0

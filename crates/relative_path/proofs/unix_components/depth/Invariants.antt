@@ -1,7 +1,7 @@
 use Rattle.std.proofs.Common.{◌≡◌, ◌≤◌, ◌+◌, ℕ, List, [], length}
 use Rattle.relative_path.specs.Walk.{walk}
 use Rattle.relative_path.specs.UnixComponents.{unix_left}
-use Rattle.relative_path.proofs.unix.depth.Given as goal
+use Rattle.relative_path.proofs.unix_components.depth.Given as goal
 
 abbrev pub invariant-loop-component : goal.invariant-loop-component
 invariant-loop-component l =

@@ -2,7 +2,7 @@ use Rattle.std.proofs.Common.{◌++◌}
 use Rattle.relative_path.specs.Steps.{components}
 use Rattle.relative_path.specs.UnixComponents.{unix_left}
 use Rattle.relative_path.proofs.UnixTextsLemmas.{Spells}
-use Rattle.relative_path.proofs.unix.push_each.Given as goal
+use Rattle.relative_path.proofs.unix_texts.push_each.Given as goal
 
 abbrev pub invariant-loop-component : goal.invariant-loop-component
 invariant-loop-component l =
