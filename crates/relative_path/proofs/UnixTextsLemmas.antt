@@ -3,10 +3,12 @@ use Rattle.std.proofs.Common.{◌≡◌, ℕ, zero, suc, ◌+◌, ◌*◌, ◌-�
 use Rattle.std.specs.List.{filter}
 use Rattle.std.proofs.lemmas.Bool.{cases_Bool, cond-true, cond-false}
 use Rattle.relative_path.specs.Steps.{Step, cur, up, name, slash, step_text, components, spell}
-use Rattle.relative_path.specs.Editing.{is_cur, pushed}
-use Rattle.relative_path.specs.Unix.{has_root, without_curs, without_inner_curs, counted, unix_components, added}
+use Rattle.relative_path.specs.Editing.{is_cur, pushed, with_piece}
+use Rattle.relative_path.specs.Unix.{has_root, without_curs, without_inner_curs, counted, unix_components}
 use Rattle.relative_path.proofs.StepsLemmas.{IsProper, AreProper, AreProper-components, components_whole}
 use Rattle.relative_path.proofs.NormalStepsLemmas.{length-spell-append_le}
+use Rattle.relative_path.proofs.NormalFormLemmas.{length-spell, padded_len-append}
+use Rattle.relative_path.specs.NormalForm.{padded_len}
 use Rattle.relative_path.proofs.NormalizingLemmas.{length-spell-components, spell-pushed}
 use Rattle.relative_path.proofs.EditingLemmas.{components-pushed}
 
@@ -27,17 +29,6 @@ AreProper-inner text = inner (components text) (AreProper-components text)
     inner (c ∷ cs) proper = (proper.0, AreProper-filter (λ d. not (is_cur d)) cs proper.1)
 
 -- ---- how long a spelled text is
-
--- the bytes of the components, and one more for each
-abbrev pub padded_len : List Step → ℕ
-padded_len [] = 0
-padded_len (c ∷ cs) = length (step_text c) + 1 + padded_len cs
-
-pub length-spell : (cs : List Step) → length (spell cs) ≡ padded_len cs - 1
-length-spell [] = refl
-length-spell (c ∷ []) = omega arith
-length-spell (c ∷ d ∷ cs) =
-    omega (arith, length-append (step_text c) (slash ∷ spell (d ∷ cs)), length-spell (d ∷ cs))
 
 pub padded_len-components : (text : List ℕ) → padded_len (components text) ≤ length text + 1
 padded_len-components text = omega (arith, length-spell (components text), length-spell-components text)
@@ -62,10 +53,6 @@ pub length-inner_le : (text : List ℕ) → length (without_inner_curs (componen
 length-inner_le text =
     omega (arith, length_padded (without_inner_curs (components text)), padded_len-inner (components text), padded_len-components text)
 
-padded_len-append : (cs ds : List Step) → padded_len (cs ++ ds) ≡ padded_len cs + padded_len ds
-padded_len-append [] ds = omega arith
-padded_len-append (c ∷ cs) ds = omega (arith, padded_len-append cs ds)
-
 padded_len-replicate : (n : ℕ) → padded_len (replicate n up) ≡ 3 * n
 padded_len-replicate zero = refl
 padded_len-replicate (suc n) = omega (arith, padded_len-replicate n)
@@ -74,9 +61,9 @@ pub length-way : (n : ℕ) (cs : List Step) → length (spell (replicate n up ++
 length-way n cs =
     omega (arith, length-spell (replicate n up ++ cs), padded_len-append (replicate n up) cs, padded_len-replicate n)
 
-pub length-added_le : (text piece : List ℕ) → length (added text piece) ≤ length text + 1 + length piece
-length-added_le [] piece = omega arith
-length-added_le (b ∷ bs) piece = omega (arith, length-append (b ∷ bs) (slash ∷ piece))
+pub length-with_piece_le : (text piece : List ℕ) → length (with_piece text piece) ≤ length text + 1 + length piece
+length-with_piece_le [] piece = omega arith
+length-with_piece_le (b ∷ bs) piece = omega (arith, length-append (b ∷ bs) (slash ∷ piece))
 
 -- ---- components pushed onto a spelled text
 

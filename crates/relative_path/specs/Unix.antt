@@ -3,9 +3,9 @@
 use Rattle.std.specs.Prelude.{◌≡◌, ◌≢◌, ℕ, ◌-◌, ◌≤◌, Bool, false, not, List, [], ◌∷◌, ◌++◌, length, take, drop, replicate, Option, if◌then◌else◌}
 use Rattle.std.specs.List.{filter, common_prefix_len}
 use Rattle.std.specs.Option.{option_map}
-use Rattle.relative_path.specs.Steps.{Step, cur, up, name, slash, is_slash, step_text, components}
+use Rattle.relative_path.specs.Steps.{Step, cur, up, name, is_slash, step_text, components}
 use Rattle.relative_path.specs.Walk.{walk}
-use Rattle.relative_path.specs.Editing.{is_cur}
+use Rattle.relative_path.specs.Editing.{is_cur, with_piece}
 use Rattle.relative_path.specs.Comparing.{step_eq}
 
 -- the text begins with a slash
@@ -44,22 +44,17 @@ pub record IsAbove (text p : List ℕ) : Type 0 where
   pub shortest : unix_components text ≢ [] → (k : ℕ) → has_root (take k text) ≡ has_root text
       → unix_components (take k text) ≡ unix_components p → length p ≤ k
 
--- the text with a piece added: behind a slash, unless the text is empty
-abbrev pub added : List ℕ → List ℕ → List ℕ
-added [] piece = piece
-added (b ∷ bs) piece = (b ∷ bs) ++ slash ∷ piece
-
 -- the base with the text of each component added in turn
 abbrev pub onto : List ℕ → List Step → List ℕ
 onto base [] = base
-onto base (c ∷ cs) = onto (added base (step_text c)) cs
+onto base (c ∷ cs) = onto (with_piece base (step_text c)) cs
 
 -- text is where the components lead from the base: `.` stays, `..` goes up, a name is added
 abbrev pub IsLogical : List ℕ → List Step → List ℕ → Type 0
 IsLogical base [] text = text ≡ base
 IsLogical base (cur ∷ cs) text = IsLogical base cs text
 IsLogical base (up ∷ cs) text = (p : List ℕ) × IsAbove base p × IsLogical p cs text
-IsLogical base (name n ∷ cs) text = IsLogical (added base n) cs text
+IsLogical base (name n ∷ cs) text = IsLogical (with_piece base n) cs text
 
 -- a `..` for each name of the place where from leads from the top, and then to; none where from climbs above the top
 abbrev pub way_back : (from to : List Step) → Option (List Step)

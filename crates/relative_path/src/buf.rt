@@ -1,20 +1,12 @@
 //! The owned relative path.
-<<<<<<< HEAD
-ghost use Rattle.std.specs.Prelude.{◌≡◌, ◌≢◌, ◌≤◌, ◌<◌, ◌+◌, ◌↔◌, ◌++◌, [], ◌∷◌, if◌then◌else◌, ℕ, List, length, take, None, Some, IsSome, IfOk, IsOk, OnOk, OnErr, MatchResult, IsTrue, string_bytes};
-ghost use Rattle.relative_path.specs.Steps.{slash, components};
-ghost use Rattle.relative_path.specs.Editing.{pushed, with_piece, with_separator, IsPopped};
-ghost use Rattle.relative_path.specs.Naming.{file_name_of, extension_of, is_plain_extension, dotted, IsNamed, IsExtended};
-=======
-ghost use Rattle.std.specs.Prelude.{◌≡◌, ◌≢◌, ◌≤◌, ◌<◌, ◌+◌, ◌↔◌, ◌++◌, [], ◌∷◌, if◌then◌else◌, length, None, Some, false, IsSome, IfErr, IfOk, IsOk, OnOk, OnErr, IsTrue};
+ghost use Rattle.std.specs.Prelude.{◌≡◌, ◌≢◌, ◌≤◌, ◌<◌, ◌+◌, ◌↔◌, ◌++◌, [], ◌∷◌, if◌then◌else◌, ℕ, List, length, take, None, Some, false, IsSome, IfErr, IfOk, IsOk, OnOk, OnErr, MatchResult, IsTrue, string_bytes};
 ghost use Rattle.relative_path.specs.FromPathError.{from_path_kind};
 ghost use Rattle.relative_path.specs.Steps.{slash, components, spell};
 ghost use Rattle.relative_path.specs.Unix.{has_root, without_curs, unix_components};
 ghost use Rattle.relative_path.specs.declared.from_path_error.FromPathErrorKind.TheVariants.{NonRelative, OutOfMemory};
 ghost use Rattle.std.specs.Path.{path_bytes};
-ghost use Rattle.relative_path.specs.Editing.{pushed, with_separator, IsPopped};
-ghost use Rattle.relative_path.specs.Naming.{file_name_of, dotted, IsNamed, IsExtended};
-ghost use Rattle.relative_path.specs.Editing as spec;
->>>>>>> 1db8dd3 (Platform paths as Path and PathBuf: from_path, to_path, to_logical_path and PathExt)
+ghost use Rattle.relative_path.specs.Editing.{pushed, with_piece, with_separator, IsPopped};
+ghost use Rattle.relative_path.specs.Naming.{file_name_of, extension_of, is_plain_extension, dotted, IsNamed, IsExtended};
 ghost use Rattle.relative_path.specs.Comparing.{steps_eq, steps_cmp, fed_by};
 ghost use Rattle.relative_path.specs.ComparingLaws.{partial_eq_law, partial_ord_law, by_components, fed_alike};
 ghost use Rattle.relative_path.specs.Extending.{PushesAll, PushesUntilFull, PushesWholeRun, StopsRun};
@@ -110,7 +102,26 @@ impl RelativePathBuf {
         Ok(RelativePathBuf { text })
     }
 
-<<<<<<< HEAD
+    /// The components of a platform path but each `.`, with single slashes between, unless it
+    /// begins with a slash.
+    ///
+    /// A path that begins with a slash is refused before any memory is asked for. Else it asks for
+    /// memory once, for as many bytes as the path has, and fails only where that is refused.
+    ///
+    /// ```
+    /// let buf = RelativePathBuf::from_path(alloc, Path::new("./foo//bar/."))?;
+    /// assert_eq!(rt; buf.as_relative_path().as_str(), "foo/bar");
+    /// ```
+    pub fn from_path(alloc: Global, path: Path<'_>) -> Result<RelativePathBuf, FromPathError>
+        ensures relative { IfOk result (λ buf. has_root (path_bytes path.entry) ≡ false) }
+        ensures ok { IfOk result (λ buf.
+            buf.text ≡ spell (without_curs (unix_components (path_bytes path.entry)))) }
+        ensures kind { IfErr result (λ error. from_path_kind error
+            ≡ (if has_root (path_bytes path.entry) then NonRelative else OutOfMemory)) }
+    {
+        unix::from_path(alloc, path.as_str())
+    }
+
     /// The paths that the iterator gives, pushed in order onto the empty path.
     ///
     /// It asks for memory where a push does, and fails where that is refused; the paths taken by
@@ -134,26 +145,6 @@ impl RelativePathBuf {
         let mut buf = RelativePathBuf::new(alloc);
         buf.extend(paths)?;
         Ok(buf)
-=======
-    /// The components of a platform path but each `.`, with single slashes between, unless it
-    /// begins with a slash.
-    ///
-    /// A path that begins with a slash is refused before any memory is asked for. Else it asks for
-    /// memory once, for as many bytes as the path has, and fails only where that is refused.
-    ///
-    /// ```
-    /// let buf = RelativePathBuf::from_path(alloc, Path::new("./foo//bar/."))?;
-    /// assert_eq!(rt; buf.as_relative_path().as_str(), "foo/bar");
-    /// ```
-    pub fn from_path(alloc: Global, path: Path<'_>) -> Result<RelativePathBuf, FromPathError>
-        ensures relative { IfOk result (λ buf. has_root (path_bytes path.entry) ≡ false) }
-        ensures ok { IfOk result (λ buf.
-            buf.text ≡ spell (without_curs (unix_components (path_bytes path.entry)))) }
-        ensures kind { IfErr result (λ error. from_path_kind error
-            ≡ (if has_root (path_bytes path.entry) then NonRelative else OutOfMemory)) }
-    {
-        unix::from_path(alloc, path.as_str())
->>>>>>> 1db8dd3 (Platform paths as Path and PathBuf: from_path, to_path, to_logical_path and PathExt)
     }
 
     // A copy of the text, with room for `room` bytes.

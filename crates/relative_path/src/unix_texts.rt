@@ -1,9 +1,9 @@
 //! Texts that are written a component at a time into room made for them at once.
 ghost use Rattle.std.specs.Prelude.{◌≡◌, ◌≤◌, ◌+◌, ◌^◌, ◌++◌, length, replicate, IfOk, MatchOption, string_bytes};
 ghost use Rattle.std.specs.String.{string_capacity};
+ghost use Rattle.relative_path.specs.Editing.{with_piece};
 ghost use Rattle.relative_path.specs.RelativePath.{path_text};
 ghost use Rattle.relative_path.specs.Steps.{up, components, spell};
-ghost use Rattle.relative_path.specs.Unix.{added};
 ghost use Rattle.relative_path.specs.UnixComponents.{unix_left};
 
 use crate::buf::RelativePathBuf;
@@ -28,8 +28,8 @@ pub(crate) fn base_with_room(
 
 // Adds a piece to a text that has room for it.
 pub(crate) fn add_piece(text: &mut String, piece: &str)
-    requires { length (added (string_bytes text.old) piece.now) ≤ string_capacity text.old }
-    ensures text { string_bytes text.new ≡ added (string_bytes text.old) piece.now }
+    requires { length (with_piece (string_bytes text.old) piece.now) ≤ string_capacity text.old }
+    ensures text { string_bytes text.new ≡ with_piece (string_bytes text.old) piece.now }
     ensures room { string_capacity text.old ≤ string_capacity text.new }
 {
     if !text.is_empty() {

@@ -3,7 +3,7 @@ use Rattle.std.specs.String.{string_capacity}
 use Rattle.relative_path.specs.Components.{components_left}
 use Rattle.relative_path.specs.RelativePath.{path_components}
 use Rattle.relative_path.specs.Unix.{onto}
-use Rattle.relative_path.proofs.UnixTextsLemmas.{padded_len}
+use Rattle.relative_path.specs.NormalForm.{padded_len}
 use Rattle.relative_path.proofs.unix.to_path.Given as goal
 
 abbrev pub invariant-loop-component : goal.invariant-loop-component

@@ -1,6 +1,7 @@
 use Rattle.std.proofs.Common.{arith, length, ap}
 use Rattle.relative_path.specs.UnixComponents.{unix_left}
-use Rattle.relative_path.proofs.UnixTextsLemmas.{padded_len, length-way}
+use Rattle.relative_path.specs.NormalForm.{padded_len}
+use Rattle.relative_path.proofs.UnixTextsLemmas.{length-way}
 use Rattle.relative_path.proofs.unix_texts.way_len.Goals as goal
 
 pub returns-in_err-len : goal.returns-in_err-len
