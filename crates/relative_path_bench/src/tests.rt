@@ -6,6 +6,7 @@ mod extending;
 mod joining;
 mod naming;
 mod normalizing;
+mod platform;
 mod prefixing;
 mod printing;
 mod readme;
