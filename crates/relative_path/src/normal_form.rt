@@ -16,7 +16,7 @@ use crate::slashes::without_leading_slashes;
 use crate::spans::{Source, Sources, Span};
 use std::alloc::{AllocError, Global};
 
-// As many `..` as it climbs, and then the names.
+// A normal list of components: as many `..` as it climbs, and then the names, each a span of a source.
 #[derive(Drop)]
 pub(crate) struct NormalForm<'a> {
     sources: Sources<'a>,
@@ -28,7 +28,8 @@ pub(crate) struct NormalForm<'a> {
 impl<'a> NormalForm<'a> {
     ghost use Rattle.relative_path.specs.NormalForm.{climbed, padded_len, form_sources, form_climb, form_names, form_steps, form_len, form_room, Reduces, IsNormalFormOf};
 
-    // The normal form of a path. It asks for memory once, for a table of as many names as the path has components.
+    // The normal form of a path. It asks for memory once, for a table with a place for each of the
+    // path's components.
     pub(crate) fn of(alloc: Global, path: RelativePath<'a>) -> Result<NormalForm<'a>, AllocError>
         ensures normal_form { IfOk result
             (λ form. IsNormalFormOf (path_components path.entry) (form_steps form)) }
@@ -42,7 +43,7 @@ impl<'a> NormalForm<'a> {
         Ok(form.follow(Source::First))
     }
 
-    // The normal form of a path and another one followed from where it leads.
+    // The normal form of a path followed by another one, over one table for the components of both.
     pub(crate) fn of_both(
         alloc: Global,
         path: RelativePath<'a>,
@@ -95,15 +96,15 @@ impl<'a> NormalForm<'a> {
         most
     }
 
-    // The text that spells the form, in memory of its own. It asks for memory once, for just this text.
+    // The text that spells the form. It asks for memory once, for just this text.
     pub(crate) fn spelled(&self, alloc: Global) -> Result<RelativePathBuf, AllocError>
         ensures { IfOk result (λ buf. buf.text ≡ spell (form_steps self.now)) }
     {
         self.spelled_past(alloc, self.climb, 0)
     }
 
-    // The text that spells so many `..` and the names without the first so many, in memory of its
-    // own. It asks for memory once, for just this text.
+    // The text that spells so many `..`, and then the names without the first so many. It asks for
+    // memory once, for just this text; a length that no `usize` holds is a want of memory too.
     pub(crate) fn spelled_past(
         &self,
         alloc: Global,

@@ -404,9 +404,9 @@ impl<'a> RelativePath<'a> {
     /// The only normal path that leads where this path, and then `path`, lead: the answer of
     /// `normalize` for both joined.
     ///
-    /// It asks for memory twice, for a table of a span for each component of both paths, and for
-    /// the answer's text, and fails only where one is refused. Of an empty table or an empty text
-    /// it asks for none.
+    /// It asks for memory twice: for a table with a span for each component of both paths, and for
+    /// the answer's text at its exact length; for none where these are empty. It fails only where
+    /// one of the two is refused.
     ///
     /// ```
     /// let foo = RelativePath::new("x/y");
@@ -429,9 +429,9 @@ impl<'a> RelativePath<'a> {
     /// The only normal path that leads where this one leads: `..` first, then names, with single
     /// slashes between.
     ///
-    /// It asks for memory twice, for a table of a span for each of its components, and for the
-    /// answer's text, and fails only where one is refused. Of an empty table or an empty text it
-    /// asks for none.
+    /// It asks for memory twice: for a table with a span for each of its components, and for the
+    /// answer's text at its exact length; for none where these are empty. It fails only where one
+    /// of the two is refused.
     ///
     /// ```
     /// let normal = RelativePath::new("../foo/./bar/../baz.txt").normalize(alloc)?;

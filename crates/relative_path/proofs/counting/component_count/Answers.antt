@@ -8,7 +8,8 @@ use Rattle.relative_path.proofs.counting.component_count.Goals as goal
 
 pub returns-in_default-clause-count : goal.returns-in_default-clause-count
 returns-in_default-clause-count c =
-    let none : length c.args.text.now ≡ 0 = omega (arith, c.in_default.ensures.item, ap length c.as_bytes-bytes.ensures.value) in
+    let whole = ap length c.as_bytes-bytes.ensures.value in
+    let none : length c.args.text.now ≡ 0 = omega (arith, c.in_default.ensures.item) in
     let empty = nil_from_length c.args.text.now none in
     sym (ap (λ text. length (components text)) empty ∙ ap length components-nil)
 

@@ -29,7 +29,8 @@ take-requires-clause-cuts c =
     let text = c.text-text.ensures ∙ ap (λ sources. source_text sources c.args.source) (sym loop.invariant.sources) in
     let first = c.in-Some.ensures.steps.0 in
     let ends = ap (λ x. loop.start + length x) c.as_str-in-Some.ensures in
-    Cuts-first loop.self.sources _ c.text-text.result.now _ (step_of c.in-Some.component) _ text loop.invariant.left first ends
+    let taken = step_of c.in-Some.component in
+    Cuts-first loop.self.sources _ c.text-text.result.now _ taken _ text loop.invariant.left first ends
 
 pub loop-component-preserved : goal.loop-component-preserved
 loop-component-preserved c =

@@ -8,7 +8,8 @@ use Rattle.relative_path.proofs.path.RelativePath.normalize.Goals as goal
 pub returns-clause-normal_form : goal.returns-clause-normal_form
 returns-clause-normal_form c =
     let form = c.in_ok-of.ensures.normal_form in
-    IfOk-weaker c.spelled.result _ _ (λ normal spelled. IsNormalTextOf-spell _ _ normal.text form spelled) c.spelled.ensures
+    IfOk-weaker c.spelled.result _ _
+    (λ normal spelled. IsNormalTextOf-spell _ _ normal.text form spelled) c.spelled.ensures
 
 pub returns-clause-no_longer : goal.returns-clause-no_longer
 returns-clause-no_longer c =
@@ -21,4 +22,5 @@ pub returns-clause-normal_stays : goal.returns-clause-normal_stays
 returns-clause-normal_stays c =
     let form = c.in_ok-of.ensures.normal_form in
     IfOk-weaker c.spelled.result _ _
-    (λ normal spelled. components-IsNormalTextOf _ _ (IsNormalTextOf-spell _ _ normal.text form spelled)) c.spelled.ensures
+    (λ normal spelled. components-IsNormalTextOf _ _ (IsNormalTextOf-spell _ _ normal.text form spelled))
+    c.spelled.ensures
