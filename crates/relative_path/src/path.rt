@@ -352,7 +352,8 @@ impl<'a> RelativePath<'a> {
     /// assert_eq!(rt; RelativePath::new(".foo").file_stem(), Some(".foo"));
     /// ```
     pub fn file_stem(self) -> Option<&'a str>
-        ensures text { option_copied result ≡ option_map stem_of (file_name_of (path_text self.entry)) }
+        ensures text { option_copied result
+            ≡ option_map stem_of (file_name_of (path_text self.entry)) }
         ensures joined { IfSome result (λ stem. IfSome (file_name_of (path_text self.entry))
             (λ file_name. IsStemAndExtension file_name stem.now (extension_of file_name))) }
     {

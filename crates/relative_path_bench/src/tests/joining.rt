@@ -118,10 +118,10 @@ fn joins_with_nothing(rt: HostRuntime) -> Result<(), Fail> {
         ("../../a/..", "../.."),
         ("./.b/..c", ".b/..c"),
     ] {
-        let (normal, before, behind) = unit(rt.alloc(), RelativePath::new(text))?;
+        let (normal, empty_behind, empty_before) = unit(rt.alloc(), RelativePath::new(text))?;
         assert_eq!(rt; text_of(&normal), expected, "{text:?}");
-        assert_eq!(rt; text_of(&before), expected, "{text:?} before nothing");
-        assert_eq!(rt; text_of(&behind), expected, "{text:?} behind nothing");
+        assert_eq!(rt; text_of(&empty_behind), expected, "nothing behind {text:?}");
+        assert_eq!(rt; text_of(&empty_before), expected, "nothing before {text:?}");
     }
     Ok(())
 }
