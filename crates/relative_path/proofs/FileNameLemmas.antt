@@ -30,31 +30,39 @@ ends_in : (cs : List Step) → ((k : ℕ) × (cs ≡ replicate k cur)) ⊎ EndsI
 ends_in [] = inl (0, refl)
 ends_in (c ∷ cs) = elim (ends_in cs) [
   | inl (k, alone) ↦ first c k alone
-  | inr e ↦ inr (record { front = c ∷ e.front; last = e.last; curs = e.curs; other = e.other; joined = ap (λ ds. c ∷ ds) e.joined })
+  | inr e ↦ inr
+      (record { front = c ∷ e.front; last = e.last; curs = e.curs; other = e.other; joined = ap (λ ds. c ∷ ds) e.joined })
 ]
   where
     first : (c : Step) (k : ℕ) → cs ≡ replicate k cur → ((j : ℕ) × (c ∷ cs ≡ replicate j cur)) ⊎ EndsIn (c ∷ cs)
     first cur k alone = inl (suc k, ap (λ ds. cur ∷ ds) alone)
-    first up k alone = inr (record { front = []; last = up; curs = k; other = refl; joined = ap (λ ds. up ∷ ds) alone })
-    first (name n) k alone = inr (record { front = []; last = name n; curs = k; other = refl; joined = ap (λ ds. name n ∷ ds) alone })
+    first up k alone = inr
+        (record { front = []; last = up; curs = k; other = refl; joined = ap (λ ds. up ∷ ds) alone })
+    first (name n) k alone = inr
+        (record { front = []; last = name n; curs = k; other = refl; joined = ap (λ ds. name n ∷ ds) alone })
 
-is_name : (c : Step) (n : List ℕ) → name_of c ≡ Some n → c ≡ name n
-is_name cur n is = absurd (cc)
-is_name up n is = absurd (cc)
-is_name (name m) n is = cc
+named_step : (c : Step) (n : List ℕ) → name_of c ≡ Some n → c ≡ name n
+named_step cur n is = absurd (cc)
+named_step up n is = absurd (cc)
+named_step (name m) n is = cc
 
 -- the file name is the component behind those that a parent keeps
-pub slice_get-last_name : (cs : List Step) (n : List ℕ) → last_name cs ≡ Some n → slice_get cs (kept_len cs) ≡ Some (name n)
+pub slice_get-last_name : (cs : List Step) (n : List ℕ) → last_name cs ≡ Some n
+    → slice_get cs (kept_len cs) ≡ Some (name n)
 slice_get-last_name cs n named = elim (ends_in cs) [
   | inl (k, alone) ↦
-      let none = ap last_name alone ∙ ap (λ ds. option_and_then name_of (slice_get ds (length ds - 1))) (others-curs k) in
+      let none = ap last_name alone
+      ∙ ap (λ ds. option_and_then name_of (slice_get ds (length ds - 1))) (others-curs k) in
       absurd (cc)
   | inr e ↦
       let last = ap last_name e.joined ∙ ap (option_and_then name_of) (last_other-at e.front e.last e.curs e.other) in
-      let is : e.last ≡ name n = is_name e.last n (sym last ∙ named) in
-      let whole : cs ≡ (e.front ++ e.last ∷ []) ++ replicate e.curs cur = e.joined ∙ sym (append_assoc e.front (e.last ∷ []) (replicate e.curs cur)) in
-      let kept : kept_len cs ≡ length e.front = ap kept_len whole ∙ kept_len-curs (e.front ++ e.last ∷ []) e.curs ∙ kept_len-push e.front e.last e.other in
-      ap (slice_get cs) kept ∙ ap (λ ds. slice_get ds (length e.front)) e.joined ∙ slice_get-at e.front e.last _ ∙ ap Some is
+      let is : e.last ≡ name n = named_step e.last n (sym last ∙ named) in
+      let whole : cs ≡ (e.front ++ e.last ∷ []) ++ replicate e.curs cur = e.joined
+      ∙ sym (append_assoc e.front (e.last ∷ []) (replicate e.curs cur)) in
+      let kept : kept_len cs ≡ length e.front = ap kept_len whole ∙ kept_len-curs (e.front ++ e.last ∷ []) e.curs
+      ∙ kept_len-push e.front e.last e.other in
+      ap (slice_get cs) kept ∙ ap (λ ds. slice_get ds (length e.front)) e.joined ∙ slice_get-at e.front e.last _
+      ∙ ap Some is
 ]
 
 -- ---- what a name is cut into
@@ -78,7 +86,8 @@ parts_at_dot n stem =
     let short : 0 < k = stem_len k stem in
     let less : suffix_len no_dot n < length n = omega arith in
     let after : suc k ≡ length n - suffix_len no_dot n = omega arith in
-    let rest : drop k n ≡ dot ∷ after_last is_dot n = drop-cons n k 0 (omega arith) ∙ ap (λ b. b ∷ drop (suc k) n) (last_is_dot n less) ∙ ap (λ i. dot ∷ drop i n) after in
+    let rest : drop k n ≡ dot ∷ after_last is_dot n = drop-cons n k 0 (omega arith)
+    ∙ ap (λ b. b ∷ drop (suc k) n) (last_is_dot n less) ∙ ap (λ i. dot ∷ drop i n) after in
     sym (take-append-drop k n) ∙ ap (λ bs. take k n ++ bs) rest
   where
     stem_len : (k : ℕ) → is_not_empty (take k n) ≡ true → 0 < k
@@ -112,15 +121,18 @@ no_dot-plain e plain = All-from_recursion (λ b. b ≢ dot) e (each e plain)
         (eqb-false b dot (not-true _ (and_parts _ _ both.0).0), each bs both.1)
 
 -- what stands before the last component: nothing, or a text that ends in a slash
-head_ends : (head n : List ℕ) (cs : List Step) → components (head ++ n) ≡ cs ++ name n ∷ [] → 0 < length n → HasNoSlash n
+head_ends : (head n : List ℕ) (cs : List Step) → components (head ++ n) ≡ cs ++ name n ∷ [] → 0 < length n
+    → HasNoSlash n
     → (head ≡ []) ⊎ ((xs : List ℕ) × (head ≡ xs ++ slash ∷ []))
 head_ends head n cs last nonempty none = elim (last_slash head) [
   | inl whole ↦
-      let one = components_whole (head ++ n) (omega (arith, length-append head n)) (HasNoSlash-append head n whole none) in
+      let one = components_whole (head ++ n) (omega (arith, length-append head n))
+      (HasNoSlash-append head n whole none) in
       inl (alone head (last_same cs [] (name n) (classed (head ++ n)) (sym last ∙ one)))
   | inr (xs, ys, joined, whole) ↦
       let one = components_whole (ys ++ n) (omega (arith, length-append ys n)) (HasNoSlash-append ys n whole none) in
-      let parts = ap (λ x. components (x ++ n)) joined ∙ ap components (append_assoc xs (slash ∷ ys) n) ∙ components-append xs (ys ++ n) ∙ ap (λ ds. components xs ++ ds) one in
+      let parts = ap (λ x. components (x ++ n)) joined ∙ ap components (append_assoc xs (slash ∷ ys) n)
+      ∙ components-append xs (ys ++ n) ∙ ap (λ ds. components xs ++ ds) one in
       let empty = alone ys (last_same cs (components xs) (name n) (classed (ys ++ n)) (sym last ∙ parts)) in
       inr (xs, joined ∙ ap (λ bs. xs ++ slash ∷ bs) empty)
 ]
@@ -132,10 +144,12 @@ head_ends head n cs last nonempty none = elim (last_slash head) [
         absurd (omega (arith, text, length-append (b ∷ bs) n))
 
 -- another last component in its place
-components-replaced : (head n m : List ℕ) (cs : List Step) → components (head ++ n) ≡ cs ++ name n ∷ [] → 0 < length n → HasNoSlash n
+components-replaced : (head n m : List ℕ) (cs : List Step) → components (head ++ n) ≡ cs ++ name n ∷ [] → 0 < length n
+    → HasNoSlash n
     → 0 < length m → HasNoSlash m → components (head ++ m) ≡ components head ++ classed m ∷ []
 components-replaced head n m cs last nonempty none nonempty' none' = elim (head_ends head n cs last nonempty none) [
-  | inl empty ↦ ap (λ x. components (x ++ m)) empty ∙ components_whole m nonempty' none' ∙ ap (λ ds. ds ++ classed m ∷ []) (sym components-nil) ∙ ap (λ x. components x ++ classed m ∷ []) (sym empty)
+  | inl empty ↦ ap (λ x. components (x ++ m)) empty ∙ components_whole m nonempty' none'
+      ∙ ap (λ ds. ds ++ classed m ∷ []) (sym components-nil) ∙ ap (λ x. components x ++ classed m ∷ []) (sym empty)
   | inr (xs, ends) ↦
       ap (λ x. components (x ++ m)) ends ∙ ap components (append_assoc xs (slash ∷ []) m) ∙ components-append xs m
       ∙ ap (λ ds. components xs ++ ds) (components_whole m nonempty' none')
@@ -153,7 +167,8 @@ name-classed m long = named (classed m) (step_text-classed m)
 
 stem_nonempty : (n : List ℕ) → 0 < length n → 0 < length (stem_of n)
 stem_nonempty n nonempty =
-    cond_both (has_stem n) (before_last is_dot n) n (λ x. 0 < length x) (λ stem. long (before_last is_dot n) stem) (λ _. nonempty)
+    cond_both (has_stem n) (before_last is_dot n) n (λ x. 0 < length x) (λ stem. long (before_last is_dot n) stem)
+    (λ _. nonempty)
   where
     long : (x : List ℕ) → is_not_empty x ≡ true → 0 < length x
     long [] stem = absurd (true≢false (sym stem))
@@ -180,18 +195,24 @@ file_name-replaced head n (b ∷ bs) cs last some plain =
     let none = HasNoSlash-proper (name n) proper in
     let stem = stem_nonempty n (nonempty_proper (name n) proper) in
     let len = length-append (stem_of n) (dot ∷ b ∷ bs) in
-    let none' = HasNoSlash-append (stem_of n) (dot ∷ b ∷ bs) (HasNoSlash-stem n none) (refl, HasNoSlash-plain (b ∷ bs) plain) in
-    let parts = ap components (append_assoc head (stem_of n) (dot ∷ b ∷ bs)) ∙ components-replaced head n m cs last (nonempty_proper (name n) proper) none (omega arith) none' ∙ ap (λ c. components head ++ c ∷ []) (name-classed m (omega arith)) in
+    let none' = HasNoSlash-append (stem_of n) (dot ∷ b ∷ bs) (HasNoSlash-stem n none)
+    (refl, HasNoSlash-plain (b ∷ bs) plain) in
+    let parts = ap components (append_assoc head (stem_of n) (dot ∷ b ∷ bs))
+    ∙ components-replaced head n m cs last (nonempty_proper (name n) proper) none (omega arith) none'
+    ∙ ap (λ c. components head ++ c ∷ []) (name-classed m (omega arith)) in
     let named = ap last_name parts ∙ ap (option_and_then name_of) (last_other-at (components head) (name m) 0 refl) in
-    let split = IsSplit-dot m (stem_of n) (b ∷ bs) (refl, no_dot-plain (b ∷ bs) plain) (λ empty. omega (arith, empty)) in
+    let split = IsSplit-dot m (stem_of n) (b ∷ bs) (refl, no_dot-plain (b ∷ bs) plain)
+    (λ empty. omega (arith, empty)) in
     ap (option_and_then extension_of) named ∙ split.extension_is
 
 -- where a plain extension was set, the file name has it
-pub extension-IsExtended : (text e extended : List ℕ) → IsTrue (is_plain_extension e) → IsSome (file_name_of text) → IsExtended text e extended
+pub extension-IsExtended : (text e extended : List ℕ) → IsTrue (is_plain_extension e) → IsSome (file_name_of text)
+    → IsExtended text e extended
     → option_and_then extension_of (file_name_of extended) ≡ Some e
 extension-IsExtended text e extended plain found is = at (file_name_of text) refl found is
   where
-    at : (o : Option (List ℕ)) → file_name_of text ≡ o → IsSome o → IsExtendedAt text e extended o → option_and_then extension_of (file_name_of extended) ≡ Some e
+    at : (o : Option (List ℕ)) → file_name_of text ≡ o → IsSome o → IsExtendedAt text e extended o
+        → option_and_then extension_of (file_name_of extended) ≡ Some e
     at None named some is = absurd (cc)
     at (Some n) named some (head, cut, is) =
         let bytes = and_parts _ _ plain in
@@ -200,4 +221,5 @@ extension-IsExtended text e extended plain found is = at (file_name_of text) ref
         let inside = slice_get_within cs (kept_len cs) (name n) placed in
         let last = cut.same_components ∙ take_more cs (kept_len cs) cur inside
         ∙ ap (λ c. take (kept_len cs) cs ++ c ∷ []) (get_or_from_slice_get cs (kept_len cs) (name n) cur placed) in
-        ap (λ t. option_and_then extension_of (file_name_of t)) is ∙ file_name-replaced head n e (take (kept_len cs) cs) last bytes.0 bytes.1
+        ap (λ t. option_and_then extension_of (file_name_of t)) is
+        ∙ file_name-replaced head n e (take (kept_len cs) cs) last bytes.0 bytes.1

@@ -20,7 +20,7 @@ use Rattle.relative_path.proofs.WalkLemmas.{IsSame-refl, IsSame-sym, IsSame-tran
 
 -- ---- reducing a list of components
 
-padded_len-append : (cs ds : List Step) → padded_len (cs ++ ds) ≡ padded_len cs + padded_len ds
+pub padded_len-append : (cs ds : List Step) → padded_len (cs ++ ds) ≡ padded_len cs + padded_len ds
 padded_len-append [] ds = omega arith
 padded_len-append (c ∷ cs) ds = omega (arith, padded_len-append cs ds)
 
@@ -50,7 +50,9 @@ Reduces-cur cs = record {
 -- a `..` drops the name before it
 pub Reduces-name_up : (cs : List Step) (n : List ℕ) → Reduces ((cs ++ name n ∷ []) ++ up ∷ []) cs
 Reduces-name_up cs n = record {
-  same = rw (append_assoc cs (name n ∷ []) (up ∷ [])) (subst (IsSame (cs ++ name n ∷ up ∷ [])) (append-nil cs) (IsSame-name_up cs [] n));
+  same =
+      let dropped = subst (IsSame (cs ++ name n ∷ up ∷ [])) (append-nil cs) (IsSame-name_up cs [] n) in
+      rw (append_assoc cs (name n ∷ []) (up ∷ [])) dropped;
   no_longer = omega (arith, padded_len-append (cs ++ name n ∷ []) (up ∷ []), padded_len-append cs (name n ∷ []));
 }
 
@@ -64,14 +66,17 @@ Reduces-step source cs ds c left rest h first step =
 -- ---- one component more
 
 -- a name comes last
-pub climbed-push : (climb : ℕ) (names : List (List ℕ)) (n : List ℕ) → climbed climb names ++ name n ∷ [] ≡ climbed climb (names ++ n ∷ [])
+pub climbed-push : (climb : ℕ) (names : List (List ℕ)) (n : List ℕ)
+    → climbed climb names ++ name n ∷ [] ≡ climbed climb (names ++ n ∷ [])
 climbed-push climb names n =
-    append_assoc (replicate climb up) (map name names) (name n ∷ []) ∙ ap (λ ds. replicate climb up ++ ds) (sym (map_push name names n))
+    append_assoc (replicate climb up) (map name names) (name n ∷ [])
+    ∙ ap (λ ds. replicate climb up ++ ds) (sym (map_push name names n))
 
 -- without a name before it a `..` is one climb more
 pub climbed-up : (climb : ℕ) → climbed climb [] ++ up ∷ [] ≡ climbed (climb + 1) []
 climbed-up climb =
-    ap (λ cs. cs ++ up ∷ []) (append-nil (replicate climb up)) ∙ replicate_more climb up ∙ sym (append-nil (replicate (climb + 1) up))
+    ap (λ cs. cs ++ up ∷ []) (append-nil (replicate climb up)) ∙ replicate_more climb up
+    ∙ sym (append-nil (replicate (climb + 1) up))
 
 -- a `..` drops the last name of a table
 pub Reduces-pop : {X : Type 0} (f : X → List ℕ) (climb : ℕ) (xs ys : List X) (r : Option X)
@@ -79,7 +84,8 @@ pub Reduces-pop : {X : Type 0} (f : X → List ℕ) (climb : ℕ) (xs ys : List 
     → Reduces (climbed climb (map f xs) ++ up ∷ []) (climbed climb (map f ys))
 Reduces-pop f climb xs ys None joined some = absurd (cc)
 Reduces-pop f climb xs ys (Some x) joined some =
-    let last = ap (λ zs. climbed climb (map f zs)) joined ∙ ap (climbed climb) (map_push f ys x) ∙ sym (climbed-push climb (map f ys) (f x)) in
+    let last = ap (λ zs. climbed climb (map f zs)) joined ∙ ap (climbed climb) (map_push f ys x)
+    ∙ sym (climbed-push climb (map f ys) (f x)) in
     subst (λ cs. Reduces (cs ++ up ∷ []) (climbed climb (map f ys))) (sym last) (Reduces-name_up _ (f x))
 
 -- ---- climbs and names are normal
@@ -99,7 +105,8 @@ AreProper-names : (names : List (List ℕ)) → AllByRecursion (λ n. IsProper (
 AreProper-names [] proper = tt
 AreProper-names (n ∷ ns) proper = (proper.0, AreProper-names ns proper.1)
 
-pub AreProper-climbed : (climb : ℕ) (names : List (List ℕ)) → AllByRecursion (λ n. IsProper (name n)) names → AreProper (climbed climb names)
+pub AreProper-climbed : (climb : ℕ) (names : List (List ℕ)) → AllByRecursion (λ n. IsProper (name n)) names
+    → AreProper (climbed climb names)
 AreProper-climbed zero names proper = AreProper-names names proper
 AreProper-climbed (suc climb) names proper = (IsProper-up, AreProper-climbed climb names proper)
   where
@@ -108,7 +115,8 @@ AreProper-climbed (suc climb) names proper = (IsProper-up, AreProper-climbed cli
 
 length-spell-padded : (c : Step) (cs : List Step) → length (spell (c ∷ cs)) + 1 ≡ padded_len (c ∷ cs)
 length-spell-padded c [] = omega arith
-length-spell-padded c (d ∷ cs) = omega (arith, length-append (step_text c) (slash ∷ spell (d ∷ cs)), length-spell-padded d cs)
+length-spell-padded c (d ∷ cs) =
+    omega (arith, length-append (step_text c) (slash ∷ spell (d ∷ cs)), length-spell-padded d cs)
 
 pub length-spell : (cs : List Step) → length (spell cs) ≡ padded_len cs - 1
 length-spell [] = omega arith
@@ -116,7 +124,8 @@ length-spell (c ∷ cs) = omega (arith, length-spell-padded c cs)
 
 -- what reduces a list to climbs and proper names gives its normal form
 pub IsNormalFormOf-Reduces : (cs : List Step) (climb : ℕ) (names : List (List ℕ))
-    → Reduces cs (climbed climb names) → AllByRecursion (λ n. IsProper (name n)) names → IsNormalFormOf cs (climbed climb names)
+    → Reduces cs (climbed climb names) → AllByRecursion (λ n. IsProper (name n)) names
+    → IsNormalFormOf cs (climbed climb names)
 IsNormalFormOf-Reduces cs climb names reduces proper = record {
   normal = IsNormal-climbed climb names;
   same = reduces.same;
@@ -134,14 +143,18 @@ pub AreProper-names_of_form : (form : NormalForm) → AllByRecursion (λ n. IsPr
 AreProper-names_of_form form =
     AreProper-cut form.sources form.names.items (recursion_from_All (CutsName form.sources) form.names.items form.cut)
 
-pub AreProper-names_past : (form : NormalForm) (skipped : ℕ) → AllByRecursion (λ n. IsProper (name n)) (drop skipped (form_names form))
+pub AreProper-names_past : (form : NormalForm) (skipped : ℕ)
+    → AllByRecursion (λ n. IsProper (name n)) (drop skipped (form_names form))
 AreProper-names_past form skipped =
     let P : List ℕ → Type 0 = λ n. IsProper (name n) in
-    recursion_from_All P _ (All-drop P skipped (form_names form) (All-from_recursion P (form_names form) (AreProper-names_of_form form)))
+    let all = All-from_recursion P (form_names form) (AreProper-names_of_form form) in
+    recursion_from_All P _ (All-drop P skipped (form_names form) all)
 
 -- what reduces a list to the components of a form makes it the list's normal form
-pub IsNormalFormOf-form : (cs : List Step) (form : NormalForm) → Reduces cs (form_steps form) → IsNormalFormOf cs (form_steps form)
-IsNormalFormOf-form cs form reduces = IsNormalFormOf-Reduces cs form.climb (form_names form) reduces (AreProper-names_of_form form)
+pub IsNormalFormOf-form : (cs : List Step) (form : NormalForm) → Reduces cs (form_steps form)
+    → IsNormalFormOf cs (form_steps form)
+IsNormalFormOf-form cs form reduces =
+    IsNormalFormOf-Reduces cs form.climb (form_names form) reduces (AreProper-names_of_form form)
 
 -- ---- writing pieces one behind another
 
@@ -151,7 +164,8 @@ length-with_piece_le (b ∷ bs) p = omega (arith, length-append bs (slash ∷ p)
 
 pub length-with_pieces_le : (text : List ℕ) (ps : List (List ℕ)) → length text ≤ length (fold with_piece text ps)
 length-with_pieces_le text [] = omega arith
-length-with_pieces_le text (p ∷ ps) = omega (arith, length-with_piece_le text p, length-with_pieces_le (with_piece text p) ps)
+length-with_pieces_le text (p ∷ ps) =
+    omega (arith, length-with_piece_le text p, length-with_pieces_le (with_piece text p) ps)
 
 -- where all pieces fit, the first one does
 pub with_piece_fits : (text : List ℕ) (ps : List (List ℕ)) (p : List ℕ) (rest : List (List ℕ)) (room : ℕ)
@@ -166,7 +180,8 @@ with_pieces-solid : (b : ℕ) (bs : List ℕ) (c : Step) (cs : List Step)
     → fold with_piece (b ∷ bs) (map step_text (c ∷ cs)) ≡ (b ∷ bs) ++ slash ∷ spell (c ∷ cs)
 with_pieces-solid b bs c [] = refl
 with_pieces-solid b bs c (d ∷ cs) =
-    with_pieces-solid b (bs ++ slash ∷ step_text c) d cs ∙ append_assoc (b ∷ bs) (slash ∷ step_text c) (slash ∷ spell (d ∷ cs))
+    with_pieces-solid b (bs ++ slash ∷ step_text c) d cs
+    ∙ append_assoc (b ∷ bs) (slash ∷ step_text c) (slash ∷ spell (d ∷ cs))
 
 -- the texts of proper components one behind another spell them
 pub with_pieces-spell : (cs : List Step) → AreProper cs → fold with_piece [] (map step_text cs) ≡ spell cs
@@ -182,7 +197,8 @@ map_step_text-names : (names : List (List ℕ)) → map step_text (map name name
 map_step_text-names [] = refl
 map_step_text-names (n ∷ ns) = ap (λ ps. n ∷ ps) (map_step_text-names ns)
 
-map_step_text-climbed : (climb : ℕ) (names : List (List ℕ)) → map step_text (climbed climb names) ≡ replicate climb (step_text up) ++ names
+map_step_text-climbed : (climb : ℕ) (names : List (List ℕ))
+    → map step_text (climbed climb names) ≡ replicate climb (step_text up) ++ names
 map_step_text-climbed zero names = map_step_text-names names
 map_step_text-climbed (suc climb) names = ap (λ ps. step_text up ∷ ps) (map_step_text-climbed climb names)
 
@@ -190,11 +206,14 @@ map_step_text-climbed (suc climb) names = ap (λ ps. step_text up ∷ ps) (map_s
 pub with_pieces-climbed : (climb : ℕ) (names : List (List ℕ)) → AllByRecursion (λ n. IsProper (name n)) names
     → fold with_piece (fold with_piece [] (replicate climb (step_text up))) names ≡ spell (climbed climb names)
 with_pieces-climbed climb names proper =
-    sym (fold-append with_piece [] (replicate climb (step_text up)) names) ∙ ap (fold with_piece []) (sym (map_step_text-climbed climb names)) ∙ with_pieces-spell (climbed climb names) (AreProper-climbed climb names proper)
+    sym (fold-append with_piece [] (replicate climb (step_text up)) names)
+    ∙ ap (fold with_piece []) (sym (map_step_text-climbed climb names))
+    ∙ with_pieces-spell (climbed climb names) (AreProper-climbed climb names proper)
 
 -- ---- counting bytes
 
-pub padded_len-climbed : (climb : ℕ) (names : List (List ℕ)) → padded_len (climbed climb names) ≡ 3 * climb + padded_len (map name names)
+pub padded_len-climbed : (climb : ℕ) (names : List (List ℕ))
+    → padded_len (climbed climb names) ≡ 3 * climb + padded_len (map name names)
 padded_len-climbed zero names = omega arith
 padded_len-climbed (suc climb) names = omega (arith, padded_len-climbed climb names)
 
@@ -203,7 +222,8 @@ length-padded_le [] = omega arith
 length-padded_le (n ∷ ns) = omega (arith, length-padded_le ns)
 
 -- a span is as long as what it cuts out
-pub length-Cuts : {sources : Sources} {span : Span} {c : Step} → Cuts sources span c → span.end - span.start ≡ length (span_text sources span)
+pub length-Cuts : {sources : Sources} {span : Span} {c : Step} → Cuts sources span c
+    → span.end - span.start ≡ length (span_text sources span)
 length-Cuts {sources} {span} {c} cuts =
     let text = source_text sources span.source in
     let fits = cuts.end.0 in
@@ -211,20 +231,24 @@ length-Cuts {sources} {span} {c} cuts =
     omega (arith, length-take (span.end - span.start) (drop span.start text), length-drop span.start text)
 
 -- the names from an index on, counted with the span at that index
-pub padded_len-span : (sources : Sources) (spans : List Span) (i : ℕ) (d : Span) → i < length spans → All (CutsName sources) spans
+pub padded_len-span : (sources : Sources) (spans : List Span) (i : ℕ) (d : Span) → i < length spans
+    → All (CutsName sources) spans
     → padded_len (map name (map (span_text sources) (drop i spans)))
-    ≡ ((get_or spans i d).end - (get_or spans i d).start) + 1 + padded_len (map name (map (span_text sources) (drop (i + 1) spans)))
+    ≡ ((get_or spans i d).end - (get_or spans i d).start) + 1
+    + padded_len (map name (map (span_text sources) (drop (i + 1) spans)))
 padded_len-span sources spans i d less cut =
     let more = ap (λ xs. padded_len (map name (map (span_text sources) xs))) (drop_more spans i d less) in
     omega (arith, length-Cuts (cut i d less))
 
 -- the text that spells a normal form is the only normal text that leads where the components lead
-pub IsNormalTextOf-spell : (cs ds : List Step) (text : List ℕ) → IsNormalFormOf cs ds → text ≡ spell ds → IsNormalTextOf cs text
+pub IsNormalTextOf-spell : (cs ds : List Step) (text : List ℕ) → IsNormalFormOf cs ds → text ≡ spell ds
+    → IsNormalTextOf cs text
 IsNormalTextOf-spell cs ds text form spelled =
     let is : components text ≡ ds = ap components spelled ∙ form.of_text in
     record {
       normal_text = record { spelled = spelled ∙ ap spell (sym is); normal = rw is form.normal };
       same = rw is form.same;
       only = λ other normal leads.
-          normal.spelled ∙ ap spell (normal_unique (components other) ds normal.normal form.normal (IsSame-trans _ _ _ (IsSame-sym _ _ leads) form.same)) ∙ sym spelled;
+          let back = IsSame-trans _ _ _ (IsSame-sym _ _ leads) form.same in
+          normal.spelled ∙ ap spell (normal_unique (components other) ds normal.normal form.normal back) ∙ sym spelled;
     }

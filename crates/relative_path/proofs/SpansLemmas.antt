@@ -1,5 +1,5 @@
 -- Where the first component of a text stands in it.
-use Rattle.std.proofs.Common.{◌≡◌, ◌≢◌, ◌⊎◌, ℕ, ◌+◌, ◌-◌, List, [], ◌∷◌, ◌++◌, length, get_or, take, drop, slice_range, sym, refl, ap, ◌∙◌, subst, inl, inr, ⊎_elim, append-nil, arith, length-append, take-append-drop, length-take-le, append_assoc, take_at, eqb-true}
+use Rattle.std.proofs.Common.{◌≡◌, ◌≢◌, ◌⊎◌, ◌<◌, ℕ, ◌+◌, ◌-◌, List, [], ◌∷◌, ◌++◌, length, get_or, take, drop, slice_range, sym, refl, ap, ◌∙◌, subst, inl, inr, ⊎_elim, append-nil, arith, length-append, take-append-drop, length-take-le, append_assoc, take_at, eqb-true}
 use Rattle.std.specs.Str.{IsUtf8, IsCharBoundary}
 use Rattle.std.proofs.lemmas.Bool.{cases_Bool}
 use Rattle.std.proofs.lemmas.List.{get_or_at}
@@ -27,7 +27,8 @@ cut_first (b ∷ bs) =
     (λ e. ([], b ∷ bs, record { whole = tt; joined = refl; behind = inr (bs, ap (λ x. x ∷ bs) (eqb-true b slash e)) }))
     (λ e.
     let cut = cut_first bs in
-    (b ∷ cut.0, cut.1, record { whole = (e, cut.2.whole); joined = ap (λ x. b ∷ x) cut.2.joined; behind = cut.2.behind }))
+    let joined = ap (λ x. b ∷ x) cut.2.joined in
+    (b ∷ cut.0, cut.1, record { whole = (e, cut.2.whole); joined = joined; behind = cut.2.behind }))
     (cases_Bool (is_slash b))
 
 -- the piece is the text's first component, if the text has one and begins with no slash
@@ -42,13 +43,15 @@ piece_first text (b ∷ bs) rest c cs cut no_slash first =
     let alone = components_whole (b ∷ bs) (omega arith) cut.whole in
     let is : classed (b ∷ bs) ≡ c = elim cut.behind [
       | inl none ↦ (let all = ap components (cut.joined ∙ ap (λ x. (b ∷ bs) ++ x) none ∙ append-nil (b ∷ bs)) in cc)
-      | inr (tail, slashed) ↦ (let all = ap components (cut.joined ∙ ap (λ x. (b ∷ bs) ++ x) slashed) ∙ components-append (b ∷ bs) tail in cc)
+      | inr (tail, slashed) ↦ (let whole = cut.joined ∙ ap (λ x. (b ∷ bs) ++ x) slashed in
+          let all = ap components whole ∙ components-append (b ∷ bs) tail in cc)
     ] in
     let text = step_text-classed (b ∷ bs) in
     (ap step_text (sym is) ∙ text, subst IsProper is (ap components text ∙ alone))
 
 -- a text may be cut where a slash stands, and at its end
-behind_boundary : (text front rest : List ℕ) → text ≡ front ++ rest → (rest ≡ []) ⊎ ((tail : List ℕ) × (rest ≡ slash ∷ tail))
+behind_boundary : (text front rest : List ℕ) → text ≡ front ++ rest
+    → (rest ≡ []) ⊎ ((tail : List ℕ) × (rest ≡ slash ∷ tail))
     → IsCharBoundary text (length front)
 behind_boundary text front rest joined (inl none) =
     let whole = joined ∙ ap (λ x. front ++ x) none ∙ append-nil front in
@@ -56,7 +59,8 @@ behind_boundary text front rest joined (inl none) =
 behind_boundary text front rest joined (inr (tail, slashed)) =
     let whole = joined ∙ ap (λ x. front ++ x) slashed in
     let at = ap (λ x. get_or x (length front) 0) whole ∙ get_or_at front slash tail 0 (length front) refl in
-    IsCharBoundary-before_ascii text (length front) (omega (arith, ap length whole, length-append front (slash ∷ tail))) (omega arith)
+    let inside : length front < length text = omega (arith, ap length whole, length-append front (slash ∷ tail)) in
+    IsCharBoundary-before_ascii text (length front) inside (omega arith)
 
 -- ---- what is left of a text
 
@@ -66,7 +70,8 @@ pub record IsLeft (text left : List ℕ) (start : ℕ) : Type 0 where
   pub boundary : IsCharBoundary text start
   pub no_leading_slash : get_or left 0 0 ≢ slash
 
-pub IsLeft-suffix : (text left : List ℕ) → left ≡ drop (length text - length left) text → IsUtf8 left → get_or left 0 0 ≢ slash
+pub IsLeft-suffix : (text left : List ℕ) → left ≡ drop (length text - length left) text → IsUtf8 left
+    → get_or left 0 0 ≢ slash
     → IsLeft text left (length text - length left)
 IsLeft-suffix text left suffix utf8 no_slash = record {
   suffix = suffix;
@@ -84,22 +89,27 @@ IsSuffix-left {text} {left} {start} h = record {
 pub IsLeft-rest : {text left rest : List ℕ} {start : ℕ} → IsLeft text left start → IsRest left rest → IsUtf8 rest
     → IsLeft text rest (length text - length rest)
 IsLeft-rest {text} {left} {rest} h r utf8 =
-    IsLeft-suffix text rest (IsSuffix-drop (IsSuffix-trans (IsSuffix-left h) (IsSuffix-from r.suffix))) utf8 r.no_leading_slash
+    let suffix = IsSuffix-drop (IsSuffix-trans (IsSuffix-left h) (IsSuffix-from r.suffix)) in
+    IsLeft-suffix text rest suffix utf8 r.no_leading_slash
 
 -- the first component of what is left stands there
 pub Cuts-first : (sources : Sources) (span : Span) (text left : List ℕ) (c : Step) (cs : List Step)
-    → text ≡ source_text sources span.source → IsLeft text left span.start → components left ≡ c ∷ cs → span.end ≡ span.start + length (step_text c)
+    → text ≡ source_text sources span.source → IsLeft text left span.start → components left ≡ c ∷ cs
+    → span.end ≡ span.start + length (step_text c)
     → Cuts sources span c
 Cuts-first sources span text left c cs same h first ends =
     let cut = cut_first left in
     let is = piece_first left cut.0 cut.1 c cs cut.2 h.no_leading_slash first in
     let boundary = h.boundary in
     let starts = length-take-le span.start text boundary.0 in
-    let joined = sym (take-append-drop span.start text) ∙ ap (λ x. take span.start text ++ x) (sym h.suffix ∙ cut.2.joined) ∙ sym (append_assoc (take span.start text) cut.0 cut.1) in
-    let front : length (take span.start text ++ cut.0) ≡ span.end = omega (arith, length-append (take span.start text) cut.0, ap length is.0) in
-    let behind = subst (IsCharBoundary text) front (behind_boundary text (take span.start text ++ cut.0) cut.1 joined cut.2.behind) in
+    let before = take span.start text in
+    let joined = sym (take-append-drop span.start text) ∙ ap (λ x. before ++ x) (sym h.suffix ∙ cut.2.joined)
+    ∙ sym (append_assoc before cut.0 cut.1) in
+    let front : length (before ++ cut.0) ≡ span.end = omega (arith, length-append before cut.0, ap length is.0) in
+    let behind = subst (IsCharBoundary text) front (behind_boundary text (before ++ cut.0) cut.1 joined cut.2.behind) in
     let len : span.end - span.start ≡ length cut.0 = omega (arith, ap length is.0) in
-    let cuts = ap (λ n. take n (drop span.start text)) len ∙ ap (take (length cut.0)) (sym h.suffix ∙ cut.2.joined) ∙ take_at cut.0 cut.1 (length cut.0) refl ∙ sym is.0 in
+    let cuts = ap (λ n. take n (drop span.start text)) len ∙ ap (take (length cut.0)) (sym h.suffix ∙ cut.2.joined)
+    ∙ take_at cut.0 cut.1 (length cut.0) refl ∙ sym is.0 in
     record {
       in_order = omega arith;
       start = subst (λ x. IsCharBoundary x span.start) same boundary;

@@ -1,6 +1,7 @@
 pub mod Steps
 pub mod Walk
 pub mod Normalizing
+pub mod Counting
 pub mod Spans
 pub mod NormalForm
 pub mod Relating
@@ -14,3 +15,7 @@ pub mod Extending
 pub mod Components
 pub mod Comparing
 pub mod ComparingLaws
+pub mod Unix
+pub mod UnixComponents
+pub mod FromPathError
+pub mod RelativeToError

@@ -1,6 +1,7 @@
 -- Normal forms as the code holds them: a count of climbs, and a table of names, each a span of a text.
 use Rattle.std.specs.Prelude.{◌≡◌, ℕ, ◌+◌, ◌≤◌, List, [], ◌∷◌, ◌++◌, map, replicate, length, vec_len, vec_capacity}
 use Rattle.relative_path.specs.declared.normal_form.NormalForm.{NormalForm}
+use Rattle.relative_path.specs.declared.spans.Sources.{Sources}
 use Rattle.relative_path.specs.Steps.{Step, up, name, step_text, components, spell}
 use Rattle.relative_path.specs.Walk.{IsSame}
 use Rattle.relative_path.specs.Normalizing.{IsNormal}
@@ -27,13 +28,17 @@ pub record IsNormalFormOf (cs ds : List Step) : Type 0 where
   pub of_text : components (spell ds) ≡ ds
   pub no_longer : length (spell ds) ≤ length (spell cs)
 
+-- the texts that the spans of a form cut
+abbrev pub form_sources : NormalForm → Sources
+form_sources form = form.sources
+
 -- how many `..` a form begins with
 abbrev pub form_climb : NormalForm → ℕ
 form_climb form = form.climb
 
 -- the names of a form
 abbrev pub form_names : NormalForm → List (List ℕ)
-form_names form = map (span_text form.sources) form.names.items
+form_names form = map (span_text (form_sources form)) form.names.items
 
 -- the components that a form stands for
 abbrev pub form_steps : NormalForm → List Step

@@ -1,4 +1,4 @@
--- Names and other components as spans of a text, or of one of two.
+-- Components as spans of a text, or of one of two texts.
 use Rattle.std.specs.Prelude.{◌≡◌, ℕ, ◌≤◌, List, [], ◌∷◌, slice_range}
 use Rattle.std.specs.Str.{IsCharBoundary}
 use Rattle.relative_path.specs.declared.spans.Source.{Source}

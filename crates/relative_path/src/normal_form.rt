@@ -4,7 +4,7 @@ ghost use Rattle.std.specs.List.{All, common_prefix_len};
 ghost use Rattle.std.specs.Str.{bytes_eq};
 ghost use Rattle.relative_path.specs.Components.{step_of};
 ghost use Rattle.relative_path.specs.Editing.{with_piece};
-ghost use Rattle.relative_path.specs.RelativePath.{path_text, path_components};
+ghost use Rattle.relative_path.specs.RelativePath.{path_components};
 ghost use Rattle.relative_path.specs.Spans.{source_text, span_text, Cuts, CutsName};
 ghost use Rattle.relative_path.specs.Steps.{up, components, spell, step_text};
 
@@ -16,7 +16,7 @@ use crate::slashes::without_leading_slashes;
 use crate::spans::{Source, Sources, Span};
 use std::alloc::{AllocError, Global};
 
-// As many `..` as it climbs, and then the names.
+// A normal list of components: as many `..` as it climbs, and then the names, each a span of a source.
 #[derive(Drop)]
 pub(crate) struct NormalForm<'a> {
     sources: Sources<'a>,
@@ -26,9 +26,10 @@ pub(crate) struct NormalForm<'a> {
 }
 
 impl<'a> NormalForm<'a> {
-    ghost use Rattle.relative_path.specs.NormalForm.{climbed, padded_len, form_climb, form_names, form_steps, form_len, form_room, Reduces, IsNormalFormOf};
+    ghost use Rattle.relative_path.specs.NormalForm.{climbed, padded_len, form_sources, form_climb, form_names, form_steps, form_len, form_room, Reduces, IsNormalFormOf};
 
-    // The normal form of a path. It asks for memory once, for a table of as many names as the path has components.
+    // The normal form of a path. It asks for memory once, for a table with a place for each of the
+    // path's components.
     pub(crate) fn of(alloc: Global, path: RelativePath<'a>) -> Result<NormalForm<'a>, AllocError>
         ensures normal_form { IfOk result
             (λ form. IsNormalFormOf (path_components path.entry) (form_steps form)) }
@@ -42,7 +43,7 @@ impl<'a> NormalForm<'a> {
         Ok(form.follow(Source::First))
     }
 
-    // The normal form of a path and another one followed from where it leads.
+    // The normal form of a path followed by another one, over one table for the components of both.
     pub(crate) fn of_both(
         alloc: Global,
         path: RelativePath<'a>,
@@ -95,15 +96,15 @@ impl<'a> NormalForm<'a> {
         most
     }
 
-    // The text that spells the form, in memory of its own. It asks for memory once, for just this text.
+    // The text that spells the form. It asks for memory once, for just this text.
     pub(crate) fn spelled(&self, alloc: Global) -> Result<RelativePathBuf, AllocError>
         ensures { IfOk result (λ buf. buf.text ≡ spell (form_steps self.now)) }
     {
         self.spelled_past(alloc, self.climb, 0)
     }
 
-    // The text that spells so many `..` and the names without the first so many, in memory of its
-    // own. It asks for memory once, for just this text.
+    // The text that spells so many `..`, and then the names without the first so many. It asks for
+    // memory once, for just this text; a length that no `usize` holds is a want of memory too.
     pub(crate) fn spelled_past(
         &self,
         alloc: Global,
@@ -140,9 +141,9 @@ impl<'a> NormalForm<'a> {
     // The spans of the names without the first so many.
     fn names_past(&self, skipped: usize) -> &[Span]
         requires { skipped ≤ length (form_names self.now) }
-        ensures names { map (span_text self.now.sources) result.now
+        ensures names { map (span_text (form_sources self.now)) result.now
             ≡ drop skipped (form_names self.now) }
-        ensures cut { All (CutsName self.now.sources) result.now }
+        ensures cut { All (CutsName (form_sources self.now)) result.now }
     {
         &self.names[skipped..]
     }
@@ -168,7 +169,7 @@ impl<'a> NormalForm<'a> {
         ensures steps { IfOk result (λ form. form_steps form ≡ []) }
         ensures len { IfOk result (λ form. form_len form ≡ 0) }
         ensures room { IfOk result (λ form. room ≤ form_room form) }
-        ensures sources { IfOk result (λ form. form.sources ≡ sources.entry) }
+        ensures sources { IfOk result (λ form. form_sources form ≡ sources.entry) }
     {
         Ok(NormalForm {
             sources,
@@ -179,13 +180,13 @@ impl<'a> NormalForm<'a> {
 
     // Follows one component more, which the span cuts out.
     fn take(&mut self, component: Component<'_>, span: Span)
-        requires cuts { Cuts self.old.sources span (step_of component) }
+        requires cuts { Cuts (form_sources self.old) span (step_of component) }
         requires room { form_len self.old < form_room self.old }
         ensures steps { Reduces (form_steps self.old ++ step_of component.entry ∷ [])
             (form_steps self.new) }
         ensures len { form_len self.new ≤ form_len self.old + 1 }
         ensures room { form_room self.new ≡ form_room self.old }
-        ensures sources { self.new.sources ≡ self.old.sources }
+        ensures sources { form_sources self.new ≡ form_sources self.old }
     {
         match component {
             Component::CurDir => {}
@@ -200,15 +201,15 @@ impl<'a> NormalForm<'a> {
 
     // Follows the components of a source, one after another.
     fn follow(mut self, source: Source) -> NormalForm<'a>
-        requires room { form_len self + length (components (source_text self.sources source))
+        requires room { form_len self + length (components (source_text (form_sources self) source))
             ≤ form_room self }
         ensures steps { Reduces
-            (form_steps self.entry ++ components (source_text self.entry.sources source))
+            (form_steps self.entry ++ components (source_text (form_sources self.entry) source))
             (form_steps result) }
         ensures len { form_len result
-            ≤ form_len self.entry + length (components (source_text self.entry.sources source)) }
+            ≤ form_len self.entry + length (components (source_text (form_sources self.entry) source)) }
         ensures room { form_room result ≡ form_room self.entry }
-        ensures sources { result.sources ≡ self.entry.sources }
+        ensures sources { form_sources result ≡ form_sources self.entry }
     {
         let text = self.sources.text(source);
         let mut components = Components::new(without_leading_slashes(text));

@@ -1,4 +1,4 @@
-//! Spans of a text, or of one of two.
+//! Spans of a text, or of one of two texts.
 ghost use Rattle.std.specs.Prelude.{◌≡◌};
 ghost use Rattle.relative_path.specs.Spans.{source_text, span_text, CutsName};
 
@@ -17,6 +17,7 @@ pub(crate) struct Sources<'a> {
 }
 
 impl<'a> Sources<'a> {
+    // The text of a source.
     pub(crate) fn text(self, source: Source) -> &'a str
         ensures { result.now ≡ source_text self.entry source }
     {
@@ -35,7 +36,7 @@ impl<'a> Sources<'a> {
     }
 }
 
-// Where a name stands in its source.
+// A stretch of one of the texts, between two ends of characters.
 #[derive(Clone, Copy)]
 pub(crate) struct Span {
     pub(crate) source: Source,

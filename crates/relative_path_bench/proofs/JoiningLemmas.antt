@@ -9,7 +9,8 @@ abbrev walk_from : List Step → Option (List (List ℕ)) → Option (List (List
 walk_from cs = option_and_then (λ place. walk place cs)
 
 -- three lists lead where the first does, and then the other two in turn
-walk-three : (cs ds es first last : List Step) (base : List (List ℕ)) → LeadsInTurn cs ds first → LeadsInTurn ds es last
+walk-three : (cs ds es first last : List Step) (base : List (List ℕ)) → LeadsInTurn cs ds first
+    → LeadsInTurn ds es last
     → walk_from es (walk base first) ≡ walk_from last (walk base cs)
 walk-three cs ds es first last base from_left from_right =
     ap (walk_from es) (from_left.everywhere base) ∙ onward (walk base cs)
@@ -30,13 +31,15 @@ same_brackets cs ds es first last left right from_left from_right onto_left onto
           of.same.everywhere base ∙ onto_right.everywhere base ∙ sym three ∙ sym (onto_left.everywhere base);
     })
 
--- a normal text is the normal text of its components and none behind them
-pub same_before_empty : (text other : List ℕ) → IsNormalText text → IsNormalTextOf (components text ++ components []) other → other ≡ text
+-- the empty path behind a normal text changes nothing
+pub same_empty_behind : (text other : List ℕ) → IsNormalText text
+    → IsNormalTextOf (components text ++ components []) other → other ≡ text
 unfolding components pieces
-same_before_empty text other normal of =
+same_empty_behind text other normal of =
     sym (of.only text normal (record { everywhere = λ base. ap (walk base) (append-nil (components text)) }))
 
--- and of none before them
-pub same_behind_empty : (text other : List ℕ) → IsNormalText text → IsNormalTextOf (components [] ++ components text) other → other ≡ text
+-- nor does it before one
+pub same_empty_before : (text other : List ℕ) → IsNormalText text
+    → IsNormalTextOf (components [] ++ components text) other → other ≡ text
 unfolding components pieces
-same_behind_empty text other normal of = sym (of.only text normal (record { everywhere = λ base. refl }))
+same_empty_before text other normal of = sym (of.only text normal (record { everywhere = λ base. refl }))

@@ -13,10 +13,13 @@ use Rattle.relative_path_bench.specs.Naming.{without_last_curs}
 -- a text with a component is not empty
 pub nonempty_text : (text : List ℕ) (k : ℕ) (c : Step) → slice_get (components text) k ≡ Some c → text ≢ []
 unfolding components pieces
-nonempty_text text k c found = λ empty. let none = ap (λ x. slice_get (components x) k) (sym empty) ∙ found in absurd (cc)
+nonempty_text text k c found = λ empty.
+    let none = ap (λ x. slice_get (components x) k) (sym empty) ∙ found in
+    absurd (cc)
 
 -- where there are `.`s alone, the first one is a `.`
-cur_first : (cs : List Step) (d : Step) → length cs ≡ suffix_len is_cur cs → 0 < length cs → is_cur (get_or cs 0 d) ≡ true
+cur_first : (cs : List Step) (d : Step) → length cs ≡ suffix_len is_cur cs → 0 < length cs
+    → is_cur (get_or cs 0 d) ≡ true
 cur_first cs d all some =
     let count = length-reverse cs in
     let index : length cs - 1 - (length cs - 1) ≡ 0 = omega arith in

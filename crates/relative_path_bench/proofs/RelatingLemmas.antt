@@ -42,7 +42,8 @@ same_texts cs ds text other first second = (
 )
 
 -- a normal text of the list followed by the empty path is one of the list
-pub IsNormalTextOf-empty : (cs : List Step) (way text : List ℕ) → way ≡ [] → IsNormalTextOf (cs ++ components way) text
+pub IsNormalTextOf-empty : (cs : List Step) (way text : List ℕ) → way ≡ []
+    → IsNormalTextOf (cs ++ components way) text
     → IsNormalTextOf cs text
 unfolding components pieces
 IsNormalTextOf-empty cs way text none normal =
@@ -50,7 +51,8 @@ IsNormalTextOf-empty cs way text none normal =
     subst (λ ds. IsNormalTextOf ds text) alone normal
 
 -- of the shortest lists, the direct one is no longer than one through the middle
-pub shortest_through : (f t r r' s : List Step) → IsShortest f r t → Leads f (r' ++ s) t → length r ≤ length r' + length s
+pub shortest_through : (f t r r' s : List Step) → IsShortest f r t → Leads f (r' ++ s) t
+    → length r ≤ length r' + length s
 shortest_through f t r r' s direct through = elim (direct.shortest (r' ++ s) through) [
   | inl shorter ↦ omega (arith, length-append r' s)
   | inr same ↦ omega (arith, ap length same, length-append r' s)

@@ -28,7 +28,8 @@ pub fn join_law(
     ensures text { IfOk result
         (λ joined. joined.text ≡ pushed (path_text path.entry) (path_text other.entry)) }
     ensures components { IfOk result
-        (λ joined. components joined.text ≡ path_components path.entry ++ path_components other.entry) }
+        (λ joined. components joined.text
+        ≡ path_components path.entry ++ path_components other.entry) }
     ensures walk { IfOk result (λ joined. LeadsInTurn (path_components path.entry)
         (path_components other.entry) (components joined.text)) }
 {
@@ -51,7 +52,8 @@ pub fn from_paths_law(
     paths: &[RelativePath<'_>],
 ) -> Result<(RelativePathBuf, RelativePathBuf), AllocError>
     ensures at_once { IfOk result (λ pair. pair.0.text ≡ pushed_all [] (map path_text paths.now)) }
-    ensures one_by_one { IfOk result (λ pair. pair.1.text ≡ pushed_all [] (map path_text paths.now)) }
+    ensures one_by_one { IfOk result
+        (λ pair. pair.1.text ≡ pushed_all [] (map path_text paths.now)) }
     ensures same { IfOk result (λ pair. pair.0.text ≡ pair.1.text) }
 {
     let at_once = RelativePathBuf::from_paths(alloc, paths.iter().copied())?;
@@ -121,33 +123,32 @@ pub fn associative(
     Ok((from_the_left, from_the_right))
 }
 
-/// The path in normal form, that joined in normal form with the empty path, and the empty path
-/// joined in normal form with it.
+/// The path in normal form, the empty path joined behind that in normal form, and before it.
 ///
 /// All three have the same text. It asks for memory for these, and fails only where that is
 /// refused.
 ///
 /// ```
-/// let (normal, before, behind) = unit(alloc, RelativePath::new("a//b/."))?;
+/// let (normal, empty_behind, empty_before) = unit(alloc, RelativePath::new("a//b/."))?;
 /// assert_eq!(rt; normal.as_relative_path().as_str(), "a/b");
-/// assert_eq!(rt; before.as_relative_path().as_str(), "a/b");
-/// assert_eq!(rt; behind.as_relative_path().as_str(), "a/b");
+/// assert_eq!(rt; empty_behind.as_relative_path().as_str(), "a/b");
+/// assert_eq!(rt; empty_before.as_relative_path().as_str(), "a/b");
 /// ```
 pub fn unit(
     alloc: Global,
     path: RelativePath<'_>,
 ) -> Result<(RelativePathBuf, RelativePathBuf, RelativePathBuf), AllocError>
     ensures normal_form { IfOk result (λ r. IsNormalTextOf (path_components path.entry) r.0.text) }
-    ensures before { IfOk result
+    ensures empty_behind { IfOk result
         (λ r. IsNormalTextOf (components r.0.text ++ components []) r.1.text) }
-    ensures behind { IfOk result
+    ensures empty_before { IfOk result
         (λ r. IsNormalTextOf (components [] ++ components r.0.text) r.2.text) }
-    ensures same_before { IfOk result (λ r. r.1.text ≡ r.0.text) }
-    ensures same_behind { IfOk result (λ r. r.2.text ≡ r.0.text) }
+    ensures same_behind { IfOk result (λ r. r.1.text ≡ r.0.text) }
+    ensures same_before { IfOk result (λ r. r.2.text ≡ r.0.text) }
 {
     let empty = RelativePath::new("");
     let normal = path.normalize(alloc)?;
-    let before = normal.as_relative_path().join_normalized(alloc, empty)?;
-    let behind = empty.join_normalized(alloc, normal.as_relative_path())?;
-    Ok((normal, before, behind))
+    let empty_behind = normal.as_relative_path().join_normalized(alloc, empty)?;
+    let empty_before = empty.join_normalized(alloc, normal.as_relative_path())?;
+    Ok((normal, empty_behind, empty_before))
 }

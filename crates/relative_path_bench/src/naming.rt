@@ -70,9 +70,8 @@ pub fn extension_law(
 /// The answers are parts of the path, and take no memory.
 ///
 /// ```
-/// let (parent, file_name) = parent_law(RelativePath::new("foo/./bar/."))?;
-/// assert_eq!(rt; parent.as_str(), "foo/.");
-/// assert_eq!(rt; file_name, "bar");
+/// let pair = parent_law(RelativePath::new("foo/./bar/."));
+/// assert!(rt; pair.is_some_and(|(parent, name)| parent.as_str() == "foo/." && name == "bar"));
 /// ```
 pub fn parent_law(path: RelativePath<'_>) -> Option<(RelativePath<'_>, &str)>
     ensures found { IsSome result ↔ IsSome (file_name_of (path_text path.entry)) }

@@ -50,7 +50,8 @@ pub fn normalized_law(
     alloc: Global,
     path: RelativePath<'_>,
 ) -> Result<(bool, RelativePathBuf), AllocError>
-    ensures is_normal { IfOk result (λ pair. IsTrue pair.0 ↔ IsNormal (path_components path.entry)) }
+    ensures is_normal { IfOk result
+        (λ pair. IsTrue pair.0 ↔ IsNormal (path_components path.entry)) }
     ensures normal_form { IfOk result
         (λ pair. IsNormalTextOf (path_components path.entry) pair.1.text) }
     ensures equal { IfOk result

@@ -96,7 +96,8 @@ pub fn triangle(
         (λ ways. IsWay (path_components a.entry) (path_components b.entry) ways.1.text) }
     ensures b_c { IfOk result
         (λ ways. IsWay (path_components b.entry) (path_components c.entry) ways.2.text) }
-    ensures transitive { (r s : List Step) → Leads (path_components a.entry) r (path_components b.entry)
+    ensures transitive { (r s : List Step)
+        → Leads (path_components a.entry) r (path_components b.entry)
         → Leads (path_components b.entry) s (path_components c.entry)
         → Leads (path_components a.entry) (r ++ s) (path_components c.entry) }
     ensures triangle { IfOk result

@@ -2,10 +2,11 @@
 mod comparing;
 mod decompositions;
 mod editing;
-mod joining;
 mod extending;
+mod joining;
 mod naming;
 mod normalizing;
+mod platform;
 mod prefixing;
 mod printing;
 mod readme;

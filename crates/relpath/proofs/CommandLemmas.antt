@@ -2,8 +2,8 @@
 use Rattle.std.proofs.Common.{◌≡◌, ◌≢◌, ◌⊎◌, ℕ, ◌<◌, ◌==◌, true, false, List, [], ◌∷◌, ◌++◌, length, map, take, drop, get_or, codes, Bor, Result, Ok, Err, OnOk, inl, inr, refl, sym, ◌∙◌, arith, lit<}
 use Rattle.std.proofs.lemmas.Bool.{eq-eqb, ne_eqb}
 use Rattle.std.proofs.lemmas.Bool.Decides.{eqb_tells}
-use Rattle.std.proofs.lemmas.List.{length-drop, length-map, length-take, drop-take, get_or-take}
-use Rattle.relpath.specs.Command.{Answers, AnswersFields, AnswersCommand, Adds, field, is_command, words_answer}
+use Rattle.std.proofs.lemmas.List.{length-map, length-take, drop-take, get_or-take}
+use Rattle.relpath.specs.Command.{Answers, AnswersFields, AnswersCommand, Adds, field, Takes, words_answer}
 use Rattle.relpath.specs.Lines.{fields_of}
 use Rattle.relpath.specs.declared.lines.TheConstants.{MAX_FIELDS}
 
@@ -22,7 +22,12 @@ same_field arguments n l = sym (get_or-take 4 arguments n [] l)
 AnswersCommand-take : (command : List ℕ) (arguments : List (List ℕ)) (answer : List ℕ)
     → AnswersCommand command (take 4 arguments) answer → AnswersCommand command arguments answer
 AnswersCommand-take command arguments answer a =
-    rw (same_count arguments 1 (lit< tt), same_field arguments 0 (lit< tt)) a
+    rw (
+      same_count arguments 1 (lit< tt),
+      same_count arguments 2 (lit< tt),
+      same_field arguments 0 (lit< tt),
+      same_field arguments 1 (lit< tt),
+    ) a
 
 AnswersFields-take : (fields : List (List ℕ)) (answer : List ℕ)
     → AnswersFields (take MAX_FIELDS fields) answer → AnswersFields fields answer
@@ -30,29 +35,38 @@ AnswersFields-take fields answer a =
     AnswersCommand-take (field fields 0) (drop 1 fields) answer
     (rw (sym (drop-take 1 4 fields), sym (get_or-take MAX_FIELDS fields 0 [] (lit< tt))) a)
 
--- what answers the first fields of a line answers the line
-pub Adds-shown : {E : Type 0} (line : List ℕ) (shown : List (Bor (List ℕ))) (r : Result (Unit {0}) E)
-    (old new : List ℕ) → map (λ field. field.now) shown ≡ take MAX_FIELDS (fields_of line)
-    → OnOk r (Adds (AnswersFields (map (λ field. field.now) shown)) old new) → OnOk r (Adds (Answers line) old new)
-Adds-shown line shown (Ok u) old new e (added, a, grew) =
+-- what answers the command and the arguments that are shown answers the line
+pub Adds-shown : {E : Type 0} (line : List ℕ) (shown : List (Bor (List ℕ))) (none : Bor (List ℕ))
+    (r : Result (Unit {0}) E) (old new : List ℕ)
+    → map (λ field. field.now) shown ≡ take MAX_FIELDS (fields_of line) → 0 < length shown
+    → OnOk r (Adds (AnswersCommand (get_or shown 0 none).now (map (λ field. field.now) (drop 1 shown))) old new)
+    → OnOk r (Adds (Answers line) old new)
+Adds-shown line [] none r old new e some adds = absurd (omega arith)
+Adds-shown line (command ∷ arguments) none (Err x) old new e some adds = tt
+Adds-shown line (command ∷ arguments) none (Ok u) old new e some (added, a, grew) =
     (added, AnswersFields-take (fields_of line) added (rw (sym e) a), grew)
-Adds-shown line shown (Err x) old new e adds = tt
 
-miscounted : (fields : List (List ℕ)) → is_command (field fields 0) ≡ true → length fields ≢ 2
-    → AnswersFields fields (words_answer (codes "wrong number of fields"))
-miscounted fields command count =
-    let other = ne_eqb (length (drop 1 fields)) 1 (λ e. count (omega (arith, length-drop 1 fields))) in
-    rw (command, other) refl
-
--- a command whose fields aren't two is told so
-pub Adds-miscounted : {E : Type 0} (shown : List (Bor (List ℕ))) (none : Bor (List ℕ)) (r : Result (Unit {0}) E)
-    (old new : List ℕ) → 0 < length shown → is_command (get_or shown 0 none).now ≡ true → length shown ≢ 2
+-- the answer to a wrong number of arguments
+pub Adds-miscounted : {E : Type 0} (n : ℕ) (arguments : List (Bor (List ℕ))) (P : List ℕ → Type 0)
+    (r : Result (Unit {0}) E) (old new : List ℕ) → length arguments ≢ n
     → OnOk r (new ≡ old ++ words_answer (codes "wrong number of fields"))
-    → OnOk r (Adds (AnswersFields (map (λ field. field.now) shown)) old new)
-Adds-miscounted [] none r old new some command count added = absurd (omega arith)
-Adds-miscounted (first ∷ shown) none (Err x) old new some command count added = tt
-Adds-miscounted (first ∷ shown) none (Ok u) old new some command count added =
-    let fields = map (λ field. field.now) (first ∷ shown) in
-    let mapped = length-map (first ∷ shown) (λ field. field.now) in
-    let other : length fields ≢ 2 = λ two. count (omega (arith, mapped)) in
-    (words_answer (codes "wrong number of fields"), miscounted fields command other, added)
+    → OnOk r (Adds (Takes n (map (λ field. field.now) arguments) P) old new)
+Adds-miscounted n arguments P (Err x) old new other added = tt
+Adds-miscounted n arguments P (Ok u) old new other added =
+    let mapped = length-map arguments (λ field. field.now) in
+    let differs = ne_eqb (length (map (λ field. field.now) arguments)) n (λ e. other (omega (arith, mapped, e))) in
+    (words_answer (codes "wrong number of fields"), rw differs refl, added)
+
+-- the answer to two arguments
+pub Adds-two : {E : Type 0} (arguments : List (Bor (List ℕ))) (none : Bor (List ℕ))
+    (P : List ℕ → List ℕ → List ℕ → Type 0) (r : Result (Unit {0}) E) (old new first second answer : List ℕ)
+    → length arguments ≡ 2 → first ≡ (get_or arguments 0 none).now → second ≡ (get_or arguments 1 none).now
+    → P first second answer → OnOk r (new ≡ old ++ answer)
+    → OnOk r (Adds (Takes 2 (map (λ field. field.now) arguments)
+    (P (field (map (λ field. field.now) arguments) 0) (field (map (λ field. field.now) arguments) 1))) old new)
+Adds-two arguments none P (Err x) old new first second answer two e f a added = tt
+Adds-two [] none P (Ok u) old new first second answer two e f a added = absurd (omega arith)
+Adds-two (x ∷ []) none P (Ok u) old new first second answer two e f a added = absurd (omega arith)
+Adds-two (x ∷ y ∷ []) none P (Ok u) old new first second answer two e f a added =
+    (answer, rw (sym e, sym f) a, added)
+Adds-two (x ∷ y ∷ z ∷ more) none P (Ok u) old new first second answer two e f a added = absurd (omega arith)

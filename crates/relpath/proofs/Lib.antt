@@ -1,4 +1,5 @@
 pub mod CommandLemmas
 pub mod InputLemmas
 pub mod LinesLemmas
+pub mod OnlyLemmas
 pub mod OutputLemmas

@@ -1,8 +1,10 @@
 -- The answer to a line, by its command.
-use Rattle.std.specs.Prelude.{◌≡◌, ℕ, Bool, ◌==◌, List, [], ◌++◌, length, drop, codes, MatchBool, slice_index_or}
+use Rattle.std.specs.Prelude.{◌≡◌, ◌⊎◌, ℕ, ◌==◌, List, [], ◌++◌, length, drop, codes, MatchBool, slice_index_or}
 use Rattle.std.specs.Str.{bytes_eq}
-use Rattle.relative_path.specs.Steps.{components}
+use Rattle.relative_path.specs.Steps.{Step, components}
 use Rattle.relative_path.specs.Normalizing.{IsNormalTextOf}
+use Rattle.relative_path.specs.Editing.{pushed}
+use Rattle.relative_path.specs.Relating.{IsReachable, IsShortestText}
 use Rattle.relpath.specs.Lines.{fields_of}
 
 -- the answer that gives a path
@@ -17,28 +19,56 @@ words_answer words = codes "! " ++ words
 abbrev pub GivesPath : (List ℕ → Type 0) → List ℕ → Type 0
 GivesPath P answer = (text : List ℕ) × P text × (answer ≡ path_answer text)
 
+-- the text spells the shortest list that leads from f to t, and is empty where none leads
+pub record IsWayText (f t : List Step) (text : List ℕ) : Type 0 where
+  pub reachable : IsReachable f t → IsShortestText f t text
+  pub unreachable : (¬ IsReachable f t) → text ≡ []
+
+-- the answer gives the path that spells the shortest list from f to t, or says that none leads
+abbrev pub TellsWay : List Step → List Step → List ℕ → Type 0
+TellsWay f t answer =
+    GivesPath (IsShortestText f t) answer ⊎ (¬ IsReachable f t) × (answer ≡ words_answer (codes "no path"))
+
 -- field number n, counted from 0; empty where there is none
 abbrev pub field : List (List ℕ) → ℕ → List ℕ
 field fields n = slice_index_or fields n []
+
+-- the components of the path that field number n is
+abbrev pub field_components : List (List ℕ) → ℕ → List Step
+field_components fields n = components (field fields n)
 
 -- P holds of the answer where there are n arguments, and else the answer says that there aren't
 abbrev pub Takes : ℕ → List (List ℕ) → (List ℕ → Type 0) → List ℕ → Type 0
 Takes n arguments P answer =
     MatchBool (length arguments == n) (P answer) (answer ≡ words_answer (codes "wrong number of fields"))
 
--- a command has this name
-abbrev pub is_command : List ℕ → Bool
-is_command name = bytes_eq name (codes "normalize")
-
 -- `normalize`, path: the path's normal text
 abbrev pub AnswersNormalize : List (List ℕ) → List ℕ → Type 0
-AnswersNormalize arguments = Takes 1 arguments (GivesPath (IsNormalTextOf (components (field arguments 0))))
+AnswersNormalize arguments = Takes 1 arguments (GivesPath (IsNormalTextOf (field_components arguments 0)))
+
+-- `join`, path, path: the text of the first with the second pushed onto it
+abbrev pub AnswersJoin : List (List ℕ) → List ℕ → Type 0
+AnswersJoin arguments =
+    Takes 2 arguments (λ answer. answer ≡ path_answer (pushed (field arguments 0) (field arguments 1)))
+
+-- `relative`, path, path: the shortest path that leads from the first to the second, and the empty one where none leads
+abbrev pub AnswersRelative : List (List ℕ) → List ℕ → Type 0
+AnswersRelative arguments =
+    Takes 2 arguments (GivesPath (IsWayText (field_components arguments 0) (field_components arguments 1)))
+
+-- `try_relative`, path, path: the shortest path that leads from the first to the second, or that none leads
+abbrev pub AnswersTryRelative : List (List ℕ) → List ℕ → Type 0
+AnswersTryRelative arguments =
+    Takes 2 arguments (TellsWay (field_components arguments 0) (field_components arguments 1))
 
 -- the answer to a command and its arguments
 abbrev pub AnswersCommand : List ℕ → List (List ℕ) → List ℕ → Type 0
 AnswersCommand command arguments answer =
     MatchBool (bytes_eq command (codes "normalize")) (AnswersNormalize arguments answer)
-    (answer ≡ words_answer (codes "unknown command"))
+    (MatchBool (bytes_eq command (codes "join")) (AnswersJoin arguments answer)
+    (MatchBool (bytes_eq command (codes "relative")) (AnswersRelative arguments answer)
+    (MatchBool (bytes_eq command (codes "try_relative")) (AnswersTryRelative arguments answer)
+    (answer ≡ words_answer (codes "unknown command")))))
 
 -- the answer to the fields of a line, the command first
 abbrev pub AnswersFields : List (List ℕ) → List ℕ → Type 0

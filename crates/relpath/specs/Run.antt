@@ -15,10 +15,12 @@ HasToWrite (Err InputTooLong) input output = output ≡ []
 HasToWrite (Err NotText) input output = output ≡ []
 HasToWrite (Err OutOfMemory) input output = output ≡ []
 
--- the writes of a run: at most one for each byte that it had to write, and by an `Ok` the writer gained exactly those
+-- the writes of a run: there is one output that it had to write; it made at most one write for each byte of that, and
+-- by an `Ok` the writer gained exactly those bytes
 pub record Writes {W : Type 0} (contents : W → Option (List ℕ)) (old new : Meter W)
     (result : Result (Unit {0}) Fault) (input : List ℕ) : Type 0 where
   pub output : List ℕ
   pub answers : HasToWrite result input output
+  pub only : (other : List ℕ) → HasToWrite result input other → other ≡ output
   pub calls : calls_of new ≤ length output
   pub gained : OnOk result (Gains contents old new output)

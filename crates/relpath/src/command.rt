@@ -1,10 +1,13 @@
 //! The commands, and the answer that each gives.
-ghost use Rattle.std.specs.Prelude.{◌≡◌, ◌<◌, ◌++◌, length, map, string_bytes, OnOk};
+ghost use Rattle.std.specs.Prelude.{◌≡◌, ◌++◌, map, string_bytes, OnOk};
 ghost use Rattle.relpath.specs.Command.{
   Answers,
-  AnswersFields,
+  AnswersCommand,
+  AnswersNormalize,
+  AnswersJoin,
+  AnswersRelative,
+  AnswersTryRelative,
   Adds,
-  is_command,
   path_answer,
   words_answer,
 };
@@ -13,32 +16,94 @@ use crate::lines::{MAX_FIELDS, split_fields};
 use relative_path::{RelativePath, RelativePathBuf};
 use std::alloc::{AllocError, Global};
 
+/// What a line is told that has too few fields for its command, or too many.
+const WRONG_NUMBER: &str = "wrong number of fields";
+
 /// Adds the answer to a line, whose first field is the command.
 pub fn answer_line(alloc: Global, line: &str, output: &mut String) -> Result<(), AllocError>
     ensures { OnOk result (Adds (Answers line.now) (string_bytes output.old) (string_bytes output.new)) }
 {
     let mut room = [""; MAX_FIELDS];
-    answer_fields(alloc, split_fields(line, &mut room), output)
+    match split_fields(line, &mut room) {
+        [command, arguments @ ..] => answer_command(alloc, command, arguments, output),
+        [] => unreachable!("a line has a field"),
+    }
 }
 
-/// Adds the answer to the fields of a line, the command first.
-fn answer_fields(alloc: Global, fields: &[&str], output: &mut String) -> Result<(), AllocError>
-    requires { 0 < length fields.now }
-    ensures { OnOk result (Adds (AnswersFields (map (λ field. field.now) fields.now))
+/// Adds the answer to a command and its arguments.
+fn answer_command(
+    alloc: Global,
+    command: &str,
+    arguments: &[&str],
+    output: &mut String,
+) -> Result<(), AllocError>
+    ensures { OnOk result (Adds (AnswersCommand command.now (map (λ field. field.now) arguments.now))
         (string_bytes output.old) (string_bytes output.new)) }
 {
-    match fields {
-        ["normalize", path] => add_path(output, &RelativePath::new(path).normalize(alloc)?),
-        [command, ..] if is_command(command) => add_words(output, "wrong number of fields"),
+    match command {
+        "normalize" => answer_normalize(alloc, arguments, output),
+        "join" => answer_join(alloc, arguments, output),
+        "relative" => answer_relative(alloc, arguments, output),
+        "try_relative" => answer_try_relative(alloc, arguments, output),
         _ => add_words(output, "unknown command"),
     }
 }
 
-/// Whether a command has this name.
-fn is_command(name: &str) -> bool
-    ensures { result ≡ is_command name.now }
+/// Adds the answer of `normalize`.
+fn answer_normalize(
+    alloc: Global,
+    arguments: &[&str],
+    output: &mut String,
+) -> Result<(), AllocError>
+    ensures { OnOk result (Adds (AnswersNormalize (map (λ field. field.now) arguments.now))
+        (string_bytes output.old) (string_bytes output.new)) }
 {
-    matches!(name, "normalize")
+    let [path] = arguments else {
+        return add_words(output, WRONG_NUMBER);
+    };
+    add_path(output, &RelativePath::new(path).normalize(alloc)?)
+}
+
+/// Adds the answer of `join`.
+fn answer_join(alloc: Global, arguments: &[&str], output: &mut String) -> Result<(), AllocError>
+    ensures { OnOk result (Adds (AnswersJoin (map (λ field. field.now) arguments.now))
+        (string_bytes output.old) (string_bytes output.new)) }
+{
+    let [path, more] = arguments else {
+        return add_words(output, WRONG_NUMBER);
+    };
+    let joined = RelativePath::new(path).join(alloc, RelativePath::new(more))?;
+    add_path(output, &joined)
+}
+
+/// Adds the answer of `relative`.
+fn answer_relative(alloc: Global, arguments: &[&str], output: &mut String) -> Result<(), AllocError>
+    ensures { OnOk result (Adds (AnswersRelative (map (λ field. field.now) arguments.now))
+        (string_bytes output.old) (string_bytes output.new)) }
+{
+    let [from, to] = arguments else {
+        return add_words(output, WRONG_NUMBER);
+    };
+    let way = RelativePath::new(from).relative(alloc, RelativePath::new(to))?;
+    add_path(output, &way)
+}
+
+/// Adds the answer of `try_relative`.
+fn answer_try_relative(
+    alloc: Global,
+    arguments: &[&str],
+    output: &mut String,
+) -> Result<(), AllocError>
+    ensures { OnOk result (Adds (AnswersTryRelative (map (λ field. field.now) arguments.now))
+        (string_bytes output.old) (string_bytes output.new)) }
+{
+    let [from, to] = arguments else {
+        return add_words(output, WRONG_NUMBER);
+    };
+    match RelativePath::new(from).try_relative(alloc, RelativePath::new(to))? {
+        Some(way) => add_path(output, &way),
+        None => add_words(output, "no path"),
+    }
 }
 
 /// Adds the answer that gives a path.

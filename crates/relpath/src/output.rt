@@ -1,5 +1,5 @@
 //! The whole output: making it, and writing it.
-ghost use Rattle.std.specs.Prelude.{◌≡◌, ◌+◌, ◌<◌, ◌≤◌, take, length, string_bytes, is_err, IfOk, IfErr, OnOk, if◌then◌else◌};
+ghost use Rattle.std.specs.Prelude.{◌≡◌, ◌+◌, ◌<◌, ◌≤◌, List, ℕ, take, length, string_bytes, is_err, IfOk, IfErr, OnOk, if◌then◌else◌};
 ghost use Rattle.relpath.specs.Meter.{calls_of, flushes_of, failures_of, IsFresh, CountsCall, CountsFailure, Gains};
 ghost use Rattle.relpath.specs.Output.{IsOutput};
 
@@ -12,7 +12,9 @@ use std::io::Write;
 
 /// The answers to the lines of a text, one for each, in order, each with a line feed.
 pub fn answer_lines(alloc: Global, text: &str) -> Result<String, AllocError>
-    ensures { IfOk result (λ output. IsOutput text.now (string_bytes output)) }
+    ensures output { IfOk result (λ output. IsOutput text.now (string_bytes output)) }
+    ensures only { IfOk result (λ output. (other : List ℕ) → IsOutput text.now other
+        → other ≡ string_bytes output) }
 {
     let mut output = String::new(alloc);
     let mut left = text;

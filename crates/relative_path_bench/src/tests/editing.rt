@@ -2,7 +2,7 @@
 use relative_path::{RelativePath, RelativePathBuf};
 use std::test::Fail;
 
-fn text_of(buf: &RelativePathBuf) -> &str {
+pub(super) fn text_of(buf: &RelativePathBuf) -> &str {
     buf.as_relative_path().as_str()
 }
 

@@ -1,4 +1,6 @@
-//! Normal forms of two paths, one followed by the other.
+//! Joins: of two paths and of many, as they are and in normal form.
+use super::editing::text_of;
+use crate::{associative, from_paths_law, join_law, join_normalized_law, unit};
 use relative_path::{RelativePath, RelativePathBuf};
 use std::test::Fail;
 
@@ -31,6 +33,95 @@ fn joins_normalized(rt: HostRuntime) -> Result<(), Fail> {
             expected,
             "normalize_into of {text:?} joined with {other:?}"
         );
+    }
+    Ok(())
+}
+
+#[test]
+fn joins(rt: HostRuntime) -> Result<(), Fail> {
+    for (path, other, expected) in [
+        ("a/", "//b", "a//b"),
+        ("", "", ""),
+        ("..", "../a", "../../a"),
+        ("./a.b", "b//", "./a.b/b//"),
+    ] {
+        let joined = join_law(
+            rt.alloc(),
+            RelativePath::new(path),
+            RelativePath::new(other),
+        )?;
+        assert_eq!(rt; text_of(&joined), expected, "{path:?}, {other:?}");
+    }
+    Ok(())
+}
+
+#[test]
+fn pushes_many(rt: HostRuntime) -> Result<(), Fail> {
+    let table: [(&[&str], &str); 4] = [
+        (&["a", "/b", "", "c"], "a/b/c"),
+        (&[], ""),
+        (&[""], ""),
+        (&["..", "../a.b", "//c"], "../../a.b//c"),
+    ];
+    for (texts, expected) in table {
+        let paths: Vec<RelativePath> = texts
+            .iter()
+            .map(|text| RelativePath::new(text))
+            .collect(rt.alloc())?;
+        let (at_once, one_by_one) = from_paths_law(rt.alloc(), &paths)?;
+        assert_eq!(rt; text_of(&at_once), expected, "from_paths of {texts:?}");
+        assert_eq!(rt; text_of(&one_by_one), expected, "pushes of {texts:?}");
+    }
+    Ok(())
+}
+
+#[test]
+fn joins_in_normal_form(rt: HostRuntime) -> Result<(), Fail> {
+    for (path, other, expected) in [
+        ("x/y", "../z", "x/z"),
+        ("", "", ""),
+        ("a", "../../..", "../.."),
+        ("../a.b", "./..//c", "../c"),
+    ] {
+        let (joined, normal) = join_normalized_law(
+            rt.alloc(),
+            RelativePath::new(path),
+            RelativePath::new(other),
+        )?;
+        assert_eq!(rt; text_of(&joined), expected, "{path:?}, {other:?}");
+        assert_eq!(rt; text_of(&normal), expected, "{path:?}, {other:?}");
+    }
+    Ok(())
+}
+
+#[test]
+fn joins_three(rt: HostRuntime) -> Result<(), Fail> {
+    for (texts, expected) in [
+        (["a", "../..", "b"], "../b"),
+        (["", "", ""], ""),
+        (["..", "a", "../.."], "../.."),
+        (["a.b", "./", ".."], ""),
+    ] {
+        let [a, b, c] = texts.map(RelativePath::new);
+        let (from_the_left, from_the_right) = associative(rt.alloc(), a, b, c)?;
+        assert_eq!(rt; text_of(&from_the_left), expected, "{texts:?}");
+        assert_eq!(rt; text_of(&from_the_right), expected, "{texts:?}");
+    }
+    Ok(())
+}
+
+#[test]
+fn joins_with_nothing(rt: HostRuntime) -> Result<(), Fail> {
+    for (text, expected) in [
+        ("a//b/.", "a/b"),
+        ("", ""),
+        ("../../a/..", "../.."),
+        ("./.b/..c", ".b/..c"),
+    ] {
+        let (normal, empty_behind, empty_before) = unit(rt.alloc(), RelativePath::new(text))?;
+        assert_eq!(rt; text_of(&normal), expected, "{text:?}");
+        assert_eq!(rt; text_of(&empty_behind), expected, "nothing behind {text:?}");
+        assert_eq!(rt; text_of(&empty_before), expected, "nothing before {text:?}");
     }
     Ok(())
 }

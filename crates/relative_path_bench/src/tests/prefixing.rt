@@ -1,4 +1,6 @@
 //! Prefixes and suffixes of a path, and the test of a normal one.
+use super::editing::text_of;
+use crate::strip_law;
 use relative_path::RelativePath;
 use std::test::Fail;
 
@@ -75,4 +77,21 @@ fn tells_normal_components(rt: HostRuntime) {
             "{text:?}"
         );
     }
+}
+
+#[test]
+fn strips_a_prefix(rt: HostRuntime) -> Result<(), Fail> {
+    for (text, base, expected) in [
+        ("//foo/bar/", "foo", Some(("bar/", "foo/bar/"))),
+        ("", "", Some(("", ""))),
+        ("../a/./b", "..//a", Some(("./b", "..//a/./b"))),
+        ("a.b/c", "a", None),
+    ] {
+        let found = strip_law(rt.alloc(), RelativePath::new(text), RelativePath::new(base))?;
+        let texts = found
+            .as_ref()
+            .map(|(rest, joined)| (rest.as_str(), text_of(joined)));
+        assert_eq!(rt; texts, expected, "{base:?} off {text:?}");
+    }
+    Ok(())
 }

@@ -1,5 +1,6 @@
 //! The way from one path to another, and where paths lead apart.
-use crate::{leads_back, same_law, try_law};
+use super::editing::text_of;
+use crate::{leads_back, same_law, triangle, try_law};
 use relative_path::RelativePath;
 use std::test::Fail;
 
@@ -105,6 +106,22 @@ fn leads_there_or_nowhere(rt: HostRuntime) -> Result<(), Fail> {
             there.as_relative_path().as_str(),
         ));
         assert_eq!(rt; texts, expected, "try_law from {from:?} to {to:?}");
+    }
+    Ok(())
+}
+
+#[test]
+fn leads_through_another_path(rt: HostRuntime) -> Result<(), Fail> {
+    for (texts, expected) in [
+        (["a/b", "a", "c"], ("../../c", "..", "../c")),
+        (["", "", ""], ("", "", "")),
+        (["..", "../a", "../b"], ("b", "a", "../b")),
+        (["a.b", "../a", "a.c"], ("../a.c", "../../a", "")),
+    ] {
+        let [a, b, c] = texts.map(RelativePath::new);
+        let (a_c, a_b, b_c) = triangle(rt.alloc(), a, b, c)?;
+        let ways = (text_of(&a_c), text_of(&a_b), text_of(&b_c));
+        assert_eq!(rt; ways, expected, "{texts:?}");
     }
     Ok(())
 }

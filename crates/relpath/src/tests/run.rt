@@ -19,6 +19,12 @@ const MANY_FIELDS: &[u8] = b"normalize\ta\t\t\t\t\t\t\t\n\tnormalize\ta\t\t\t\t\
 
 const MANY_FIELDS_ANSWERS: &[u8] = b"! wrong number of fields\n! unknown command\n";
 
+const TWO_PATHS: &[u8] =
+    b"join\tfoo\t/bar\njoin\ta\nrelative\ta\ta/.\nrelative\t..\ta\ntry_relative\t..\ta\ntry_relative\ta\ta/.\ntry_relative\ta\n";
+
+const TWO_PATHS_ANSWERS: &[u8] =
+    b"= foo/bar\n! wrong number of fields\n= \n= \n! no path\n= \n! wrong number of fields\n";
+
 const NOTHING: &[u8] = b"";
 
 const UNKNOWN_COMMAND: &[u8] = b"! unknown command\n";
@@ -60,6 +66,7 @@ fn answers_the_lines_of_an_input(rt: HostRuntime) -> Result<(), Fail> {
             2,
             MANY_FIELDS_ANSWERS,
         ),
+        ("two paths", Source::new(TWO_PATHS), 2, TWO_PATHS_ANSWERS),
         ("the longest path", longest, 2, answer.as_bytes()),
     ] {
         let (result, calls, written) = outcome(rt.alloc(), source);

@@ -6,16 +6,18 @@ use Rattle.relative_path.proofs.normal_form.push_climb.Goals as goal
 
 pub push_piece-requires : goal.push_piece-requires
 push_piece-requires c =
+    let left = replicate (c.args.climb - c.loop.counter) (step_text up) in
     let first = replicate_first c.args.climb c.loop.counter (step_text up) c.loop-test.true in
     let whole = ap length c.loop.invariant.text in
-    let fits : length (fold with_piece c.loop.buf.text (replicate (c.args.climb - c.loop.counter) (step_text up))) ≤ c.loop.buf.room = omega (arith, c.loop.invariant.room) in
+    let fits : length (fold with_piece c.loop.buf.text left) ≤ c.loop.buf.room = omega (arith, c.loop.invariant.room) in
     with_piece_fits c.loop.buf.text _ (step_text up) _ c.loop.buf.room first fits
 
 pub loop-preserved : goal.loop-preserved
 loop-preserved c =
     let first = replicate_first c.args.climb c.loop.counter (step_text up) c.loop-test.true in
     let step = ap (fold with_piece c.loop.buf.text) first in
+    let rest = replicate (c.args.climb - (c.loop.counter + 1)) (step_text up) in
     record {
-      text = ap (λ text. fold with_piece text (replicate (c.args.climb - (c.loop.counter + 1)) (step_text up))) c.push_piece.ensures.text ∙ sym step ∙ c.loop.invariant.text;
+      text = ap (λ text. fold with_piece text rest) c.push_piece.ensures.text ∙ sym step ∙ c.loop.invariant.text;
       room = let before = c.loop.invariant.room in omega (arith, c.push_piece.ensures.room);
     }

@@ -5,6 +5,7 @@ use Rattle.relative_path.proofs.normal_form.push_climb.Given as goal
 
 abbrev pub invariant-loop : goal.invariant-loop
 invariant-loop l = record {
-  text : fold with_piece l.buf.text (replicate (l.climb - l.counter) (step_text up)) ≡ fold with_piece l.fn.buf.text (replicate l.climb (step_text up));
+  text : fold with_piece l.buf.text (replicate (l.climb - l.counter) (step_text up))
+      ≡ fold with_piece l.fn.buf.text (replicate l.climb (step_text up));
   room : l.fn.buf.room ≤ l.buf.room;
 }

@@ -1,5 +1,6 @@
 -- Each turn takes the first line of the left text, and adds its answer and a line feed.
 use Rattle.std.proofs.Common.{rules, ◌++◌, string_bytes, append-nil, ap, ◌∙◌, lit<}
+use Rattle.relpath.proofs.OnlyLemmas.{IsOutput-only}
 use Rattle.relpath.proofs.OutputLemmas.{IsOutput-none, IsOutput-next}
 use Rattle.relpath.proofs.output.answer_lines.Goals as goal
 
@@ -19,6 +20,9 @@ loop-line-preserved c =
       output = IsOutput-next c.args.text.now left line rest before middle _ first answer fed so_far;
     }
 
-pub returns : goal.returns
-returns c =
+pub returns-clause-output : goal.returns-clause-output
+returns-clause-output c =
     rw append-nil at (c.loop-line.invariant.output _ (IsOutput-none c.loop-line.left.now c.in_default.ensures.none))
+
+pub returns-clause-only : goal.returns-clause-only
+returns-clause-only c other o = IsOutput-only c.args.text.now _ other (returns-clause-output c) o

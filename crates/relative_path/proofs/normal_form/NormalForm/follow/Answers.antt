@@ -25,8 +25,12 @@ loop-component-init c =
 
 pub take-requires-clause-cuts : goal.take-requires-clause-cuts
 take-requires-clause-cuts c =
-    let sources = c.loop-component.invariant.sources in
-    Cuts-first c.loop-component.self.sources _ c.text-text.result.now _ (step_of c.in-Some.component) _ (c.text-text.ensures ∙ ap (λ x. source_text x c.args.source) (sym sources)) c.loop-component.invariant.left c.in-Some.ensures.steps.0 (ap (λ x. c.loop-component.start + length x) c.as_str-in-Some.ensures)
+    let loop = c.loop-component in
+    let text = c.text-text.ensures ∙ ap (λ sources. source_text sources c.args.source) (sym loop.invariant.sources) in
+    let first = c.in-Some.ensures.steps.0 in
+    let ends = ap (λ x. loop.start + length x) c.as_str-in-Some.ensures in
+    let taken = step_of c.in-Some.component in
+    Cuts-first loop.self.sources _ c.text-text.result.now _ taken _ text loop.invariant.left first ends
 
 pub loop-component-preserved : goal.loop-component-preserved
 loop-component-preserved c =

@@ -7,4 +7,5 @@ pub returns-clause-names : goal.returns-clause-names
 returns-clause-names c =
     let f = span_text c.args.self.now.sources in
     let items = c.deref.result.now in
-    ap (map f) (take_rest items c.args.skipped) ∙ sym (drop-map f c.args.skipped items) ∙ ap (λ spans. drop c.args.skipped (map f spans)) c.deref.ensures.value
+    ap (map f) (take_rest items c.args.skipped) ∙ sym (drop-map f c.args.skipped items)
+    ∙ ap (λ spans. drop c.args.skipped (map f spans)) c.deref.ensures.value

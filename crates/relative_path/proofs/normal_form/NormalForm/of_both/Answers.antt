@@ -14,5 +14,6 @@ returns c =
     let second = ap (λ s. source_text s Second) (c.follow.ensures.sources ∙ sources) ∙ c.as_str-2.ensures in
     let one = rw (empty, first) at c.follow.ensures.steps in
     let both =
-    subst (λ text. Reduces (form_steps c.follow.result ++ components text) (form_steps c.follow-2.result)) second c.follow-2.ensures.steps in
+    subst (λ text. Reduces (form_steps c.follow.result ++ components text) (form_steps c.follow-2.result)) second
+    c.follow-2.ensures.steps in
     IsNormalFormOf-form _ c.follow-2.result (Reduces-trans (Reduces-append_right _ one) both)

@@ -10,7 +10,10 @@ push_piece-requires c =
     let f = span_text c.args.self.now.sources in
     let items = c.names_past-span-items.result.now in
     let i = c.loop-span.span-index in
-    let first = ap (map f) (drop_more items i _ c.loop-span-test.true) ∙ ap (λ n. n ∷ map f (drop (i + 1) items)) (sym c.cut.ensures) in
+    let first = ap (map f) (drop_more items i _ c.loop-span-test.true)
+    ∙ ap (λ n. n ∷ map f (drop (i + 1) items)) (sym c.cut.ensures) in
+    let buf = c.loop-span.buf in
     let whole = ap length c.loop-span.invariant.text in
-    let fits : length (fold with_piece c.loop-span.buf.text (map f (drop i items))) ≤ c.loop-span.buf.room = omega (arith, c.loop-span.invariant.room, c.requires.room) in
-    with_piece_fits c.loop-span.buf.text _ c.cut.result.now _ c.loop-span.buf.room first fits
+    let room = c.loop-span.invariant.room in
+    let fits : length (fold with_piece buf.text (map f (drop i items))) ≤ buf.room = omega (arith, c.requires.room) in
+    with_piece_fits buf.text _ c.cut.result.now _ buf.room first fits

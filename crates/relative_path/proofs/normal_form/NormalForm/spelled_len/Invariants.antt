@@ -7,4 +7,5 @@ use Rattle.relative_path.proofs.normal_form.NormalForm.spelled_len.Given as goal
 abbrev pub invariant-loop-span : goal.invariant-loop-span
 invariant-loop-span l =
     let left = drop l.span-index l.names in
-    l.len + padded_len (map name (map (span_text l.self.sources) left)) ≡ padded_len (climbed l.climb (drop l.skipped (form_names l.self))) + length left
+    l.len + padded_len (map name (map (span_text l.self.sources) left))
+    ≡ padded_len (climbed l.climb (drop l.skipped (form_names l.self))) + length left

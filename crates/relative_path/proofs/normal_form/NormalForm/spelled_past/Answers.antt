@@ -9,27 +9,33 @@ use Rattle.relative_path.proofs.normal_form.NormalForm.spelled_past.Goals as goa
 pub push_climb-requires : goal.push_climb-requires
 push_climb-requires c =
     let names = drop c.args.skipped (form_names c.args.self.now) in
+    let climbs = replicate c.args.climb (step_text up) in
     let whole = with_pieces-climbed c.args.climb names (AreProper-names_past c.args.self.now c.args.skipped) in
+    let shorter = length-with_pieces_le (fold with_piece [] climbs) names in
     let len = rw c.in_ok-len.ensures.ok_part at c.spelled_len.ensures in
     let room = c.in_ok-buf.ensures.room in
-    rw c.in_ok-buf.ensures.empty (omega (arith, ap length whole, length-with_pieces_le (fold with_piece [] (replicate c.args.climb (step_text up))) names))
+    rw c.in_ok-buf.ensures.empty (omega (arith, ap length whole))
 
 pub push_names-requires-clause-room : goal.push_names-requires-clause-room
 push_names-requires-clause-room c =
     let names = drop c.args.skipped (form_names c.args.self.now) in
-    let climbs = c.push_climb.ensures.text ∙ ap (λ text. fold with_piece text (replicate c.args.climb (step_text up))) c.in_ok-buf.ensures.empty in
+    let climbs = replicate c.args.climb (step_text up) in
+    let first = c.push_climb.ensures.text ∙ ap (λ text. fold with_piece text climbs) c.in_ok-buf.ensures.empty in
     let whole = with_pieces-climbed c.args.climb names (AreProper-names_past c.args.self.now c.args.skipped) in
     let len = rw c.in_ok-len.ensures.ok_part at c.spelled_len.ensures in
     let room = c.in_ok-buf.ensures.room in
     let kept = c.push_climb.ensures.room in
-    omega (arith, ap (λ text. length (fold with_piece text names)) climbs, ap length whole)
+    omega (arith, ap (λ text. length (fold with_piece text names)) first, ap length whole)
 
 -- what was written spells the climbs and the names
-spelled : (c : goal.After-push_names) → c.push_names.new.buf.text ≡ spell (climbed c.args.climb (drop c.args.skipped (form_names c.args.self.now)))
+spelled : (c : goal.After-push_names)
+    → c.push_names.new.buf.text ≡ spell (climbed c.args.climb (drop c.args.skipped (form_names c.args.self.now)))
 spelled c =
     let names = drop c.args.skipped (form_names c.args.self.now) in
-    let climbs = c.push_climb.ensures.text ∙ ap (λ text. fold with_piece text (replicate c.args.climb (step_text up))) c.in_ok-buf.ensures.empty in
-    c.push_names.ensures ∙ ap (λ text. fold with_piece text names) climbs ∙ with_pieces-climbed c.args.climb names (AreProper-names_past c.args.self.now c.args.skipped)
+    let climbs = replicate c.args.climb (step_text up) in
+    let first = c.push_climb.ensures.text ∙ ap (λ text. fold with_piece text climbs) c.in_ok-buf.ensures.empty in
+    c.push_names.ensures ∙ ap (λ text. fold with_piece text names) first
+    ∙ with_pieces-climbed c.args.climb names (AreProper-names_past c.args.self.now c.args.skipped)
 
 pub returns-clause-text : goal.returns-clause-text
 returns-clause-text c = spelled c

@@ -8,4 +8,5 @@ returns-in-CurDir-clause-steps c = rw c.in-CurDir.is (Reduces-cur _)
 pub returns-else-is_none-clause-steps : goal.returns-else-is_none-clause-steps
 returns-else-is_none-clause-steps c =
     let form = c.args.self.now in
-    rw c.in-ParentDir.is (Reduces-pop (span_text form.sources) form.climb _ _ _ c.pop.ensures.items c.if-is_none.ensures)
+    let popped = Reduces-pop (span_text form.sources) form.climb _ _ _ c.pop.ensures.items c.if-is_none.ensures in
+    rw c.in-ParentDir.is popped

@@ -15,4 +15,5 @@ pub returns-clause-in_turn : goal.returns-clause-in_turn
 returns-clause-in_turn c =
     let front = path_components c.args.self in
     let behind = path_components c.args.path in
-    subst (LeadsInTurn front behind) (sym (returns-clause-components c)) (LeadsInTurn-same front behind (front ++ behind) (IsSame-refl (front ++ behind)))
+    subst (LeadsInTurn front behind) (sym (returns-clause-components c))
+    (LeadsInTurn-same front behind (front ++ behind) (IsSame-refl (front ++ behind)))

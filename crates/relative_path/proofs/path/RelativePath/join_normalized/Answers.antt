@@ -5,8 +5,13 @@ use Rattle.relative_path.proofs.path.RelativePath.join_normalized.Goals as goal
 
 pub returns-clause-normal_form : goal.returns-clause-normal_form
 returns-clause-normal_form c =
-    IfOk-weaker c.spelled.result _ _ (λ normal spelled. IsNormalTextOf-spell _ _ normal.text c.in_ok-of_both.ensures spelled) c.spelled.ensures
+    let form = c.in_ok-of_both.ensures in
+    IfOk-weaker c.spelled.result _ _
+    (λ normal spelled. IsNormalTextOf-spell _ _ normal.text form spelled) c.spelled.ensures
 
 pub returns-clause-in_turn : goal.returns-clause-in_turn
 returns-clause-in_turn c =
-    IfOk-weaker c.spelled.result _ _ (λ normal spelled. LeadsInTurn-same _ _ _ (IsNormalTextOf-spell _ _ normal.text c.in_ok-of_both.ensures spelled).same) c.spelled.ensures
+    let form = c.in_ok-of_both.ensures in
+    IfOk-weaker c.spelled.result _ _
+    (λ normal spelled. LeadsInTurn-same _ _ _ (IsNormalTextOf-spell _ _ normal.text form spelled).same)
+    c.spelled.ensures
