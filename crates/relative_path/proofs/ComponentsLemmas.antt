@@ -6,9 +6,11 @@ use Rattle.std.proofs.lemmas.Iterator.{YieldsList}
 use Rattle.std.proofs.lemmas.Iterator.Consumers.{YieldsList-from_shown}
 use Rattle.std.proofs.lemmas.List.{nil_from_length, get_or_at, drop_all}
 use Rattle.std.proofs.lemmas.List.Elements.{All-weaker, recursion_from_All}
+use Rattle.std.specs.Borrow.{Bor}
 use Rattle.std.proofs.iter.runs.Sources.{from_front}
 use Rattle.relative_path.specs.declared.component.Component.{Component}
 use Rattle.relative_path.specs.declared.component.Components.{Components}
+use Rattle.relative_path.specs.declared.component.Iter.{Iter}
 use Rattle.relative_path.specs.Steps.{slash, is_slash, classed, components}
 use Rattle.relative_path.specs.Slices.{IsRest, IsFront}
 use Rattle.relative_path.specs.Components.{step_of, text_left, components_left, TakesFirst, TakesLast, TakesFirstText, text_of, iter_text_left, texts_left, GivesComponents, GivesTextsOfComponents}
@@ -137,10 +139,17 @@ pub YieldsList-components : (s : Components) (text : List ℕ) → text_left s �
 YieldsList-components s text same =
     subst (λ x. YieldsList (λ s taken t. TakesFirst (text_left s) taken (text_left t)) step_of s (components x)) same (YieldsList-from_shown (λ s taken t. TakesFirst (text_left s) taken (text_left t)) step_of components_left (λ s t taken. ap length taken.0) (λ s c t taken. taken.0) s)
 
+-- a call of `next` of a walk, and of an `Iter`
+abbrev walk_steps : Components → Option Component → Components → Type 0
+walk_steps s taken t = TakesFirst (text_left s) taken (text_left t)
+
+abbrev iter_steps : Iter → Option (Bor (List ℕ)) → Iter → Type 0
+iter_steps s taken t = TakesFirstText (iter_text_left s) taken (iter_text_left t)
+
 pub GivesComponents-shown : GivesComponents
 GivesComponents-shown =
-    from_front (λ s taken t. TakesFirst (text_left s) taken (text_left t)) step_of components_left (λ s t taken. ap length taken.0) (λ s c t taken. taken.0)
+    from_front walk_steps step_of components_left (λ s t taken. ap length taken.0) (λ s c t taken. taken.0)
 
 pub GivesTextsOfComponents-shown : GivesTextsOfComponents
 GivesTextsOfComponents-shown =
-    from_front (λ s taken t. TakesFirstText (iter_text_left s) taken (iter_text_left t)) text_of texts_left (λ s t taken. ap length taken.0) (λ s c t taken. taken.0)
+    from_front iter_steps text_of texts_left (λ s t taken. ap length taken.0) (λ s c t taken. taken.0)

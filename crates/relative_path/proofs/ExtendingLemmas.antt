@@ -9,19 +9,23 @@ use Rattle.relative_path.specs.Steps.{slash}
 use Rattle.relative_path.specs.Editing.{pushed, with_separator, unslashed}
 use Rattle.relative_path.specs.RelativePath.{path_text}
 use Rattle.relative_path.specs.RelativePathBuf.{Buffer}
-use Rattle.relative_path.specs.Extending.{pushed_all, StopsWithin, ReadsTexts, PushesAll, PushesUntilFull, PushesWholeRun, StopsRun}
+use Rattle.relative_path.specs.Extending.{pushed_all, StopsWithin, PushesAll, PushesUntilFull, PushesWholeRun, StopsRun}
 
-pub pushed_all-append : (text : List ℕ) (ps qs : List (List ℕ)) → pushed_all text (ps ++ qs) ≡ pushed_all (pushed_all text ps) qs
+pub pushed_all-append : (text : List ℕ) (ps qs : List (List ℕ))
+    → pushed_all text (ps ++ qs) ≡ pushed_all (pushed_all text ps) qs
 pushed_all-append text [] qs = refl
 pushed_all-append text (p ∷ ps) qs = pushed_all-append (pushed text p) ps qs
 
 length-with_separator-le : (text : List ℕ) → length text ≤ length (with_separator text)
 length-with_separator-le [] = omega arith
 length-with_separator-le (b ∷ bs) =
-    cond_both _ (b ∷ bs) ((b ∷ bs) ++ slash ∷ []) (λ x. length (b ∷ bs) ≤ length x) (λ _. omega arith) (λ _. omega (arith, length-append (b ∷ bs) (slash ∷ [])))
+    let separated = (b ∷ bs) ++ slash ∷ [] in
+    let longer = length-append (b ∷ bs) (slash ∷ []) in
+    cond_both _ (b ∷ bs) separated (λ x. length (b ∷ bs) ≤ length x) (λ _. omega arith) (λ _. omega (arith, longer))
 
 length-pushed-le : (text path : List ℕ) → length text ≤ length (pushed text path)
-length-pushed-le text path = omega (arith, length-with_separator-le text, length-append (with_separator text) (unslashed path))
+length-pushed-le text path =
+    omega (arith, length-with_separator-le text, length-append (with_separator text) (unslashed path))
 
 -- no push makes a text shorter
 pub length-pushed_all-le : (text : List ℕ) (ps : List (List ℕ)) → length text ≤ length (pushed_all text ps)
@@ -29,26 +33,33 @@ length-pushed_all-le text [] = omega arith
 length-pushed_all-le text (p ∷ ps) = omega (arith, length-pushed-le text p, length-pushed_all-le (pushed text p) ps)
 
 -- where some were pushed, and the room is too short for the next one
-StopsWithin-from : (old new : Buffer) (front : List (List ℕ)) (path : List ℕ) (more texts : List (List ℕ))
-    → texts ≡ (front ++ path ∷ []) ++ more → new.text ≡ pushed_all old.text front
-    → new.room < length (pushed new.text path) → old.room ≤ new.room → StopsWithin old new texts
-StopsWithin-from old new front path more texts joined text stopped room =
-    let count : length (front ++ path ∷ []) ≡ length front + 1 = omega (arith, length-append front (path ∷ [])) in
-    let one_more : pushed_all old.text (front ++ path ∷ []) ≡ pushed new.text path =
-    pushed_all-append old.text front (path ∷ []) ∙ ap (λ t. pushed t path) (sym text) in
-    let first : take (length front) texts ≡ front =
-    ap (take (length front)) (joined ∙ append_assoc front (path ∷ []) more) ∙ take_at front (path ∷ more) (length front) refl in
-    let after : take (length front + 1) texts ≡ front ++ path ∷ [] =
-    ap (take (length front + 1)) joined ∙ take_at (front ++ path ∷ []) more (length front + 1) count in
-    let whole : pushed_all old.text texts ≡ pushed_all (pushed new.text path) more =
-    ap (pushed_all old.text) joined ∙ pushed_all-append old.text (front ++ path ∷ []) more ∙ ap (λ t. pushed_all t more) one_more in
-    record {
-      count = length front;
-      before_end = omega (arith, ap length joined, count, length-append (front ++ path ∷ []) more);
-      text = text ∙ ap (pushed_all old.text) (sym first);
-      stopped = rw (after, one_more) stopped;
-      full = omega (arith, stopped, room, ap length whole, length-pushed_all-le (pushed new.text path) more);
-    }
+module _ (old new : Buffer) (front : List (List ℕ)) (path : List ℕ) (more texts : List (List ℕ)) (joined : texts ≡ (front ++ path ∷ []) ++ more) (text : new.text ≡ pushed_all old.text front) where
+  count : length (front ++ path ∷ []) ≡ length front + 1
+  count = omega (arith, length-append front (path ∷ []))
+
+  first : take (length front) texts ≡ front
+  first = ap (take (length front)) (joined ∙ append_assoc front (path ∷ []) more) ∙ take_at front (path ∷ more) (length front) refl
+
+  first_and_one : take (length front + 1) texts ≡ front ++ path ∷ []
+  first_and_one = ap (take (length front + 1)) joined ∙ take_at (front ++ path ∷ []) more (length front + 1) count
+
+  one_more : pushed_all old.text (front ++ path ∷ []) ≡ pushed new.text path
+  one_more = pushed_all-append old.text front (path ∷ []) ∙ ap (λ t. pushed t path) (sym text)
+
+  whole : pushed_all old.text texts ≡ pushed_all (pushed new.text path) more
+  whole =
+      let parts = ap (pushed_all old.text) joined ∙ pushed_all-append old.text (front ++ path ∷ []) more in
+      parts ∙ ap (λ t. pushed_all t more) one_more
+
+  StopsWithin-from : new.room < length (pushed new.text path) → old.room ≤ new.room → StopsWithin old new texts
+  StopsWithin-from stopped room =
+      record {
+        count = length front;
+        before_end = omega (arith, ap length joined, count, length-append (front ++ path ∷ []) more);
+        text = text ∙ ap (pushed_all old.text) (sym first);
+        stopped = rw (first_and_one, one_more) stopped;
+        full = omega (arith, stopped, room, ap length whole, length-pushed_all-le (pushed new.text path) more);
+      }
 
 -- what is read place by place is the front of the texts
 front_texts : (xs : List RelativePath) (texts : List (List ℕ)) → length xs ≤ length texts
@@ -59,22 +70,36 @@ front_texts (x ∷ xs) [] within reads = absurd (omega arith)
 front_texts (x ∷ xs) (u ∷ texts) within reads =
     ap₂ (λ y ys. y ∷ ys) (sym (reads 0)) (front_texts xs texts (omega arith) (λ k. reads (suc k)))
 
-module _ {U T : Type 0} (becomes : U → T → Type 0) (steps : T → Option RelativePath → T → Type 0) (iter : U) where
-  pub PushesWholeRun-from : (old new : List ℕ) → PushesAll becomes steps iter old new → PushesWholeRun becomes steps iter old new
-  PushesWholeRun-from old new (it, xs, is, drains, text) =
-      let read : (texts : List (List ℕ)) → length xs ≡ length texts → ReadsTexts (run steps it xs true (to_end steps it xs drains)) texts → map path_text xs ≡ texts =
-      λ texts long reads. sym (front_texts xs texts (omega (arith, long)) reads ∙ ap (λ ys. map path_text xs ++ ys) (drop_all (length xs) texts (omega (arith, long))) ∙ append-nil (map path_text xs)) in
-      (it, is, (run steps it xs true (to_end steps it xs drains), refl, refl, λ texts long reads. text ∙ ap (pushed_all old) (read texts long reads)))
+-- and all of them, where there are no more
+all_texts : (xs : List RelativePath) (texts : List (List ℕ)) → length xs ≡ length texts
+    → ((k : ℕ) → IfSome (slice_get xs k) (λ path. path_text path ≡ get_or texts k (path_text path)))
+    → map path_text xs ≡ texts
+all_texts xs texts long reads =
+    let front = front_texts xs texts (omega (arith, long)) reads in
+    let rest = drop_all (length xs) texts (omega (arith, long)) in
+    sym (front ∙ ap (λ ys. map path_text xs ++ ys) rest ∙ append-nil (map path_text xs))
 
-  pub StopsRun-from : (old new : Buffer) → old.room ≤ new.room → PushesUntilFull becomes steps iter old new → StopsRun becomes steps iter old new
+module _ {U T : Type 0} (becomes : U → T → Type 0) (steps : T → Option RelativePath → T → Type 0) (iter : U) where
+  pub PushesWholeRun-from : (old new : List ℕ)
+      → PushesAll becomes steps iter old new → PushesWholeRun becomes steps iter old new
+  PushesWholeRun-from old new (it, xs, is, drains, text) =
+      let all = run steps it xs true (to_end steps it xs drains) in
+      (it, is, (all, refl, refl, λ texts long reads. text ∙ ap (pushed_all old) (all_texts xs texts long reads)))
+
+  pub StopsRun-from : (old new : Buffer) → old.room ≤ new.room
+      → PushesUntilFull becomes steps iter old new → StopsRun becomes steps iter old new
   StopsRun-from old new room (it, xs, x, u, is, ran, text, stopped) =
-      let all = xs ++ x ∷ [] in (
+      let all = xs ++ x ∷ [] in
+      let front = map path_text xs in
+      let came = run steps it all false (to_item steps it u xs x ran) in
+      let seam : map path_text all ≡ front ++ path_text x ∷ [] = map-append path_text xs (x ∷ []) in (
         it,
         is,
         (
-          run steps it all false (to_item steps it u xs x ran),
+          came,
           refl,
           λ texts within reads.
-              StopsWithin-from old new (map path_text xs) (path_text x) (drop (length all) texts) texts (front_texts all texts within reads ∙ ap (λ ys. ys ++ drop (length all) texts) (map-append path_text xs (x ∷ []))) text stopped room,
+              let parts = front_texts all texts within reads ∙ ap (λ ys. ys ++ drop (length all) texts) seam in
+              StopsWithin-from old new front (path_text x) _ texts parts text stopped room,
         ),
       )

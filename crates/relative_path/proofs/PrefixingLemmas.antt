@@ -25,9 +25,17 @@ other_step d c e = λ same. true≢false (sym ((step_eq-Decides (step_of d) (ste
 -- ---- at the front
 
 -- one rest more
-IsDropped-rest : (text : List ℕ) (n : ℕ) (left rest : List ℕ) → IsDropped text n left → IsRest left rest → IsDropped text (suc n) rest
+IsDropped-rest : (text : List ℕ) (n : ℕ) (left rest : List ℕ)
+    → IsDropped text n left → IsRest left rest → IsDropped text (suc n) rest
 IsDropped-rest text zero left rest same is = (rest, subst (λ x. IsRest x rest) same is, refl)
-IsDropped-rest text (suc n) left rest (next, first, dropped) is = (next, first, IsDropped-rest next n left rest dropped is)
+IsDropped-rest text (suc n) left rest (next, first, dropped) is =
+    (next, first, IsDropped-rest next n left rest dropped is)
+
+-- one component more is taken
+taken_first : (taken cs left rest : List Step) (c : Step)
+    → cs ≡ taken ++ left → left ≡ c ∷ rest → cs ≡ (taken ++ c ∷ []) ++ rest
+taken_first taken cs left rest c joined first =
+    joined ∙ ap (λ x. taken ++ x) first ∙ sym (append_assoc taken (c ∷ []) rest)
 
 -- the same components were taken off both texts, and these are left
 pub record Agrees (text base left base_left : List ℕ) : Type 0 where
@@ -36,33 +44,49 @@ pub record Agrees (text base left base_left : List ℕ) : Type 0 where
   pub base_joined : components base ≡ taken ++ components base_left
   pub dropped : IsDropped text (length taken) left
 
--- a component more
-pub Agrees-taken : {text base left base_left : List ℕ} (t : Option Component) (c : Component) {rest base_rest : List ℕ} → Agrees text base left base_left
-    → TakesFirst left t rest → components base_left ≡ step_of c ∷ components base_rest → is_other t c ≡ false → Agrees text base rest base_rest
-Agrees-taken None c h takes first same = absurd (true≢false same)
-Agrees-taken {text} {base} {left} {base_left} (Some d) c {rest} {base_rest} h takes first same =
-    let joined : components left ≡ step_of c ∷ components rest = takes.0 ∙ ap (λ s. s ∷ components rest) (same_step d c same) in
-    let more : length (h.taken ++ step_of c ∷ []) ≡ suc (length h.taken) = omega (arith, length-append h.taken (step_of c ∷ [])) in
-    record {
-      taken = h.taken ++ step_of c ∷ [];
-      joined = h.joined ∙ ap (λ cs. h.taken ++ cs) joined ∙ sym (append_assoc h.taken (step_of c ∷ []) (components rest));
-      base_joined = h.base_joined ∙ ap (λ cs. h.taken ++ cs) first ∙ sym (append_assoc h.taken (step_of c ∷ []) (components base_rest));
-      dropped = subst (λ n. IsDropped text n rest) (sym more) (IsDropped-rest text (length h.taken) left rest h.dropped takes.1);
-    }
+module _ {text base left base_left : List ℕ} (h : Agrees text base left base_left) (c : Component) {rest : List ℕ} where
+  -- the next component is the same
+  pub Agrees-taken : (t : Option Component) {base_rest : List ℕ}
+      → TakesFirst left t rest → components base_left ≡ step_of c ∷ components base_rest → is_other t c ≡ false
+      → Agrees text base rest base_rest
+  Agrees-taken None takes first same = absurd (true≢false same)
+  Agrees-taken (Some d) {base_rest} takes first same =
+      let text_first = takes.0 ∙ ap (λ s. s ∷ components rest) (same_step d c same) in
+      let more : suc (length h.taken) ≡ length (h.taken ++ step_of c ∷ []) =
+      omega (arith, length-append h.taken (step_of c ∷ [])) in
+      record {
+        taken = h.taken ++ step_of c ∷ [];
+        joined = taken_first _ _ _ _ _ h.joined text_first;
+        base_joined = taken_first _ _ _ _ _ h.base_joined first;
+        dropped = subst (λ n. IsDropped text n rest) more (IsDropped-rest text _ left rest h.dropped takes.1);
+      }
 
--- another component, so the text does not start with the base
-pub StartsWith-other : {text base left base_left : List ℕ} (t : Option Component) (c : Component) {rest : List ℕ} {cs : List Step} → Agrees text base left base_left
-    → TakesFirst left t rest → components base_left ≡ step_of c ∷ cs → is_other t c ≡ true → StartsWith (components text) (components base) → ⊥
-StartsWith-other {text} {base} {left} {base_left} t c {rest} {cs} h takes first other (end, starts) = differs t takes other
-  where
-    same : components left ≡ step_of c ∷ cs ++ end
-    same = append_cancel_left h.taken _ _ (sym h.joined ∙ starts ∙ ap (λ x. x ++ end) (h.base_joined ∙ ap (λ x. h.taken ++ x) first) ∙ append_assoc h.taken (step_of c ∷ cs) end)
+  -- the next component is another, so the text does not start with the base
+  pub StartsWith-other : (t : Option Component) {cs : List Step}
+      → TakesFirst left t rest → components base_left ≡ step_of c ∷ cs → is_other t c ≡ true
+      → StartsWith (components text) (components base) → ⊥
+  StartsWith-other t {cs} takes first other (end, starts) = differs t takes other
+    where
+      base_whole : components base ≡ h.taken ++ (step_of c ∷ cs)
+      base_whole = h.base_joined ∙ ap (λ x. h.taken ++ x) first
 
-    differs : (t : Option Component) → TakesFirst left t rest → is_other t c ≡ true → ⊥
-    differs None takes other = omega (arith, ap length (sym takes.0 ∙ same))
-    differs (Some d) takes other = let joined = sym takes.0 ∙ same in other_step d c other cc
+      whole : components text ≡ h.taken ++ (step_of c ∷ cs ++ end)
+      whole = starts ∙ ap (λ x. x ++ end) base_whole ∙ append_assoc h.taken (step_of c ∷ cs) end
+
+      same : components left ≡ step_of c ∷ cs ++ end
+      same = append_cancel_left h.taken _ _ (sym h.joined ∙ whole)
+
+      differs : (t : Option Component) → TakesFirst left t rest → is_other t c ≡ true → ⊥
+      differs None takes other = omega (arith, ap length (sym takes.0 ∙ same))
+      differs (Some d) takes other = let joined = sym takes.0 ∙ same in other_step d c other cc
 
 -- ---- at the back
+
+-- one component more is taken
+taken_last : (taken cs left front : List Step) (c : Step)
+    → cs ≡ left ++ taken → left ≡ front ++ c ∷ [] → cs ≡ front ++ c ∷ taken
+taken_last taken cs left front c joined last =
+    joined ∙ ap (λ x. x ++ taken) last ∙ append_assoc front (c ∷ []) taken
 
 -- the same components were taken off both lists, and these are left
 pub record AgreesBack (cs child left child_left : List Step) : Type 0 where
@@ -70,26 +94,39 @@ pub record AgreesBack (cs child left child_left : List Step) : Type 0 where
   pub joined : cs ≡ left ++ taken
   pub child_joined : child ≡ child_left ++ taken
 
--- a component more
-pub AgreesBack-taken : {cs child child_left : List Step} {left front : List ℕ} (t : Option Component) (c : Component) (child_front : List Step) → AgreesBack cs child (components left) child_left
-    → TakesLast left t front → child_left ≡ child_front ++ step_of c ∷ [] → is_other t c ≡ false → AgreesBack cs child (components front) child_front
-AgreesBack-taken None c child_front h takes last same = absurd (true≢false same)
-AgreesBack-taken {cs} {child} {child_left} {left} {front} (Some d) c child_front h takes last same =
-    let joined : components left ≡ components front ++ step_of c ∷ [] = takes.0 ∙ ap (λ s. components front ++ s ∷ []) (same_step d c same) in
-    record {
-      taken = step_of c ∷ h.taken;
-      joined = h.joined ∙ ap (λ x. x ++ h.taken) joined ∙ append_assoc (components front) (step_of c ∷ []) h.taken;
-      child_joined = h.child_joined ∙ ap (λ x. x ++ h.taken) last ∙ append_assoc child_front (step_of c ∷ []) h.taken;
-    }
+module _ {cs child child_left : List Step} {left : List ℕ} (h : AgreesBack cs child (components left) child_left) (c : Component) (child_front : List Step) {front : List ℕ} where
+  -- the next component from the back is the same
+  pub AgreesBack-taken : (t : Option Component)
+      → TakesLast left t front → child_left ≡ child_front ++ step_of c ∷ [] → is_other t c ≡ false
+      → AgreesBack cs child (components front) child_front
+  AgreesBack-taken None takes last same = absurd (true≢false same)
+  AgreesBack-taken (Some d) takes last same =
+      let text_last = takes.0 ∙ ap (λ s. components front ++ s ∷ []) (same_step d c same) in
+      record {
+        taken = step_of c ∷ h.taken;
+        joined = taken_last _ _ _ _ _ h.joined text_last;
+        child_joined = taken_last _ _ _ _ _ h.child_joined last;
+      }
 
--- another component, so the list does not end with the child
-pub EndsWith-other : {cs child child_left : List Step} {left front : List ℕ} (t : Option Component) (c : Component) (child_front : List Step) → AgreesBack cs child (components left) child_left
-    → TakesLast left t front → child_left ≡ child_front ++ step_of c ∷ [] → is_other t c ≡ true → EndsWith cs child → ⊥
-EndsWith-other {cs} {child} {child_left} {left} {front} t c child_front h takes last other (start, ends) = differs t takes other
-  where
-    same : components left ≡ (start ++ child_front) ++ step_of c ∷ []
-    same = append_cancel_right _ _ h.taken (sym h.joined ∙ ends ∙ ap (λ x. start ++ x) (h.child_joined ∙ ap (λ x. x ++ h.taken) last) ∙ sym (append_assoc start _ h.taken) ∙ ap (λ x. x ++ h.taken) (sym (append_assoc start child_front (step_of c ∷ []))))
+  -- the next component from the back is another, so the list does not end with the child
+  pub EndsWith-other : (t : Option Component)
+      → TakesLast left t front → child_left ≡ child_front ++ step_of c ∷ [] → is_other t c ≡ true
+      → EndsWith cs child → ⊥
+  EndsWith-other t takes last other (start, ends) = differs t takes other
+    where
+      behind : List Step
+      behind = step_of c ∷ h.taken
 
-    differs : (t : Option Component) → TakesLast left t front → is_other t c ≡ true → ⊥
-    differs None takes other = omega (arith, ap length (sym takes.0 ∙ same), length-append (start ++ child_front) (step_of c ∷ []))
-    differs (Some d) takes other = other_step d c other (same_from_push _ _ _ _ (sym takes.0 ∙ same)).1
+      whole : cs ≡ start ++ (child_front ++ behind)
+      whole = ends ∙ ap (λ x. start ++ x) (taken_last _ _ _ _ _ h.child_joined last)
+
+      parts : start ++ (child_front ++ behind) ≡ ((start ++ child_front) ++ step_of c ∷ []) ++ h.taken
+      parts = sym (append_assoc start child_front behind) ∙ sym (append_assoc (start ++ child_front) (step_of c ∷ []) h.taken)
+
+      same : components left ≡ (start ++ child_front) ++ step_of c ∷ []
+      same = append_cancel_right _ _ h.taken (sym h.joined ∙ whole ∙ parts)
+
+      differs : (t : Option Component) → TakesLast left t front → is_other t c ≡ true → ⊥
+      differs None takes other =
+          omega (arith, ap length (sym takes.0 ∙ same), length-append (start ++ child_front) (step_of c ∷ []))
+      differs (Some d) takes other = other_step d c other (same_from_push _ _ _ _ (sym takes.0 ∙ same)).1

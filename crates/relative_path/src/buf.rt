@@ -122,10 +122,11 @@ impl RelativePathBuf {
         unix::from_path(alloc, path.as_str())
     }
 
-    /// The paths that the iterator gives, pushed in order onto the empty path.
+    /// The paths that the iterator gives, pushed in order onto the empty path. The iterator has to
+    /// end.
     ///
-    /// It asks for memory where a push does, and fails where that is refused; the paths taken by
-    /// then stay taken.
+    /// It asks for memory as each push does. A refusal gives up what was pushed, and takes no
+    /// further path.
     ///
     /// ```
     /// let paths = ["a", "/b", "", "c"].map(RelativePath::new);
@@ -136,7 +137,8 @@ impl RelativePathBuf {
         alloc: Global,
         paths: I,
     ) -> Result<RelativePathBuf, AllocError>
-        requires { IsFiniteIterable I.into_iter_gives I.IntoIter.can_next I.IntoIter.remaining paths }
+        requires ends { IsFiniteIterable
+            I.into_iter_gives I.IntoIter.can_next I.IntoIter.remaining paths }
         ensures ok { IfOk result
             (λ buf. PushesAll I.into_iter_gives I.IntoIter.next_gives paths [] buf.text) }
         ensures runs { IfOk result
@@ -370,9 +372,10 @@ impl RelativePathBuf {
         popped
     }
 
-    /// Pushes each path that the iterator gives, in order.
+    /// Pushes each path that the iterator gives, in order. The iterator has to end.
     ///
-    /// A refusal leaves the text after the pushes before it, and takes no further path.
+    /// It asks for memory as each push does. A refusal leaves the text after the pushes before it,
+    /// and takes no further path: an iterator that is lent by `&mut` still has them.
     ///
     /// ```
     /// let mut buf = RelativePathBuf::from_text(alloc, "x")?;
@@ -383,13 +386,14 @@ impl RelativePathBuf {
         &mut self,
         paths: I,
     ) -> Result<(), AllocError>
-        requires { IsFiniteIterable I.into_iter_gives I.IntoIter.can_next I.IntoIter.remaining paths }
+        requires ends { IsFiniteIterable
+            I.into_iter_gives I.IntoIter.can_next I.IntoIter.remaining paths }
         ensures ok { OnOk result
             (PushesAll I.into_iter_gives I.IntoIter.next_gives paths self.old.text self.new.text) }
         ensures err { OnErr result
             (PushesUntilFull I.into_iter_gives I.IntoIter.next_gives paths self.old self.new) }
-        ensures runs { OnOk result
-            (PushesWholeRun I.into_iter_gives I.IntoIter.next_gives paths self.old.text self.new.text) }
+        ensures runs { OnOk result (PushesWholeRun
+            I.into_iter_gives I.IntoIter.next_gives paths self.old.text self.new.text) }
         ensures stops { OnErr result
             (StopsRun I.into_iter_gives I.IntoIter.next_gives paths self.old self.new) }
         ensures room { self.old.room ≤ self.new.room }

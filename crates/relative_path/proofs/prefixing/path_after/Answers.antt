@@ -4,8 +4,15 @@ use Rattle.relative_path.proofs.prefixing.path_after.Goals as goal
 
 pub returns-then-ne-clause-found : goal.returns-then-ne-clause-found
 returns-then-ne-clause-found c =
-    (λ e. absurd (true≢false (sym e)), λ starts. absurd (StartsWith-other _ c.in-Some.component c.loop-component.invariant c.next-in-loop-component.ensures.steps c.in-Some.ensures.steps.0 (sym c.ne.ensures ∙ c.if-ne.true) starts))
+    let left = c.next-in-loop-component.ensures.steps in
+    let first = c.in-Some.ensures.steps.0 in
+    let other = sym c.ne.ensures ∙ c.if-ne.true in
+    let not_found = StartsWith-other c.loop-component.invariant c.in-Some.component _ left first other in
+    (λ e. absurd (true≢false (sym e)), λ starts. absurd (not_found starts))
 
 pub loop-component-preserved : goal.loop-component-preserved
 loop-component-preserved c =
-    Agrees-taken _ c.in-Some.component c.loop-component.invariant c.next-in-loop-component.ensures.steps c.in-Some.ensures.steps.0 (sym c.ne.ensures ∙ c.if-ne.false)
+    let left = c.next-in-loop-component.ensures.steps in
+    let first = c.in-Some.ensures.steps.0 in
+    let same = sym c.ne.ensures ∙ c.if-ne.false in
+    Agrees-taken c.loop-component.invariant c.in-Some.component _ left first same

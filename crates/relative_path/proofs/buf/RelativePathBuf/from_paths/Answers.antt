@@ -4,4 +4,7 @@ use Rattle.relative_path.proofs.buf.RelativePathBuf.from_paths.Goals as goal
 
 pub returns-clause-runs : goal.returns-clause-runs
 returns-clause-runs g c =
-    subst (λ (old : List ℕ). PushesWholeRun g.I.IntoIterator.into_iter_gives g.I.IntoIter.Iterator.next_gives c.args.paths old c.extend.new.self.text) c.new-buf.ensures c.in_ok-extend.ensures.runs
+    let becomes = g.I.IntoIterator.into_iter_gives in
+    let steps = g.I.IntoIter.Iterator.next_gives in
+    let runs = c.in_ok-extend.ensures.runs in
+    subst (λ (old : List ℕ). PushesWholeRun becomes steps c.args.paths old c.extend.new.self.text) c.new-buf.ensures runs

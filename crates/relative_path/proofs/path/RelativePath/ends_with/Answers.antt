@@ -7,9 +7,16 @@ use Rattle.relative_path.proofs.path.RelativePath.ends_with.Goals as goal
 pub returns-then-ne : goal.returns-then-ne
 returns-then-ne c =
     let front = components_left (rev_source c.next.new.self) in
-    (λ e. absurd (true≢false (sym e)), λ ends. absurd (EndsWith-other _ c.in-Some.component front c.loop-component.invariant c.next_back.ensures.steps c.in-Some.ensures.steps.0 (sym c.ne.ensures ∙ c.if-ne.true) ends))
+    let left = c.next_back.ensures.steps in
+    let last = c.in-Some.ensures.steps.0 in
+    let other = sym c.ne.ensures ∙ c.if-ne.true in
+    let not_found = EndsWith-other c.loop-component.invariant c.in-Some.component front _ left last other in
+    (λ e. absurd (true≢false (sym e)), λ ends. absurd (not_found ends))
 
 pub loop-component-preserved : goal.loop-component-preserved
 loop-component-preserved c =
     let front = components_left (rev_source c.next.new.self) in
-    AgreesBack-taken _ c.in-Some.component front c.loop-component.invariant c.next_back.ensures.steps c.in-Some.ensures.steps.0 (sym c.ne.ensures ∙ c.if-ne.false)
+    let left = c.next_back.ensures.steps in
+    let last = c.in-Some.ensures.steps.0 in
+    let same = sym c.ne.ensures ∙ c.if-ne.false in
+    AgreesBack-taken c.loop-component.invariant c.in-Some.component front _ left last same

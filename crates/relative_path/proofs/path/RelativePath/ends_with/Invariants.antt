@@ -6,4 +6,5 @@ use Rattle.relative_path.proofs.path.RelativePath.ends_with.Given as goal
 
 abbrev pub invariant-loop-component : goal.invariant-loop-component
 invariant-loop-component l =
-    AgreesBack (path_components l.fn.self) (path_components l.fn.child) (components_left l.left) (components_left (rev_source l.component-iterator))
+    let child_left = components_left (rev_source l.component-iterator) in
+    AgreesBack (path_components l.fn.self) (path_components l.fn.child) (components_left l.left) child_left
