@@ -14,3 +14,7 @@ pub mod CountingLemmas
 pub mod SpansLemmas
 pub mod NormalFormLemmas
 pub mod RelatingLemmas
+pub mod UnixComponentsLemmas
+pub mod UnixLemmas
+pub mod UnixTextsLemmas
+pub mod UnixWaysLemmas

@@ -20,7 +20,7 @@ use Rattle.relative_path.proofs.WalkLemmas.{IsSame-refl, IsSame-sym, IsSame-tran
 
 -- ---- reducing a list of components
 
-padded_len-append : (cs ds : List Step) → padded_len (cs ++ ds) ≡ padded_len cs + padded_len ds
+pub padded_len-append : (cs ds : List Step) → padded_len (cs ++ ds) ≡ padded_len cs + padded_len ds
 padded_len-append [] ds = omega arith
 padded_len-append (c ∷ cs) ds = omega (arith, padded_len-append cs ds)
 

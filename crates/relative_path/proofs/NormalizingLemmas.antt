@@ -78,7 +78,7 @@ pushed-spell cs c propers proper = ap (λ x. with_separator (spell cs) ++ x) sol
     behind (d ∷ ds) h =
         ap (λ x. x ++ step_text c) (with_separator-solid (spell (d ∷ ds)) (spell_nonempty d ds h.0) (spell_end (d ∷ ds) h)) ∙ append_assoc (spell (d ∷ ds)) (slash ∷ []) (step_text c) ∙ sym (spell-append d ds c [])
 
-spell-pushed : (text : List ℕ) (c : Step) → text ≡ spell (components text) → IsProper c → pushed text (step_text c) ≡ spell (components text ++ c ∷ [])
+pub spell-pushed : (text : List ℕ) (c : Step) → text ≡ spell (components text) → IsProper c → pushed text (step_text c) ≡ spell (components text ++ c ∷ [])
 spell-pushed text c spelled proper =
     ap (λ x. pushed x (step_text c)) spelled ∙ pushed-spell (components text) c (AreProper-components text) proper
 
@@ -189,7 +189,7 @@ Normalizes-end source limit text left h none =
 
 -- ---- when a `..` stays
 
-last_view : (cs : List Step) → (cs ≡ []) ⊎ ((ds : List Step) × (c : Step) × (cs ≡ ds ++ c ∷ []))
+pub last_view : (cs : List Step) → (cs ≡ []) ⊎ ((ds : List Step) × (c : Step) × (cs ≡ ds ++ c ∷ []))
 last_view [] = inl refl
 last_view (c ∷ cs) = elim (last_view cs) [
   | inl none ↦ inr ([], c, ap (λ x. c ∷ x) none)

@@ -14,3 +14,7 @@ pub mod Extending
 pub mod Components
 pub mod Comparing
 pub mod ComparingLaws
+pub mod Unix
+pub mod UnixComponents
+pub mod FromPathError
+pub mod RelativeToError

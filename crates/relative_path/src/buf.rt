@@ -1,6 +1,10 @@
 //! The owned relative path.
-ghost use Rattle.std.specs.Prelude.{◌≡◌, ◌≢◌, ◌≤◌, ◌<◌, ◌+◌, ◌↔◌, ◌++◌, [], ◌∷◌, if◌then◌else◌, ℕ, List, length, take, None, Some, IsSome, IfOk, IsOk, OnOk, OnErr, MatchResult, IsTrue, string_bytes};
-ghost use Rattle.relative_path.specs.Steps.{slash, components};
+ghost use Rattle.std.specs.Prelude.{◌≡◌, ◌≢◌, ◌≤◌, ◌<◌, ◌+◌, ◌↔◌, ◌++◌, [], ◌∷◌, if◌then◌else◌, ℕ, List, length, take, None, Some, false, IsSome, IfErr, IfOk, IsOk, OnOk, OnErr, MatchResult, IsTrue, string_bytes};
+ghost use Rattle.relative_path.specs.FromPathError.{from_path_kind};
+ghost use Rattle.relative_path.specs.Steps.{slash, components, spell};
+ghost use Rattle.relative_path.specs.Unix.{has_root, without_curs, unix_components};
+ghost use Rattle.relative_path.specs.declared.from_path_error.FromPathErrorKind.TheVariants.{NonRelative, OutOfMemory};
+ghost use Rattle.std.specs.Path.{path_bytes};
 ghost use Rattle.relative_path.specs.Editing.{pushed, with_piece, with_separator, IsPopped};
 ghost use Rattle.relative_path.specs.Naming.{file_name_of, extension_of, is_plain_extension, dotted, IsNamed, IsExtended};
 ghost use Rattle.relative_path.specs.Comparing.{steps_eq, steps_cmp, fed_by};
@@ -16,14 +20,17 @@ ghost use Rattle.std.specs.Ordering.{on, as_partial_cmp};
 ghost use Rattle.std.specs.String.{string_capacity};
 ghost use Rattle.std.proofs.Common.{refl};
 
-use crate::editing::{dotted_len, needs_separator, pushed_len, strip_slash};
+use crate::editing::{add_piece, dotted_len, needs_separator, pushed_len, strip_slash};
+use crate::from_path_error::FromPathError;
 use crate::naming::{base_of, last_component, without_extension};
 use crate::path::RelativePath;
+use crate::unix;
 use std::alloc::{AllocError, Global};
 use std::cmp::Ordering;
 use std::fmt;
 use std::hash::{Hash, Hasher};
 use std::marker::Model;
+use std::path::Path;
 
 /// A relative path that owns its text, and keeps the allocator that the text's memory comes from.
 ///
@@ -93,6 +100,26 @@ impl RelativePathBuf {
     {
         let text = String::from_str(alloc, text)?;
         Ok(RelativePathBuf { text })
+    }
+
+    /// The components of a platform path but each `.`, with single slashes between, unless it
+    /// begins with a slash.
+    ///
+    /// A path that begins with a slash is refused before any memory is asked for. Else it asks for
+    /// memory once, for as many bytes as the path has, and fails only where that is refused.
+    ///
+    /// ```
+    /// let buf = RelativePathBuf::from_path(alloc, Path::new("./foo//bar/."))?;
+    /// assert_eq!(rt; buf.as_relative_path().as_str(), "foo/bar");
+    /// ```
+    pub fn from_path(alloc: Global, path: Path<'_>) -> Result<RelativePathBuf, FromPathError>
+        ensures relative { IfOk result (λ buf. has_root (path_bytes path.entry) ≡ false) }
+        ensures ok { IfOk result (λ buf.
+            buf.text ≡ spell (without_curs (unix_components (path_bytes path.entry)))) }
+        ensures kind { IfErr result (λ error. from_path_kind error
+            ≡ (if has_root (path_bytes path.entry) then NonRelative else OutOfMemory)) }
+    {
+        unix::from_path(alloc, path.as_str())
     }
 
     /// The paths that the iterator gives, pushed in order onto the empty path.
@@ -218,10 +245,7 @@ impl RelativePathBuf {
         ensures text { self.new.text ≡ with_piece self.old.text piece.now }
         ensures room { self.old.room ≤ self.new.room }
     {
-        if !self.text.is_empty() {
-            self.text.push_str("/").unwrap();
-        }
-        self.text.push_str(piece).unwrap();
+        add_piece(&mut self.text, piece);
     }
 
     /// Replaces the file name, or pushes one if the path has none.

@@ -1,5 +1,5 @@
 //! The borrowed relative path.
-ghost use Rattle.std.specs.Prelude.{◌≡◌, ◌≢◌, ◌≤◌, ◌↔◌, ◌++◌, [], ◌∷◌, IfOk, IsOk, IfSome, IsSome, IsNone, IsTrue, Some, List, ℕ, length, slice_get};
+ghost use Rattle.std.specs.Prelude.{◌≡◌, ◌≢◌, ◌≤◌, ◌↔◌, ◌++◌, [], ◌∷◌, IfErr, IfOk, IsErr, IsOk, IfSome, IsSome, IsNone, IsTrue, Some, List, ℕ, length, slice_get};
 ghost use Rattle.relative_path.specs.Steps.{Step, name, components};
 ghost use Rattle.relative_path.specs.Editing.{kept_len, pushed, IsPopped};
 ghost use Rattle.relative_path.specs.Components.{GivesComponents, GivesTextsOfComponents, text_left, iter_text_left};
@@ -15,19 +15,26 @@ ghost use Rattle.relative_path.specs.Relating.{Leads, IsReachable, IsShortestTex
 ghost use Rattle.relative_path.specs.Walk.{IsSame, LeadsInTurn};
 ghost use Rattle.relative_path.specs.Prefixing.{StartsWith, EndsWith, IsDropped};
 ghost use Rattle.relative_path.specs.RelativePath.{path_text, path_components, display_text};
+ghost use Rattle.relative_path.specs.FromPathError.{from_path_kind};
+ghost use Rattle.relative_path.specs.Unix.{has_root, onto, IsLogical};
+ghost use Rattle.relative_path.specs.declared.from_path_error.FromPathErrorKind.TheVariants.{NonRelative};
+ghost use Rattle.std.specs.Path.{path_bytes, path_buf_bytes};
 
 use crate::buf::RelativePathBuf;
 use crate::component::{Component, Components, Iter};
 use crate::editing::{dotted_len, pushed_len};
+use crate::from_path_error::FromPathError;
 use crate::naming::{base_of, last_component, split_name, without_extension};
 use crate::normal_form::NormalForm;
 use crate::normalizing::follow;
 use crate::prefixing::path_after;
 use crate::relating::{Way, parting};
+use crate::unix;
 use std::alloc::{AllocError, Global};
 use std::cmp::Ordering;
 use std::fmt;
 use std::hash::{Hash, Hasher};
+use std::path::{Path, PathBuf};
 
 /// What [`RelativePath::strip_prefix`] answers where the path doesn't start with the base. It says
 /// no more than that: any two are equal.
@@ -62,6 +69,22 @@ impl<'a> RelativePath<'a> {
         ensures { path_text result ≡ text.now }
     {
         RelativePath { text }
+    }
+
+    /// The platform path as a relative path, unless it begins with a slash.
+    ///
+    /// The answer has the platform path's text, and takes no memory.
+    ///
+    /// ```
+    /// let path = RelativePath::from_path(Path::new("./foo//bar"))?;
+    /// assert_eq!(rt; path.as_str(), "./foo//bar");
+    /// ```
+    pub fn from_path(path: Path<'a>) -> Result<RelativePath<'a>, FromPathError>
+        ensures refused { IsErr result ↔ IsTrue (has_root (path_bytes path.entry)) }
+        ensures kind { IfErr result (λ error. from_path_kind error ≡ NonRelative) }
+        ensures text { IfOk result (λ view. path_text view ≡ path_bytes path.entry) }
+    {
+        unix::view(path.as_str())
     }
 
     /// The path's text.
@@ -148,6 +171,43 @@ impl<'a> RelativePath<'a> {
         ensures { IfOk result (λ buf. buf.text ≡ path_text self.entry) }
     {
         RelativePathBuf::from_text(alloc, self.text)
+    }
+
+    /// A platform path with the components of this path behind it, each as its text, with a slash
+    /// before each unless nothing stands before it.
+    ///
+    /// It asks for memory once, for at most the bytes of both and one more, and fails only where
+    /// that is refused.
+    ///
+    /// ```
+    /// let path = RelativePath::new("/bar//..").to_path(alloc, Path::new("foo"))?;
+    /// assert_eq!(rt; path.to_str(), Some("foo/bar/.."));
+    /// ```
+    pub fn to_path(self, alloc: Global, base: Path<'_>) -> Result<PathBuf, AllocError>
+        ensures { IfOk result
+            (λ path. path_buf_bytes path ≡ onto (path_bytes base.entry) (path_components self.entry)) }
+    {
+        let text = unix::to_path(alloc, self, base.as_str())?;
+        Ok(PathBuf::from(text))
+    }
+
+    /// The platform path to which this path leads from another one: `.` stays, `..` goes up as
+    /// [`unix::parent_text`] does, and a name is added behind a slash, unless nothing stands before
+    /// it.
+    ///
+    /// It asks for memory once, for at most the bytes of both and one more, and fails only where
+    /// that is refused.
+    ///
+    /// ```
+    /// let path = RelativePath::new("../baz").to_logical_path(alloc, Path::new("foo/bar"))?;
+    /// assert_eq!(rt; path.to_str(), Some("foo/baz"));
+    /// ```
+    pub fn to_logical_path(self, alloc: Global, base: Path<'_>) -> Result<PathBuf, AllocError>
+        ensures { IfOk result (λ path. IsLogical (path_bytes base.entry) (path_components self.entry)
+            (path_buf_bytes path)) }
+    {
+        let text = unix::to_logical_path(alloc, self, base.as_str())?;
+        Ok(PathBuf::from(text))
     }
 
     /// The path without each `.` at its end and one component more. Only the empty path has none.

@@ -1,0 +1,114 @@
+-- The components that count under the Unix rules: their parts, and texts cut behind them.
+use Rattle.std.proofs.Common.{◌≡◌, ◌≢◌, ◌⊎◌, ℕ, suc, ◌+◌, ◌-◌, ◌<◌, Bool, true, false, not, List, [], ◌∷◌, ◌++◌, length, get_or, drop, sym, refl, ap, ap₂, ◌∙◌, inl, inr, ⊎_elim, append-nil, arith, length-append, Option, Some, None, true≢false}
+use Rattle.std.specs.Option.{option_eq}
+use Rattle.std.specs.Ordering.{on}
+use Rattle.std.proofs.lemmas.List.{nil_from_length}
+use Rattle.std.proofs.lemmas.List.Elements.{filter-append}
+use Rattle.std.proofs.lemmas.Bool.{cond-true}
+use Rattle.relative_path.specs.Steps.{Step, cur, up, name, slash, components}
+use Rattle.relative_path.specs.Comparing.{step_eq}
+use Rattle.relative_path.specs.ComparingLaws.{step_eq-Decides}
+use Rattle.relative_path.specs.Editing.{is_cur}
+use Rattle.relative_path.specs.Components.{step_of, TakesLast}
+use Rattle.relative_path.specs.Slices.{IsShortestPrefix}
+use Rattle.relative_path.specs.declared.component.Component.{Component}
+use Rattle.relative_path.specs.declared.component.Component.TheVariants.{CurDir}
+use Rattle.relative_path.specs.Unix.{counted, but_last, shared_len}
+use Rattle.relative_path.proofs.StepsLemmas.{components-nil}
+use Rattle.relative_path.proofs.EditingLemmas.{end-IsShortestPrefix}
+use Rattle.relative_path.proofs.SlicesLemmas.{IsPrefix, IsPrefix-trans, IsPrefix-shortest}
+
+-- ---- what two lists begin with
+
+-- both lists without the components that both begin with
+abbrev pub unshared : List Step → List Step → List Step × List Step
+unshared cs ds = (drop (shared_len cs ds) cs, drop (shared_len cs ds) ds)
+
+unshared_both : (cs ds : List Step) (c d : Step) → step_eq c d ≡ true → unshared (c ∷ cs) (d ∷ ds) ≡ unshared cs ds
+unshared_both cs ds c d same =
+    let one_more : shared_len (c ∷ cs) (d ∷ ds) ≡ suc (shared_len cs ds) = omega (arith, cond-true (step_eq c d) (1 + shared_len cs ds) 0 same) in
+    ap (λ n. (drop n (c ∷ cs), drop n (d ∷ ds))) one_more
+
+pub unshared-both : (cs ds cs' ds' : List Step) (c d : Step) → cs ≡ c ∷ cs' → ds ≡ d ∷ ds' → c ≡ d
+    → unshared cs' ds' ≡ unshared cs ds
+unshared-both cs ds cs' ds' c d first second same =
+    sym (ap₂ unshared first second ∙ unshared_both cs' ds' c d ((step_eq-Decides c d).1 same))
+
+-- ---- the components that count
+
+-- whether a `.` behind these components does not count
+abbrev pub after : Bool → List Step → Bool
+after rooted [] = rooted
+after rooted (c ∷ cs) = true
+
+pub counted-append : (rooted : Bool) (cs ds : List Step)
+    → counted rooted (cs ++ ds) ≡ counted rooted cs ++ counted (after rooted cs) ds
+counted-append true [] ds = refl
+counted-append true (c ∷ cs) ds = filter-append (λ c. not (is_cur c)) (c ∷ cs) ds
+counted-append false [] ds = refl
+counted-append false (c ∷ cs) ds = ap (λ x. c ∷ x) (filter-append (λ c. not (is_cur c)) cs ds)
+
+counted_one : (rooted : Bool) (c : Step) → is_cur c ≡ false → counted rooted (c ∷ []) ≡ c ∷ []
+counted_one true c other = cond-true (not (is_cur c)) (c ∷ []) [] (ap not other)
+counted_one false c other = refl
+
+-- ---- the end of a text
+
+-- only slashes and `.` components that do not count were dropped from the end of the text
+pub record LosesIdle (rooted : Bool) (text left : List ℕ) : Type 0 where
+  pub prefix : IsPrefix text left
+  pub end : get_or left (length left - 1) 0 ≢ slash
+  pub same : counted rooted (components left) ≡ counted rooted (components text)
+
+-- the component taken is a `.`
+abbrev pub takes_cur : Option Component → Bool
+takes_cur taken = option_eq (on step_of step_eq) taken (Some CurDir)
+
+nil_from_components : (text front : List ℕ) (cs : List Step) → IsShortestPrefix text cs front → cs ≡ [] → front ≡ []
+nil_from_components text front cs cut none =
+    nil_from_length front (let short = cut.shortest 0 (components-nil ∙ sym none) in omega arith)
+
+-- a `.` behind others, or under a root, does not count
+counted_idle : (rooted : Bool) (cs : List Step) → (rooted ≡ true) ⊎ (cs ≢ [])
+    → counted rooted (cs ++ cur ∷ []) ≡ counted rooted cs
+counted_idle true [] idle = refl
+counted_idle true (c ∷ cs) idle = counted-append true (c ∷ cs) (cur ∷ []) ∙ append-nil (counted true (c ∷ cs))
+counted_idle false [] (inl e) = absurd (true≢false (sym e))
+counted_idle false [] (inr some) = absurd (some refl)
+counted_idle false (c ∷ cs) idle = counted-append false (c ∷ cs) (cur ∷ []) ∙ append-nil (counted false (c ∷ cs))
+
+pub LosesIdle-cur : (rooted : Bool) (text left front : List ℕ) (taken : Option Component) → takes_cur taken ≡ true
+    → LosesIdle rooted text left → TakesLast left taken front → (front ≢ []) ⊎ (rooted ≡ true)
+    → LosesIdle rooted text front
+LosesIdle-cur rooted text left front None is h takes idle = absurd (true≢false (sym is))
+LosesIdle-cur rooted text left front (Some c) is h (last, cut) idle =
+    let last : components left ≡ components front ++ cur ∷ [] = last ∙ ap (λ d. components front ++ d ∷ []) ((step_eq-Decides (step_of c) cur).0 is) in
+    let idle : (rooted ≡ true) ⊎ (components front ≢ []) = ⊎_elim (λ some. inr (λ none. some (nil_from_components left front _ cut (sym cut.same_components ∙ none)))) (λ e. inl e) idle in
+    record {
+      prefix = IsPrefix-trans h.prefix (IsPrefix-shortest cut);
+      end = end-IsShortestPrefix cut;
+      same = sym (counted_idle rooted (components front) idle) ∙ ap (counted rooted) (sym last) ∙ h.same;
+    }
+
+-- the last component counts
+abbrev pub LastCounts : Bool → List Step → Type 0
+LastCounts rooted cs = cs ≢ [] → length (counted rooted (but_last cs)) < length (counted rooted cs)
+
+last_counts : (rooted : Bool) (cs : List Step) (c : Step) → (is_cur c ≡ false) ⊎ ((cs ≡ []) × (rooted ≡ false))
+    → length (counted rooted cs) < length (counted rooted (cs ++ c ∷ []))
+last_counts rooted cs c (inl other) =
+    let one = ap length (counted_one (after rooted cs) c other) in
+    omega (arith, ap length (counted-append rooted cs (c ∷ [])), length-append (counted rooted cs) (counted (after rooted cs) (c ∷ [])))
+last_counts rooted cs c (inr (none, unrooted)) = rw (none, unrooted) (omega arith)
+
+pub LastCounts-taken : (rooted : Bool) (left front : List ℕ) (taken : Option Component) → TakesLast left taken front
+    → (takes_cur taken ≡ false) ⊎ ((front ≡ []) × (rooted ≡ false)) → LastCounts rooted (components left)
+LastCounts-taken rooted left front None (none, _) counts = λ some. absurd (some none)
+LastCounts-taken rooted left front (Some c) (last, cut) counts = λ _.
+    let counts : (is_cur (step_of c) ≡ false) ⊎ ((components front ≡ []) × (rooted ≡ false)) = ⊎_elim (λ e. inl (other (step_of c) e)) (λ h. inr (ap components h.0 ∙ components-nil, h.1)) counts in
+    rw (← cut.same_components, last) (last_counts rooted (components front) (step_of c) counts)
+  where
+    other : (d : Step) → step_eq d cur ≡ false → is_cur d ≡ false
+    other cur e = absurd (true≢false (sym ((step_eq-Decides cur cur).1 refl) ∙ e))
+    other up e = refl
+    other (name n) e = refl

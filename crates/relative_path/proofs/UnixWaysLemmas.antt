@@ -1,0 +1,118 @@
+-- Where platform paths lead from one another.
+use Rattle.std.proofs.Common.{◌≡◌, ℕ, zero, suc, ◌+◌, not, List, [], ◌∷◌, ◌++◌, length, take, drop, replicate, sym, refl, ap, ap₂, ◌∙◌, subst, ⊎_elim, append_assoc, append-nil, arith, length-append, length-take-le, take-append-drop, Option, Some, None, option_and_then, option_map}
+use Rattle.std.proofs.Math.Seq.{take-append-add}
+use Rattle.std.proofs.lemmas.Bool.{cases_Bool, cond-true, cond-false, cond_both}
+use Rattle.relative_path.specs.Steps.{Step, cur, up, name, components, spell}
+use Rattle.relative_path.specs.Walk.{above, walk, IsSame}
+use Rattle.relative_path.specs.Editing.{is_cur}
+use Rattle.relative_path.specs.Comparing.{step_eq}
+use Rattle.relative_path.specs.ComparingLaws.{step_eq-Decides}
+use Rattle.relative_path.specs.Unix.{has_root, without_curs, without_inner_curs, unix_components, shared_len, way_back, way_to}
+use Rattle.relative_path.proofs.StepsLemmas.{AreProper, AreProper-append, AreProper-components, components-spell}
+use Rattle.relative_path.proofs.WalkLemmas.{walk-append, IsSame-append_left}
+use Rattle.relative_path.proofs.UnixTextsLemmas.{AreProper-filter, AreProper-inner, IsProper-up}
+
+-- ---- where lists lead from the top
+
+-- from below a base the same steps lead to the same place below it
+walk-below : (base place : List (List ℕ)) (cs : List Step) (end : List (List ℕ)) → walk place cs ≡ Some end
+    → walk (base ++ place) cs ≡ Some (base ++ end)
+walk-below base place [] end leads = ap (option_map (λ ns. base ++ ns)) leads
+walk-below base place (cur ∷ cs) end leads = walk-below base place cs end leads
+walk-below base [] (up ∷ cs) end leads = absurd (cc)
+walk-below base (n ∷ ns) (up ∷ cs) end leads =
+    ap (option_and_then (λ p. walk p cs)) (above-below base n ns) ∙ walk-below base (take (length ns) (n ∷ ns)) cs end leads
+  where
+    above-below : (base : List (List ℕ)) (n : List ℕ) (ns : List (List ℕ))
+        → above (base ++ n ∷ ns) ≡ Some (base ++ take (length ns) (n ∷ ns))
+    above-below [] n ns = refl
+    above-below (b ∷ bs) n ns =
+        let count : length (bs ++ n ∷ ns) ≡ length (b ∷ bs) + length ns = omega (arith, length-append bs (n ∷ ns)) in
+        ap (λ k. Some (take k (b ∷ (bs ++ n ∷ ns)))) count ∙ ap Some (take-append-add (b ∷ bs) (n ∷ ns) (length ns))
+walk-below base place (name n ∷ cs) end leads =
+    ap (λ p. walk p cs) (append_assoc base place (n ∷ [])) ∙ walk-below base (place ++ n ∷ []) cs end leads
+
+-- as many `..` as a place has names lead from it to the top
+walk-replicate : (base : List (List ℕ)) (n : ℕ) (place : List (List ℕ)) → length place ≡ n
+    → walk (base ++ place) (replicate n up) ≡ Some base
+walk-replicate base zero [] count = ap Some (append-nil base)
+walk-replicate base zero (p ∷ ps) count = absurd (omega (arith, count))
+walk-replicate base (suc n) [] count = absurd (omega (arith, count))
+walk-replicate base (suc n) (p ∷ ps) count =
+    let one = walk-below base (p ∷ ps) (up ∷ []) (take (length ps) (p ∷ ps)) refl in
+    let len = length-take-le (length ps) (p ∷ ps) (omega arith) in
+    walk-append (base ++ p ∷ ps) (up ∷ []) (replicate n up) ∙ ap (option_and_then (λ q. walk q (replicate n up))) one ∙ walk-replicate base n (take (length ps) (p ∷ ps)) (omega (arith, len, count))
+
+IsSame-back : (from to : List Step) (place : List (List ℕ)) → walk [] from ≡ Some place
+    → IsSame (from ++ (replicate (length place) up ++ to)) to
+IsSame-back from to place leads = record {
+  everywhere = λ base.
+      let down : walk base from ≡ Some (base ++ place) = ap (λ p. walk p from) (sym (append-nil base)) ∙ walk-below base [] from place leads in
+      walk-append base from (replicate (length place) up ++ to) ∙ ap (option_and_then (λ p. walk p (replicate (length place) up ++ to))) down ∙ walk-append (base ++ place) (replicate (length place) up) to ∙ ap (option_and_then (λ p. walk p to)) (walk-replicate base (length place) place refl);
+}
+
+-- ---- the law
+
+take-shared : (cs ds : List Step) → take (shared_len cs ds) cs ≡ take (shared_len cs ds) ds
+take-shared [] [] = refl
+take-shared [] (d ∷ ds) = refl
+take-shared (c ∷ cs) [] = refl
+take-shared (c ∷ cs) (d ∷ ds) = ⊎_elim
+    (λ e.
+    let longer : shared_len (c ∷ cs) (d ∷ ds) ≡ suc (shared_len cs ds) = omega (arith, cond-true (step_eq c d) (1 + shared_len cs ds) 0 e) in
+    rw longer (ap₂ (λ x xs. x ∷ xs) ((step_eq-Decides c d).0 e) (take-shared cs ds)))
+    (λ e. rw (cond-false (step_eq c d) (1 + shared_len cs ds) 0 e) refl)
+    (cases_Bool (step_eq c d))
+
+AreProper-replicate : (n : ℕ) → AreProper (replicate n up)
+AreProper-replicate zero = tt
+AreProper-replicate (suc n) = (IsProper-up, AreProper-replicate n)
+
+AreProper-drop : (n : ℕ) (cs : List Step) → AreProper cs → AreProper (drop n cs)
+AreProper-drop zero cs proper = proper
+AreProper-drop (suc n) [] proper = tt
+AreProper-drop (suc n) (c ∷ cs) proper = AreProper-drop n cs proper.1
+
+AreProper-unix : (text : List ℕ) → AreProper (unix_components text)
+AreProper-unix text =
+    cond_both (has_root text) (without_curs (components text)) (without_inner_curs (components text)) AreProper (λ _. AreProper-filter (λ c. not (is_cur c)) (components text) (AreProper-components text)) (λ _. AreProper-inner text)
+
+pub components-climb : (n : ℕ) → components (spell (replicate n up)) ≡ replicate n up
+components-climb n = components-spell (replicate n up) (AreProper-replicate n)
+
+-- what is left of both lists, and where the root's part leads from the top
+pub way_to-from : (path root : List ℕ) (own_path own_root : List Step) (place : List (List ℕ))
+    → own_path ≡ drop (shared_len (unix_components path) (unix_components root)) (unix_components path)
+    → own_root ≡ drop (shared_len (unix_components path) (unix_components root)) (unix_components root)
+    → walk [] own_root ≡ Some place → way_to path root ≡ Some (replicate (length place) up ++ own_path)
+way_to-from path root own_path own_root place is_path is_root leads =
+    ap₂ way_back (sym is_root) (sym is_path) ∙ ap (option_map (λ p. replicate (length p) up ++ own_path)) leads
+
+-- behind the root, the way leads where the path leads
+pub IsSame-way : (path root : List ℕ) (way : List Step) → way_to path root ≡ Some way
+    → IsSame (unix_components root ++ components (spell way)) (unix_components path)
+IsSame-way path root way is = leads (walk [] from) refl is
+  where
+    shared : ℕ
+    shared = shared_len (unix_components path) (unix_components root)
+
+    from : List Step
+    from = drop shared (unix_components root)
+
+    to : List Step
+    to = drop shared (unix_components path)
+
+    leads : (o : Option (List (List ℕ))) → walk [] from ≡ o
+        → option_map (λ place. replicate (length place) up ++ to) o ≡ Some way
+        → IsSame (unix_components root ++ components (spell way)) (unix_components path)
+    leads None at e = absurd (cc)
+    leads (Some place) at e =
+        let written : way ≡ replicate (length place) up ++ to = cc in
+        let proper : AreProper (replicate (length place) up ++ to) = AreProper-append (replicate (length place) up) to (AreProper-replicate (length place)) (AreProper-drop shared (unix_components path) (AreProper-unix path)) in
+        let spelled : components (spell way) ≡ replicate (length place) up ++ to = ap (λ cs. components (spell cs)) written ∙ components-spell (replicate (length place) up ++ to) proper in
+        let front = take shared (unix_components root) in
+        let roots : front ++ from ≡ unix_components root = take-append-drop shared (unix_components root) in
+        let paths : front ++ to ≡ unix_components path = ap (λ cs. cs ++ to) (sym (take-shared (unix_components path) (unix_components root))) ∙ take-append-drop shared (unix_components path) in
+        let whole : unix_components root ++ components (spell way) ≡ front ++ (from ++ (replicate (length place) up ++ to)) = ap₂ (λ cs ds. cs ++ ds) (sym roots) spelled ∙ append_assoc front from (replicate (length place) up ++ to) in
+        let leads : IsSame (front ++ (from ++ (replicate (length place) up ++ to))) (front ++ to) = IsSame-append_left front (from ++ (replicate (length place) up ++ to)) to (IsSame-back from to place at) in
+        subst (λ cs. IsSame cs (unix_components path)) (sym whole) (subst (IsSame (front ++ (from ++ (replicate (length place) up ++ to)))) paths leads)

@@ -1,0 +1,10 @@
+use Rattle.std.proofs.Common.{refl, ◌∙◌}
+use Rattle.relative_path.proofs.UnixComponentsLemmas.{unshared-both}
+use Rattle.relative_path.proofs.unix_components.without_shared.Goals as goal
+
+pub loop-ours-preserved : goal.loop-ours-preserved
+loop-ours-preserved c =
+    let ours = rw c.in-Some-Some.is-0 at c.next.ensures.steps in
+    let theirs = rw c.in-Some-Some.is-1 at c.next-in-loop-ours.ensures.steps in
+    let same = rw (c.in-Some-Some.ours-is, c.in-Some-Some.theirs-is) at c.if-eq.ensures.same.0 refl in
+    unshared-both _ _ _ _ _ _ ours theirs same ∙ c.loop-ours.invariant

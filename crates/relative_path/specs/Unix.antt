@@ -1,0 +1,71 @@
+-- Platform paths under the Unix rules, which the documentation of Rust's `std::path` gives for the components of a path:
+-- a slash at the start is the root, other slashes only separate, and a `.` counts only at the start of a path without a root.
+use Rattle.std.specs.Prelude.{◌≡◌, ◌≢◌, ℕ, ◌-◌, ◌≤◌, Bool, false, not, List, [], ◌∷◌, ◌++◌, length, take, drop, replicate, Option, if◌then◌else◌}
+use Rattle.std.specs.List.{filter, common_prefix_len}
+use Rattle.std.specs.Option.{option_map}
+use Rattle.relative_path.specs.Steps.{Step, cur, up, name, is_slash, step_text, components}
+use Rattle.relative_path.specs.Walk.{walk}
+use Rattle.relative_path.specs.Editing.{is_cur, with_piece}
+use Rattle.relative_path.specs.Comparing.{step_eq}
+
+-- the text begins with a slash
+abbrev pub has_root : List ℕ → Bool
+has_root [] = false
+has_root (b ∷ bs) = is_slash b
+
+-- the components without each `.`
+abbrev pub without_curs : List Step → List Step
+without_curs cs = filter (λ c. not (is_cur c)) cs
+
+-- the components without each `.` but a first one
+abbrev pub without_inner_curs : List Step → List Step
+without_inner_curs [] = []
+without_inner_curs (c ∷ cs) = c ∷ without_curs cs
+
+-- the components that count: behind a root, or at the start of a path without one
+abbrev pub counted : (rooted : Bool) → List Step → List Step
+counted rooted cs = if rooted then without_curs cs else without_inner_curs cs
+
+-- the components of the text under the Unix rules, behind its root if it has one
+abbrev pub unix_components : List ℕ → List Step
+unix_components text = counted (has_root text) (components text)
+
+-- all of the components but the last
+abbrev pub but_last : List Step → List Step
+but_last cs = take (length cs - 1) cs
+
+-- p is what going up from the text leaves: the text itself where it has no component,
+-- and else the shortest prefix that has the same root and all its components but the last
+pub record IsAbove (text p : List ℕ) : Type 0 where
+  pub at_top : unix_components text ≡ [] → p ≡ text
+  pub prefix : p ≡ take (length p) text
+  pub same_root : has_root p ≡ has_root text
+  pub components : unix_components p ≡ but_last (unix_components text)
+  pub shortest : unix_components text ≢ [] → (k : ℕ) → has_root (take k text) ≡ has_root text
+      → unix_components (take k text) ≡ unix_components p → length p ≤ k
+
+-- the base with the text of each component added in turn
+abbrev pub onto : List ℕ → List Step → List ℕ
+onto base [] = base
+onto base (c ∷ cs) = onto (with_piece base (step_text c)) cs
+
+-- text is where the components lead from the base: `.` stays, `..` goes up, a name is added
+abbrev pub IsLogical : List ℕ → List Step → List ℕ → Type 0
+IsLogical base [] text = text ≡ base
+IsLogical base (cur ∷ cs) text = IsLogical base cs text
+IsLogical base (up ∷ cs) text = (p : List ℕ) × IsAbove base p × IsLogical p cs text
+IsLogical base (name n ∷ cs) text = IsLogical (with_piece base n) cs text
+
+-- a `..` for each name of the place where from leads from the top, and then to; none where from climbs above the top
+abbrev pub way_back : (from to : List Step) → Option (List Step)
+way_back from to = option_map (λ place. replicate (length place) up ++ to) (walk [] from)
+
+-- how many components both lists begin with
+abbrev pub shared_len : List Step → List Step → ℕ
+shared_len = common_prefix_len step_eq
+
+-- the way from the root to the path, behind the components that both begin with; none where the root climbs above those
+abbrev pub way_to : (path root : List ℕ) → Option (List Step)
+way_to path root =
+    let shared = shared_len (unix_components path) (unix_components root) in
+    way_back (drop shared (unix_components root)) (drop shared (unix_components path))

@@ -1,0 +1,238 @@
+//! Platform paths as texts, under the Unix rules for their components.
+//!
+//! A slash at the start is the root, other slashes only separate, and a `.` counts only at the
+//! start of a path without a root. Nothing here asks the file system.
+ghost use Rattle.std.specs.Prelude.{◌≡◌, ◌≢◌, ◌↔◌, ◌++◌, List, ℕ, IfOk, IfErr, IsErr, IsErrAnd, IsTrue, Some, None, false, if◌then◌else◌, string_bytes};
+ghost use Rattle.std.specs.Path.{path_bytes, path_buf_bytes};
+ghost use Rattle.relative_path.specs.FromPathError.{from_path_kind};
+ghost use Rattle.relative_path.specs.RelativePath.{path_text, path_components};
+ghost use Rattle.relative_path.specs.RelativeToError.{relative_to_kind};
+ghost use Rattle.relative_path.specs.Steps.{Step, components, spell};
+ghost use Rattle.relative_path.specs.Unix.{has_root, without_curs, unix_components, onto, way_to, IsAbove, IsLogical};
+ghost use Rattle.relative_path.specs.Walk.{IsSame};
+ghost use Rattle.relative_path.specs.declared.from_path_error.FromPathErrorKind.TheVariants as from_path_kinds;
+ghost use Rattle.relative_path.specs.declared.relative_to_error.RelativeToErrorKind.TheVariants as relative_to_kinds;
+
+use crate::buf::RelativePathBuf;
+use crate::component::Component;
+use crate::editing::add_piece;
+use crate::from_path_error::{FromPathError, FromPathErrorKind};
+use crate::path::RelativePath;
+use crate::relative_to_error::{RelativeToError, RelativeToErrorKind};
+use crate::unix_components::{UnixComponents, depth, has_root, without_idle_end, without_shared};
+use crate::unix_texts::{base_with_room, climbing, push_each, way_len};
+use std::alloc::{AllocError, Global};
+use std::path::{Path, PathBuf};
+
+/// The text that going up from a platform path leaves: the shortest part of its front that has the
+/// same root and all its components but the last. A text without a component stays as it is.
+///
+/// The answer takes no memory.
+///
+/// ```
+/// assert_eq!(rt; unix::parent_text("//foo/./bar"), "//foo");
+/// ```
+pub fn parent_text(text: &str) -> &str
+    ensures { IsAbove text.now result.now }
+{
+    let rooted = has_root(text);
+    let mut components = without_idle_end(RelativePath::new(text), rooted).components();
+    if components.next_back().is_none() {
+        return text;
+    }
+    let parent = without_idle_end(components.as_relative_path(), rooted).as_str();
+    if rooted && parent.is_empty() {
+        "/"
+    } else {
+        parent
+    }
+}
+
+/// The platform path as a relative path, unless it begins with a slash.
+///
+/// The answer is the text itself, and takes no memory.
+///
+/// ```
+/// assert_eq!(rt; unix::view("./foo//bar")?.as_str(), "./foo//bar");
+/// ```
+pub fn view(text: &str) -> Result<RelativePath<'_>, FromPathError>
+    ensures refused { IsErr result ↔ IsTrue (has_root text.now) }
+    ensures kind { IfErr result (λ error. from_path_kind error ≡ from_path_kinds.NonRelative) }
+    ensures text { IfOk result (λ path. path_text path ≡ text.now) }
+{
+    if has_root(text) {
+        return Err(FromPathErrorKind::NonRelative.into());
+    }
+    Ok(RelativePath::new(text))
+}
+
+/// The components of a platform path but each `.`, with single slashes between, unless it begins
+/// with a slash.
+///
+/// A text that begins with a slash is refused before any memory is asked for. Else it asks for
+/// memory once, for as many bytes as the text has, and fails only where that is refused.
+///
+/// ```
+/// let path = unix::from_path(alloc, "./foo//bar/.")?;
+/// assert_eq!(rt; path.as_relative_path().as_str(), "foo/bar");
+/// ```
+pub fn from_path(alloc: Global, text: &str) -> Result<RelativePathBuf, FromPathError>
+    ensures relative { IfOk result (λ path. has_root text.now ≡ false) }
+    ensures ok { IfOk result (λ path. path.text ≡ spell (without_curs (unix_components text.now))) }
+    ensures kind { IfErr result (λ error. from_path_kind error
+        ≡ (if has_root text.now then from_path_kinds.NonRelative else from_path_kinds.OutOfMemory)) }
+{
+    let components = UnixComponents::without_curs(view(text)?);
+    let mut path = RelativePathBuf::with_capacity(alloc, text.len())?;
+    push_each(&mut path, components);
+    Ok(path)
+}
+
+/// The platform path with the components of a relative path behind it, each as its text, with a
+/// slash before each unless nothing stands before it.
+///
+/// It asks for memory once, for at most the bytes of both and one more, and fails only where that
+/// is refused.
+///
+/// ```
+/// let path = unix::to_path(alloc, RelativePath::new("../bar//baz"), "/foo")?;
+/// assert_eq!(rt; path.as_str(), "/foo/../bar/baz");
+/// ```
+pub fn to_path(alloc: Global, path: RelativePath<'_>, base: &str) -> Result<String, AllocError>
+    ensures { IfOk result (λ text. string_bytes text ≡ onto base.now (path_components path.entry)) }
+{
+    let mut text = base_with_room(alloc, base, path)?;
+    for component in path.components() {
+        add_piece(&mut text, component.as_str());
+    }
+    Ok(text)
+}
+
+/// The platform path to which a relative path leads from another one: `.` stays, `..` goes up as
+/// [`parent_text`] does, and a name is added behind a slash, unless nothing stands before it.
+///
+/// It asks for memory once, for at most the bytes of both and one more, and fails only where that
+/// is refused.
+///
+/// ```
+/// let path = unix::to_logical_path(alloc, RelativePath::new("../bar//baz"), "/foo")?;
+/// assert_eq!(rt; path.as_str(), "//bar/baz");
+/// ```
+pub fn to_logical_path(
+    alloc: Global,
+    path: RelativePath<'_>,
+    base: &str,
+) -> Result<String, AllocError>
+    ensures { IfOk result
+        (λ text. IsLogical base.now (path_components path.entry) (string_bytes text)) }
+{
+    let mut text = base_with_room(alloc, base, path)?;
+    for component in path.components() {
+        match component {
+            Component::CurDir => {}
+            Component::ParentDir => {
+                let parent_len = parent_text(text.as_str()).len();
+                text.truncate(parent_len);
+            }
+            Component::Normal(name) => add_piece(&mut text, name),
+        }
+    }
+    Ok(text)
+}
+
+/// The relative path from one platform path, the root, to another. What both begin with is dropped;
+/// a `..` for each name that is left of the root, when it is walked from there, stands before what
+/// is left of the path.
+///
+/// It is refused where only one of the texts begins with a slash, and else where what is left of
+/// the root climbs above what both begin with. These refusals come before any memory is asked for.
+/// Else it asks for memory once, for exactly the answer, and fails only where that is refused.
+///
+/// ```
+/// let path = unix::relative_to(alloc, "/foo/qux", "/foo/bar/./baz")?;
+/// assert_eq!(rt; path.as_relative_path().as_str(), "../../qux");
+/// ```
+pub fn relative_to(
+    alloc: Global,
+    path: &str,
+    root: &str,
+) -> Result<RelativePathBuf, RelativeToError>
+    ensures prefix_mismatch { IsErrAnd result
+        (λ error. relative_to_kind error ≡ relative_to_kinds.PrefixMismatch)
+        ↔ (has_root path.now ≢ has_root root.now) }
+    ensures ambiguous_traversal { IsErrAnd result
+        (λ error. relative_to_kind error ≡ relative_to_kinds.AmbiguousTraversal)
+        ↔ ((has_root path.now ≡ has_root root.now) × (way_to path.now root.now ≡ None)) }
+    ensures kind { IfErr result (λ error. relative_to_kind error ≢ relative_to_kinds.NonUtf8
+        × relative_to_kind error ≢ relative_to_kinds.IllegalComponent) }
+    ensures ok { IfOk result (λ answer. (way : List Step) × (way_to path.now root.now ≡ Some way)
+        × (answer.text ≡ spell way)) }
+    ensures leads { IfOk result (λ answer. IsSame
+        (unix_components root.now ++ components answer.text) (unix_components path.now)) }
+{
+    if has_root(path) != has_root(root) {
+        return Err(RelativeToErrorKind::PrefixMismatch.into());
+    }
+    let (path, root) = without_shared(UnixComponents::new(path), UnixComponents::new(root));
+    let climb = depth(root).ok_or(RelativeToErrorKind::AmbiguousTraversal)?;
+    let len = way_len(climb, path).ok_or(RelativeToErrorKind::OutOfMemory)?;
+    let mut answer = climbing(alloc, climb, len)?;
+    push_each(&mut answer, path);
+    Ok(answer)
+}
+
+/// The call on platform paths that the standard library lacks.
+///
+/// It is closed: it is implemented for [`Path`] and [`PathBuf`] here, and meant for no other type.
+///
+/// ```
+/// let baz = Path::new("/foo/bar/baz");
+/// let path = baz.relative_to(alloc, Path::new("/foo/bar/qux"))?;
+/// assert_eq!(rt; path.as_relative_path().as_str(), "../baz");
+/// ```
+pub trait PathExt {
+    ghost text: { Self → List ℕ };
+
+    /// The relative path from another platform path, the root, to this one: what [`relative_to`]
+    /// answers of their texts.
+    fn relative_to(&self, alloc: Global, root: Path<'_>) -> Result<RelativePathBuf, RelativeToError>
+        ensures prefix_mismatch { IsErrAnd result
+            (λ error. relative_to_kind error ≡ relative_to_kinds.PrefixMismatch)
+            ↔ (has_root (text self.now) ≢ has_root (path_bytes root.entry)) }
+        ensures ambiguous_traversal { IsErrAnd result
+            (λ error. relative_to_kind error ≡ relative_to_kinds.AmbiguousTraversal)
+            ↔ ((has_root (text self.now) ≡ has_root (path_bytes root.entry))
+            × (way_to (text self.now) (path_bytes root.entry) ≡ None)) }
+        ensures kind { IfErr result (λ error. relative_to_kind error ≢ relative_to_kinds.NonUtf8
+            × relative_to_kind error ≢ relative_to_kinds.IllegalComponent) }
+        ensures ok { IfOk result (λ answer. (way : List Step)
+            × (way_to (text self.now) (path_bytes root.entry) ≡ Some way)
+            × (answer.text ≡ spell way)) }
+        ensures leads { IfOk result (λ answer. IsSame
+            (unix_components (path_bytes root.entry) ++ components answer.text)
+            (unix_components (text self.now))) };
+}
+
+impl PathExt for Path<'_> {
+    ghost text = { path_bytes };
+
+    fn relative_to(
+        &self,
+        alloc: Global,
+        root: Path<'_>,
+    ) -> Result<RelativePathBuf, RelativeToError> {
+        relative_to(alloc, self.as_str(), root.as_str())
+    }
+}
+
+impl PathExt for PathBuf {
+    ghost text = { path_buf_bytes };
+
+    fn relative_to(
+        &self,
+        alloc: Global,
+        root: Path<'_>,
+    ) -> Result<RelativePathBuf, RelativeToError> {
+        self.as_path().relative_to(alloc, root)
+    }
+}
