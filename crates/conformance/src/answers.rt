@@ -2,8 +2,9 @@
 
 use crate::call::Call;
 use crate::refusal::Refusal;
-use relative_path::{Component, RelativePath, RelativePathBuf};
+use relative_path::{Component, PathExt, RelativePath, RelativePathBuf};
 use std::alloc::{AllocError, Global};
+use std::path::Path;
 
 /// Makes the call that a line names, and gives the fields of its answer, with tabs between.
 pub fn answer(alloc: Global, line: &str) -> Result<String, Refusal> {
@@ -18,6 +19,11 @@ pub fn answer(alloc: Global, line: &str) -> Result<String, Refusal> {
         "display" => display(alloc, call.one()?),
         "debug" => debug(alloc, call.one()?),
         "width" => width(alloc, call.two()?),
+        "from_path" => from_path(alloc, call.one()?),
+        "from_path_owned" => from_path_owned(alloc, call.one()?),
+        "to_path" => to_path(alloc, call.two()?),
+        "to_logical_path" => to_logical_path(alloc, call.two()?),
+        "relative_to" => relative_to(alloc, call.two()?),
         "parent" => parent(alloc, call.one()?),
         "file_name" => file_name(alloc, call.one()?),
         "file_stem" => file_stem(alloc, call.one()?),
@@ -93,6 +99,28 @@ fn width(alloc: Global, (path, width): (&str, &str)) -> Result<String, Refusal> 
     let path = RelativePath::new(path);
     let width: usize = width.parse().map_err(|_| Refusal::NotAWidth)?;
     Ok(format!(in alloc; "{path:width$}")?)
+}
+
+fn from_path(alloc: Global, path: &str) -> Result<String, Refusal> {
+    Ok(RelativePath::from_path(Path::new(path))?.to_string(alloc)?)
+}
+
+fn from_path_owned(alloc: Global, path: &str) -> Result<String, Refusal> {
+    text_of(alloc, &RelativePathBuf::from_path(alloc, Path::new(path))?)
+}
+
+fn to_path(alloc: Global, (path, base): (&str, &str)) -> Result<String, Refusal> {
+    let path = RelativePath::new(path).to_path(alloc, Path::new(base))?;
+    Ok(path.into_string())
+}
+
+fn to_logical_path(alloc: Global, (path, base): (&str, &str)) -> Result<String, Refusal> {
+    let path = RelativePath::new(path).to_logical_path(alloc, Path::new(base))?;
+    Ok(path.into_string())
+}
+
+fn relative_to(alloc: Global, (path, root): (&str, &str)) -> Result<String, Refusal> {
+    text_of(alloc, &Path::new(path).relative_to(alloc, Path::new(root))?)
 }
 
 fn parent(alloc: Global, path: &str) -> Result<String, Refusal> {

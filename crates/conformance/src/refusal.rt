@@ -1,27 +1,44 @@
 //! Why a line is not answered.
 
+use relative_path::{FromPathError, RelativeToError};
 use std::alloc::{AllocError, AllocFailed};
 use std::fmt;
 
 /// Why a line is not answered.
-#[derive(Clone, Copy)]
+#[derive(Drop)]
 pub enum Refusal {
     UnknownCommand,
     WrongFieldCount,
     UnknownStep,
     NotAWidth,
+    FromPath(FromPathError),
+    RelativeTo(RelativeToError),
     OutOfMemory,
 }
 
 impl fmt::Display for Refusal {
     fn fmt<W: fmt::Write>(&self, f: &mut fmt::Formatter<W>) -> fmt::Result {
-        f.write_str(match self {
-            Refusal::UnknownCommand => "unknown command",
-            Refusal::WrongFieldCount => "wrong number of fields",
-            Refusal::UnknownStep => "unknown step",
-            Refusal::NotAWidth => "not a width",
-            Refusal::OutOfMemory => "out of memory",
-        })
+        match self {
+            Refusal::UnknownCommand => f.write_str("unknown command"),
+            Refusal::WrongFieldCount => f.write_str("wrong number of fields"),
+            Refusal::UnknownStep => f.write_str("unknown step"),
+            Refusal::NotAWidth => f.write_str("not a width"),
+            Refusal::FromPath(error) => error.fmt(f),
+            Refusal::RelativeTo(error) => error.fmt(f),
+            Refusal::OutOfMemory => f.write_str("out of memory"),
+        }
+    }
+}
+
+impl From<FromPathError> for Refusal {
+    fn from(error: FromPathError) -> Refusal {
+        Refusal::FromPath(error)
+    }
+}
+
+impl From<RelativeToError> for Refusal {
+    fn from(error: RelativeToError) -> Refusal {
+        Refusal::RelativeTo(error)
     }
 }
 

@@ -6,6 +6,7 @@ mod joining;
 mod extending;
 mod naming;
 mod normalizing;
+mod platform;
 mod prefixing;
 mod printing;
 mod readme;
