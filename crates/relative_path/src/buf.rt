@@ -20,7 +20,7 @@ ghost use Rattle.std.specs.Ordering.{on, as_partial_cmp};
 ghost use Rattle.std.specs.String.{string_capacity};
 ghost use Rattle.std.proofs.Common.{refl};
 
-use crate::editing::{dotted_len, needs_separator, pushed_len, strip_slash};
+use crate::editing::{add_piece, dotted_len, needs_separator, pushed_len, strip_slash};
 use crate::from_path_error::FromPathError;
 use crate::naming::{base_of, last_component, without_extension};
 use crate::path::RelativePath;
@@ -247,10 +247,7 @@ impl RelativePathBuf {
         ensures text { self.new.text ≡ with_piece self.old.text piece.now }
         ensures room { self.old.room ≤ self.new.room }
     {
-        if !self.text.is_empty() {
-            self.text.push_str("/").unwrap();
-        }
-        self.text.push_str(piece).unwrap();
+        add_piece(&mut self.text, piece);
     }
 
     /// Replaces the file name, or pushes one if the path has none.

@@ -34,7 +34,7 @@ pub enum FromPathErrorKind {
 ///
 /// ```
 /// let refused = unix::view("/foo").unwrap_err();
-/// println!(rt; "{refused}")?; // path contains non-relative component
+/// assert_eq!(rt; refused.to_string(alloc)?.as_str(), "path contains non-relative component");
 /// ```
 #[derive(Clone, Debug, PartialEq, Eq, Drop)]
 pub struct FromPathError {

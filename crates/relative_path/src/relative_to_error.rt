@@ -38,7 +38,7 @@ pub enum RelativeToErrorKind {
 ///
 /// ```
 /// let refused = unix::relative_to(alloc, ".", "a/../..").unwrap_err();
-/// println!(rt; "{refused}")?; // path traversal cannot be determined
+/// assert_eq!(rt; refused.to_string(alloc)?.as_str(), "path traversal cannot be determined");
 /// ```
 #[derive(Clone, Debug, PartialEq, Eq, Drop)]
 pub struct RelativeToError {

@@ -1,7 +1,7 @@
 //! Platform paths as texts, under the Unix rules for their components.
 //!
-//! A slash at the start is the root, other slashes only separate, and a `.` counts only at the start of a path without
-//! a root. Nothing here asks the file system.
+//! A slash at the start is the root, other slashes only separate, and a `.` counts only at the
+//! start of a path without a root. Nothing here asks the file system.
 ghost use Rattle.std.specs.Prelude.{◌≡◌, ◌≢◌, ◌↔◌, ◌++◌, List, ℕ, IfOk, IfErr, IsErr, IsErrAnd, IsTrue, Some, None, false, if◌then◌else◌, string_bytes};
 ghost use Rattle.std.specs.Path.{path_bytes, path_buf_bytes};
 ghost use Rattle.relative_path.specs.FromPathError.{from_path_kind};
@@ -15,16 +15,17 @@ ghost use Rattle.relative_path.specs.declared.relative_to_error.RelativeToErrorK
 
 use crate::buf::RelativePathBuf;
 use crate::component::Component;
+use crate::editing::add_piece;
 use crate::from_path_error::{FromPathError, FromPathErrorKind};
 use crate::path::RelativePath;
 use crate::relative_to_error::{RelativeToError, RelativeToErrorKind};
 use crate::unix_components::{UnixComponents, depth, has_root, without_idle_end, without_shared};
-use crate::unix_texts::{add_piece, base_with_room, climbing, push_each, way_len};
+use crate::unix_texts::{base_with_room, climbing, push_each, way_len};
 use std::alloc::{AllocError, Global};
 use std::path::{Path, PathBuf};
 
-/// The text that going up from a platform path leaves: the shortest part of its front that has the same root and all its
-/// components but the last. A text without a component stays as it is.
+/// The text that going up from a platform path leaves: the shortest part of its front that has the
+/// same root and all its components but the last. A text without a component stays as it is.
 ///
 /// The answer takes no memory.
 ///
@@ -54,7 +55,7 @@ pub fn parent_text(text: &str) -> &str
 /// ```
 /// assert_eq!(rt; unix::view("./foo//bar")?.as_str(), "./foo//bar");
 /// ```
-pub fn view<'a>(text: &'a str) -> Result<RelativePath<'a>, FromPathError>
+pub fn view(text: &str) -> Result<RelativePath<'_>, FromPathError>
     ensures refused { IsErr result ↔ IsTrue (has_root text.now) }
     ensures kind { IfErr result (λ error. from_path_kind error ≡ from_path_kinds.NonRelative) }
     ensures text { IfOk result (λ path. path_text path ≡ text.now) }
@@ -65,10 +66,11 @@ pub fn view<'a>(text: &'a str) -> Result<RelativePath<'a>, FromPathError>
     Ok(RelativePath::new(text))
 }
 
-/// The components of a platform path but each `.`, with single slashes between, unless it begins with a slash.
+/// The components of a platform path but each `.`, with single slashes between, unless it begins
+/// with a slash.
 ///
-/// A text that begins with a slash is refused before any memory is asked for. Else it asks for memory once, for as many
-/// bytes as the text has, and fails only where that is refused.
+/// A text that begins with a slash is refused before any memory is asked for. Else it asks for
+/// memory once, for as many bytes as the text has, and fails only where that is refused.
 ///
 /// ```
 /// let path = unix::from_path(alloc, "./foo//bar/.")?;
@@ -86,10 +88,11 @@ pub fn from_path(alloc: Global, text: &str) -> Result<RelativePathBuf, FromPathE
     Ok(path)
 }
 
-/// The platform path with the components of a relative path behind it, each as its text, with a slash before each unless
-/// nothing stands before it.
+/// The platform path with the components of a relative path behind it, each as its text, with a
+/// slash before each unless nothing stands before it.
 ///
-/// It asks for memory once, for at most the bytes of both and one more, and fails only where that is refused.
+/// It asks for memory once, for at most the bytes of both and one more, and fails only where that
+/// is refused.
 ///
 /// ```
 /// let path = unix::to_path(alloc, RelativePath::new("../bar//baz"), "/foo")?;
@@ -105,10 +108,11 @@ pub fn to_path(alloc: Global, path: RelativePath<'_>, base: &str) -> Result<Stri
     Ok(text)
 }
 
-/// The platform path to which a relative path leads from another one: `.` stays, `..` goes up as [`parent_text`] does, and
-/// a name is added behind a slash, unless nothing stands before it.
+/// The platform path to which a relative path leads from another one: `.` stays, `..` goes up as
+/// [`parent_text`] does, and a name is added behind a slash, unless nothing stands before it.
 ///
-/// It asks for memory once, for at most the bytes of both and one more, and fails only where that is refused.
+/// It asks for memory once, for at most the bytes of both and one more, and fails only where that
+/// is refused.
 ///
 /// ```
 /// let path = unix::to_logical_path(alloc, RelativePath::new("../bar//baz"), "/foo")?;
@@ -136,12 +140,13 @@ pub fn to_logical_path(
     Ok(text)
 }
 
-/// The relative path from one platform path, the root, to another. What both begin with is dropped; a `..` for each name
-/// that is left of the root, when it is walked from there, stands before what is left of the path.
+/// The relative path from one platform path, the root, to another. What both begin with is dropped;
+/// a `..` for each name that is left of the root, when it is walked from there, stands before what
+/// is left of the path.
 ///
-/// It is refused where only one of the texts begins with a slash, and else where what is left of the root climbs above
-/// what both begin with. These refusals come before any memory is asked for. Else it asks for memory once, for exactly
-/// the answer, and fails only where that is refused.
+/// It is refused where only one of the texts begins with a slash, and else where what is left of
+/// the root climbs above what both begin with. These refusals come before any memory is asked for.
+/// Else it asks for memory once, for exactly the answer, and fails only where that is refused.
 ///
 /// ```
 /// let path = unix::relative_to(alloc, "/foo/qux", "/foo/bar/./baz")?;

@@ -86,7 +86,8 @@ pub(crate) fn without_shared<'a, 'b>(
     }
 }
 
-// How many names lie between the top and where the components lead from there; none where they climb above it.
+// How many names lie between the top and where the components lead from there; none where they
+// climb above it.
 pub(crate) fn depth(left: UnixComponents<'_>) -> Option<usize>
     ensures { MatchOption result (walk [] (unix_left left.entry) ≡ None)
         (λ depth. (place : List (List ℕ)) × (walk [] (unix_left left.entry) ≡ Some place)

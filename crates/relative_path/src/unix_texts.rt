@@ -1,7 +1,6 @@
 //! Texts that are written a component at a time into room made for them at once.
 ghost use Rattle.std.specs.Prelude.{◌≡◌, ◌≤◌, ◌+◌, ◌^◌, ◌++◌, length, replicate, IfOk, MatchOption, string_bytes};
 ghost use Rattle.std.specs.String.{string_capacity};
-ghost use Rattle.relative_path.specs.Editing.{with_piece};
 ghost use Rattle.relative_path.specs.RelativePath.{path_text};
 ghost use Rattle.relative_path.specs.Steps.{up, components, spell};
 ghost use Rattle.relative_path.specs.UnixComponents.{unix_left};
@@ -26,19 +25,8 @@ pub(crate) fn base_with_room(
     Ok(text)
 }
 
-// Adds a piece to a text that has room for it.
-pub(crate) fn add_piece(text: &mut String, piece: &str)
-    requires { length (with_piece (string_bytes text.old) piece.now) ≤ string_capacity text.old }
-    ensures text { string_bytes text.new ≡ with_piece (string_bytes text.old) piece.now }
-    ensures room { string_capacity text.old ≤ string_capacity text.new }
-{
-    if !text.is_empty() {
-        text.push_str("/").unwrap();
-    }
-    text.push_str(piece).unwrap();
-}
-
-// How many bytes so many `..` and the components have, with single slashes between; none where no text can have as many.
+// How many bytes so many `..` and the components have, with single slashes between; none where no
+// text can have as many.
 pub(crate) fn way_len(climb: usize, left: UnixComponents<'_>) -> Option<usize>
     ensures { MatchOption result (2 ^ 63 ≤ length (spell (replicate climb up ++ unix_left left.entry)))
         (λ len. len ≡ length (spell (replicate climb up ++ unix_left left.entry))) }
