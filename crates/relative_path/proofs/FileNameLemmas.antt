@@ -30,8 +30,9 @@ ends_in : (cs : List Step) → ((k : ℕ) × (cs ≡ replicate k cur)) ⊎ EndsI
 ends_in [] = inl (0, refl)
 ends_in (c ∷ cs) = elim (ends_in cs) [
   | inl (k, alone) ↦ first c k alone
-  | inr e ↦ inr
-      (record { front = c ∷ e.front; last = e.last; curs = e.curs; other = e.other; joined = ap (λ ds. c ∷ ds) e.joined })
+  | inr e ↦
+      let joined = ap (λ ds. c ∷ ds) e.joined in
+      inr (record { front = c ∷ e.front; last = e.last; curs = e.curs; other = e.other; joined = joined })
 ]
   where
     first : (c : Step) (k : ℕ) → cs ≡ replicate k cur → ((j : ℕ) × (c ∷ cs ≡ replicate j cur)) ⊎ EndsIn (c ∷ cs)
@@ -177,8 +178,9 @@ stem_nonempty n nonempty =
 -- the stem of a name has no slash
 HasNoSlash-stem : (n : List ℕ) → HasNoSlash n → HasNoSlash (stem_of n)
 HasNoSlash-stem n none =
+    let parts = λ (stem : has_stem n ≡ true). subst HasNoSlash (parts_at_dot n stem) none in
     cond_both (has_stem n) (before_last is_dot n) n HasNoSlash
-    (λ stem. HasNoSlash-append_left (before_last is_dot n) (dot ∷ after_last is_dot n) (subst HasNoSlash (parts_at_dot n stem) none)) (λ _. none)
+    (λ stem. HasNoSlash-append_left (before_last is_dot n) (dot ∷ after_last is_dot n) (parts stem)) (λ _. none)
 
 AreProper-last : (cs : List Step) (c : Step) → AreProper (cs ++ c ∷ []) → IsProper c
 AreProper-last [] c proper = proper.0
