@@ -29,7 +29,8 @@ IsComponentOf piece r = MatchOption r (piece ≡ []) (λ c. (piece ≢ []) × (s
 
 HasNoSlash-from_All : (p : List ℕ) → All (λ b. b ≢ slash) p → HasNoSlash p
 HasNoSlash-from_All p h =
-    recursion_from_All (λ b. is_slash b ≡ false) p (All-weaker (λ b. b ≢ slash) (λ b. is_slash b ≡ false) (λ b other. ne_eqb b slash other) p h)
+    recursion_from_All (λ b. is_slash b ≡ false) p (All-weaker
+    (λ b. b ≢ slash) (λ b. is_slash b ≡ false) (λ b other. ne_eqb b slash other) p h)
 
 -- a piece that has a byte is its one component
 components_piece : (p : List ℕ) → p ≢ [] → All (λ b. b ≢ slash) p → components p ≡ classed p ∷ []
@@ -51,22 +52,30 @@ IsFront-none : (text p : List ℕ) → components text ≡ [] → p ≡ [] → I
 IsFront-none text p none empty = rw (empty, none) (IsShortestPrefix-nil text)
 
 module _ (text trimmed piece rest left : List ℕ) (trim : IsTrimmedStart text trimmed) (whole : All (λ b. b ≢ slash) piece) (trim' : IsTrimmedStart rest left) where
-  first_none : (trimmed ≡ piece ++ slash ∷ rest) ⊎ ((trimmed ≡ piece) × (rest ≡ [])) → piece ≡ [] → (components text ≡ []) × (left ≡ [])
-  first_none (inl joined) empty = absurd (trim.start (ap (λ x. get_or x 0 0) (joined ∙ ap (λ x. x ++ slash ∷ rest) empty)))
+  first_none : (trimmed ≡ piece ++ slash ∷ rest) ⊎ ((trimmed ≡ piece) × (rest ≡ [])) → piece ≡ []
+      → (components text ≡ []) × (left ≡ [])
+  first_none (inl joined) empty =
+      absurd (trim.start (ap (λ x. get_or x 0 0) (joined ∙ ap (λ x. x ++ slash ∷ rest) empty)))
   first_none (inr (joined, none)) empty =
       (sym trim.same ∙ ap components (joined ∙ empty) ∙ components-nil, nil_from_suffix left (subst (λ x. IsSuffix x left) none trim'.suffix))
 
-  first_components : (trimmed ≡ piece ++ slash ∷ rest) ⊎ ((trimmed ≡ piece) × (rest ≡ [])) → piece ≢ [] → components text ≡ classed piece ∷ components left
+  first_components : (trimmed ≡ piece ++ slash ∷ rest) ⊎ ((trimmed ≡ piece) × (rest ≡ [])) → piece ≢ []
+      → components text ≡ classed piece ∷ components left
   first_components (inl joined) nonempty =
-      sym trim.same ∙ ap components joined ∙ components-append piece rest ∙ ap₂ (λ cs ds. cs ++ ds) (components_piece piece nonempty whole) (sym trim'.same)
+      sym trim.same ∙ ap components joined ∙ components-append piece rest
+      ∙ ap₂ (λ cs ds. cs ++ ds) (components_piece piece nonempty whole) (sym trim'.same)
   first_components (inr (joined, none)) nonempty =
-      sym trim.same ∙ ap components joined ∙ components_piece piece nonempty whole ∙ ap (λ cs. classed piece ∷ cs) (sym (trim'.same ∙ ap components none ∙ components-nil))
+      sym trim.same ∙ ap components joined ∙ components_piece piece nonempty whole
+      ∙ ap (λ cs. classed piece ∷ cs) (sym (trim'.same ∙ ap components none ∙ components-nil))
 
   rest_suffix : (trimmed ≡ piece ++ slash ∷ rest) ⊎ ((trimmed ≡ piece) × (rest ≡ [])) → IsSuffix trimmed rest
-  rest_suffix (inl joined) = record { front = piece ++ slash ∷ []; joined = joined ∙ sym (append_assoc piece (slash ∷ []) rest) }
-  rest_suffix (inr (joined, none)) = record { front = trimmed; joined = sym (append-nil trimmed) ∙ ap (λ x. trimmed ++ x) (sym none) }
+  rest_suffix (inl joined) =
+      record { front = piece ++ slash ∷ []; joined = joined ∙ sym (append_assoc piece (slash ∷ []) rest) }
+  rest_suffix (inr (joined, none)) =
+      record { front = trimmed; joined = sym (append-nil trimmed) ∙ ap (λ x. trimmed ++ x) (sym none) }
 
-  pub TakesFirst-from : (r : Option Component) → (trimmed ≡ piece ++ slash ∷ rest) ⊎ ((trimmed ≡ piece) × (rest ≡ [])) → IsComponentOf piece r → TakesFirst text r left
+  pub TakesFirst-from : (r : Option Component) → (trimmed ≡ piece ++ slash ∷ rest) ⊎ ((trimmed ≡ piece) × (rest ≡ []))
+      → IsComponentOf piece r → TakesFirst text r left
   TakesFirst-from None split empty =
       let none = first_none split empty in (none.0, IsRest-none text left none.0 none.1)
   TakesFirst-from (Some c) split (nonempty, is) =
@@ -96,48 +105,62 @@ ends_in_slash xs =
     ap (λ i. get_or (xs ++ slash ∷ []) i 0) index ∙ get_or_at xs slash [] 0 (length xs) refl
 
 module _ (text trimmed piece front left : List ℕ) (trim : IsTrimmedEnd text trimmed) (whole : All (λ b. b ≢ slash) piece) (trim' : IsTrimmedEnd front left) where
-  last_none : (trimmed ≡ front ++ slash ∷ piece) ⊎ ((trimmed ≡ piece) × (front ≡ [])) → piece ≡ [] → (components text ≡ []) × (left ≡ [])
+  last_none : (trimmed ≡ front ++ slash ∷ piece) ⊎ ((trimmed ≡ piece) × (front ≡ [])) → piece ≡ []
+      → (components text ≡ []) × (left ≡ [])
   last_none (inl joined) empty =
       let ended = joined ∙ ap (λ x. front ++ slash ∷ x) empty in
       absurd (trim.end (ap (λ x. get_or x (length x - 1) 0) ended ∙ ends_in_slash front))
   last_none (inr (joined, none)) empty =
       (sym trim.same ∙ ap components (joined ∙ empty) ∙ components-nil, nil_from_prefix left (subst (λ x. IsPrefix x left) none trim'.prefix))
 
-  last_components : (trimmed ≡ front ++ slash ∷ piece) ⊎ ((trimmed ≡ piece) × (front ≡ [])) → piece ≢ [] → components text ≡ components left ++ classed piece ∷ []
+  last_components : (trimmed ≡ front ++ slash ∷ piece) ⊎ ((trimmed ≡ piece) × (front ≡ [])) → piece ≢ []
+      → components text ≡ components left ++ classed piece ∷ []
   last_components (inl joined) nonempty =
-      sym trim.same ∙ ap components joined ∙ components-append front piece ∙ ap₂ (λ cs ds. cs ++ ds) (sym trim'.same) (components_piece piece nonempty whole)
+      sym trim.same ∙ ap components joined ∙ components-append front piece
+      ∙ ap₂ (λ cs ds. cs ++ ds) (sym trim'.same) (components_piece piece nonempty whole)
   last_components (inr (joined, none)) nonempty =
-      sym trim.same ∙ ap components joined ∙ components_piece piece nonempty whole ∙ ap (λ cs. cs ++ classed piece ∷ []) (sym (trim'.same ∙ ap components none ∙ components-nil))
+      sym trim.same ∙ ap components joined ∙ components_piece piece nonempty whole
+      ∙ ap (λ cs. cs ++ classed piece ∷ []) (sym (trim'.same ∙ ap components none ∙ components-nil))
 
   front_prefix : (trimmed ≡ front ++ slash ∷ piece) ⊎ ((trimmed ≡ piece) × (front ≡ [])) → IsPrefix trimmed front
   front_prefix (inl joined) = subst (λ x. IsPrefix x front) (sym joined) (IsPrefix-append front (slash ∷ piece))
   front_prefix (inr (joined, none)) = rw none (record { front = refl })
 
-  pub TakesLast-from : (r : Option Component) → (trimmed ≡ front ++ slash ∷ piece) ⊎ ((trimmed ≡ piece) × (front ≡ [])) → IsComponentOf piece r → TakesLast text r left
+  pub TakesLast-from : (r : Option Component)
+      → (trimmed ≡ front ++ slash ∷ piece) ⊎ ((trimmed ≡ piece) × (front ≡ [])) → IsComponentOf piece r
+      → TakesLast text r left
   TakesLast-from None split empty =
       let none = last_none split empty in (none.0, IsFront-none text left none.0 none.1)
   TakesLast-from (Some c) split (nonempty, is) =
       let cs = last_components split nonempty in
-      let counted : length (components left) ≡ length (components text) - 1 = omega (arith, ap length cs, length-append (components left) (classed piece ∷ [])) in
-      let firsts = sym (ap (take (length (components left))) cs ∙ take_at (components left) (classed piece ∷ []) (length (components left)) refl) in
+      let counted : length (components left) ≡ length (components text) - 1 =
+      omega (arith, ap length cs, length-append (components left) (classed piece ∷ [])) in
+      let firsts =
+      sym (ap (take (length
+      (components left))) cs ∙ take_at (components left) (classed piece ∷ []) (length (components left)) refl) in
       (cs ∙ ap (λ d. components left ++ d ∷ []) (sym is), IsShortestPrefix-from (IsPrefix-trans trim.prefix (IsPrefix-trans (front_prefix split) trim'.prefix)) (firsts ∙ ap (λ n. take n (components text)) counted) trim'.end)
 
 -- ---- what follows of the lists of components, and that the walk ends
 
-pub MakesProgress-TakesFirst : (s t : Components) (r : Option Component) → TakesFirst (text_left s) r (text_left t) → MakesProgress (λ _. ⊤) (item_count components_left) s r t
+pub MakesProgress-TakesFirst : (s t : Components) (r : Option Component) → TakesFirst (text_left s) r (text_left t)
+    → MakesProgress (λ _. ⊤) (item_count components_left) s r t
 MakesProgress-TakesFirst s t None taken = record { on = λ _. tt; keeps = tt; rests = λ h. h }
 MakesProgress-TakesFirst s t (Some c) (joined, _) =
     record { on = λ h. (tt, h, omega (arith, ap length joined)); keeps = tt; rests = λ _. tt }
 
-pub MakesProgress-TakesLast : (s t : Components) (r : Option Component) → TakesLast (text_left s) r (text_left t) → MakesProgress (λ _. ⊤) (item_count components_left) s r t
+pub MakesProgress-TakesLast : (s t : Components) (r : Option Component) → TakesLast (text_left s) r (text_left t)
+    → MakesProgress (λ _. ⊤) (item_count components_left) s r t
 MakesProgress-TakesLast s t None taken = record { on = λ _. tt; keeps = tt; rests = λ h. h }
 MakesProgress-TakesLast s t (Some c) (joined, _) =
     record { on = λ h. (tt, h, omega (arith, ap length joined, length-append (components_left t) (step_of c ∷ []))); keeps = tt; rests = λ _. tt }
 
 -- a walk gives the components of its text, one after another
-pub YieldsList-components : (s : Components) (text : List ℕ) → text_left s ≡ text → YieldsList (λ s taken t. TakesFirst (text_left s) taken (text_left t)) step_of s (components text)
+pub YieldsList-components : (s : Components) (text : List ℕ) → text_left s ≡ text
+    → YieldsList (λ s taken t. TakesFirst (text_left s) taken (text_left t)) step_of s (components text)
 YieldsList-components s text same =
-    subst (λ x. YieldsList (λ s taken t. TakesFirst (text_left s) taken (text_left t)) step_of s (components x)) same (YieldsList-from_shown (λ s taken t. TakesFirst (text_left s) taken (text_left t)) step_of components_left (λ s t taken. ap length taken.0) (λ s c t taken. taken.0) s)
+    subst (λ x. YieldsList (λ s taken t. TakesFirst
+    (text_left s) taken
+    (text_left t)) step_of s (components x)) same (YieldsList-from_shown (λ s taken t. TakesFirst (text_left s) taken (text_left t)) step_of components_left (λ s t taken. ap length taken.0) (λ s c t taken. taken.0) s)
 
 -- a call of `next` of a walk, and of an `Iter`
 abbrev walk_steps : Components → Option Component → Components → Type 0

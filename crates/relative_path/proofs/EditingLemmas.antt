@@ -13,12 +13,17 @@ use Rattle.relative_path.proofs.StepsLemmas.{components-nil, components-append, 
 use Rattle.relative_path.proofs.SlicesLemmas.{IsPrefix, take-IsPrefix, IsPrefix-trans, IsPrefix-shortest, IsShortestPrefix-from, IsShortestPrefix-trans}
 
 -- what `strip_prefix` gives, or the text
-pub unslashed-strip_prefix : (text : List ℕ) (r : Option (Bor (List ℕ))) (whole : Bor (List ℕ)) → whole.now ≡ text → MatchOption r (FindsCharPrefix slash text None) (λ x. StripsPrefix (FindsCharPrefix slash) text x.now) → (unwrap_or r whole).now ≡ unslashed text
+pub unslashed-strip_prefix : (text : List ℕ) (r : Option (Bor (List ℕ))) (whole : Bor (List ℕ)) → whole.now ≡ text
+    → MatchOption r (FindsCharPrefix slash text None) (λ x. StripsPrefix (FindsCharPrefix slash) text x.now)
+    → (unwrap_or r whole).now ≡ unslashed text
 unslashed-strip_prefix text r whole all found = stripped text r (strip_prefix_char slash text r found (lit< tt)) all
   where
-    stripped : (bs : List ℕ) (o : Option (Bor (List ℕ))) → MatchOption o ((rest : List ℕ) → bs ≢ slash ∷ rest) (λ x. bs ≡ slash ∷ x.now) → whole.now ≡ bs → (unwrap_or o whole).now ≡ unslashed bs
+    stripped : (bs : List ℕ) (o : Option (Bor (List ℕ)))
+        → MatchOption o ((rest : List ℕ) → bs ≢ slash ∷ rest) (λ x. bs ≡ slash ∷ x.now) → whole.now ≡ bs
+        → (unwrap_or o whole).now ≡ unslashed bs
     stripped [] None other same = same
-    stripped (b ∷ bs) None other same = same ∙ sym (cond-false _ _ _ (ne_eqb b slash (λ e. other bs (ap (λ x. x ∷ bs) e))))
+    stripped (b ∷ bs) None other same =
+        same ∙ sym (cond-false _ _ _ (ne_eqb b slash (λ e. other bs (ap (λ x. x ∷ bs) e))))
     stripped bs (Some rest) joined same = sym (ap unslashed joined)
 
 -- ---- dropping the components that a parent loses
@@ -26,29 +31,38 @@ unslashed-strip_prefix text r whole all found = stripped text r (strip_prefix_ch
 suffix_len-curs : (cs : List Step) (n : ℕ) → suffix_len is_cur (cs ++ replicate n cur) ≡ n + suffix_len is_cur cs
 suffix_len-curs cs zero = ap (suffix_len is_cur) (append-nil cs) ∙ omega arith
 suffix_len-curs cs (suc n) =
-    let last : cs ++ replicate (suc n) cur ≡ (cs ++ replicate n cur) ++ cur ∷ [] = ap (λ x. cs ++ x) (sym (replicate_more n cur ∙ ap (λ k. replicate k cur) (add-one n))) ∙ sym (append_assoc cs (replicate n cur) (cur ∷ [])) in
-    ap (suffix_len is_cur) last ∙ ap (prefix_len is_cur) (reverse-append (cs ++ replicate n cur) (cur ∷ [])) ∙ omega (arith, suffix_len-curs cs n)
+    let last : cs ++ replicate (suc n) cur ≡ (cs ++ replicate n cur) ++ cur ∷ [] =
+    ap (λ x. cs ++ x) (sym (replicate_more n cur ∙ ap (λ k. replicate k cur) (add-one n)))
+    ∙ sym (append_assoc cs (replicate n cur) (cur ∷ [])) in
+    ap (suffix_len is_cur) last ∙ ap (prefix_len is_cur) (reverse-append (cs ++ replicate n cur) (cur ∷ []))
+    ∙ omega (arith, suffix_len-curs cs n)
 
 pub kept_len-curs : (cs : List Step) (n : ℕ) → kept_len (cs ++ replicate n cur) ≡ kept_len cs
 kept_len-curs cs n = omega (arith, suffix_len-curs cs n, length-append cs (replicate n cur), length-replicate n cur)
 
 pub kept_len-push : (cs : List Step) (c : Step) → is_cur c ≡ false → kept_len (cs ++ c ∷ []) ≡ length cs
 kept_len-push cs c other =
-    let last : suffix_len is_cur (cs ++ c ∷ []) ≡ 0 = ap (prefix_len is_cur) (reverse-append cs (c ∷ [])) ∙ cond-false (is_cur c) _ _ other in
+    let last : suffix_len is_cur (cs ++ c ∷ []) ≡ 0 =
+    ap (prefix_len is_cur) (reverse-append cs (c ∷ [])) ∙ cond-false (is_cur c) _ _ other in
     omega (arith, last, length-append cs (c ∷ []))
 
 -- the text ends in a slash, or has no byte
-ends_separated : (text : List ℕ) → get_or text (length text - 1) 0 ≡ slash → text ≡ take (length text - 1) text ++ slash ∷ []
+ends_separated : (text : List ℕ) → get_or text (length text - 1) 0 ≡ slash
+    → text ≡ take (length text - 1) text ++ slash ∷ []
 ends_separated [] e = absurd (omega (arith, e))
 ends_separated (b ∷ bs) e =
     let long : length (b ∷ bs) ≤ length (b ∷ bs) - 1 + 1 = omega arith in
-    sym (take_all (length (b ∷ bs) - 1 + 1) (b ∷ bs) long) ∙ take_more (b ∷ bs) (length (b ∷ bs) - 1) 0 (omega arith) ∙ ap (λ x. take (length (b ∷ bs) - 1) (b ∷ bs) ++ x ∷ []) e
+    sym (take_all (length (b ∷ bs) - 1 + 1) (b ∷ bs) long) ∙ take_more (b ∷ bs) (length (b ∷ bs) - 1) 0 (omega arith)
+    ∙ ap (λ x. take (length (b ∷ bs) - 1) (b ∷ bs) ++ x ∷ []) e
 
 -- the shortest front with its components ends in no slash
-pub end-IsShortestPrefix : {text p : List ℕ} {cs : List Step} → IsShortestPrefix text cs p → get_or p (length p - 1) 0 ≢ slash
+pub end-IsShortestPrefix : {text p : List ℕ} {cs : List Step} → IsShortestPrefix text cs p
+    → get_or p (length p - 1) 0 ≢ slash
 end-IsShortestPrefix {text} {p} {cs} s = λ e.
     let front = take (length p - 1) p in
-    let same = ap components (sym (take-IsPrefix (IsPrefix-shortest s) (length p - 1) (omega arith))) ∙ sym (components-trailing_slash front) ∙ ap components (sym (ends_separated p e)) ∙ s.same_components in
+    let same =
+    ap components (sym (take-IsPrefix (IsPrefix-shortest s) (length p - 1) (omega arith)))
+    ∙ sym (components-trailing_slash front) ∙ ap components (sym (ends_separated p e)) ∙ s.same_components in
     let shorter = s.shortest (length p - 1) same in
     empty p (omega arith) e
   where
@@ -64,18 +78,24 @@ pub record LosesCurs (text left : List ℕ) : Type 0 where
   pub joined : components text ≡ components left ++ replicate lost cur
 
 -- only the slashes at the end were dropped
-pub LosesCurs-start : (text trimmed : List ℕ) → IsPrefix text trimmed → get_or trimmed (length trimmed - 1) 0 ≢ slash → components trimmed ≡ components text → LosesCurs text trimmed
-LosesCurs-start text trimmed prefix end same = record { prefix = prefix; end = end; lost = 0; joined = sym same ∙ sym (append-nil (components trimmed)) }
+pub LosesCurs-start : (text trimmed : List ℕ) → IsPrefix text trimmed → get_or trimmed (length trimmed - 1) 0 ≢ slash
+    → components trimmed ≡ components text → LosesCurs text trimmed
+LosesCurs-start text trimmed prefix end same =
+    record { prefix = prefix; end = end; lost = 0; joined = sym same ∙ sym (append-nil (components trimmed)) }
 
-pub LosesCurs-cur : (text left front : List ℕ) → LosesCurs text left → components left ≡ components front ++ cur ∷ [] → IsFront left front → LosesCurs text front
+pub LosesCurs-cur : (text left front : List ℕ) → LosesCurs text left → components left ≡ components front ++ cur ∷ []
+    → IsFront left front → LosesCurs text front
 LosesCurs-cur text left front h last cut = record {
   prefix = IsPrefix-trans h.prefix (IsPrefix-shortest cut);
   end = end-IsShortestPrefix cut;
   lost = suc h.lost;
-  joined = h.joined ∙ ap (λ cs. cs ++ replicate h.lost cur) last ∙ append_assoc (components front) (cur ∷ []) (replicate h.lost cur);
+  joined =
+      h.joined ∙ ap (λ cs. cs ++ replicate h.lost cur) last
+      ∙ append_assoc (components front) (cur ∷ []) (replicate h.lost cur);
 }
 
-pub IsPopped-none : (text left front : List ℕ) → LosesCurs text left → components left ≡ [] → IsFront left front → IsPopped text front
+pub IsPopped-none : (text left front : List ℕ) → LosesCurs text left → components left ≡ [] → IsFront left front
+    → IsPopped text front
 IsPopped-none text left front h none cut =
     let kept = ap kept_len h.joined ∙ kept_len-curs (components left) h.lost ∙ ap kept_len none in
     let nothing = ap (λ cs. take (length cs - 1) cs) none in
@@ -87,32 +107,38 @@ module _ (text left front : List ℕ) (c : Step) (h : LosesCurs text left) (othe
   whole = h.joined ∙ ap (λ cs. cs ++ replicate h.lost cur) last
 
   pub kept_len-front : kept_len (components text) ≡ length (components front)
-  kept_len-front = ap kept_len whole ∙ kept_len-curs (components front ++ c ∷ []) h.lost ∙ kept_len-push (components front) c other
+  kept_len-front =
+      ap kept_len whole ∙ kept_len-curs (components front ++ c ∷ []) h.lost ∙ kept_len-push (components front) c other
 
   -- the text before it is what a parent keeps
   pub IsPopped-front : IsFront left front → IsPopped text front
   IsPopped-front cut =
-      let firsts = ap₂ take kept_len-front (whole ∙ append_assoc (components front) (c ∷ []) (replicate h.lost cur)) ∙ take_at (components front) _ (length (components front)) refl in
+      let firsts =
+      ap₂ take kept_len-front (whole ∙ append_assoc (components front) (c ∷ []) (replicate h.lost cur))
+      ∙ take_at (components front) _ (length (components front)) refl in
       let shortest = IsShortestPrefix-trans h.prefix cut in
       subst (λ cs. IsShortestPrefix text cs front) (sym cut.same_components ∙ sym firsts) shortest
 
   -- the text up to its end has one component more
   pub IsCut-through : IsCut text (kept_len (components text) + 1) left
   IsCut-through =
-      let count : kept_len (components text) + 1 ≡ length (components front ++ c ∷ []) = omega (arith, kept_len-front, length-append (components front) (c ∷ [])) in
+      let count : kept_len (components text) + 1 ≡ length (components front ++ c ∷ []) =
+      omega (arith, kept_len-front, length-append (components front) (c ∷ [])) in
       let firsts = ap₂ take count whole ∙ take_at (components front ++ c ∷ []) _ _ refl in
       IsShortestPrefix-from h.prefix (last ∙ sym firsts) h.end
 
 -- ---- pushing
 
 -- a text that has a byte and does not end in a slash gets one
-pub with_separator-solid : (text : List ℕ) → 0 < length text → get_or text (length text - 1) 0 ≢ slash → with_separator text ≡ text ++ slash ∷ []
+pub with_separator-solid : (text : List ℕ) → 0 < length text → get_or text (length text - 1) 0 ≢ slash
+    → with_separator text ≡ text ++ slash ∷ []
 with_separator-solid [] nonempty end = absurd (omega arith)
 with_separator-solid (b ∷ bs) nonempty end =
     let last : length (b ∷ bs) - 1 ≡ length bs = omega arith in
     cond-false _ _ _ (ne_eqb (get_or (b ∷ bs) (length bs) 0) slash (λ e. end (ap (λ i. get_or (b ∷ bs) i 0) last ∙ e)))
 
-components-with_separator : (text rest : List ℕ) → components (with_separator text ++ rest) ≡ components text ++ components rest
+components-with_separator : (text rest : List ℕ)
+    → components (with_separator text ++ rest) ≡ components text ++ components rest
 components-with_separator [] rest = ap (λ cs. cs ++ components rest) (sym components-nil)
 components-with_separator (b ∷ bs) rest =
     let last : length (b ∷ bs) - 1 ≡ length bs = omega arith in
@@ -120,7 +146,9 @@ components-with_separator (b ∷ bs) rest =
     (λ e.
     let front = take (length (b ∷ bs) - 1) (b ∷ bs) in
     let ends = ends_separated (b ∷ bs) (ap (λ i. get_or (b ∷ bs) i 0) last ∙ eqb-true _ slash e) in
-    ap (λ x. components (x ++ rest)) (cond-true _ _ _ e ∙ ends) ∙ ap components (append_assoc front (slash ∷ []) rest) ∙ components-append front rest ∙ ap (λ cs. cs ++ components rest) (sym (components-trailing_slash front) ∙ ap components (sym ends)))
+    ap (λ x. components (x ++ rest)) (cond-true _ _ _ e ∙ ends) ∙ ap components (append_assoc front (slash ∷ []) rest)
+    ∙ components-append front rest
+    ∙ ap (λ cs. cs ++ components rest) (sym (components-trailing_slash front) ∙ ap components (sym ends)))
     (λ e. ap (λ x. components (x ++ rest)) (cond-false _ _ _ e) ∙ ap components (append_assoc (b ∷ bs) (slash ∷ []) rest) ∙ components-append (b ∷ bs) rest)
     (cases_Bool (eqb (get_or (b ∷ bs) (length bs) 0) slash))
 

@@ -38,7 +38,9 @@ module _ (old new : Buffer) (front : List (List ℕ)) (path : List ℕ) (more te
   count = omega (arith, length-append front (path ∷ []))
 
   first : take (length front) texts ≡ front
-  first = ap (take (length front)) (joined ∙ append_assoc front (path ∷ []) more) ∙ take_at front (path ∷ more) (length front) refl
+  first =
+      ap (take (length front)) (joined ∙ append_assoc front (path ∷ []) more)
+      ∙ take_at front (path ∷ more) (length front) refl
 
   first_and_one : take (length front + 1) texts ≡ front ++ path ∷ []
   first_and_one = ap (take (length front + 1)) joined ∙ take_at (front ++ path ∷ []) more (length front + 1) count

@@ -26,36 +26,44 @@ abbrev no_dot : ℕ → Bool
 no_dot b = not (is_dot b)
 
 -- the bytes behind the last dot are no dots
-behind_dot : (xs ys : List ℕ) → All (λ b. b ≢ dot) ys → (k : ℕ) → length xs + 1 ≤ k → k < length (xs ++ dot ∷ ys) → no_dot (get_or (xs ++ dot ∷ ys) k 0) ≡ true
+behind_dot : (xs ys : List ℕ) → All (λ b. b ≢ dot) ys → (k : ℕ) → length xs + 1 ≤ k → k < length (xs ++ dot ∷ ys)
+    → no_dot (get_or (xs ++ dot ∷ ys) k 0) ≡ true
 behind_dot xs ys other k from below =
     let regroup = append_assoc xs (dot ∷ []) ys in
     let front = length-append xs (dot ∷ []) in
     let whole = length-append xs (dot ∷ ys) in
     let at = get_or-append_right (xs ++ dot ∷ []) ys (length xs + 1) k 0 (omega arith) from in
-    ap (λ l. no_dot (get_or l k 0)) (sym regroup) ∙ ap no_dot at ∙ ap not (ne_eqb _ dot (other (k - (length xs + 1)) 0 (omega arith)))
+    ap (λ l. no_dot (get_or l k 0)) (sym regroup) ∙ ap no_dot at
+    ∙ ap not (ne_eqb _ dot (other (k - (length xs + 1)) 0 (omega arith)))
 
 suffix_len-last_dot : (xs ys : List ℕ) → All (λ b. b ≢ dot) ys → suffix_len no_dot (xs ++ dot ∷ ys) ≡ length ys
 suffix_len-last_dot xs ys other =
     let whole = length-append xs (dot ∷ ys) in
     let start : length xs + 1 - 1 ≡ length xs = omega arith in
-    let here = ap (λ i. no_dot (get_or (xs ++ dot ∷ ys) i 0)) start ∙ ap no_dot (get_or_at xs dot ys 0 (length xs) refl) in
-    let counted = suffix_len_is no_dot (xs ++ dot ∷ ys) (length xs + 1) 0 (omega arith) (behind_dot xs ys other) (λ _. here) in
+    let here =
+    ap (λ i. no_dot (get_or (xs ++ dot ∷ ys) i 0)) start ∙ ap no_dot (get_or_at xs dot ys 0 (length xs) refl) in
+    let counted =
+    suffix_len_is no_dot (xs ++ dot ∷ ys) (length xs + 1) 0 (omega arith) (behind_dot xs ys other) (λ _. here) in
     omega arith
 
 suffix_len-no_dot : (xs : List ℕ) → All (λ b. b ≢ dot) xs → suffix_len no_dot xs ≡ length xs
 suffix_len-no_dot xs other =
-    let counted = suffix_len_is no_dot xs 0 0 (omega arith) (λ k from below. ap not (ne_eqb _ dot (other k 0 below))) (λ none. absurd (omega arith)) in
+    let counted =
+    suffix_len_is no_dot xs 0 0 (omega arith) (λ k from below. ap not (ne_eqb _ dot
+    (other k 0 below))) (λ none. absurd (omega arith)) in
     omega arith
 
 before_last-dot : (xs ys : List ℕ) → All (λ b. b ≢ dot) ys → before_last is_dot (xs ++ dot ∷ ys) ≡ xs
 before_last-dot xs ys other =
-    let count : length (xs ++ dot ∷ ys) - suffix_len no_dot (xs ++ dot ∷ ys) - 1 ≡ length xs = omega (arith, suffix_len-last_dot xs ys other, length-append xs (dot ∷ ys)) in
+    let count : length (xs ++ dot ∷ ys) - suffix_len no_dot (xs ++ dot ∷ ys) - 1 ≡ length xs =
+    omega (arith, suffix_len-last_dot xs ys other, length-append xs (dot ∷ ys)) in
     ap (λ n. take n (xs ++ dot ∷ ys)) count ∙ take_at xs (dot ∷ ys) (length xs) refl
 
 after_last-dot : (xs ys : List ℕ) → All (λ b. b ≢ dot) ys → after_last is_dot (xs ++ dot ∷ ys) ≡ ys
 after_last-dot xs ys other =
     let front = length-append xs (dot ∷ []) in
-    let count : length (xs ++ dot ∷ ys) - suffix_len no_dot (xs ++ dot ∷ ys) ≡ length (xs ++ dot ∷ []) = omega (arith, suffix_len-last_dot xs ys other, length-append xs (dot ∷ ys)) in
+    let count : length (xs ++ dot ∷ ys) - suffix_len no_dot (xs ++ dot ∷ ys) ≡ length (xs ++ dot ∷ []) =
+    omega (arith, suffix_len-last_dot xs ys other, length-append xs (dot ∷ ys)) in
     ap₂ drop count (sym (append_assoc xs (dot ∷ []) ys)) ∙ drop_at (xs ++ dot ∷ []) ys (length (xs ++ dot ∷ [])) refl
 
 before_last-no_dot : (xs : List ℕ) → All (λ b. b ≢ dot) xs → before_last is_dot xs ≡ []
@@ -77,12 +85,14 @@ IsSplit-whole n nothing = record {
 pub IsSplit-no_dot : (n : List ℕ) → All (λ b. b ≢ dot) n → IsSplit n n None
 IsSplit-no_dot n other = IsSplit-whole n (before_last-no_dot n other)
 
-pub IsSplit-leading_dot : (n stem extension : List ℕ) → (n ≡ stem ++ dot ∷ extension) × All (λ b. b ≢ dot) extension → length stem ≡ 0 → IsSplit n n None
+pub IsSplit-leading_dot : (n stem extension : List ℕ) → (n ≡ stem ++ dot ∷ extension) × All (λ b. b ≢ dot) extension
+    → length stem ≡ 0 → IsSplit n n None
 IsSplit-leading_dot n [] extension (joined, other) empty =
     IsSplit-whole n (ap (before_last is_dot) joined ∙ before_last-dot [] extension other)
 IsSplit-leading_dot n (b ∷ bs) extension split empty = absurd (omega arith)
 
-pub IsSplit-dot : (n stem extension : List ℕ) → (n ≡ stem ++ dot ∷ extension) × All (λ b. b ≢ dot) extension → length stem ≢ 0 → IsSplit n stem (Some extension)
+pub IsSplit-dot : (n stem extension : List ℕ) → (n ≡ stem ++ dot ∷ extension) × All (λ b. b ≢ dot) extension
+    → length stem ≢ 0 → IsSplit n stem (Some extension)
 IsSplit-dot n [] extension split nonempty = absurd (nonempty refl)
 IsSplit-dot n (b ∷ bs) extension (joined, other) nonempty =
     let before = ap (before_last is_dot) joined ∙ before_last-dot (b ∷ bs) extension other in
@@ -95,7 +105,8 @@ IsSplit-dot n (b ∷ bs) extension (joined, other) nonempty =
 -- ---- the text of the last component
 
 -- the text has no slash, or a last one
-pub last_slash : (text : List ℕ) → HasNoSlash text ⊎ ((xs : List ℕ) × (ys : List ℕ) × (text ≡ xs ++ slash ∷ ys) × HasNoSlash ys)
+pub last_slash : (text : List ℕ)
+    → HasNoSlash text ⊎ ((xs : List ℕ) × (ys : List ℕ) × (text ≡ xs ++ slash ∷ ys) × HasNoSlash ys)
 last_slash [] = inl tt
 last_slash (b ∷ bs) = elim (last_slash bs) [
   | inl none ↦ ⊎_elim (λ e. inr ([], bs, ap (λ x. x ∷ bs) (eqb-true b slash e), none)) (λ e. inl (e, none)) (cases_Bool (is_slash b))
@@ -104,22 +115,28 @@ last_slash (b ∷ bs) = elim (last_slash bs) [
 
 pub last_same : (cs ds : List Step) (c d : Step) → cs ++ c ∷ [] ≡ ds ++ d ∷ [] → c ≡ d
 last_same cs ds c d e =
-    let count : length ds ≡ length cs = omega (arith, ap length e, length-append cs (c ∷ []), length-append ds (d ∷ [])) in
-    sym (get_or_at cs c [] c (length cs) refl) ∙ ap (λ l. get_or l (length cs) c) e ∙ get_or_at ds d [] c (length cs) count
+    let count : length ds ≡ length cs =
+    omega (arith, ap length e, length-append cs (c ∷ []), length-append ds (d ∷ [])) in
+    sym (get_or_at cs c [] c (length cs) refl) ∙ ap (λ l. get_or l (length cs) c) e
+    ∙ get_or_at ds d [] c (length cs) count
 
 -- a text that ends in no slash ends in the text of its last component
-pub ends_in_last : (text : List ℕ) (cs : List Step) (c : Step) → get_or text (length text - 1) 0 ≢ slash → components text ≡ cs ++ c ∷ [] → (head : List ℕ) × (text ≡ head ++ step_text c)
+pub ends_in_last : (text : List ℕ) (cs : List Step) (c : Step) → get_or text (length text - 1) 0 ≢ slash
+    → components text ≡ cs ++ c ∷ [] → (head : List ℕ) × (text ≡ head ++ step_text c)
 ends_in_last text cs c end last = elim (last_slash text) [
   | inl none ↦ ([], whole text none last)
   | inr (xs, [], joined, none) ↦ absurd (end (ap (λ x. get_or x (length x - 1) 0) joined ∙ ends_in_slash xs))
   | inr (xs, b ∷ bs, joined, none) ↦
-      let parts = ap components joined ∙ components-append xs (b ∷ bs) ∙ ap (λ ds. components xs ++ ds) (components_whole (b ∷ bs) (omega arith) none) in
+      let parts =
+      ap components joined ∙ components-append xs (b ∷ bs)
+      ∙ ap (λ ds. components xs ++ ds) (components_whole (b ∷ bs) (omega arith) none) in
       let same = last_same cs (components xs) c (classed (b ∷ bs)) (sym last ∙ parts) in
       (xs ++ slash ∷ [], joined ∙ sym (append_assoc xs (slash ∷ []) (b ∷ bs)) ∙ ap (λ x. (xs ++ slash ∷ []) ++ x) (sym (step_text-classed (b ∷ bs)) ∙ ap step_text (sym same)))
 ]
   where
     whole : (bs : List ℕ) → HasNoSlash bs → components bs ≡ cs ++ c ∷ [] → bs ≡ step_text c
-    whole [] none parts = absurd (let e = ap length (sym components-nil ∙ parts) in omega (arith, e, length-append cs (c ∷ [])))
+    whole [] none parts =
+        absurd (let e = ap length (sym components-nil ∙ parts) in omega (arith, e, length-append cs (c ∷ [])))
     whole (b ∷ bs) none parts =
         let same = last_same cs [] c (classed (b ∷ bs)) (sym parts ∙ components_whole (b ∷ bs) (omega arith) none) in
         sym (step_text-classed (b ∷ bs)) ∙ ap step_text (sym same)
@@ -134,14 +151,17 @@ pub others-curs : (n : ℕ) → others (replicate n cur) ≡ []
 others-curs zero = refl
 others-curs (suc n) = others-curs n
 
-others-at : (cs : List Step) (c : Step) (n : ℕ) → is_cur c ≡ false → others (cs ++ c ∷ replicate n cur) ≡ others cs ++ c ∷ []
+others-at : (cs : List Step) (c : Step) (n : ℕ) → is_cur c ≡ false
+    → others (cs ++ c ∷ replicate n cur) ≡ others cs ++ c ∷ []
 others-at cs c n other =
     filter-append (λ d. not (is_cur d)) cs (c ∷ replicate n cur)
     ∙ ap (λ ds. others cs ++ ds) (cond-true _ _ _ (ap not other) ∙ ap (λ ds. c ∷ ds) (others-curs n))
 
-pub last_other-at : (cs : List Step) (c : Step) (n : ℕ) → is_cur c ≡ false → last_other (cs ++ c ∷ replicate n cur) ≡ Some c
+pub last_other-at : (cs : List Step) (c : Step) (n : ℕ) → is_cur c ≡ false
+    → last_other (cs ++ c ∷ replicate n cur) ≡ Some c
 last_other-at cs c n other =
-    let index : length (others cs ++ c ∷ []) - 1 ≡ length (others cs) = omega (arith, length-append (others cs) (c ∷ [])) in
+    let index : length (others cs ++ c ∷ []) - 1 ≡ length (others cs) =
+    omega (arith, length-append (others cs) (c ∷ [])) in
     ap (λ ds. slice_get ds (length ds - 1)) (others-at cs c n other)
     ∙ ap (slice_get (others cs ++ c ∷ [])) index ∙ slice_get-at (others cs) c []
 
@@ -163,15 +183,18 @@ pub record IsEnd (text before : List ℕ) (last : Option (Bor (List ℕ))) (thro
   pub named : option_copied last ≡ file_name_of text
   pub placed : IfSome last (λ n. (head : List ℕ) × (through ≡ head ++ n.now) × IsCut text (kept_len (components text) + 1) through)
 
-pub IsEnd-none : (text left front : List ℕ) → LosesCurs text left → (components left ≡ []) × IsFront left front → IsEnd text front None left
+pub IsEnd-none : (text left front : List ℕ) → LosesCurs text left → (components left ≡ []) × IsFront left front
+    → IsEnd text front None left
 IsEnd-none text left front h (none, cut) =
     record { popped = IsPopped-none text left front h none cut; named = sym (last_name-none text left h none); placed = tt }
 
-pub IsEnd-up : (text left front : List ℕ) → LosesCurs text left → (components left ≡ components front ++ up ∷ []) × IsFront left front → IsEnd text front None left
+pub IsEnd-up : (text left front : List ℕ) → LosesCurs text left
+    → (components left ≡ components front ++ up ∷ []) × IsFront left front → IsEnd text front None left
 IsEnd-up text left front h (last, cut) =
     record { popped = IsPopped-front text left front up h refl last cut; named = sym (last_name-at text left front up h refl last); placed = tt }
 
-pub IsEnd-name : (text left front : List ℕ) (n : Bor (List ℕ)) → LosesCurs text left → (components left ≡ components front ++ name n.now ∷ []) × IsFront left front → IsEnd text front (Some n) left
+pub IsEnd-name : (text left front : List ℕ) (n : Bor (List ℕ)) → LosesCurs text left
+    → (components left ≡ components front ++ name n.now ∷ []) × IsFront left front → IsEnd text front (Some n) left
 IsEnd-name text left front n h (last, cut) =
     let ends = ends_in_last left (components front) (name n.now) h.end last in
     record {
@@ -191,20 +214,28 @@ after_stem : Option (Bor (List ℕ)) → List ℕ
 after_stem None = []
 after_stem (Some e) = dot ∷ e.now
 
-IsJoined-after : (n stem : List ℕ) (extension : Option (Bor (List ℕ))) → IsJoined n stem extension → n ≡ stem ++ after_stem extension
+IsJoined-after : (n stem : List ℕ) (extension : Option (Bor (List ℕ))) → IsJoined n stem extension
+    → n ≡ stem ++ after_stem extension
 unfolding after_stem
 IsJoined-after n stem None joined = joined ∙ sym (append-nil stem)
 IsJoined-after n stem (Some e) joined = joined
 
-IsCharBoundary-after : (front : List ℕ) (extension : Option (Bor (List ℕ))) → IsCharBoundary (front ++ after_stem extension) (length front)
+IsCharBoundary-after : (front : List ℕ) (extension : Option (Bor (List ℕ)))
+    → IsCharBoundary (front ++ after_stem extension) (length front)
 unfolding after_stem
 IsCharBoundary-after front None = rw (append-nil front) (IsCharBoundary-end front)
 IsCharBoundary-after front (Some e) =
-    IsCharBoundary-before_ascii (front ++ dot ∷ e.now) (length front) (omega (arith, length-append front (dot ∷ e.now))) (let at = get_or_at front dot e.now 0 (length front) refl in omega (arith, at))
+    IsCharBoundary-before_ascii (front ++ dot ∷ e.now) (length front) (omega (
+      arith,
+      length-append front
+          (dot ∷ e.now),
+    )) (let at = get_or_at front dot e.now 0 (length front) refl in omega (arith, at))
 
 module _ (through head n stem : List ℕ) (extension : Option (Bor (List ℕ))) (placed : through ≡ head ++ n) (joined : IsJoined n stem extension) where
   whole : through ≡ (head ++ stem) ++ after_stem extension
-  whole = placed ∙ ap (λ x. head ++ x) (IsJoined-after n stem extension joined) ∙ sym (append_assoc head stem (after_stem extension))
+  whole =
+      placed ∙ ap (λ x. head ++ x) (IsJoined-after n stem extension joined)
+      ∙ sym (append_assoc head stem (after_stem extension))
 
   stem_end : length through - length n + length stem ≡ length (head ++ stem)
   stem_end = omega (arith, ap length placed, length-append head n, length-append head stem)
@@ -230,11 +261,13 @@ abbrev IsBaseAt : List ℕ → List ℕ → Option (List ℕ) → Type 0
 IsBaseAt text base named = MatchOption named (base ≡ text) (λ _. IsPopped text base)
 
 -- the text up to the end of its stem is the text without its extension
-pub IsExtended-stem : (text head n : List ℕ) → file_name_of text ≡ Some n → IsCut text (kept_len (components text) + 1) (head ++ n) → IsExtended text [] (head ++ stem_of n)
+pub IsExtended-stem : (text head n : List ℕ) → file_name_of text ≡ Some n
+    → IsCut text (kept_len (components text) + 1) (head ++ n) → IsExtended text [] (head ++ stem_of n)
 IsExtended-stem text head n named cut = rw named (head, cut, sym (append-nil (head ++ stem_of n)))
 
 -- an extension behind it gives the extended text
-pub IsExtended-push : (text e front : List ℕ) → IsSome (file_name_of text) → IsExtended text [] front → IsExtended text e (front ++ dotted e)
+pub IsExtended-push : (text e front : List ℕ) → IsSome (file_name_of text) → IsExtended text [] front
+    → IsExtended text e (front ++ dotted e)
 IsExtended-push text e front found extended = push (file_name_of text) found extended
   where
     push : (o : Option (List ℕ)) → IsSome o → IsExtendedAt text [] front o → IsExtendedAt text e (front ++ dotted e) o
@@ -265,15 +298,19 @@ IsNamed-unique text f x y (base, is, is_x) (base', is', is_y) =
 
 IsPrefix-stem : (n : List ℕ) → IsPrefix n (stem_of n)
 IsPrefix-stem n =
-    cond_both (has_stem n) (before_last is_dot n) n (IsPrefix n) (λ _. IsPrefix-take _ n) (λ _. record { front = sym (take_all (length n) n (omega arith)) })
+    cond_both
+    (has_stem n)
+    (before_last is_dot n) n (IsPrefix n) (λ _. IsPrefix-take _ n) (λ _. record { front = sym (take_all (length n) n (omega arith)) })
 
-pub IsPrefix-IsExtended : (text front : List ℕ) → IsSome (file_name_of text) → IsExtended text [] front → IsPrefix text front
+pub IsPrefix-IsExtended : (text front : List ℕ) → IsSome (file_name_of text) → IsExtended text [] front
+    → IsPrefix text front
 IsPrefix-IsExtended text front found extended = prefix (file_name_of text) found extended
   where
     prefix : (o : Option (List ℕ)) → IsSome o → IsExtendedAt text [] front o → IsPrefix text front
     prefix None some is = absurd (cc)
     prefix (Some n) some (head, cut, is) =
-        rw (is, append-nil (head ++ stem_of n)) (IsPrefix-trans (IsPrefix-shortest cut) (IsPrefix-append_left head (IsPrefix-stem n)))
+        rw (is, append-nil (head ++ stem_of n)) (IsPrefix-trans (IsPrefix-shortest cut) (IsPrefix-append_left head
+        (IsPrefix-stem n)))
 
 pub IsPrefix-IsBase : (text base : List ℕ) → IsBase text base → IsPrefix text base
 IsPrefix-IsBase text base is = front (file_name_of text) is
@@ -284,7 +321,8 @@ IsPrefix-IsBase text base is = front (file_name_of text) is
 
 -- ---- the one text that a setter would leave, where the room is too small
 
-pub ExceedsRoom-named : (text f base : List ℕ) (room len : ℕ) → IsBase text base → len ≡ length (pushed base f) → room < len → ExceedsRoom (IsNamed text f) room
+pub ExceedsRoom-named : (text f base : List ℕ) (room len : ℕ) → IsBase text base → len ≡ length (pushed base f)
+    → room < len → ExceedsRoom (IsNamed text f) room
 ExceedsRoom-named text f base room len is count longer = record {
   text = pushed base f;
   holds = (base, is, refl);
@@ -292,6 +330,7 @@ ExceedsRoom-named text f base room len is count longer = record {
   longer = omega arith;
 }
 
-pub ExceedsRoom-extended : (text e extended : List ℕ) (room len : ℕ) → IsExtended text e extended → len ≡ length extended → room < len → ExceedsRoom (IsExtended text e) room
+pub ExceedsRoom-extended : (text e extended : List ℕ) (room len : ℕ) → IsExtended text e extended
+    → len ≡ length extended → room < len → ExceedsRoom (IsExtended text e) room
 ExceedsRoom-extended text e extended room len is count longer =
     record { text = extended; holds = is; only = λ other is_other. IsExtended-unique text e other extended is_other is; longer = omega arith }

@@ -95,10 +95,12 @@ pub walk-names : (base : List (List ℕ)) (cs : List Step) → AreNames cs → w
 walk-names base [] names = ap Some (sym (append-nil base))
 walk-names base (cur ∷ cs) names = absurd names
 walk-names base (up ∷ cs) names = absurd names
-walk-names base (name n ∷ cs) names = walk-names (base ++ n ∷ []) cs names ∙ ap Some (append_assoc base (n ∷ []) (names_of cs))
+walk-names base (name n ∷ cs) names =
+    walk-names (base ++ n ∷ []) cs names ∙ ap Some (append_assoc base (n ∷ []) (names_of cs))
 
 -- from a base that is shorter than the climb, a normal list leads nowhere
-pub walk-normal_none : (base : List (List ℕ)) (cs : List Step) → IsNormal cs → length base < climb cs → walk base cs ≡ None
+pub walk-normal_none : (base : List (List ℕ)) (cs : List Step) → IsNormal cs → length base < climb cs
+    → walk base cs ≡ None
 walk-normal_none base [] normal short = absurd (omega arith)
 walk-normal_none base (cur ∷ cs) normal short = absurd normal
 walk-normal_none [] (up ∷ cs) normal short = refl
@@ -108,7 +110,8 @@ walk-normal_none (n ∷ ns) (up ∷ cs) normal short =
 walk-normal_none base (name n ∷ cs) normal short = absurd (omega arith)
 
 -- from any other base it leads to the base without as many names at its end, and then down its names
-pub walk-normal : (base : List (List ℕ)) (cs : List Step) → IsNormal cs → climb cs ≤ length base → walk base cs ≡ Some (take (length base - climb cs) base ++ names_of cs)
+pub walk-normal : (base : List (List ℕ)) (cs : List Step) → IsNormal cs → climb cs ≤ length base
+    → walk base cs ≡ Some (take (length base - climb cs) base ++ names_of cs)
 walk-normal base [] normal long = ap Some (sym (append-nil _ ∙ take_all _ base (omega arith)))
 walk-normal base (cur ∷ cs) normal long = absurd normal
 walk-normal [] (up ∷ cs) normal long = absurd (omega arith)
@@ -116,7 +119,9 @@ walk-normal (n ∷ ns) (up ∷ cs) normal long =
     let place = take (length ns) (n ∷ ns) in
     let len = length-take-le (length ns) (n ∷ ns) (omega arith) in
     let kept : length place - climb cs ≡ suc (length ns) - suc (climb cs) = omega arith in
-    walk-normal place cs normal (omega arith) ∙ ap (λ k. Some (take k place ++ names_of cs)) kept ∙ ap (λ x. Some (x ++ names_of cs)) (take-take (suc (length ns) - suc (climb cs)) (length ns) (n ∷ ns) (omega arith))
+    walk-normal place cs normal (omega arith) ∙ ap (λ k. Some (take k place ++ names_of cs)) kept
+    ∙ ap (λ x. Some (x ++ names_of cs)) (take-take (suc
+    (length ns) - suc (climb cs)) (length ns) (n ∷ ns) (omega arith))
 walk-normal base (name n ∷ cs) normal long =
     walk-names base (name n ∷ cs) normal ∙ ap (λ x. Some (x ++ n ∷ names_of cs)) (sym (take_all _ base (omega arith)))
 
@@ -146,7 +151,8 @@ names_of_same cs ds normal_cs normal_ds same =
     let from_cs = walk-normal base cs normal_cs (omega arith) in
     let from_ds = walk-normal base ds normal_ds (omega arith) in
     let at_base = same.everywhere base in
-    let place : take (length base - climb cs) base ++ names_of cs ≡ take (length base - climb cs) base ++ names_of ds = cc in
+    let place : take (length base - climb cs) base ++ names_of cs ≡ take (length base - climb cs) base ++ names_of ds =
+    cc in
     append_cancel_left _ _ _ place
 
 -- of the normal lists, only one leads where it does
@@ -161,12 +167,15 @@ normal_unique cs ds normal_cs normal_ds same =
 -- ---- the text of a list
 
 -- a slash joins the texts of two nonempty lists
-pub spell-append : (c : Step) (cs : List Step) (d : Step) (ds : List Step) → spell ((c ∷ cs) ++ (d ∷ ds)) ≡ spell (c ∷ cs) ++ slash ∷ spell (d ∷ ds)
+pub spell-append : (c : Step) (cs : List Step) (d : Step) (ds : List Step)
+    → spell ((c ∷ cs) ++ (d ∷ ds)) ≡ spell (c ∷ cs) ++ slash ∷ spell (d ∷ ds)
 spell-append c [] d ds = refl
 spell-append c (e ∷ es) d ds =
-    ap (λ x. step_text c ++ slash ∷ x) (spell-append e es d ds) ∙ sym (append_assoc (step_text c) (slash ∷ spell (e ∷ es)) (slash ∷ spell (d ∷ ds)))
+    ap (λ x. step_text c ++ slash ∷ x) (spell-append e es d ds)
+    ∙ sym (append_assoc (step_text c) (slash ∷ spell (e ∷ es)) (slash ∷ spell (d ∷ ds)))
 
-pub spell-snoc : (cs : List Step) (c d : Step) → spell ((cs ++ c ∷ []) ++ d ∷ []) ≡ spell (cs ++ c ∷ []) ++ slash ∷ step_text d
+pub spell-snoc : (cs : List Step) (c d : Step)
+    → spell ((cs ++ c ∷ []) ++ d ∷ []) ≡ spell (cs ++ c ∷ []) ++ slash ∷ step_text d
 spell-snoc [] c d = refl
 spell-snoc (e ∷ es) c d = spell-append e (es ++ c ∷ []) d []
 

@@ -15,20 +15,25 @@ use Rattle.relative_path.proofs.NormalStepsLemmas.{IsNormal-push_up_after_up, Is
 
 -- ---- a text is no shorter than what spells its components
 
-length-join_with_byte : (c : ℕ) (p : List ℕ) (ps : List (List ℕ)) → suc (length (join_with_byte c (p ∷ ps))) ≡ parts_len (p ∷ ps) + length (p ∷ ps)
+length-join_with_byte : (c : ℕ) (p : List ℕ) (ps : List (List ℕ))
+    → suc (length (join_with_byte c (p ∷ ps))) ≡ parts_len (p ∷ ps) + length (p ∷ ps)
 length-join_with_byte c p [] = omega arith
-length-join_with_byte c p (q ∷ ps) = omega (arith, length-append p (c ∷ join_with_byte c (q ∷ ps)), length-join_with_byte c q ps)
+length-join_with_byte c p (q ∷ ps) =
+    omega (arith, length-append p (c ∷ join_with_byte c (q ∷ ps)), length-join_with_byte c q ps)
 
 length-filter_le : (ps : List (List ℕ)) → length (filter is_not_empty ps) ≤ length ps
 length-filter_le [] = omega arith
 length-filter_le ([] ∷ ps) = omega (arith, length-filter_le ps)
 length-filter_le ((b ∷ bs) ∷ ps) = omega (arith, length-filter_le ps)
 
-length-join-filter : (c : ℕ) (ps : List (List ℕ)) → length (join_with_byte c (filter is_not_empty ps)) ≤ length (join_with_byte c ps)
+length-join-filter : (c : ℕ) (ps : List (List ℕ))
+    → length (join_with_byte c (filter is_not_empty ps)) ≤ length (join_with_byte c ps)
 length-join-filter c [] = omega arith
-length-join-filter c (p ∷ ps) = shorter (filter is_not_empty (p ∷ ps)) (parts_len-filter (p ∷ ps)) (length-filter_le (p ∷ ps))
+length-join-filter c (p ∷ ps) =
+    shorter (filter is_not_empty (p ∷ ps)) (parts_len-filter (p ∷ ps)) (length-filter_le (p ∷ ps))
   where
-    shorter : (qs : List (List ℕ)) → parts_len qs ≡ parts_len (p ∷ ps) → length qs ≤ length (p ∷ ps) → length (join_with_byte c qs) ≤ length (join_with_byte c (p ∷ ps))
+    shorter : (qs : List (List ℕ)) → parts_len qs ≡ parts_len (p ∷ ps) → length qs ≤ length (p ∷ ps)
+        → length (join_with_byte c qs) ≤ length (join_with_byte c (p ∷ ps))
     shorter [] same fewer = omega arith
     shorter (q ∷ qs) same fewer = omega (arith, length-join_with_byte c q qs, length-join_with_byte c p ps)
 
@@ -59,7 +64,8 @@ Normalizes-start text =
     let whole : components [] ++ components text ≡ components text = ap (λ cs. cs ++ components text) components-nil in
     record { normal_text = IsNormalText-nil; same = rw whole (IsSame-refl (components text)); fits = rw whole (length-spell-components text) }
 
-Normalizes-cur : (source : List Step) (limit : ℕ) (text : List ℕ) (left : List Step) → Normalizes source limit text (cur ∷ left) → Normalizes source limit text left
+Normalizes-cur : (source : List Step) (limit : ℕ) (text : List ℕ) (left : List Step)
+    → Normalizes source limit text (cur ∷ left) → Normalizes source limit text left
 Normalizes-cur source limit text left h = record {
   normal_text = h.normal_text;
   same = IsSame-trans _ _ _ h.same (IsSame-cur (components text) left);
@@ -67,35 +73,48 @@ Normalizes-cur source limit text left h = record {
 }
 
 -- a component pushed behind the text that spells others
-pushed-spell : (cs : List Step) (c : Step) → AreProper cs → IsProper c → pushed (spell cs) (step_text c) ≡ spell (cs ++ c ∷ [])
+pushed-spell : (cs : List Step) (c : Step) → AreProper cs → IsProper c
+    → pushed (spell cs) (step_text c) ≡ spell (cs ++ c ∷ [])
 pushed-spell cs c propers proper = ap (λ x. with_separator (spell cs) ++ x) solid ∙ behind cs propers
   where
     solid : unslashed (step_text c) ≡ step_text c
-    solid = unslashed-solid (step_text c) (subst (λ x. get_or x 0 0 ≢ slash) (append-nil (step_text c)) (HasNoSlash-start (step_text c) [] (nonempty_proper c proper) (HasNoSlash-proper c proper)))
+    solid =
+        unslashed-solid (step_text c) (subst (λ x. get_or x 0 0 ≢ slash) (append-nil
+        (step_text c)) (HasNoSlash-start (step_text c) [] (nonempty_proper c proper) (HasNoSlash-proper c proper)))
 
     behind : (ds : List Step) → AreProper ds → with_separator (spell ds) ++ step_text c ≡ spell (ds ++ c ∷ [])
     behind [] h = refl
     behind (d ∷ ds) h =
-        ap (λ x. x ++ step_text c) (with_separator-solid (spell (d ∷ ds)) (spell_nonempty d ds h.0) (spell_end (d ∷ ds) h)) ∙ append_assoc (spell (d ∷ ds)) (slash ∷ []) (step_text c) ∙ sym (spell-append d ds c [])
+        ap (λ x. x ++ step_text c) (with_separator-solid (spell
+        (d ∷ ds)) (spell_nonempty d ds h.0) (spell_end (d ∷ ds) h))
+        ∙ append_assoc (spell (d ∷ ds)) (slash ∷ []) (step_text c) ∙ sym (spell-append d ds c [])
 
-pub spell-pushed : (text : List ℕ) (c : Step) → text ≡ spell (components text) → IsProper c → pushed text (step_text c) ≡ spell (components text ++ c ∷ [])
+pub spell-pushed : (text : List ℕ) (c : Step) → text ≡ spell (components text) → IsProper c
+    → pushed text (step_text c) ≡ spell (components text ++ c ∷ [])
 spell-pushed text c spelled proper =
     ap (λ x. pushed x (step_text c)) spelled ∙ pushed-spell (components text) c (AreProper-components text) proper
 
-Normalizes-push : (source : List Step) (limit : ℕ) (text : List ℕ) (c : Step) (left : List Step) → Normalizes source limit text (c ∷ left) → IsProper c → IsNormal (components text ++ c ∷ []) → Normalizes source limit (pushed text (step_text c)) left
+Normalizes-push : (source : List Step) (limit : ℕ) (text : List ℕ) (c : Step) (left : List Step)
+    → Normalizes source limit text (c ∷ left) → IsProper c → IsNormal (components text ++ c ∷ [])
+    → Normalizes source limit (pushed text (step_text c)) left
 Normalizes-push source limit text c left h proper normal =
-    let pushes : components (pushed text (step_text c)) ≡ components text ++ c ∷ [] = components-pushed text (step_text c) ∙ ap (λ cs. components text ++ cs) proper in
-    let joined : components text ++ c ∷ left ≡ components (pushed text (step_text c)) ++ left = sym (append_assoc (components text) (c ∷ []) left) ∙ ap (λ cs. cs ++ left) (sym pushes) in
+    let pushes : components (pushed text (step_text c)) ≡ components text ++ c ∷ [] =
+    components-pushed text (step_text c) ∙ ap (λ cs. components text ++ cs) proper in
+    let joined : components text ++ c ∷ left ≡ components (pushed text (step_text c)) ++ left =
+    sym (append_assoc (components text) (c ∷ []) left) ∙ ap (λ cs. cs ++ left) (sym pushes) in
     record {
-      normal_text = record { spelled = spell-pushed text c h.normal_text.spelled proper ∙ ap spell (sym pushes); normal = rw pushes normal };
+      normal_text =
+          record { spelled = spell-pushed text c h.normal_text.spelled proper ∙ ap spell (sym pushes); normal = rw pushes normal };
       same = rw (← joined) h.same;
       fits = rw (← joined) h.fits;
     }
 
-pub pushed_fits : (source : List Step) (limit : ℕ) (text : List ℕ) (c : Step) (left : List Step) → Normalizes source limit text (c ∷ left) → IsProper c → length (pushed text (step_text c)) ≤ limit
+pub pushed_fits : (source : List Step) (limit : ℕ) (text : List ℕ) (c : Step) (left : List Step)
+    → Normalizes source limit text (c ∷ left) → IsProper c → length (pushed text (step_text c)) ≤ limit
 pushed_fits source limit text c left h proper =
     let spelled = ap length (spell-pushed text c h.normal_text.spelled proper) in
-    let joined : length (spell ((components text ++ c ∷ []) ++ left)) ≡ length (spell (components text ++ c ∷ left)) = ap (λ cs. length (spell cs)) (append_assoc (components text) (c ∷ []) left) in
+    let joined : length (spell ((components text ++ c ∷ []) ++ left)) ≡ length (spell (components text ++ c ∷ left)) =
+    ap (λ cs. length (spell cs)) (append_assoc (components text) (c ∷ []) left) in
     let longer = length-spell-append_le (components text ++ c ∷ []) left in
     let fits = h.fits in
     omega arith
@@ -104,18 +123,27 @@ IsPrefix-spell : (cs : List Step) (c : Step) → IsPrefix (spell (cs ++ c ∷ []
 IsPrefix-spell [] c = record { front = refl }
 IsPrefix-spell (d ∷ cs) c = rw (spell-append d cs c []) (IsPrefix-append (spell (d ∷ cs)) (slash ∷ step_text c))
 
-Normalizes-pop : (source : List Step) (limit : ℕ) (text popped : List ℕ) (cs : List Step) (n : List ℕ) (left : List Step) → Normalizes source limit text (up ∷ left) → components text ≡ cs ++ name n ∷ [] → IsPopped text popped → Normalizes source limit popped left
+Normalizes-pop : (source : List Step) (limit : ℕ) (text popped : List ℕ) (cs : List Step) (n : List ℕ) (left : List Step)
+    → Normalizes source limit text (up ∷ left) → components text ≡ cs ++ name n ∷ [] → IsPopped text popped
+    → Normalizes source limit popped left
 Normalizes-pop source limit text popped cs n left h last pops =
     let propers : AreProper (cs ++ name n ∷ []) = subst AreProper last (AreProper-components text) in
     let proper = AreProper-append_left cs (name n ∷ []) propers in
-    let firsts = ap₂ take (ap kept_len last ∙ kept_len-push cs (name n) refl) last ∙ take_at cs (name n ∷ []) (length cs) refl in
+    let firsts =
+    ap₂ take (ap kept_len last ∙ kept_len-push cs (name n) refl) last ∙ take_at cs (name n ∷ []) (length cs) refl in
     let cut : IsShortestPrefix text cs popped = subst (λ ds. IsShortestPrefix text ds popped) firsts pops in
-    let front = subst (λ x. IsPrefix x (spell cs)) (sym (h.normal_text.spelled ∙ ap spell last)) (IsPrefix-spell cs (name n)) in
-    let spelled = IsShortestPrefix-unique cut (IsShortestPrefix-from front (components-spell cs proper) (spell_end cs proper)) in
-    let left_over : components text ++ up ∷ left ≡ cs ++ name n ∷ up ∷ left = ap (λ ds. ds ++ up ∷ left) last ∙ append_assoc cs (name n ∷ []) (up ∷ left) in
+    let front =
+    subst (λ x. IsPrefix x (spell cs)) (sym (h.normal_text.spelled ∙ ap spell last)) (IsPrefix-spell cs (name n)) in
+    let spelled =
+    IsShortestPrefix-unique cut (IsShortestPrefix-from front (components-spell cs proper) (spell_end cs proper)) in
+    let left_over : components text ++ up ∷ left ≡ cs ++ name n ∷ up ∷ left =
+    ap (λ ds. ds ++ up ∷ left) last ∙ append_assoc cs (name n ∷ []) (up ∷ left) in
     record {
-      normal_text = record { spelled = spelled ∙ ap spell (sym cut.same_components); normal = rw cut.same_components (IsNormal-front cs (name n) (subst IsNormal last h.normal_text.normal)) };
-      same = rw cut.same_components (IsSame-trans _ _ _ (subst (IsSame source) left_over h.same) (IsSame-name_up cs left n));
+      normal_text =
+          record { spelled = spelled ∙ ap spell (sym cut.same_components); normal = rw cut.same_components (IsNormal-front cs (name n) (subst IsNormal last h.normal_text.normal)) };
+      same =
+          rw cut.same_components (IsSame-trans _ _ _ (subst
+          (IsSame source) left_over h.same) (IsSame-name_up cs left n));
       fits =
           let fits = ap (λ ds. length (spell ds)) left_over in
           let first = length-spell-drop_one cs (up ∷ left) (name n) in
@@ -130,7 +158,8 @@ Normalizes-pop source limit text popped cs n left h last pops =
 pub record Follows (text : List ℕ) (c : Step) (new : List ℕ) : Type 0 where
   pub normal_text : IsNormalText new
   pub same : IsSame (components text ++ c ∷ []) (components new)
-  pub no_longer : (left : List Step) → length (spell (components new ++ left)) ≤ length (spell (components text ++ c ∷ left))
+  pub no_longer : (left : List Step)
+      → length (spell (components new ++ left)) ≤ length (spell (components text ++ c ∷ left))
 
 -- a normal text normalizes its own components with what is left
 module _ (text : List ℕ) (normal : IsNormalText text) where
@@ -149,7 +178,8 @@ module _ (text : List ℕ) (normal : IsNormalText text) where
   pub Follows-cur : Follows text cur text
   Follows-cur = Follows-from cur text (λ left. Normalizes-cur _ _ text left (here (cur ∷ left)))
 
-  pub Follows-push : (c : Step) → IsProper c → IsNormal (components text ++ c ∷ []) → Follows text c (pushed text (step_text c))
+  pub Follows-push : (c : Step) → IsProper c → IsNormal (components text ++ c ∷ [])
+      → Follows text c (pushed text (step_text c))
   Follows-push c proper ends =
       Follows-from c (pushed text (step_text c)) (λ left. Normalizes-push _ _ text c left (here (c ∷ left)) proper ends)
 
@@ -173,16 +203,22 @@ Normalizes-follow source limit text c new left h f =
     }
 
 -- at the end the text is the only normal text that leads where the source leads
-pub Normalizes-end : (source : List Step) (limit : ℕ) (text : List ℕ) (left : List Step) → Normalizes source limit text left → left ≡ [] → IsNormalTextOf source text × (length text ≤ limit)
+pub Normalizes-end : (source : List Step) (limit : ℕ) (text : List ℕ) (left : List Step)
+    → Normalizes source limit text left → left ≡ [] → IsNormalTextOf source text × (length text ≤ limit)
 Normalizes-end source limit text left h none =
-    let whole : components text ++ left ≡ components text = ap (λ cs. components text ++ cs) none ∙ append-nil (components text) in
+    let whole : components text ++ left ≡ components text =
+    ap (λ cs. components text ++ cs) none ∙ append-nil (components text) in
     let same = subst (IsSame source) whole h.same in
     let fits = subst (λ cs. length (spell cs) ≤ limit) whole h.fits in (
       record {
         normal_text = h.normal_text;
         same = same;
         only = λ other normal leads.
-            normal.spelled ∙ ap spell (normal_unique (components other) (components text) normal.normal h.normal_text.normal (IsSame-trans _ _ _ (IsSame-sym _ _ leads) same)) ∙ sym h.normal_text.spelled;
+            normal.spelled
+            ∙ ap spell (normal_unique
+            (components other) (components text) normal.normal h.normal_text.normal (IsSame-trans _ _ _
+            (IsSame-sym _ _ leads) same))
+            ∙ sym h.normal_text.spelled;
       },
       let e = ap length h.normal_text.spelled in omega arith,
     )
@@ -197,17 +233,21 @@ last_view (c ∷ cs) = elim (last_view cs) [
 ]
 
 -- a normal list that does not end in a name takes one `..` more
-pub IsNormal-push_up : (cs : List Step) → IsNormal cs → ((ds : List Step) (n : List ℕ) → cs ≢ ds ++ name n ∷ []) → IsNormal (cs ++ up ∷ [])
+pub IsNormal-push_up : (cs : List Step) → IsNormal cs → ((ds : List Step) (n : List ℕ) → cs ≢ ds ++ name n ∷ [])
+    → IsNormal (cs ++ up ∷ [])
 IsNormal-push_up cs normal other = elim (last_view cs) [
   | inl none ↦ rw none tt
   | inr (ds, c, joined) ↦ rw joined (push_up ds c (subst IsNormal joined normal) (λ n e. other ds n (joined ∙ ap (λ d. ds ++ d ∷ []) e)))
 ]
   where
-    push_up : (ds : List Step) (c : Step) → IsNormal (ds ++ c ∷ []) → ((n : List ℕ) → c ≢ name n) → IsNormal ((ds ++ c ∷ []) ++ up ∷ [])
+    push_up : (ds : List Step) (c : Step) → IsNormal (ds ++ c ∷ []) → ((n : List ℕ) → c ≢ name n)
+        → IsNormal ((ds ++ c ∷ []) ++ up ∷ [])
     push_up ds cur h none = absurd (IsNormal-not_cur ds h)
     push_up ds up h none = IsNormal-push_up_after_up ds h
     push_up ds (name n) h none = absurd (none n refl)
 
 -- a normal list is what its normal text has
-pub components-IsNormalTextOf : (cs : List Step) (text : List ℕ) → IsNormalTextOf cs text → IsNormal cs → components text ≡ cs
-components-IsNormalTextOf cs text of normal = sym (normal_unique cs (components text) normal of.normal_text.normal of.same)
+pub components-IsNormalTextOf : (cs : List Step) (text : List ℕ) → IsNormalTextOf cs text → IsNormal cs
+    → components text ≡ cs
+components-IsNormalTextOf cs text of normal =
+    sym (normal_unique cs (components text) normal of.normal_text.normal of.same)

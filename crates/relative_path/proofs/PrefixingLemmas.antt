@@ -121,7 +121,9 @@ module _ {cs child child_left : List Step} {left : List ℕ} (h : AgreesBack cs 
       whole = ends ∙ ap (λ x. start ++ x) (taken_last _ _ _ _ _ h.child_joined last)
 
       parts : start ++ (child_front ++ behind) ≡ ((start ++ child_front) ++ step_of c ∷ []) ++ h.taken
-      parts = sym (append_assoc start child_front behind) ∙ sym (append_assoc (start ++ child_front) (step_of c ∷ []) h.taken)
+      parts =
+          sym (append_assoc start child_front behind)
+          ∙ sym (append_assoc (start ++ child_front) (step_of c ∷ []) h.taken)
 
       same : components left ≡ (start ++ child_front) ++ step_of c ∷ []
       same = append_cancel_right _ _ h.taken (sym h.joined ∙ whole ∙ parts)

@@ -16,13 +16,16 @@ pub IsPrefix-append : (p rest : List ℕ) → IsPrefix (p ++ rest) p
 IsPrefix-append p rest = record { front = sym (take_at p rest (length p) refl) }
 
 pub IsPrefix-take : (k : ℕ) (text : List ℕ) → IsPrefix text (take k text)
-IsPrefix-take k text = subst (λ x. IsPrefix x (take k text)) (take-append-drop k text) (IsPrefix-append (take k text) (drop k text))
+IsPrefix-take k text =
+    subst (λ x. IsPrefix x (take k text)) (take-append-drop k text) (IsPrefix-append (take k text) (drop k text))
 
 -- the same text before both
 pub IsPrefix-append_left : (head : List ℕ) {text p : List ℕ} → IsPrefix text p → IsPrefix (head ++ text) (head ++ p)
 IsPrefix-append_left head {text} {p} h =
     let rest = drop (length p) text in
-    let whole : (head ++ p) ++ rest ≡ head ++ text = append_assoc head p rest ∙ ap (λ x. head ++ (x ++ rest)) h.front ∙ ap (λ x. head ++ x) (take-append-drop (length p) text) in
+    let whole : (head ++ p) ++ rest ≡ head ++ text =
+    append_assoc head p rest ∙ ap (λ x. head ++ (x ++ rest)) h.front
+    ∙ ap (λ x. head ++ x) (take-append-drop (length p) text) in
     subst (λ x. IsPrefix x (head ++ p)) whole (IsPrefix-append (head ++ p) rest)
 
 pub length-IsPrefix : {text p : List ℕ} → IsPrefix text p → length p ≤ length text
@@ -37,10 +40,15 @@ IsPrefix-trans {text} {p} {q} h i = record { front = i.front ∙ take-IsPrefix h
 
 -- texts with the same components have as many solid bytes
 solid_len-components : (xs ys : List ℕ) → components xs ≡ components ys → solid_len xs ≡ solid_len ys
-solid_len-components xs ys e = let p = total_len-components xs in let q = total_len-components ys in let r = rw e at p in omega (arith, q, r)
+solid_len-components xs ys e =
+    let p = total_len-components xs in
+    let q = total_len-components ys in
+    let r = rw e at p in
+    omega (arith, q, r)
 
 -- a front with the same components as a longer one leaves out slashes alone, the last byte among them
-ends_in_slash_after : (p : List ℕ) (k : ℕ) → k < length p → components (take k p) ≡ components p → get_or p (length p - 1) 0 ≡ slash
+ends_in_slash_after : (p : List ℕ) (k : ℕ) → k < length p → components (take k p) ≡ components p
+    → get_or p (length p - 1) 0 ≡ slash
 ends_in_slash_after p k short same =
     let counts = solid_len-components (take k p) p same in
     let whole = ap solid_len (sym (take-append-drop k p)) ∙ solid_len-append (take k p) (drop k p) in
@@ -50,7 +58,8 @@ ends_in_slash_after p k short same =
     ap (λ i. get_or p i 0) index ∙ sym (get_or-drop k p (length (drop k p) - 1) 0) ∙ last
 
 -- a front that ends in no slash is the shortest with its components
-pub IsShortestPrefix-from : {text p : List ℕ} {cs : List Step} → IsPrefix text p → components p ≡ cs → get_or p (length p - 1) 0 ≢ slash → IsShortestPrefix text cs p
+pub IsShortestPrefix-from : {text p : List ℕ} {cs : List Step} → IsPrefix text p → components p ≡ cs
+    → get_or p (length p - 1) 0 ≢ slash → IsShortestPrefix text cs p
 IsShortestPrefix-from {text} {p} {cs} h same end = record {
   prefix = h.front;
   same_components = same;
@@ -61,14 +70,17 @@ IsShortestPrefix-from {text} {p} {cs} h same end = record {
 }
 
 -- a text is cut at the end of a character where its front is a text
-pub IsCharBoundary-IsPrefix : {text p : List ℕ} → IsPrefix text p → IsUtf8 text → IsUtf8 p → IsCharBoundary text (length p)
-IsCharBoundary-IsPrefix {text} {p} h whole part = IsCharBoundary-from_take text (length p) whole (length-IsPrefix h) (subst IsUtf8 h.front part)
+pub IsCharBoundary-IsPrefix : {text p : List ℕ} → IsPrefix text p → IsUtf8 text → IsUtf8 p
+    → IsCharBoundary text (length p)
+IsCharBoundary-IsPrefix {text} {p} h whole part =
+    IsCharBoundary-from_take text (length p) whole (length-IsPrefix h) (subst IsUtf8 h.front part)
 
 pub IsPrefix-shortest : {text p : List ℕ} {cs : List Step} → IsShortestPrefix text cs p → IsPrefix text p
 IsPrefix-shortest h = record { front = h.prefix }
 
 -- the shortest front of a front is the shortest front of the text
-pub IsShortestPrefix-trans : {text q p : List ℕ} {cs : List Step} → IsPrefix text q → IsShortestPrefix q cs p → IsShortestPrefix text cs p
+pub IsShortestPrefix-trans : {text q p : List ℕ} {cs : List Step} → IsPrefix text q → IsShortestPrefix q cs p
+    → IsShortestPrefix text cs p
 IsShortestPrefix-trans {text} {q} {p} {cs} h s = record {
   prefix = (IsPrefix-trans h (IsPrefix-shortest s)).front;
   same_components = s.same_components;
@@ -78,7 +90,8 @@ IsShortestPrefix-trans {text} {q} {p} {cs} h s = record {
       (cases_lt k (length q));
 }
 
-pub IsShortestPrefix-unique : {text p q : List ℕ} {cs : List Step} → IsShortestPrefix text cs p → IsShortestPrefix text cs q → p ≡ q
+pub IsShortestPrefix-unique : {text p q : List ℕ} {cs : List Step} → IsShortestPrefix text cs p
+    → IsShortestPrefix text cs q → p ≡ q
 IsShortestPrefix-unique {text} {p} {q} s t =
     let at_most = s.shortest (length q) (ap components (sym t.prefix) ∙ t.same_components) in
     let at_least = t.shortest (length p) (ap components (sym s.prefix) ∙ s.same_components) in
@@ -102,4 +115,5 @@ pub IsSuffix-drop : {text r : List ℕ} → IsSuffix text r → r ≡ drop (leng
 IsSuffix-drop {text} {r} h = sym (end_rest text r h.front h.joined)
 
 pub IsSuffix-trans : {text q r : List ℕ} → IsSuffix text q → IsSuffix q r → IsSuffix text r
-IsSuffix-trans {text} {q} {r} h i = record { front = h.front ++ i.front; joined = h.joined ∙ ap (λ x. h.front ++ x) i.joined ∙ sym (append_assoc h.front i.front r) }
+IsSuffix-trans {text} {q} {r} h i =
+    record { front = h.front ++ i.front; joined = h.joined ∙ ap (λ x. h.front ++ x) i.joined ∙ sym (append_assoc h.front i.front r) }

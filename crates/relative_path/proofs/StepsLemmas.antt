@@ -21,7 +21,8 @@ onto_first-append b (p ∷ ps) qs nonempty = refl
 slice_split_nonempty : (bs : List ℕ) → 0 < length (slice_split is_slash bs)
 slice_split_nonempty bs = omega (arith, length-slice_split is_slash bs)
 
-slice_split-append : (xs ys : List ℕ) → slice_split is_slash (xs ++ slash ∷ ys) ≡ slice_split is_slash xs ++ slice_split is_slash ys
+slice_split-append : (xs ys : List ℕ)
+    → slice_split is_slash (xs ++ slash ∷ ys) ≡ slice_split is_slash xs ++ slice_split is_slash ys
 slice_split-append [] ys = refl
 slice_split-append (x ∷ xs) ys =
     let rest = slice_split-append xs ys in
@@ -34,7 +35,8 @@ slice_split-append (x ∷ xs) ys =
 pieces-append : (xs ys : List ℕ) → pieces (xs ++ slash ∷ ys) ≡ pieces xs ++ pieces ys
 unfolding pieces
 pieces-append xs ys =
-    ap (filter is_not_empty) (slice_split-append xs ys) ∙ filter-append is_not_empty (slice_split is_slash xs) (slice_split is_slash ys)
+    ap (filter is_not_empty) (slice_split-append xs ys)
+    ∙ filter-append is_not_empty (slice_split is_slash xs) (slice_split is_slash ys)
 
 -- a text that has a byte and no slash is one piece
 pieces_whole : (b : ℕ) (bs : List ℕ) → HasNoSlash (b ∷ bs) → pieces (b ∷ bs) ≡ (b ∷ bs) ∷ []
@@ -54,7 +56,8 @@ pub components-slash : (ys : List ℕ) → components (slash ∷ ys) ≡ compone
 components-slash ys = components-append [] ys ∙ ap (λ cs. cs ++ components ys) components-nil
 
 pub components-trailing_slash : (xs : List ℕ) → components (xs ++ slash ∷ []) ≡ components xs
-components-trailing_slash xs = components-append xs [] ∙ ap (λ cs. components xs ++ cs) components-nil ∙ append-nil (components xs)
+components-trailing_slash xs =
+    components-append xs [] ∙ ap (λ cs. components xs ++ cs) components-nil ∙ append-nil (components xs)
 
 -- a text that has a byte and no slash is one component
 pub components_whole : (p : List ℕ) → 0 < length p → HasNoSlash p → components p ≡ classed p ∷ []
@@ -129,14 +132,16 @@ total_len-components bs =
 abbrev IsPiece : List ℕ → Type 0
 IsPiece p = (0 < length p) × HasNoSlash p
 
-HasNoSlash-onto_first : (b : ℕ) (ps : List (List ℕ)) → is_slash b ≡ false → AllByRecursion HasNoSlash ps → AllByRecursion HasNoSlash (onto_first b ps)
+HasNoSlash-onto_first : (b : ℕ) (ps : List (List ℕ)) → is_slash b ≡ false → AllByRecursion HasNoSlash ps
+    → AllByRecursion HasNoSlash (onto_first b ps)
 HasNoSlash-onto_first b [] e h = ((e, tt), tt)
 HasNoSlash-onto_first b (p ∷ ps) e h = ((e, h.0), h.1)
 
 HasNoSlash-slice_split : (bs : List ℕ) → AllByRecursion HasNoSlash (slice_split is_slash bs)
 HasNoSlash-slice_split [] = (tt, tt)
 HasNoSlash-slice_split (b ∷ bs) =
-    cond_both (is_slash b) ([] ∷ slice_split is_slash bs) (onto_first b (slice_split is_slash bs)) (AllByRecursion HasNoSlash)
+    cond_both (is_slash b) ([] ∷ slice_split is_slash bs) (onto_first b
+    (slice_split is_slash bs)) (AllByRecursion HasNoSlash)
     (λ _. (tt, HasNoSlash-slice_split bs))
     (λ e. HasNoSlash-onto_first b (slice_split is_slash bs) e (HasNoSlash-slice_split bs))
 
@@ -163,7 +168,8 @@ pub components-spell : (cs : List Step) → AreProper cs → components (spell c
 components-spell [] proper = components-nil
 components-spell (c ∷ []) proper = proper.0
 components-spell (c ∷ d ∷ cs) proper =
-    components-append (step_text c) (spell (d ∷ cs)) ∙ ap₂ (λ xs ys. xs ++ ys) proper.0 (components-spell (d ∷ cs) proper.1)
+    components-append (step_text c) (spell (d ∷ cs))
+    ∙ ap₂ (λ xs ys. xs ++ ys) proper.0 (components-spell (d ∷ cs) proper.1)
 
 pub AreProper-append : (cs ds : List Step) → AreProper cs → AreProper ds → AreProper (cs ++ ds)
 AreProper-append [] ds proper proper' = proper'
@@ -172,7 +178,8 @@ AreProper-append (c ∷ cs) ds proper proper' = (proper.0, AreProper-append cs d
 -- ---- the last byte
 
 -- the end of a text that has a byte is the end of what it ends with
-pub end-append : (xs ys : List ℕ) → 0 < length ys → get_or (xs ++ ys) (length (xs ++ ys) - 1) 0 ≡ get_or ys (length ys - 1) 0
+pub end-append : (xs ys : List ℕ) → 0 < length ys
+    → get_or (xs ++ ys) (length (xs ++ ys) - 1) 0 ≡ get_or ys (length ys - 1) 0
 end-append xs ys nonempty =
     let index : length (xs ++ ys) - 1 ≡ length xs + (length ys - 1) = omega (arith, length-append xs ys) in
     ap (λ i. get_or (xs ++ ys) i 0) index ∙ get_or-append-add xs ys (length ys - 1) 0
@@ -190,7 +197,9 @@ solid_len-append (x ∷ xs) ys =
 pub solid_len_le : (bs : List ℕ) → solid_len bs ≤ length bs
 solid_len_le [] = omega arith
 solid_len_le (b ∷ bs) =
-    cond_both (is_slash b) (solid_len bs) (suc (solid_len bs)) (λ n. n ≤ suc (length bs)) (λ _. omega (arith, solid_len_le bs)) (λ _. omega (arith, solid_len_le bs))
+    cond_both (is_slash b) (solid_len bs) (suc
+    (solid_len bs)) (λ n. n ≤ suc
+    (length bs)) (λ _. omega (arith, solid_len_le bs)) (λ _. omega (arith, solid_len_le bs))
 
 -- a text without a solid byte ends in a slash, if it has a byte
 pub ends_in_slash : (bs : List ℕ) → solid_len bs ≡ 0 → 0 < length bs → get_or bs (length bs - 1) 0 ≡ slash
@@ -250,7 +259,8 @@ spell_end [] proper = HasNoSlash-end [] tt
 spell_end (c ∷ []) proper = HasNoSlash-end (step_text c) (HasNoSlash-proper c proper.0)
 spell_end (c ∷ d ∷ cs) proper = λ e.
     let longer = end-append (step_text c ++ slash ∷ []) (spell (d ∷ cs)) (spell_nonempty d cs proper.1.0) in
-    let same : step_text c ++ slash ∷ spell (d ∷ cs) ≡ (step_text c ++ slash ∷ []) ++ spell (d ∷ cs) = sym (append_assoc (step_text c) (slash ∷ []) (spell (d ∷ cs))) in
+    let same : step_text c ++ slash ∷ spell (d ∷ cs) ≡ (step_text c ++ slash ∷ []) ++ spell (d ∷ cs) =
+    sym (append_assoc (step_text c) (slash ∷ []) (spell (d ∷ cs))) in
     spell_end (d ∷ cs) proper.1 (sym longer ∙ ap (λ x. get_or x (length x - 1) 0) (sym same) ∙ e)
 
 pub AreProper-append_left : (cs ds : List Step) → AreProper (cs ++ ds) → AreProper cs

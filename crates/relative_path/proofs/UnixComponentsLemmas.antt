@@ -26,7 +26,8 @@ unshared cs ds = (drop (shared_len cs ds) cs, drop (shared_len cs ds) ds)
 
 unshared_both : (cs ds : List Step) (c d : Step) → step_eq c d ≡ true → unshared (c ∷ cs) (d ∷ ds) ≡ unshared cs ds
 unshared_both cs ds c d same =
-    let one_more : shared_len (c ∷ cs) (d ∷ ds) ≡ suc (shared_len cs ds) = omega (arith, cond-true (step_eq c d) (1 + shared_len cs ds) 0 same) in
+    let one_more : shared_len (c ∷ cs) (d ∷ ds) ≡ suc (shared_len cs ds) =
+    omega (arith, cond-true (step_eq c d) (1 + shared_len cs ds) 0 same) in
     ap (λ n. (drop n (c ∷ cs), drop n (d ∷ ds))) one_more
 
 pub unshared-both : (cs ds cs' ds' : List Step) (c d : Step) → cs ≡ c ∷ cs' → ds ≡ d ∷ ds' → c ≡ d
@@ -82,8 +83,11 @@ pub LosesIdle-cur : (rooted : Bool) (text left front : List ℕ) (taken : Option
     → LosesIdle rooted text front
 LosesIdle-cur rooted text left front None is h takes idle = absurd (true≢false (sym is))
 LosesIdle-cur rooted text left front (Some c) is h (last, cut) idle =
-    let last : components left ≡ components front ++ cur ∷ [] = last ∙ ap (λ d. components front ++ d ∷ []) ((step_eq-Decides (step_of c) cur).0 is) in
-    let idle : (rooted ≡ true) ⊎ (components front ≢ []) = ⊎_elim (λ some. inr (λ none. some (nil_from_components left front _ cut (sym cut.same_components ∙ none)))) (λ e. inl e) idle in
+    let last : components left ≡ components front ++ cur ∷ [] =
+    last ∙ ap (λ d. components front ++ d ∷ []) ((step_eq-Decides (step_of c) cur).0 is) in
+    let idle : (rooted ≡ true) ⊎ (components front ≢ []) =
+    ⊎_elim (λ some. inr (λ none. some (nil_from_components left front _ cut
+    (sym cut.same_components ∙ none)))) (λ e. inl e) idle in
     record {
       prefix = IsPrefix-trans h.prefix (IsPrefix-shortest cut);
       end = end-IsShortestPrefix cut;
@@ -98,14 +102,20 @@ last_counts : (rooted : Bool) (cs : List Step) (c : Step) → (is_cur c ≡ fals
     → length (counted rooted cs) < length (counted rooted (cs ++ c ∷ []))
 last_counts rooted cs c (inl other) =
     let one = ap length (counted_one (after rooted cs) c other) in
-    omega (arith, ap length (counted-append rooted cs (c ∷ [])), length-append (counted rooted cs) (counted (after rooted cs) (c ∷ [])))
+    omega (
+      arith,
+      ap length (counted-append rooted cs
+          (c ∷ [])),
+      length-append (counted rooted cs) (counted (after rooted cs) (c ∷ [])),
+    )
 last_counts rooted cs c (inr (none, unrooted)) = rw (none, unrooted) (omega arith)
 
 pub LastCounts-taken : (rooted : Bool) (left front : List ℕ) (taken : Option Component) → TakesLast left taken front
     → (takes_cur taken ≡ false) ⊎ ((front ≡ []) × (rooted ≡ false)) → LastCounts rooted (components left)
 LastCounts-taken rooted left front None (none, _) counts = λ some. absurd (some none)
 LastCounts-taken rooted left front (Some c) (last, cut) counts = λ _.
-    let counts : (is_cur (step_of c) ≡ false) ⊎ ((components front ≡ []) × (rooted ≡ false)) = ⊎_elim (λ e. inl (other (step_of c) e)) (λ h. inr (ap components h.0 ∙ components-nil, h.1)) counts in
+    let counts : (is_cur (step_of c) ≡ false) ⊎ ((components front ≡ []) × (rooted ≡ false)) =
+    ⊎_elim (λ e. inl (other (step_of c) e)) (λ h. inr (ap components h.0 ∙ components-nil, h.1)) counts in
     rw (← cut.same_components, last) (last_counts rooted (components front) (step_of c) counts)
   where
     other : (d : Step) → step_eq d cur ≡ false → is_cur d ≡ false

@@ -51,13 +51,16 @@ HasNoSlash-append (b ∷ bs) y none none' = (none.0, HasNoSlash-append bs y none
 abbrev Continues : List ℕ → List ℕ → Type 0
 Continues front rest =
     ((ds : List Step) × (components (front ++ rest) ≡ components front ++ ds))
-    ⊎ ((cs : List Step) × (ds : List Step) × (x : List ℕ) × (y : List ℕ) × (0 < length x) × (0 < length y) × (components front ≡ cs ++ classed x ∷ []) × (components (front ++ rest) ≡ cs ++ classed (x ++ y) ∷ ds))
+    ⊎ ((cs : List Step) ×
+    (ds : List Step) × (x : List ℕ) × (y : List ℕ) × (0 < length x) × (0 < length y) × (components front ≡ cs ++ classed x ∷ []) × (components
+    (front ++ rest) ≡ cs ++ classed (x ++ y) ∷ ds))
 
 continues : (front rest : List ℕ) → Continues front rest
 continues front rest =
     let before = components-before front in
     let behind = components-behind rest in
-    joined before.0 behind.0 before.1 behind.1 before.2 behind.2 (ap components (sym (append-nil front)) ∙ before.3 [] ∙ ap (λ t. before.0 ++ components t) (append-nil before.1)) (before.3 rest ∙ ap (λ cs. before.0 ++ cs) (behind.3 before.1))
+    joined before.0 behind.0 before.1 behind.1 before.2 behind.2 (ap components (sym
+    (append-nil front)) ∙ before.3 [] ∙ ap (λ t. before.0 ++ components t) (append-nil before.1)) (before.3 rest ∙ ap (λ cs. before.0 ++ cs) (behind.3 before.1))
   where
     joined : (cs ds : List Step) (x y : List ℕ) → HasNoSlash x → HasNoSlash y → components front ≡ cs ++ components x
         → components (front ++ rest) ≡ cs ++ (components (x ++ y) ++ ds) → Continues front rest
@@ -65,11 +68,27 @@ continues front rest =
         let first : components front ≡ cs = first ∙ ap (λ es. cs ++ es) components-nil ∙ append-nil cs in
         inl (components y ++ ds, whole ∙ ap (λ es. es ++ (components y ++ ds)) (sym first))
     joined cs ds (b ∷ bs) [] none none' first whole =
-        inl (ds, whole ∙ ap (λ t. cs ++ (components t ++ ds)) (append-nil (b ∷ bs)) ∙ sym (append_assoc cs (components (b ∷ bs)) ds) ∙ ap (λ es. es ++ ds) (sym first))
+        inl (
+          ds,
+          whole ∙ ap (λ t. cs ++ (components t ++ ds)) (append-nil (b ∷ bs)) ∙ sym (append_assoc cs (components
+              (b ∷ bs)) ds) ∙ ap (λ es. es ++ ds) (sym first),
+        )
     joined cs ds (b ∷ bs) (d ∷ rest') none none' first whole =
         let one = components_whole (b ∷ bs) (omega arith) none in
-        let longer = components_whole ((b ∷ bs) ++ d ∷ rest') (omega arith) (HasNoSlash-append (b ∷ bs) (d ∷ rest') none none') in
-        inr (cs, ds, b ∷ bs, d ∷ rest', omega arith, omega arith, first ∙ ap (λ es. cs ++ es) one, whole ∙ ap (λ es. cs ++ (es ++ ds)) longer)
+        let longer =
+        components_whole ((b ∷ bs) ++ d ∷ rest') (omega arith) (HasNoSlash-append
+        (b ∷ bs) (d ∷ rest') none none') in
+        inr (
+          cs,
+          ds,
+          b ∷ bs,
+          d ∷ rest',
+          omega arith,
+          omega arith,
+          first ∙ ap
+              (λ es. cs ++ es) one,
+          whole ∙ ap (λ es. cs ++ (es ++ ds)) longer,
+        )
 
 -- ---- a shorter front has other components
 
@@ -105,14 +124,19 @@ shorter-counted : (rooted : Bool) (front rest : List ℕ) → 0 < length rest
 shorter-counted rooted front rest nonempty end last = λ same. elim (continues front rest) [
   | inl (ds, whole) ↦ added ds whole same (last_view ds)
   | inr (cs, ds, x, y, some, some', first, whole) ↦
-      absurd (longer (after rooted cs) ds x y some some' (append_cancel_left (counted rooted cs) _ _ (sym (counted-append rooted cs (classed x ∷ [])) ∙ ap (counted rooted) (sym first) ∙ same ∙ ap (counted rooted) whole ∙ counted-append rooted cs (classed (x ++ y) ∷ ds))))
+      absurd (longer (after rooted cs) ds x y some some' (append_cancel_left (counted rooted cs) _ _ (sym
+      (counted-append rooted cs
+      (classed x ∷ [])) ∙ ap (counted rooted) (sym first) ∙ same ∙ ap (counted rooted) whole ∙ counted-append rooted cs (classed
+      (x ++ y) ∷ ds))))
 ]
   where
     longer : (rooted' : Bool) (ds : List Step) (x y : List ℕ) → 0 < length x → 0 < length y
         → counted rooted' (classed x ∷ []) ≢ counted rooted' (classed (x ++ y) ∷ ds)
     longer rooted' ds x y some some' same =
-        let long : is_cur (classed (x ++ y)) ≡ false = long_other (classed (x ++ y)) (omega (arith, ap length (step_text-classed (x ++ y)), length-append x y)) in
-        let kept : counted rooted' (classed x ∷ []) ≡ classed (x ++ y) ∷ without_curs ds = same ∙ counted_first rooted' (classed (x ++ y)) ds long in
+        let long : is_cur (classed (x ++ y)) ≡ false =
+        long_other (classed (x ++ y)) (omega (arith, ap length (step_text-classed (x ++ y)), length-append x y)) in
+        let kept : counted rooted' (classed x ∷ []) ≡ classed (x ++ y) ∷ without_curs ds =
+        same ∙ counted_first rooted' (classed (x ++ y)) ds long in
         ⊎_elim
         (λ none. absurd (omega (arith, ap length (sym none ∙ kept))))
         (λ one. let texts : x ≡ x ++ y = sym (step_text-classed x) ∙ ap step_text (head_same (sym one ∙ kept)) ∙ step_text-classed (x ++ y) in absurd (omega (arith, ap length texts, length-append x y)))
@@ -122,14 +146,30 @@ shorter-counted rooted front rest nonempty end last = λ same. elim (continues f
         → counted rooted (components front) ≡ counted rooted (components (front ++ rest))
         → (ds ≡ []) ⊎ ((es : List Step) × (c : Step) × (ds ≡ es ++ c ∷ [])) → ⊥
     added ds whole same (inl none) =
-        let shortest = IsShortestPrefix-from (subst (λ t. IsPrefix t (front ++ rest)) (append-nil (front ++ rest)) (IsPrefix-append (front ++ rest) [])) refl end in
-        let at = shortest.shortest (length front) (ap components (take_at front rest (length front) refl) ∙ sym (whole ∙ ap (λ es. components front ++ es) none ∙ append-nil (components front))) in
+        let shortest =
+        IsShortestPrefix-from (subst (λ t. IsPrefix t
+        (front ++ rest)) (append-nil (front ++ rest)) (IsPrefix-append (front ++ rest) [])) refl end in
+        let at =
+        shortest.shortest (length front) (ap components (take_at front rest
+        (length front) refl) ∙ sym (whole ∙ ap (λ es. components front ++ es) none
+        ∙ append-nil (components front))) in
         omega (arith, length-append front rest)
     added ds whole same (inr (es, c, split)) =
-        let whole = whole ∙ ap (λ fs. components front ++ fs) split ∙ sym (append_assoc (components front) es (c ∷ [])) in
-        let some : components (front ++ rest) ≢ [] = λ none. omega (arith, ap length (sym whole ∙ none), length-append (components front ++ es) (c ∷ [])) in
+        let whole =
+        whole ∙ ap (λ fs. components front ++ fs) split ∙ sym (append_assoc (components front) es (c ∷ [])) in
+        let some : components (front ++ rest) ≢ [] =
+        λ none. omega (arith, ap length (sym whole ∙ none), length-append (components front ++ es) (c ∷ [])) in
         let fewer = rw (whole, but_last-push (components front ++ es) c) at (last some) in
-        omega (arith, ap length same, ap (λ fs. length (counted rooted fs)) whole, ap length (counted-append rooted (components front) es), length-append (counted rooted (components front)) (counted (after rooted (components front)) es))
+        omega (
+          arith,
+          ap length same,
+          ap (λ fs. length
+              (counted rooted fs)) whole,
+          ap length (counted-append rooted
+              (components front) es),
+          length-append (counted rooted (components front)) (counted (after rooted
+              (components front)) es),
+        )
 
 -- ---- going up
 
@@ -157,15 +197,21 @@ counted-front rooted cs c last =
 shortest-trimmed : (text p : List ℕ) → IsPrefix text p → get_or p (length p - 1) 0 ≢ slash
     → LastCounts (has_root text) (components p) → has_root p ≡ has_root text → (k : ℕ)
     → has_root (take k text) ≡ has_root text → unix_components (take k text) ≡ unix_components p → length p ≤ k
-shortest-trimmed text p prefix end last root k root_k same = ⊎_elim (λ short. absurd (shorter short)) (λ long. long) (cases_lt k (length p))
+shortest-trimmed text p prefix end last root k root_k same =
+    ⊎_elim (λ short. absurd (shorter short)) (λ long. long) (cases_lt k (length p))
   where
     shorter : k < length p → ⊥
     shorter short =
         let front = take-IsPrefix prefix k (omega arith) in
         let whole = take-append-drop k p in
         let left : 0 < length (drop k p) = omega (arith, length-drop k p) in
-        let same_front = ap (λ t. counted (has_root text) (components t)) front ∙ ap (λ r. counted r (components (take k text))) (sym root_k) ∙ same ∙ ap (λ r. counted r (components p)) root in
-        shorter-counted (has_root text) (take k p) (drop k p) left (subst (λ t. get_or t (length t - 1) 0 ≢ slash) (sym whole) end) (subst (λ t. LastCounts (has_root text) (components t)) (sym whole) last) (same_front ∙ ap (λ t. counted (has_root text) (components t)) (sym whole))
+        let same_front =
+        ap (λ t. counted (has_root text) (components t)) front
+        ∙ ap (λ r. counted r (components (take k text))) (sym root_k) ∙ same
+        ∙ ap (λ r. counted r (components p)) root in
+        shorter-counted (has_root text) (take k p) (drop k p) left (subst (λ t. get_or t
+        (length t - 1) 0 ≢ slash) (sym whole) end) (subst (λ t. LastCounts
+        (has_root text) (components t)) (sym whole) last) (same_front ∙ ap (λ t. counted (has_root text) (components t)) (sym whole))
 
 pub IsIdleFree-from : {rooted rooted' : Bool} {text text' left : List ℕ} → rooted ≡ rooted' → text ≡ text'
     → left ≡ take (length left) text → get_or left (length left - 1) 0 ≢ slash
@@ -185,8 +231,11 @@ module _ (text end front parent : List ℕ) (taken : Option Component) (some : i
           → (counted (has_root text) (components front) ≡ but_last (unix_components text)) × (unix_components text ≢ [])
       parts None some takes = absurd (true≢false (sym some))
       parts (Some c) some (last, _) =
-          let whole : counted (has_root text) (components front ++ step_of c ∷ []) ≡ unix_components text = ap (counted (has_root text)) (sym last) ∙ trimmed.0.same in
-          let counts = counted-front (has_root text) (components front) (step_of c) (subst (LastCounts (has_root text)) last trimmed.1) in
+          let whole : counted (has_root text) (components front ++ step_of c ∷ []) ≡ unix_components text =
+          ap (counted (has_root text)) (sym last) ∙ trimmed.0.same in
+          let counts =
+          counted-front (has_root text) (components front) (step_of c) (subst (LastCounts
+          (has_root text)) last trimmed.1) in
           (counts.0 ∙ ap but_last whole, λ none. counts.1 (whole ∙ none))
 
   pub IsAbove-parent : (has_root text ≡ false) ⊎ (length parent ≢ 0) → IsAbove text parent
@@ -213,8 +262,12 @@ module _ (text end front parent : List ℕ) (taken : Option Component) (some : i
     at_top = λ none. absurd (fronts.1 none);
     prefix = root text rooted;
     same_root = sym rooted;
-    components = ap (counted true) (components-slash [] ∙ ap components (sym empty)) ∙ ap (λ r. counted r (components parent)) (sym rooted) ∙ trimmed'.0.same ∙ fronts.0;
-    shortest = λ _ k root _. ⊎_elim (λ none. absurd (true≢false (sym rooted ∙ sym root ∙ ap (λ j. has_root (take j text)) none))) (λ some. some) (cases_zero k);
+    components =
+        ap (counted true) (components-slash [] ∙ ap components (sym empty))
+        ∙ ap (λ r. counted r (components parent)) (sym rooted) ∙ trimmed'.0.same ∙ fronts.0;
+    shortest =
+        λ _ k root _. ⊎_elim (λ none. absurd (true≢false (sym rooted ∙ sym root ∙ ap (λ j. has_root
+        (take j text)) none))) (λ some. some) (cases_zero k);
   }
     where
       root : (bs : List ℕ) → has_root bs ≡ true → slash ∷ [] ≡ take 1 bs

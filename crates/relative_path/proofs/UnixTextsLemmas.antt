@@ -51,7 +51,13 @@ padded_len-inner (c ∷ cs) = omega (arith, padded_len-filter (λ d. not (is_cur
 -- a text has at most one component more than it has bytes
 pub length-inner_le : (text : List ℕ) → length (without_inner_curs (components text)) ≤ length text + 1
 length-inner_le text =
-    omega (arith, length_padded (without_inner_curs (components text)), padded_len-inner (components text), padded_len-components text)
+    omega (
+      arith,
+      length_padded (without_inner_curs
+          (components text)),
+      padded_len-inner (components text),
+      padded_len-components text,
+    )
 
 padded_len-replicate : (n : ℕ) → padded_len (replicate n up) ≡ 3 * n
 padded_len-replicate zero = refl
@@ -82,13 +88,20 @@ pub Spells-fits : (all : List Step) (room : ℕ) (text : List ℕ) (c : Step) (l
     → Spells all room text (c ∷ left) → IsProper c → length (pushed text (step_text c)) ≤ room
 Spells-fits all room text c left h proper =
     let fits = h.fits in
-    let whole : length (spell ((components text ++ c ∷ []) ++ left)) ≡ length (spell all) = ap (λ cs. length (spell cs)) (append_assoc (components text) (c ∷ []) left ∙ h.joined) in
-    omega (arith, ap length (spell-pushed text c h.spelled proper), length-spell-append_le (components text ++ c ∷ []) left)
+    let whole : length (spell ((components text ++ c ∷ []) ++ left)) ≡ length (spell all) =
+    ap (λ cs. length (spell cs)) (append_assoc (components text) (c ∷ []) left ∙ h.joined) in
+    omega (
+      arith,
+      ap length
+          (spell-pushed text c h.spelled proper),
+      length-spell-append_le (components text ++ c ∷ []) left,
+    )
 
 pub Spells-push : (all : List Step) (room : ℕ) (text : List ℕ) (c : Step) (left : List Step)
     → Spells all room text (c ∷ left) → IsProper c → Spells all room (pushed text (step_text c)) left
 Spells-push all room text c left h proper =
-    let pushes : components (pushed text (step_text c)) ≡ components text ++ c ∷ [] = components-pushed text (step_text c) ∙ ap (λ cs. components text ++ cs) proper in
+    let pushes : components (pushed text (step_text c)) ≡ components text ++ c ∷ [] =
+    components-pushed text (step_text c) ∙ ap (λ cs. components text ++ cs) proper in
     record {
       spelled = spell-pushed text c h.spelled proper ∙ ap spell (sym pushes);
       joined = ap (λ cs. cs ++ left) pushes ∙ append_assoc (components text) (c ∷ []) left ∙ h.joined;
@@ -134,4 +147,10 @@ without_curs-unix text unrooted =
 
 pub length-spell-without_curs : (text : List ℕ) → length (spell (without_curs (components text))) ≤ length text
 length-spell-without_curs text =
-    omega (arith, length-spell (without_curs (components text)), padded_len-filter (λ c. not (is_cur c)) (components text), padded_len-components text)
+    omega (
+      arith,
+      length-spell (without_curs
+          (components text)),
+      padded_len-filter (λ c. not (is_cur c)) (components text),
+      padded_len-components text,
+    )

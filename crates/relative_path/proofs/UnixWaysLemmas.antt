@@ -21,7 +21,8 @@ walk-below base place [] end leads = ap (option_map (λ ns. base ++ ns)) leads
 walk-below base place (cur ∷ cs) end leads = walk-below base place cs end leads
 walk-below base [] (up ∷ cs) end leads = absurd (cc)
 walk-below base (n ∷ ns) (up ∷ cs) end leads =
-    ap (option_and_then (λ p. walk p cs)) (above-below base n ns) ∙ walk-below base (take (length ns) (n ∷ ns)) cs end leads
+    ap (option_and_then (λ p. walk p cs)) (above-below base n ns)
+    ∙ walk-below base (take (length ns) (n ∷ ns)) cs end leads
   where
     above-below : (base : List (List ℕ)) (n : List ℕ) (ns : List (List ℕ))
         → above (base ++ n ∷ ns) ≡ Some (base ++ take (length ns) (n ∷ ns))
@@ -41,14 +42,19 @@ walk-replicate base (suc n) [] count = absurd (omega (arith, count))
 walk-replicate base (suc n) (p ∷ ps) count =
     let one = walk-below base (p ∷ ps) (up ∷ []) (take (length ps) (p ∷ ps)) refl in
     let len = length-take-le (length ps) (p ∷ ps) (omega arith) in
-    walk-append (base ++ p ∷ ps) (up ∷ []) (replicate n up) ∙ ap (option_and_then (λ q. walk q (replicate n up))) one ∙ walk-replicate base n (take (length ps) (p ∷ ps)) (omega (arith, len, count))
+    walk-append (base ++ p ∷ ps) (up ∷ []) (replicate n up) ∙ ap (option_and_then (λ q. walk q (replicate n up))) one
+    ∙ walk-replicate base n (take (length ps) (p ∷ ps)) (omega (arith, len, count))
 
 IsSame-back : (from to : List Step) (place : List (List ℕ)) → walk [] from ≡ Some place
     → IsSame (from ++ (replicate (length place) up ++ to)) to
 IsSame-back from to place leads = record {
   everywhere = λ base.
-      let down : walk base from ≡ Some (base ++ place) = ap (λ p. walk p from) (sym (append-nil base)) ∙ walk-below base [] from place leads in
-      walk-append base from (replicate (length place) up ++ to) ∙ ap (option_and_then (λ p. walk p (replicate (length place) up ++ to))) down ∙ walk-append (base ++ place) (replicate (length place) up) to ∙ ap (option_and_then (λ p. walk p to)) (walk-replicate base (length place) place refl);
+      let down : walk base from ≡ Some (base ++ place) =
+      ap (λ p. walk p from) (sym (append-nil base)) ∙ walk-below base [] from place leads in
+      walk-append base from (replicate (length place) up ++ to)
+      ∙ ap (option_and_then (λ p. walk p (replicate (length place) up ++ to))) down
+      ∙ walk-append (base ++ place) (replicate (length place) up) to
+      ∙ ap (option_and_then (λ p. walk p to)) (walk-replicate base (length place) place refl);
 }
 
 -- ---- the law
@@ -59,7 +65,8 @@ take-shared [] (d ∷ ds) = refl
 take-shared (c ∷ cs) [] = refl
 take-shared (c ∷ cs) (d ∷ ds) = ⊎_elim
     (λ e.
-    let longer : shared_len (c ∷ cs) (d ∷ ds) ≡ suc (shared_len cs ds) = omega (arith, cond-true (step_eq c d) (1 + shared_len cs ds) 0 e) in
+    let longer : shared_len (c ∷ cs) (d ∷ ds) ≡ suc (shared_len cs ds) =
+    omega (arith, cond-true (step_eq c d) (1 + shared_len cs ds) 0 e) in
     rw longer (ap₂ (λ x xs. x ∷ xs) ((step_eq-Decides c d).0 e) (take-shared cs ds)))
     (λ e. rw (cond-false (step_eq c d) (1 + shared_len cs ds) 0 e) refl)
     (cases_Bool (step_eq c d))
@@ -75,7 +82,9 @@ AreProper-drop (suc n) (c ∷ cs) proper = AreProper-drop n cs proper.1
 
 AreProper-unix : (text : List ℕ) → AreProper (unix_components text)
 AreProper-unix text =
-    cond_both (has_root text) (without_curs (components text)) (without_inner_curs (components text)) AreProper (λ _. AreProper-filter (λ c. not (is_cur c)) (components text) (AreProper-components text)) (λ _. AreProper-inner text)
+    cond_both (has_root text) (without_curs
+    (components text)) (without_inner_curs (components text)) AreProper (λ _. AreProper-filter (λ c. not
+    (is_cur c)) (components text) (AreProper-components text)) (λ _. AreProper-inner text)
 
 pub components-climb : (n : ℕ) → components (spell (replicate n up)) ≡ replicate n up
 components-climb n = components-spell (replicate n up) (AreProper-replicate n)
@@ -108,11 +117,20 @@ IsSame-way path root way is = leads (walk [] from) refl is
     leads None at e = absurd (cc)
     leads (Some place) at e =
         let written : way ≡ replicate (length place) up ++ to = cc in
-        let proper : AreProper (replicate (length place) up ++ to) = AreProper-append (replicate (length place) up) to (AreProper-replicate (length place)) (AreProper-drop shared (unix_components path) (AreProper-unix path)) in
-        let spelled : components (spell way) ≡ replicate (length place) up ++ to = ap (λ cs. components (spell cs)) written ∙ components-spell (replicate (length place) up ++ to) proper in
+        let proper : AreProper (replicate (length place) up ++ to) =
+        AreProper-append (replicate
+        (length place) up) to (AreProper-replicate
+        (length place)) (AreProper-drop shared (unix_components path) (AreProper-unix path)) in
+        let spelled : components (spell way) ≡ replicate (length place) up ++ to =
+        ap (λ cs. components (spell cs)) written ∙ components-spell (replicate (length place) up ++ to) proper in
         let front = take shared (unix_components root) in
         let roots : front ++ from ≡ unix_components root = take-append-drop shared (unix_components root) in
-        let paths : front ++ to ≡ unix_components path = ap (λ cs. cs ++ to) (sym (take-shared (unix_components path) (unix_components root))) ∙ take-append-drop shared (unix_components path) in
-        let whole : unix_components root ++ components (spell way) ≡ front ++ (from ++ (replicate (length place) up ++ to)) = ap₂ (λ cs ds. cs ++ ds) (sym roots) spelled ∙ append_assoc front from (replicate (length place) up ++ to) in
-        let leads : IsSame (front ++ (from ++ (replicate (length place) up ++ to))) (front ++ to) = IsSame-append_left front (from ++ (replicate (length place) up ++ to)) to (IsSame-back from to place at) in
-        subst (λ cs. IsSame cs (unix_components path)) (sym whole) (subst (IsSame (front ++ (from ++ (replicate (length place) up ++ to)))) paths leads)
+        let paths : front ++ to ≡ unix_components path =
+        ap (λ cs. cs ++ to) (sym (take-shared (unix_components path) (unix_components root)))
+        ∙ take-append-drop shared (unix_components path) in
+        let whole : unix_components root ++ components (spell way) ≡ front ++ (from ++ (replicate (length place) up ++ to)) =
+        ap₂ (λ cs ds. cs ++ ds) (sym roots) spelled ∙ append_assoc front from (replicate (length place) up ++ to) in
+        let leads : IsSame (front ++ (from ++ (replicate (length place) up ++ to))) (front ++ to) =
+        IsSame-append_left front (from ++ (replicate (length place) up ++ to)) to (IsSame-back from to place at) in
+        subst (λ cs. IsSame cs (unix_components path)) (sym whole) (subst (IsSame (front ++ (from ++ (replicate
+        (length place) up ++ to)))) paths leads)

@@ -8,7 +8,8 @@ use Rattle.relative_path.specs.Walk.{above, walk, IsSame, LeadsInTurn}
 abbrev walk_from : List Step → Option (List (List ℕ)) → Option (List (List ℕ))
 walk_from cs = option_and_then (λ place. walk place cs)
 
-pub walk-append : (base : List (List ℕ)) (cs ds : List Step) → walk base (cs ++ ds) ≡ option_and_then (λ place. walk place ds) (walk base cs)
+pub walk-append : (base : List (List ℕ)) (cs ds : List Step)
+    → walk base (cs ++ ds) ≡ option_and_then (λ place. walk place ds) (walk base cs)
 walk-append base [] ds = refl
 walk-append base (cur ∷ cs) ds = walk-append base cs ds
 walk-append [] (up ∷ cs) ds = refl

@@ -65,7 +65,9 @@ same_step (name m) (name n) ranks texts = ap name texts
 
 pub step_eq-Decides : (c d : Step) → Decides (step_eq c d) (c ≡ d)
 step_eq-Decides c d = (
-  λ e. let both = and_parts _ _ e in same_step c d (eqb-true _ _ both.0) ((bytes_eq-Decides (step_text c) (step_text d)).0 both.1),
+  λ e.
+      let both = and_parts _ _ e in
+      same_step c d (eqb-true _ _ both.0) ((bytes_eq-Decides (step_text c) (step_text d)).0 both.1),
   λ e. ap (step_eq c) (sym e) ∙ step_comparison.equivalence.refl c,
 )
 

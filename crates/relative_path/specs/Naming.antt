@@ -73,4 +73,5 @@ dotted (b ∷ bs) = dot ∷ b ∷ bs
 -- without a file name it is the text
 abbrev pub IsExtended : List ℕ → List ℕ → List ℕ → Type 0
 IsExtended text e extended = MatchOption (file_name_of text) (extended ≡ text)
-    (λ n. (head : List ℕ) × IsCut text (kept_len (components text) + 1) (head ++ n) × (extended ≡ head ++ stem_of n ++ dotted e))
+    (λ n. (head : List ℕ) × IsCut text (kept_len (components text) + 1) (head ++ n)
+    × (extended ≡ head ++ stem_of n ++ dotted e))

@@ -1,5 +1,6 @@
--- Platform paths under the Unix rules, which the documentation of Rust's `std::path` gives for the components of a path:
--- a slash at the start is the root, other slashes only separate, and a `.` counts only at the start of a path without a root.
+-- Platform paths under the Unix rules, which the documentation of Rust's `std::path` gives for the components of a
+-- path: a slash at the start is the root, other slashes only separate, and a `.` counts only at the start of a path
+-- without a root.
 use Rattle.std.specs.Prelude.{◌≡◌, ◌≢◌, ℕ, ◌-◌, ◌≤◌, Bool, false, not, List, [], ◌∷◌, ◌++◌, length, take, drop, replicate, Option, if◌then◌else◌}
 use Rattle.std.specs.List.{filter, common_prefix_len}
 use Rattle.std.specs.Option.{option_map}

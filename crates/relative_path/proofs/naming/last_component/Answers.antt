@@ -7,7 +7,9 @@ use Rattle.relative_path.proofs.naming.last_component.Goals as goal
 use Rattle.relative_path.proofs.naming.last_component.Goals.{in-Some-Normal, in-Some-ParentDir, in-None}
 
 pub loop-name-preserved : goal.loop-name-preserved
-loop-name-preserved c = LosesCurs-cur _ _ _ c.loop-name.invariant (rw c.in-Some-CurDir.field-0-is at c.in-Some-CurDir.ensures.steps.0) c.in-Some-CurDir.ensures.steps.1
+loop-name-preserved c =
+    LosesCurs-cur _ _ _ c.loop-name.invariant
+    (rw c.in-Some-CurDir.field-0-is at c.in-Some-CurDir.ensures.steps.0) c.in-Some-CurDir.ensures.steps.1
 
 pub returns-in-loop-name : goal.returns-in-loop-name
 returns-in-loop-name c =

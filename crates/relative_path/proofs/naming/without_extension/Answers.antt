@@ -18,6 +18,10 @@ returns-clause-text c =
     let text = path_text c.args.path in
     let n = c.in_ok-name.name.now in
     let placed = rw c.in_ok-name.was at c.last_component-end.ensures.up_to_end in
-    let named : file_name_of text ≡ Some n = sym c.last_component-end.ensures.name ∙ ap option_copied c.in_ok-name.was in
-    let front : path_text c.new.result ≡ placed.0 ++ c.split_name.result.0.now = c.new.ensures ∙ c.range.ensures.value ∙ slice_range-stem _ placed.0 n c.split_name.result.0.now c.split_name.result.1 placed.1 c.split_name.ensures.joined in
-    rw (front, c.split_name.ensures.stem) (IsExtended-stem text placed.0 n named (subst (IsCut text (kept_len (components text) + 1)) placed.1 placed.2))
+    let named : file_name_of text ≡ Some n =
+    sym c.last_component-end.ensures.name ∙ ap option_copied c.in_ok-name.was in
+    let front : path_text c.new.result ≡ placed.0 ++ c.split_name.result.0.now =
+    c.new.ensures ∙ c.range.ensures.value
+    ∙ slice_range-stem _ placed.0 n c.split_name.result.0.now c.split_name.result.1 placed.1 c.split_name.ensures.joined in
+    rw (front, c.split_name.ensures.stem) (IsExtended-stem text placed.0 n named (subst (IsCut text (kept_len
+    (components text) + 1)) placed.1 placed.2))

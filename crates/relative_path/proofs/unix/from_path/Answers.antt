@@ -13,11 +13,27 @@ push_each-requires-clause-spelled c =
 
 pub push_each-requires-clause-room : goal.push_each-requires-clause-room
 push_each-requires-clause-room c =
-    let written : components c.in_ok-path.path.text ++ unix_left c.without_curs-components.result ≡ without_curs (components c.args.text.now) = ap₂ (λ cs ds. cs ++ ds) (ap components c.in_ok-path.ensures.empty ∙ components-nil) (c.without_curs-components.ensures ∙ ap (λ t. without_curs (components t)) c.in_ok-view.ensures.text) in
-    omega (arith, ap (λ cs. length (spell cs)) written, length-spell-without_curs c.args.text.now, c.in_ok-path.ensures.room)
+    let written : components c.in_ok-path.path.text ++ unix_left c.without_curs-components.result ≡ without_curs (components c.args.text.now) =
+    ap₂
+    (λ cs ds. cs ++ ds)
+    (ap components c.in_ok-path.ensures.empty ∙ components-nil) (c.without_curs-components.ensures ∙ ap
+    (λ t. without_curs (components t)) c.in_ok-view.ensures.text) in
+    omega (
+      arith,
+      ap (λ cs. length
+          (spell cs)) written,
+      length-spell-without_curs c.args.text.now,
+      c.in_ok-path.ensures.room,
+    )
 
 pub returns-clause-ok : goal.returns-clause-ok
 returns-clause-ok c =
-    let written : components c.in_ok-path.path.text ++ unix_left c.without_curs-components.result ≡ without_curs (components c.args.text.now) = ap₂ (λ cs ds. cs ++ ds) (ap components c.in_ok-path.ensures.empty ∙ components-nil) (c.without_curs-components.ensures ∙ ap (λ t. without_curs (components t)) c.in_ok-view.ensures.text) in
-    let unrooted : has_root c.args.text.now ≡ false = ⊎_elim (λ e. absurd (true≢false (sym (c.in_ok-view.ensures.refused.1 e)))) (λ e. e) (cases_Bool (has_root c.args.text.now)) in
+    let written : components c.in_ok-path.path.text ++ unix_left c.without_curs-components.result ≡ without_curs (components c.args.text.now) =
+    ap₂
+    (λ cs ds. cs ++ ds)
+    (ap components c.in_ok-path.ensures.empty ∙ components-nil) (c.without_curs-components.ensures ∙ ap
+    (λ t. without_curs (components t)) c.in_ok-view.ensures.text) in
+    let unrooted : has_root c.args.text.now ≡ false =
+    ⊎_elim (λ e. absurd (true≢false (sym
+    (c.in_ok-view.ensures.refused.1 e)))) (λ e. e) (cases_Bool (has_root c.args.text.now)) in
     c.push_each.ensures ∙ ap spell (written ∙ sym (without_curs-unix c.args.text.now unrooted))

@@ -6,4 +6,9 @@ use Rattle.relative_path.proofs.unix.to_path.Goals as goal
 pub loop-component-init : goal.loop-component-init
 loop-component-init c =
     let room = c.in_ok-text.ensures.room in
-    rw (c.into_iter-component-iterator.ensures.into_iter_gives, c.components-component-items.ensures.text, c.in_ok-text.ensures.text) (refl, omega (arith, padded_len-components (path_text c.args.path)))
+    rw
+    (c.into_iter-component-iterator.ensures.into_iter_gives, c.components-component-items.ensures.text, c.in_ok-text.ensures.text) (
+      refl,
+      omega
+          (arith, padded_len-components (path_text c.args.path)),
+    )

@@ -12,19 +12,24 @@ proper_first walk c left first = (subst AreProper first (AreProper-inner (path_t
 
 pub loop-component-init : goal.loop-component-init
 loop-component-init c =
-    rw c.into_iter-component-iterator.ensures.into_iter_gives (record { spelled = c.requires.spelled; joined = refl; fits = c.requires.room })
+    rw c.into_iter-component-iterator.ensures.into_iter_gives
+    (record { spelled = c.requires.spelled; joined = refl; fits = c.requires.room })
 
 pub unwrap-requires : goal.unwrap-requires
 unwrap-requires c =
     let first = c.in-Some.ensures.steps in
-    let fits = Spells-fits _ _ _ _ _ (subst (Spells _ _ _) first c.loop-component.invariant) (proper_first c.loop-component.component-iterator _ _ first) in
+    let fits =
+    Spells-fits _ _ _ _ _ (subst
+    (Spells _ _ _) first c.loop-component.invariant) (proper_first c.loop-component.component-iterator _ _ first) in
     let full = rw c.as_relative_path.ensures at c.push.ensures.full in
     IsOk-otherwise c.push.result full (λ long. omega (arith, long, fits))
 
 pub loop-component-preserved : goal.loop-component-preserved
 loop-component-preserved c =
     let first = c.in-Some.ensures.steps in
-    let pushes = Spells-push _ _ _ _ _ (subst (Spells _ _ _) first c.loop-component.invariant) (proper_first c.loop-component.component-iterator _ _ first) in
+    let pushes =
+    Spells-push _ _ _ _ _ (subst
+    (Spells _ _ _) first c.loop-component.invariant) (proper_first c.loop-component.component-iterator _ _ first) in
     let text = rw (c.unwrap.ensures, c.as_relative_path.ensures) at c.push.ensures.ok in
     rw text (Spells-roomier _ _ _ _ _ pushes c.push.ensures.room)
 

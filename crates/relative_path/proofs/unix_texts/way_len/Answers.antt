@@ -13,8 +13,23 @@ pub returns-in_err-len-2 : goal.returns-in_err-len-2
 returns-in_err-len-2 c =
     let long = c.in_err-len-2.ensures in
     let first = ap padded_len c.in-Some.ensures.steps in
-    rw c.from_residual-in_err-len-2.ensures (omega (arith, long, first, ap length c.as_str.ensures, c.loop-component.invariant, length-way c.args.climb (unix_left c.args.left)))
+    rw c.from_residual-in_err-len-2.ensures (omega (
+      arith,
+      long,
+      first,
+      ap length c.as_str.ensures,
+      c.loop-component.invariant,
+      length-way c.args.climb
+          (unix_left c.args.left),
+    ))
 
 pub returns : goal.returns
 returns c =
-    omega (arith, c.saturating_sub.ensures, ap padded_len c.in-None.ensures.steps.0, c.loop-component.invariant, length-way c.args.climb (unix_left c.args.left))
+    omega (
+      arith,
+      c.saturating_sub.ensures,
+      ap padded_len c.in-None.ensures.steps.0,
+      c.loop-component.invariant,
+      length-way c.args.climb
+          (unix_left c.args.left),
+    )

@@ -8,6 +8,7 @@ pub returns : goal.returns
 returns c =
     let x = step_of c.args.self.now in
     let y = step_of c.args.other.now in
-    let value : c.is_eq.result ≡ step_eq x y = c.is_eq.ensures ∙ ap is_eq c.cmp.ensures ∙ sym (step_comparison.agree x y) in
+    let value : c.is_eq.result ≡ step_eq x y =
+    c.is_eq.ensures ∙ ap is_eq c.cmp.ensures ∙ sym (step_comparison.agree x y) in
     let decides = step_eq-Decides x y in
     record { value = value; same = (λ e. decides.0 (sym value ∙ e), λ e. value ∙ decides.1 e) }

@@ -10,7 +10,9 @@ pub loop-component-init : goal.loop-component-init
 loop-component-init c =
     let left = c.into_iter-component-iterator.ensures.into_iter_gives in
     record {
-      normalizes = rw (c.requires.empty, left, c.components-component-items.ensures.text) (Normalizes-start (path_text c.args.self));
+      normalizes =
+          rw (c.requires.empty, left, c.components-component-items.ensures.text) (Normalizes-start
+          (path_text c.args.self));
       fits = c.requires.room;
       room = omega arith;
     }
@@ -34,7 +36,8 @@ loop-component-preserved c =
     let before = c.loop-component.invariant in
     let here = taken _ _ _ _ _ _ before.normalizes c.in-Some.ensures.steps.0 in
     let followed = c.follow.ensures in
-    let step : Follows _ _ _ = record { normal_text = followed.normal; same = followed.same; no_longer = followed.no_longer } in
+    let step : Follows _ _ _ =
+    record { normal_text = followed.normal; same = followed.same; no_longer = followed.no_longer } in
     record {
       normalizes = Normalizes-follow _ _ _ _ _ _ here.0 step;
       fits = omega (arith, before.fits, followed.room);
