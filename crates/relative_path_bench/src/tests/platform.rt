@@ -1,4 +1,6 @@
 //! Platform paths, by their texts and as `Path` and `PathBuf`.
+use super::editing::text_of;
+use crate::relative_to_law;
 use relative_path::{
     FromPathError, FromPathErrorKind, PathExt, RelativePath, RelativePathBuf, RelativeToError,
     RelativeToErrorKind, unix,
@@ -396,6 +398,23 @@ fn tells_why_no_way_leads_to_a_path(rt: HostRuntime) -> Result<(), Fail> {
                 "{kind:?}, {other:?}"
             );
         }
+    }
+    Ok(())
+}
+
+#[test]
+fn leads_from_a_root_to_a_path(rt: HostRuntime) -> Result<(), Fail> {
+    for (path, root, expected) in [
+        ("foo/bar", "./x", Ok("../foo/bar")),
+        ("", "", Ok("")),
+        ("../../x", "../y", Ok("../../x")),
+        ("/a/..b/c", "/a/d.e", Ok("../..b/c")),
+        (".", "../..", Err(RelativeToErrorKind::AmbiguousTraversal)),
+        ("/foo", "bar", Err(RelativeToErrorKind::PrefixMismatch)),
+    ] {
+        let answer = relative_to_law(rt.alloc(), path, root);
+        let found = answer.as_ref().map(text_of).map_err(|error| error.kind());
+        assert_eq!(rt; found, expected, "from {root:?} to {path:?}");
     }
     Ok(())
 }

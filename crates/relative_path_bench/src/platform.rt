@@ -1,0 +1,41 @@
+//! The path from one platform path to another.
+ghost use Rattle.std.specs.Prelude.{◌≡◌, ◌≢◌, ◌↔◌, ◌++◌, List, None, Some, IfOk, IfErr, IsErrAnd};
+ghost use Rattle.relative_path.specs.RelativeToError.{relative_to_kind};
+ghost use Rattle.relative_path.specs.Steps.{Step, components, spell};
+ghost use Rattle.relative_path.specs.Unix.{has_root, unix_components, way_to};
+ghost use Rattle.relative_path.specs.Walk.{IsSame};
+ghost use Rattle.relative_path.specs.declared.relative_to_error.RelativeToErrorKind.TheVariants as kinds;
+
+use relative_path::{RelativePathBuf, RelativeToError, unix};
+use std::alloc::Global;
+
+/// The path from one platform path, the root, to another.
+///
+/// The root followed by the answer leads where the other path leads, from every base. It is refused
+/// where only one of the texts begins with a slash, and where the root climbs above what both begin
+/// with. Else it asks for memory for the answer, and fails only where that is refused.
+///
+/// ```
+/// let way = relative_to_law(alloc, "foo/bar", "./x")?;
+/// assert_eq!(rt; way.as_relative_path().as_str(), "../foo/bar");
+/// ```
+pub fn relative_to_law(
+    alloc: Global,
+    path: &str,
+    root: &str,
+) -> Result<RelativePathBuf, RelativeToError>
+    ensures text { IfOk result (λ answer. (way : List Step)
+        × (way_to path.now root.now ≡ Some way) × (answer.text ≡ spell way)) }
+    ensures prefix_mismatch { IsErrAnd result
+        (λ error. relative_to_kind error ≡ kinds.PrefixMismatch)
+        ↔ (has_root path.now ≢ has_root root.now) }
+    ensures ambiguous_traversal { IsErrAnd result
+        (λ error. relative_to_kind error ≡ kinds.AmbiguousTraversal)
+        ↔ ((has_root path.now ≡ has_root root.now) × (way_to path.now root.now ≡ None)) }
+    ensures kind { IfErr result (λ error. relative_to_kind error ≢ kinds.NonUtf8
+        × relative_to_kind error ≢ kinds.IllegalComponent) }
+    ensures leads { IfOk result (λ answer. IsSame
+        (unix_components root.now ++ components answer.text) (unix_components path.now)) }
+{
+    unix::relative_to(alloc, path, root)
+}
