@@ -3,3 +3,4 @@ mod comparing;
 mod json;
 mod refusals;
 mod shared;
+mod short_texts;

@@ -14,6 +14,14 @@ fn normal_forms(
     Ok((path.normalize(alloc)?, filled))
 }
 
+fn count_components(path: RelativePath<'_>) -> usize {
+    let mut count: usize = 0;
+    for _ in path.components() {
+        count = count.saturating_add(1);
+    }
+    count
+}
+
 fn text_of(buf: &RelativePathBuf) -> &str {
     buf.as_relative_path().as_str()
 }
@@ -38,7 +46,7 @@ fn climbs(rt: HostRuntime) -> Result<(), Fail> {
     let text = "../".repeat(rt.alloc(), 4_000)?;
     let (made, filled) = normal_forms(rt.alloc(), text.as_str())?;
     assert_eq!(rt; made.len(), 11_999);
-    assert_eq!(rt; made.as_relative_path().components().count(), 4_000);
+    assert_eq!(rt; count_components(made.as_relative_path()), 4_000);
     assert_eq!(rt; text.as_str().strip_suffix('/'), Some(text_of(&made)));
     assert_eq!(rt; text_of(&filled), text_of(&made));
     let lower = "../".repeat(rt.alloc(), 3_999)?;
@@ -165,15 +173,15 @@ fn a_megabyte(rt: HostRuntime) -> Result<(), Fail> {
         let mut text = piece.repeat(rt.alloc(), count)?;
         text.push_str(behind.repeat(rt.alloc(), count_behind)?.as_str())?;
         let path = RelativePath::new(text.as_str());
-        assert_eq!(rt; path.components().count(), components, "of {piece:?}");
+        assert_eq!(rt; count_components(path), components, "of {piece:?}");
         let ends = (path.iter().next(), path.iter().next_back());
         let ends = (ends.0.unwrap_or(""), ends.1.unwrap_or(""));
         assert_eq!(rt; ends, (first, last), "of {piece:?}");
         let (made, filled) = normal_forms(rt.alloc(), text.as_str())?;
         assert_eq!(rt; made.len(), normal_len, "normal form of {piece:?}");
-        let kept = &text.as_str()[..normal_len];
-        assert!(rt; text_of(&made) == kept, "normal form of {piece:?}");
-        assert!(rt; text_of(&filled) == kept, "normal form of {piece:?}");
+        let kept = path.as_str().get(..normal_len);
+        assert!(rt; kept == Some(text_of(&made)), "normalize of {piece:?}");
+        assert!(rt; kept == Some(text_of(&filled)), "normalize_into of {piece:?}");
     }
     Ok(())
 }

@@ -7,6 +7,7 @@ mod editing;
 mod marks;
 mod naming;
 mod normalizing;
+mod platform;
 mod relating;
 mod wrong;
 

@@ -1,4 +1,6 @@
 //! Wrong calls, right where memory is ample. tools/refusals sees each of these tests fail.
+ghost use Rattle.std.specs.Iterator.{IsFinite};
+
 use super::editing::{is_left, long_name};
 use super::marks::{begin, end};
 use super::text_of;
@@ -32,7 +34,9 @@ fn set_file_name(rt: HostRuntime) -> Result<(), Fail> {
 fn push_or_restore<'p, I: Iterator<Item = RelativePath<'p>>>(
     buf: &mut RelativePathBuf,
     paths: I,
-) -> Result<(), AllocError> {
+) -> Result<(), AllocError>
+    requires { I.can_next paths × IsFinite (I.remaining paths) }
+{
     let first = buf.clone()?;
     for path in paths {
         if let Err(error) = buf.push(path) {
