@@ -14,12 +14,14 @@ fn normal_forms(
     Ok((path.normalize(alloc)?, filled))
 }
 
-fn count_components(path: RelativePath<'_>) -> usize {
+// How many components the path has, and the texts of its first and its last one.
+fn walked(text: &str) -> (usize, Option<&str>, Option<&str>) {
+    let path = RelativePath::new(text);
     let mut count: usize = 0;
     for _ in path.components() {
         count = count.saturating_add(1);
     }
-    count
+    (count, path.iter().next(), path.iter().next_back())
 }
 
 fn text_of(buf: &RelativePathBuf) -> &str {
@@ -46,7 +48,7 @@ fn climbs(rt: HostRuntime) -> Result<(), Fail> {
     let text = "../".repeat(rt.alloc(), 4_000)?;
     let (made, filled) = normal_forms(rt.alloc(), text.as_str())?;
     assert_eq!(rt; made.len(), 11_999);
-    assert_eq!(rt; count_components(made.as_relative_path()), 4_000);
+    assert_eq!(rt; walked(text_of(&made)), (4_000, Some(".."), Some("..")));
     assert_eq!(rt; text.as_str().strip_suffix('/'), Some(text_of(&made)));
     assert_eq!(rt; text_of(&filled), text_of(&made));
     let lower = "../".repeat(rt.alloc(), 3_999)?;
@@ -148,41 +150,33 @@ fn characters_that_are_no_letters(rt: HostRuntime) -> Result<(), Fail> {
     Ok(())
 }
 
-// A piece of a text of a megabyte, how often it stands there, another and how often that stands behind it; how many
-// components the text has, its first and its last one, and how many bytes its normal text has.
-type LongText = (
-    &'static str,
-    usize,
-    &'static str,
-    usize,
-    usize,
-    &'static str,
-    &'static str,
-    usize,
-);
-
-const LONG_TEXTS: [LongText; 3] = [
-    ("/", 1_048_576, "", 0, 0, "", "", 0),
-    ("../", 349_525, "", 0, 349_525, "..", "..", 1_048_574),
-    ("a/", 209_715, "../", 209_715, 419_430, "a", "..", 0),
-];
+#[test]
+fn a_megabyte_of_slashes(rt: HostRuntime) -> Result<(), Fail> {
+    let text = "/".repeat(rt.alloc(), 1_048_576)?;
+    assert_eq!(rt; walked(text.as_str()), (0, None, None));
+    let (made, filled) = normal_forms(rt.alloc(), text.as_str())?;
+    assert_eq!(rt; (text_of(&made), text_of(&filled)), ("", ""));
+    Ok(())
+}
 
 #[test]
-fn a_megabyte(rt: HostRuntime) -> Result<(), Fail> {
-    for (piece, count, behind, count_behind, components, first, last, normal_len) in LONG_TEXTS {
-        let mut text = piece.repeat(rt.alloc(), count)?;
-        text.push_str(behind.repeat(rt.alloc(), count_behind)?.as_str())?;
-        let path = RelativePath::new(text.as_str());
-        assert_eq!(rt; count_components(path), components, "of {piece:?}");
-        let ends = (path.iter().next(), path.iter().next_back());
-        let ends = (ends.0.unwrap_or(""), ends.1.unwrap_or(""));
-        assert_eq!(rt; ends, (first, last), "of {piece:?}");
-        let (made, filled) = normal_forms(rt.alloc(), text.as_str())?;
-        assert_eq!(rt; made.len(), normal_len, "normal form of {piece:?}");
-        let kept = path.as_str().get(..normal_len);
-        assert!(rt; kept == Some(text_of(&made)), "normalize of {piece:?}");
-        assert!(rt; kept == Some(text_of(&filled)), "normalize_into of {piece:?}");
-    }
+fn a_megabyte_of_climbs(rt: HostRuntime) -> Result<(), Fail> {
+    let text = "../".repeat(rt.alloc(), 349_525)?;
+    assert_eq!(rt; walked(text.as_str()), (349_525, Some(".."), Some("..")));
+    let (made, filled) = normal_forms(rt.alloc(), text.as_str())?;
+    let normal = text.as_str().strip_suffix('/');
+    assert!(rt; normal == Some(text_of(&made)), "normalize");
+    assert!(rt; normal == Some(text_of(&filled)), "normalize_into");
+    Ok(())
+}
+
+#[test]
+fn a_megabyte_of_names_and_climbs(rt: HostRuntime) -> Result<(), Fail> {
+    let mut text = "a/".repeat(rt.alloc(), 209_715)?;
+    text.push_str("../".repeat(rt.alloc(), 209_715)?.as_str())?;
+    assert_eq!(rt; walked(text.as_str()), (419_430, Some("a"), Some("..")));
+    let (made, filled) = normal_forms(rt.alloc(), text.as_str())?;
+    assert_eq!(rt; (text_of(&made), text_of(&filled)), ("", ""));
     Ok(())
 }
 
