@@ -1,4 +1,5 @@
 //! What no clause says: outside vectors in tables, and each call that takes memory once with enough of it.
+mod awkward;
 mod comparing;
 mod decompositions;
 mod editing;
@@ -10,5 +11,7 @@ mod platform;
 mod prefixing;
 mod printing;
 mod readme;
+mod refusals;
 mod relating;
+mod short_texts;
 mod walking;

@@ -2,5 +2,6 @@
 
 mod fault;
 mod meter;
+mod refusals;
 mod run;
 mod streams;

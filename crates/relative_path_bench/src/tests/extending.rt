@@ -38,24 +38,3 @@ fn pushes_components(rt: HostRuntime) -> Result<(), Fail> {
     assert_eq!(rt; buf.as_relative_path().as_str(), "a/./b");
     Ok(())
 }
-
-// Where memory is refused, the path that it was refused to is gone, and those after it are still there.
-#[test]
-fn takes_no_path_after_a_refusal(rt: HostRuntime) -> Result<(), Fail> {
-    let letters = "b".repeat(rt.alloc(), 4096)?;
-    let paths = ["a", letters.as_str(), "c"].map(RelativePath::new);
-    let mut lent = paths.iter().copied();
-    let mut buf = RelativePathBuf::new(rt.alloc());
-    let pushed = buf.extend(&mut lent);
-    let left = lent.next().map(RelativePath::as_str);
-    match (pushed, buf.as_relative_path().as_str()) {
-        (Err(_), "") => assert_eq!(rt; left, Some(letters.as_str())),
-        (Err(_), "a") => assert_eq!(rt; left, Some("c")),
-        (Err(_), _) => assert_eq!(rt; left, None),
-        (Ok(()), text) => {
-            assert_eq!(rt; text.len(), 4100);
-            assert_eq!(rt; left, None);
-        }
-    }
-    Ok(())
-}

@@ -45,18 +45,6 @@ fn owners_share_the_text(rt: HostRuntime) -> Result<(), Fail> {
     Ok(())
 }
 
-// Either outcome: it runs with memory at hand, and with each request for memory refused.
-#[test]
-fn a_buffer_is_shared_or_handed_back(rt: HostRuntime) -> Result<(), Fail> {
-    let alloc = rt.alloc();
-    let text = "a//b";
-    match RcRelativePath::from_buf(alloc, RelativePathBuf::from_text(alloc, text)?) {
-        Ok(path) => assert_eq!(rt; path.as_relative_path().as_str(), text, "shared"),
-        Err(buf) => assert_eq!(rt; buf.as_relative_path().as_str(), text, "handed back"),
-    }
-    Ok(())
-}
-
 #[test]
 fn either_form_shows_the_text(rt: HostRuntime) -> Result<(), Fail> {
     let text = "a//b";

@@ -9,10 +9,10 @@ use std::test::Fail;
 /// How many bytes an input may have.
 const MOST: usize = 65_536;
 
-const SIX_LINES: &[u8] =
+pub const SIX_LINES: &[u8] =
     b"normalize\ta/.././b/../c/d\nnormalize\t\nnormalize\nfrobnicate\tx\n\nnormalize\t../foo/./bar/../baz.txt";
 
-const SIX_ANSWERS: &[u8] =
+pub const SIX_ANSWERS: &[u8] =
     b"= c/d\n= \n! wrong number of fields\n! unknown command\n! unknown command\n= ../foo/baz.txt\n";
 
 const MANY_FIELDS: &[u8] = b"normalize\ta\t\t\t\t\t\t\t\n\tnormalize\ta\t\t\t\t\t\t\t\n";

@@ -1,0 +1,62 @@
+//! Wrong calls, right where memory is ample. tools/refusals sees each of these tests fail.
+ghost use Rattle.std.specs.Iterator.{IsFinite};
+
+use super::editing::{is_left, long_name};
+use super::marks::{begin, end};
+use super::text_of;
+use relative_path::{RelativePath, RelativePathBuf};
+use std::alloc::AllocError;
+use std::test::Fail;
+
+// Sets a file name, and cuts the old one before it reserves.
+fn cut_and_push(buf: &mut RelativePathBuf, file_name: &str) -> Result<(), AllocError> {
+    buf.pop();
+    buf.push(RelativePath::new(file_name))
+}
+
+#[test]
+fn set_file_name(rt: HostRuntime) -> Result<(), Fail> {
+    let letters = "b".repeat(rt.alloc(), 4096)?;
+    let mut buf = RelativePathBuf::from_text(rt.alloc(), "foo/bar")?;
+    begin(rt.alloc());
+    let answer = cut_and_push(&mut buf, letters.as_str());
+    end(rt.alloc(), answer.is_err());
+    let left = if answer.is_ok() {
+        letters.as_str()
+    } else {
+        "bar"
+    };
+    assert_eq!(rt; text_of(&buf).strip_prefix("foo/"), Some(left));
+    Ok(())
+}
+
+// Pushes the paths, and takes the first text back where a push is refused.
+fn push_or_restore<'p, I: Iterator<Item = RelativePath<'p>>>(
+    buf: &mut RelativePathBuf,
+    paths: I,
+) -> Result<(), AllocError>
+    requires { I.can_next paths × IsFinite (I.remaining paths) }
+{
+    let first = buf.clone()?;
+    for path in paths {
+        if let Err(error) = buf.push(path) {
+            *buf = first;
+            return Err(error);
+        }
+    }
+    Ok(())
+}
+
+#[test]
+fn extend(rt: HostRuntime) -> Result<(), Fail> {
+    let name = long_name(rt.alloc())?;
+    let paths = ["a", name.as_str(), "c"].map(RelativePath::new);
+    let mut lent = paths.iter().copied();
+    let mut buf = RelativePathBuf::new(rt.alloc());
+    begin(rt.alloc());
+    let answer = push_or_restore(&mut buf, &mut lent);
+    end(rt.alloc(), answer.is_err());
+    let left = lent.next().map(RelativePath::as_str);
+    assert!(rt; is_left(answer, text_of(&buf), name.as_str(), left));
+    Ok(())
+}
