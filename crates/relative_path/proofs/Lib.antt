@@ -6,9 +6,9 @@ pub mod SlashesLemmas
 pub mod ComponentsLemmas
 pub mod EditingLemmas
 pub mod PrefixingLemmas
-pub mod ExtendingLemmas
+pub mod PushingLemmas
 pub mod NamingLemmas
-pub mod FileNameLemmas
+pub mod NamingExtensionLemmas
 pub mod NormalizingLemmas
 pub mod CountingLemmas
 pub mod SpansLemmas

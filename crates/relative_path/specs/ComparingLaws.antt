@@ -1,5 +1,6 @@
 -- The laws of the equality and the order of components and of lists of them, which the impls of the traits give.
--- A type that shows components takes its own from `by_components`.
+-- A type that shows components takes its own from `by_components`. They stand here with their proofs, since an impl's
+-- laws may cite nothing but definitions.
 use Rattle.std.proofs.Common.{◌≡◌, Bool, Decides, List, [], ◌∷◌, IsTrue, sym, refl, ap, ◌∙◌, arith}
 use Rattle.std.specs.Cmp.{IsTotalOrder, IsEquivalence, IsPartialEquivalence, IsPartialOrder, on_total, on_equiv, then_total, and_equiv, both_tied, unsigned_ties, nat_cmp_total, nat_eq_equiv, partial_equiv_from_equiv, partial_order_from_agreeing_total}
 use Rattle.std.specs.Cmp.Lexicographic.{nat_list_cmp_total, nat_list_eq_equiv, texts_ties, lists_ties, lists_total, lists_equiv, pointwise_decides}

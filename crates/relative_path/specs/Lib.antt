@@ -11,7 +11,7 @@ pub mod Prefixing
 pub mod Naming
 pub mod RelativePath
 pub mod RelativePathBuf
-pub mod Extending
+pub mod Pushing
 pub mod Components
 pub mod Comparing
 pub mod ComparingLaws

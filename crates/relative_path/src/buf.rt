@@ -9,7 +9,7 @@ ghost use Rattle.relative_path.specs.Editing.{pushed, with_piece, with_separator
 ghost use Rattle.relative_path.specs.Naming.{file_name_of, extension_of, is_plain_extension, dotted, IsNamed, IsExtended};
 ghost use Rattle.relative_path.specs.Comparing.{steps_eq, steps_cmp, fed_by};
 ghost use Rattle.relative_path.specs.ComparingLaws.{partial_eq_law, partial_ord_law, by_components, fed_alike};
-ghost use Rattle.relative_path.specs.Extending.{PushesAll, PushesUntilFull, PushesWholeRun, StopsRun};
+ghost use Rattle.relative_path.specs.Pushing.{PushesAll, PushesUntilFull, PushesWholeRun, StopsRun};
 ghost use Rattle.relative_path.specs.RelativePath.{path_text, path_components};
 ghost use Rattle.relative_path.specs.RelativePathBuf.{buffer_components, ExceedsRoom};
 ghost use Rattle.std.specs.Iterator.{IsFiniteIterable};

@@ -1,4 +1,4 @@
-//! Normal forms as a count of climbs and a table of names, each a span of a text.
+//! Normal forms as a count of climbs and a table of names, each a span of a text, for `normalize` and what stands on it.
 ghost use Rattle.std.specs.Prelude.{◌≡◌, ◌+◌, ◌≤◌, ◌<◌, ◌^◌, ◌++◌, [], ◌∷◌, drop, fold, length, map, replicate, slice_index_or, IfOk, MatchOption};
 ghost use Rattle.std.specs.List.{All, common_prefix_len};
 ghost use Rattle.std.specs.Str.{bytes_eq};

@@ -1,4 +1,4 @@
-//! Normal texts, a component at a time.
+//! Normal texts in place, a component at a time, for `normalize_into`; `normalize` runs through `normal_form.rt`.
 ghost use Rattle.std.specs.Prelude.{◌≡◌, ◌≤◌, ◌↔◌, ◌++◌, [], ◌∷◌, IsTrue, List, ℕ, length};
 ghost use Rattle.relative_path.specs.Components.{step_of};
 ghost use Rattle.relative_path.specs.Editing.{pushed};

@@ -1,4 +1,4 @@
-//! Spans of a text, or of one of two texts.
+//! Spans of a text, or of one of two. The table that holds them is `normal_form.rt`'s.
 ghost use Rattle.std.specs.Prelude.{◌≡◌};
 ghost use Rattle.relative_path.specs.Spans.{source_text, span_text, CutsName};
 

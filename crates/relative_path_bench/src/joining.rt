@@ -1,7 +1,7 @@
 //! Joins: of two paths and of many, as they are and in normal form.
 ghost use Rattle.std.specs.Prelude.{◌≡◌, ◌++◌, [], List, ℕ, map, IfOk};
 ghost use Rattle.relative_path.specs.Editing.{pushed};
-ghost use Rattle.relative_path.specs.Extending.{pushed_all};
+ghost use Rattle.relative_path.specs.Pushing.{pushed_all};
 ghost use Rattle.relative_path.specs.Normalizing.{IsNormalTextOf};
 ghost use Rattle.relative_path.specs.RelativePath.{path_text, path_components};
 ghost use Rattle.relative_path.specs.Steps.{components};

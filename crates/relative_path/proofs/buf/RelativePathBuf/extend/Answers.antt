@@ -1,6 +1,6 @@
 use Rattle.std.proofs.Common.{◌≤◌, arith, rules}
-use Rattle.relative_path.specs.Extending.{PushesAll, PushesUntilFull}
-use Rattle.relative_path.proofs.ExtendingLemmas.{PushesWholeRun-from, StopsRun-from}
+use Rattle.relative_path.specs.Pushing.{PushesAll, PushesUntilFull}
+use Rattle.relative_path.proofs.PushingLemmas.{PushesWholeRun-from, StopsRun-from}
 use Rattle.relative_path.proofs.buf.RelativePathBuf.extend.Goals as goal
 
 pub returns-in_err-push-clause-stops : goal.returns-in_err-push-clause-stops

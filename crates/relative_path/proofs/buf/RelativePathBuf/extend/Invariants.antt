@@ -1,5 +1,5 @@
 use Rattle.std.proofs.Common.{◌≡◌, ◌≤◌, map}
-use Rattle.relative_path.specs.Extending.{pushed_all}
+use Rattle.relative_path.specs.Pushing.{pushed_all}
 use Rattle.relative_path.specs.RelativePath.{path_text}
 use Rattle.relative_path.proofs.buf.RelativePathBuf.extend.Given as goal
 

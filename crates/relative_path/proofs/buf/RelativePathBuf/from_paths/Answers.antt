@@ -1,5 +1,5 @@
 use Rattle.std.proofs.Common.{List, ℕ, subst}
-use Rattle.relative_path.specs.Extending.{PushesWholeRun}
+use Rattle.relative_path.specs.Pushing.{PushesWholeRun}
 use Rattle.relative_path.proofs.buf.RelativePathBuf.from_paths.Goals as goal
 
 pub returns-clause-runs : goal.returns-clause-runs

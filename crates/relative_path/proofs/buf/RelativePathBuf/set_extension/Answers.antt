@@ -5,7 +5,7 @@ use Rattle.relative_path.specs.Naming.{IsExtended, dotted}
 use Rattle.relative_path.specs.RelativePath.{path_text}
 use Rattle.relative_path.proofs.SlicesLemmas.{length-IsPrefix}
 use Rattle.relative_path.proofs.NamingLemmas.{IsPrefix-IsExtended, IsExtended-push, ExceedsRoom-extended}
-use Rattle.relative_path.proofs.FileNameLemmas.{extension-IsExtended}
+use Rattle.relative_path.proofs.NamingExtensionLemmas.{extension-IsExtended}
 use Rattle.relative_path.proofs.buf.RelativePathBuf.set_extension.Goals as goal
 
 pub returns-in_err-reserve_to-clause-full : goal.returns-in_err-reserve_to-clause-full

@@ -5,7 +5,7 @@ use Rattle.relative_path.specs.Steps.{Step, name}
 use Rattle.relative_path.specs.Editing.{kept_len}
 use Rattle.relative_path.specs.Naming.{last_name}
 use Rattle.relative_path.specs.RelativePath.{path_components}
-use Rattle.relative_path.proofs.FileNameLemmas.{slice_get-last_name}
+use Rattle.relative_path.proofs.NamingExtensionLemmas.{slice_get-last_name}
 use Rattle.relative_path.proofs.path.RelativePath.file_name.Goals as goal
 
 placed : (cs : List Step) (found : Option (Bor (List ℕ))) → option_copied found ≡ last_name cs

@@ -9,7 +9,7 @@ use Rattle.relative_path.specs.Steps.{slash}
 use Rattle.relative_path.specs.Editing.{pushed, with_separator, unslashed}
 use Rattle.relative_path.specs.RelativePath.{path_text}
 use Rattle.relative_path.specs.RelativePathBuf.{Buffer}
-use Rattle.relative_path.specs.Extending.{pushed_all, StopsWithin, PushesAll, PushesUntilFull, PushesWholeRun, StopsRun}
+use Rattle.relative_path.specs.Pushing.{pushed_all, StopsWithin, PushesAll, PushesUntilFull, PushesWholeRun, StopsRun}
 
 pub pushed_all-append : (text : List ℕ) (ps qs : List (List ℕ))
     → pushed_all text (ps ++ qs) ≡ pushed_all (pushed_all text ps) qs
