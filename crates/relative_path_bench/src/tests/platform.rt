@@ -46,22 +46,27 @@ const RELATIVES: [(&str, &str); 9] = [
 ];
 
 #[test]
+fn views_paths(rt: HostRuntime) -> Result<(), Fail> {
+    for (text, _) in RELATIVES {
+        assert_eq!(rt; unix::view(text)?.as_str(), text, "{text:?}");
+        let view = RelativePath::from_path(Path::new(text))?;
+        assert_eq!(rt; view.as_str(), text, "{text:?}, as a path");
+    }
+    Ok(())
+}
+
+#[test]
 fn makes_relative_paths(rt: HostRuntime) -> Result<(), Fail> {
     let alloc = rt.alloc();
-    for (text, owned) in RELATIVES {
-        assert_eq!(rt; unix::view(text)?.as_str(), text, "view of {text:?}");
-        let view = RelativePath::from_path(Path::new(text))?;
-        assert_eq!(rt; view.as_str(), text, "borrowed from {text:?}");
-        for path in [
-            unix::from_path(alloc, text)?,
-            RelativePathBuf::from_path(alloc, Path::new(text))?,
-        ] {
-            assert_eq!(rt;
-                path.as_relative_path().as_str(),
-                owned,
-                "owned from {text:?}"
-            );
-        }
+    for (text, expected) in RELATIVES {
+        let buf = unix::from_path(alloc, text)?;
+        assert_eq!(rt; buf.as_relative_path().as_str(), expected, "{text:?}");
+        let buf = RelativePathBuf::from_path(alloc, Path::new(text))?;
+        assert_eq!(rt;
+            buf.as_relative_path().as_str(),
+            expected,
+            "{text:?}, as a path"
+        );
     }
     Ok(())
 }
