@@ -1,5 +1,7 @@
 pub mod CommandLemmas
 pub mod InputLemmas
 pub mod LinesLemmas
+pub mod MoveTableLemmas
+pub mod MoverLemmas
 pub mod OnlyLemmas
 pub mod OutputLemmas

@@ -1,6 +1,8 @@
 pub mod Meter
 pub mod Fault
 pub mod Lines
+pub mod Mover
+pub mod MoveTable
 pub mod Command
 pub mod Output
 pub mod Input

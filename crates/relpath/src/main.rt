@@ -15,6 +15,8 @@ mod fault;
 mod input;
 mod lines;
 mod meter;
+mod move_table;
+mod mover;
 mod output;
 mod run;
 #[cfg(test)]
