@@ -71,7 +71,7 @@ IsTarget moves place target =
     ((j : ℕ) × MovesFrom moves place j × (target ≡ (move_at moves j).new))
     ⊎ ((j : ℕ) → ¬ MovesFrom moves place j) × (target ≡ place)
 
--- the moves are named and apart, and P holds of the target of the reference in the file of move number i
+-- P holds of the target of the reference in the file of move number i
 abbrev pub OfTarget : List Move → ℕ → List Step → (List Step → Type 0) → Type 0
 OfTarget moves i reference P = (target : List Step) × IsTarget moves (meant moves i reference) target × P target
 
