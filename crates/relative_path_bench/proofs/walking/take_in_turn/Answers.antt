@@ -23,5 +23,8 @@ loop-end-preserved c =
 pub returns : goal.returns
 returns c =
     let whole = take_all c.loop-end.end-index c.args.ends.now c.loop-end-test.false in
-    let turns = subst (λ es. TakesInTurn (path_text c.args.path) es c.loop-end.components.items (text_left c.loop-end.walk)) whole c.loop-end.invariant in
+    let turns =
+    subst (λ es. TakesInTurn
+    (path_text c.args.path) es c.loop-end.components.items
+    (text_left c.loop-end.walk)) whole c.loop-end.invariant in
     rw c.as_relative_path-left.ensures (IsTakenInTurn-from _ _ _ _ turns)
