@@ -29,8 +29,8 @@ IsComponentOf piece r = MatchOption r (piece ≡ []) (λ c. (piece ≢ []) × (s
 
 HasNoSlash-from_All : (p : List ℕ) → All (λ b. b ≢ slash) p → HasNoSlash p
 HasNoSlash-from_All p h =
-    recursion_from_All (λ b. is_slash b ≡ false) p (All-weaker
-    (λ b. b ≢ slash) (λ b. is_slash b ≡ false) (λ b other. ne_eqb b slash other) p h)
+    recursion_from_All (λ b. is_slash b ≡ false) p
+    (All-weaker (λ b. b ≢ slash) (λ b. is_slash b ≡ false) (λ b other. ne_eqb b slash other) p h)
 
 -- a piece that has a byte is its one component
 components_piece : (p : List ℕ) → p ≢ [] → All (λ b. b ≢ slash) p → components p ≡ classed p ∷ []
@@ -136,8 +136,8 @@ module _ (text trimmed piece front left : List ℕ) (trim : IsTrimmedEnd text tr
       let counted : length (components left) ≡ length (components text) - 1 =
       omega (arith, ap length cs, length-append (components left) (classed piece ∷ [])) in
       let firsts =
-      sym (ap (take (length
-      (components left))) cs ∙ take_at (components left) (classed piece ∷ []) (length (components left)) refl) in
+      sym
+      (ap (take (length (components left))) cs ∙ take_at (components left) (classed piece ∷ []) (length (components left)) refl) in
       (cs ∙ ap (λ d. components left ++ d ∷ []) (sym is), IsShortestPrefix-from (IsPrefix-trans trim.prefix (IsPrefix-trans (front_prefix split) trim'.prefix)) (firsts ∙ ap (λ n. take n (components text)) counted) trim'.end)
 
 -- ---- what follows of the lists of components, and that the walk ends
@@ -158,9 +158,8 @@ MakesProgress-TakesLast s t (Some c) (joined, _) =
 pub YieldsList-components : (s : Components) (text : List ℕ) → text_left s ≡ text
     → YieldsList (λ s taken t. TakesFirst (text_left s) taken (text_left t)) step_of s (components text)
 YieldsList-components s text same =
-    subst (λ x. YieldsList (λ s taken t. TakesFirst
-    (text_left s) taken
-    (text_left t)) step_of s (components x)) same (YieldsList-from_shown (λ s taken t. TakesFirst (text_left s) taken (text_left t)) step_of components_left (λ s t taken. ap length taken.0) (λ s c t taken. taken.0) s)
+    subst (λ x. YieldsList (λ s taken t. TakesFirst (text_left s) taken (text_left t)) step_of s (components x)) same
+    (YieldsList-from_shown (λ s taken t. TakesFirst (text_left s) taken (text_left t)) step_of components_left (λ s t taken. ap length taken.0) (λ s c t taken. taken.0) s)
 
 -- a call of `next` of a walk, and of an `Iter`
 abbrev walk_steps : Components → Option Component → Components → Type 0

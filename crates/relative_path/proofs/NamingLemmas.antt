@@ -49,8 +49,8 @@ suffix_len-last_dot xs ys other =
 suffix_len-no_dot : (xs : List ℕ) → All (λ b. b ≢ dot) xs → suffix_len no_dot xs ≡ length xs
 suffix_len-no_dot xs other =
     let counted =
-    suffix_len_is no_dot xs 0 0 (omega arith) (λ k from below. ap not (ne_eqb _ dot
-    (other k 0 below))) (λ none. absurd (omega arith)) in
+    suffix_len_is no_dot xs 0 0 (omega arith) (λ k from below. ap not (ne_eqb _ dot (other k 0 below)))
+    (λ none. absurd (omega arith)) in
     omega arith
 
 before_last-dot : (xs ys : List ℕ) → All (λ b. b ≢ dot) ys → before_last is_dot (xs ++ dot ∷ ys) ≡ xs
@@ -300,7 +300,8 @@ IsPrefix-stem : (n : List ℕ) → IsPrefix n (stem_of n)
 IsPrefix-stem n =
     cond_both
     (has_stem n)
-    (before_last is_dot n) n (IsPrefix n) (λ _. IsPrefix-take _ n) (λ _. record { front = sym (take_all (length n) n (omega arith)) })
+    (before_last is_dot n) n (IsPrefix n) (λ _. IsPrefix-take _ n)
+    (λ _. record { front = sym (take_all (length n) n (omega arith)) })
 
 pub IsPrefix-IsExtended : (text front : List ℕ) → IsSome (file_name_of text) → IsExtended text [] front
     → IsPrefix text front
@@ -309,8 +310,8 @@ IsPrefix-IsExtended text front found extended = prefix (file_name_of text) found
     prefix : (o : Option (List ℕ)) → IsSome o → IsExtendedAt text [] front o → IsPrefix text front
     prefix None some is = absurd (cc)
     prefix (Some n) some (head, cut, is) =
-        rw (is, append-nil (head ++ stem_of n)) (IsPrefix-trans (IsPrefix-shortest cut) (IsPrefix-append_left head
-        (IsPrefix-stem n)))
+        rw (is, append-nil (head ++ stem_of n))
+        (IsPrefix-trans (IsPrefix-shortest cut) (IsPrefix-append_left head (IsPrefix-stem n)))
 
 pub IsPrefix-IsBase : (text base : List ℕ) → IsBase text base → IsPrefix text base
 IsPrefix-IsBase text base is = front (file_name_of text) is

@@ -120,8 +120,8 @@ walk-normal (n ∷ ns) (up ∷ cs) normal long =
     let len = length-take-le (length ns) (n ∷ ns) (omega arith) in
     let kept : length place - climb cs ≡ suc (length ns) - suc (climb cs) = omega arith in
     walk-normal place cs normal (omega arith) ∙ ap (λ k. Some (take k place ++ names_of cs)) kept
-    ∙ ap (λ x. Some (x ++ names_of cs)) (take-take (suc
-    (length ns) - suc (climb cs)) (length ns) (n ∷ ns) (omega arith))
+    ∙ ap (λ x. Some (x ++ names_of cs))
+    (take-take (suc (length ns) - suc (climb cs)) (length ns) (n ∷ ns) (omega arith))
 walk-normal base (name n ∷ cs) normal long =
     walk-names base (name n ∷ cs) normal ∙ ap (λ x. Some (x ++ n ∷ names_of cs)) (sym (take_all _ base (omega arith)))
 

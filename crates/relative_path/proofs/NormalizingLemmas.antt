@@ -79,14 +79,14 @@ pushed-spell cs c propers proper = ap (λ x. with_separator (spell cs) ++ x) sol
   where
     solid : unslashed (step_text c) ≡ step_text c
     solid =
-        unslashed-solid (step_text c) (subst (λ x. get_or x 0 0 ≢ slash) (append-nil
-        (step_text c)) (HasNoSlash-start (step_text c) [] (nonempty_proper c proper) (HasNoSlash-proper c proper)))
+        unslashed-solid (step_text c)
+        (subst (λ x. get_or x 0 0 ≢ slash) (append-nil (step_text c)) (HasNoSlash-start (step_text c) [] (nonempty_proper c proper) (HasNoSlash-proper c proper)))
 
     behind : (ds : List Step) → AreProper ds → with_separator (spell ds) ++ step_text c ≡ spell (ds ++ c ∷ [])
     behind [] h = refl
     behind (d ∷ ds) h =
-        ap (λ x. x ++ step_text c) (with_separator-solid (spell
-        (d ∷ ds)) (spell_nonempty d ds h.0) (spell_end (d ∷ ds) h))
+        ap (λ x. x ++ step_text c)
+        (with_separator-solid (spell (d ∷ ds)) (spell_nonempty d ds h.0) (spell_end (d ∷ ds) h))
         ∙ append_assoc (spell (d ∷ ds)) (slash ∷ []) (step_text c) ∙ sym (spell-append d ds c [])
 
 pub spell-pushed : (text : List ℕ) (c : Step) → text ≡ spell (components text) → IsProper c
@@ -142,8 +142,8 @@ Normalizes-pop source limit text popped cs n left h last pops =
       normal_text =
           record { spelled = spelled ∙ ap spell (sym cut.same_components); normal = rw cut.same_components (IsNormal-front cs (name n) (subst IsNormal last h.normal_text.normal)) };
       same =
-          rw cut.same_components (IsSame-trans _ _ _ (subst
-          (IsSame source) left_over h.same) (IsSame-name_up cs left n));
+          rw cut.same_components
+          (IsSame-trans _ _ _ (subst (IsSame source) left_over h.same) (IsSame-name_up cs left n));
       fits =
           let fits = ap (λ ds. length (spell ds)) left_over in
           let first = length-spell-drop_one cs (up ∷ left) (name n) in
@@ -215,9 +215,8 @@ Normalizes-end source limit text left h none =
         same = same;
         only = λ other normal leads.
             normal.spelled
-            ∙ ap spell (normal_unique
-            (components other) (components text) normal.normal h.normal_text.normal (IsSame-trans _ _ _
-            (IsSame-sym _ _ leads) same))
+            ∙ ap spell
+            (normal_unique (components other) (components text) normal.normal h.normal_text.normal (IsSame-trans _ _ _ (IsSame-sym _ _ leads) same))
             ∙ sym h.normal_text.spelled;
       },
       let e = ap length h.normal_text.spelled in omega arith,

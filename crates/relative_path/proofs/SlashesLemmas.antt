@@ -65,13 +65,13 @@ end-trim_end s r (_, (Some n, found, nothing)) = absurd (let e = found.0 in omeg
 -- the pieces before and after a slash, or the text and nothing where it has none
 abbrev pub IsSplitFirst : List ℕ → Bor (List ℕ) × Bor (List ℕ) → Type 0
 IsSplitFirst text parts =
-    All (λ b. b ≢ slash) parts.0.now × ((text ≡ parts.0.now ++ slash ∷ parts.1.now) ⊎ ((text ≡ parts.0.now) ×
-    (parts.1.now ≡ [])))
+    All (λ b. b ≢ slash) parts.0.now ×
+    ((text ≡ parts.0.now ++ slash ∷ parts.1.now) ⊎ ((text ≡ parts.0.now) × (parts.1.now ≡ [])))
 
 abbrev pub IsSplitLast : List ℕ → Bor (List ℕ) × Bor (List ℕ) → Type 0
 IsSplitLast text parts =
-    All (λ b. b ≢ slash) parts.1.now × ((text ≡ parts.0.now ++ slash ∷ parts.1.now) ⊎ ((text ≡ parts.1.now) ×
-    (parts.0.now ≡ [])))
+    All (λ b. b ≢ slash) parts.1.now ×
+    ((text ≡ parts.0.now ++ slash ∷ parts.1.now) ⊎ ((text ≡ parts.1.now) × (parts.0.now ≡ [])))
 
 -- what `split_once` gives, or the text and nothing
 pub IsSplitFirst-split_once : (text : List ℕ) (r : Option (Bor (List ℕ) × Bor (List ℕ))) (whole nothing : Bor (List ℕ))

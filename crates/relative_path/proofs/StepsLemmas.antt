@@ -140,8 +140,8 @@ HasNoSlash-onto_first b (p ∷ ps) e h = ((e, h.0), h.1)
 HasNoSlash-slice_split : (bs : List ℕ) → AllByRecursion HasNoSlash (slice_split is_slash bs)
 HasNoSlash-slice_split [] = (tt, tt)
 HasNoSlash-slice_split (b ∷ bs) =
-    cond_both (is_slash b) ([] ∷ slice_split is_slash bs) (onto_first b
-    (slice_split is_slash bs)) (AllByRecursion HasNoSlash)
+    cond_both (is_slash b) ([] ∷ slice_split is_slash bs) (onto_first b (slice_split is_slash bs))
+    (AllByRecursion HasNoSlash)
     (λ _. (tt, HasNoSlash-slice_split bs))
     (λ e. HasNoSlash-onto_first b (slice_split is_slash bs) e (HasNoSlash-slice_split bs))
 
@@ -197,9 +197,8 @@ solid_len-append (x ∷ xs) ys =
 pub solid_len_le : (bs : List ℕ) → solid_len bs ≤ length bs
 solid_len_le [] = omega arith
 solid_len_le (b ∷ bs) =
-    cond_both (is_slash b) (solid_len bs) (suc
-    (solid_len bs)) (λ n. n ≤ suc
-    (length bs)) (λ _. omega (arith, solid_len_le bs)) (λ _. omega (arith, solid_len_le bs))
+    cond_both (is_slash b) (solid_len bs) (suc (solid_len bs)) (λ n. n ≤ suc (length bs))
+    (λ _. omega (arith, solid_len_le bs)) (λ _. omega (arith, solid_len_le bs))
 
 -- a text without a solid byte ends in a slash, if it has a byte
 pub ends_in_slash : (bs : List ℕ) → solid_len bs ≡ 0 → 0 < length bs → get_or bs (length bs - 1) 0 ≡ slash

@@ -86,8 +86,8 @@ LosesIdle-cur rooted text left front (Some c) is h (last, cut) idle =
     let last : components left ≡ components front ++ cur ∷ [] =
     last ∙ ap (λ d. components front ++ d ∷ []) ((step_eq-Decides (step_of c) cur).0 is) in
     let idle : (rooted ≡ true) ⊎ (components front ≢ []) =
-    ⊎_elim (λ some. inr (λ none. some (nil_from_components left front _ cut
-    (sym cut.same_components ∙ none)))) (λ e. inl e) idle in
+    ⊎_elim (λ some. inr (λ none. some (nil_from_components left front _ cut (sym cut.same_components ∙ none))))
+    (λ e. inl e) idle in
     record {
       prefix = IsPrefix-trans h.prefix (IsPrefix-shortest cut);
       end = end-IsShortestPrefix cut;
@@ -104,8 +104,7 @@ last_counts rooted cs c (inl other) =
     let one = ap length (counted_one (after rooted cs) c other) in
     omega (
       arith,
-      ap length (counted-append rooted cs
-          (c ∷ [])),
+      ap length (counted-append rooted cs (c ∷ [])),
       length-append (counted rooted cs) (counted (after rooted cs) (c ∷ [])),
     )
 last_counts rooted cs c (inr (none, unrooted)) = rw (none, unrooted) (omega arith)

@@ -29,7 +29,8 @@ first_slash (b ∷ bs) = ⊎_elim
 
 -- whatever follows a text, only its last piece can change
 components-before : (front : List ℕ)
-    → (cs : List Step) × (x : List ℕ) × HasNoSlash x × ((rest : List ℕ) → components (front ++ rest) ≡ cs ++ components (x ++ rest))
+    → (cs : List Step) × (x : List ℕ) × HasNoSlash x
+    × ((rest : List ℕ) → components (front ++ rest) ≡ cs ++ components (x ++ rest))
 components-before front = elim (last_slash front) [
   | inl none ↦ ([], front, none, λ rest. refl)
   | inr (xs, ys, joined, none) ↦ (components xs, ys, none, λ rest. ap (λ t. components (t ++ rest)) joined ∙ ap components (append_assoc xs (slash ∷ ys) rest) ∙ components-append xs (ys ++ rest))
@@ -37,7 +38,8 @@ components-before front = elim (last_slash front) [
 
 -- whatever stands before a text, only its first piece can change
 components-behind : (rest : List ℕ)
-    → (cs : List Step) × (y : List ℕ) × HasNoSlash y × ((front : List ℕ) → components (front ++ rest) ≡ components (front ++ y) ++ cs)
+    → (cs : List Step) × (y : List ℕ) × HasNoSlash y
+    × ((front : List ℕ) → components (front ++ rest) ≡ components (front ++ y) ++ cs)
 components-behind rest = elim (first_slash rest) [
   | inl none ↦ ([], rest, none, λ front. sym (append-nil (components (front ++ rest))))
   | inr (xs, ys, joined, none) ↦ (components ys, xs, none, λ front. ap (λ t. components (front ++ t)) joined ∙ ap components (sym (append_assoc front xs (slash ∷ ys))) ∙ components-append (front ++ xs) ys)
@@ -51,16 +53,16 @@ HasNoSlash-append (b ∷ bs) y none none' = (none.0, HasNoSlash-append bs y none
 abbrev Continues : List ℕ → List ℕ → Type 0
 Continues front rest =
     ((ds : List Step) × (components (front ++ rest) ≡ components front ++ ds))
-    ⊎ ((cs : List Step) ×
-    (ds : List Step) × (x : List ℕ) × (y : List ℕ) × (0 < length x) × (0 < length y) × (components front ≡ cs ++ classed x ∷ []) × (components
-    (front ++ rest) ≡ cs ++ classed (x ++ y) ∷ ds))
+    ⊎ ((cs : List Step) × (ds : List Step) × (x : List ℕ) × (y : List ℕ) × (0 < length x) × (0 < length y)
+    × (components front ≡ cs ++ classed x ∷ []) × (components (front ++ rest) ≡ cs ++ classed (x ++ y) ∷ ds))
 
 continues : (front rest : List ℕ) → Continues front rest
 continues front rest =
     let before = components-before front in
     let behind = components-behind rest in
-    joined before.0 behind.0 before.1 behind.1 before.2 behind.2 (ap components (sym
-    (append-nil front)) ∙ before.3 [] ∙ ap (λ t. before.0 ++ components t) (append-nil before.1)) (before.3 rest ∙ ap (λ cs. before.0 ++ cs) (behind.3 before.1))
+    joined before.0 behind.0 before.1 behind.1 before.2 behind.2
+    (ap components (sym (append-nil front)) ∙ before.3 [] ∙ ap (λ t. before.0 ++ components t) (append-nil before.1))
+    (before.3 rest ∙ ap (λ cs. before.0 ++ cs) (behind.3 before.1))
   where
     joined : (cs ds : List Step) (x y : List ℕ) → HasNoSlash x → HasNoSlash y → components front ≡ cs ++ components x
         → components (front ++ rest) ≡ cs ++ (components (x ++ y) ++ ds) → Continues front rest
@@ -70,14 +72,13 @@ continues front rest =
     joined cs ds (b ∷ bs) [] none none' first whole =
         inl (
           ds,
-          whole ∙ ap (λ t. cs ++ (components t ++ ds)) (append-nil (b ∷ bs)) ∙ sym (append_assoc cs (components
-              (b ∷ bs)) ds) ∙ ap (λ es. es ++ ds) (sym first),
+          whole ∙ ap (λ t. cs ++ (components t ++ ds)) (append-nil (b ∷ bs))
+              ∙ sym (append_assoc cs (components (b ∷ bs)) ds) ∙ ap (λ es. es ++ ds) (sym first),
         )
     joined cs ds (b ∷ bs) (d ∷ rest') none none' first whole =
         let one = components_whole (b ∷ bs) (omega arith) none in
         let longer =
-        components_whole ((b ∷ bs) ++ d ∷ rest') (omega arith) (HasNoSlash-append
-        (b ∷ bs) (d ∷ rest') none none') in
+        components_whole ((b ∷ bs) ++ d ∷ rest') (omega arith) (HasNoSlash-append (b ∷ bs) (d ∷ rest') none none') in
         inr (
           cs,
           ds,
@@ -125,9 +126,8 @@ shorter-counted rooted front rest nonempty end last = λ same. elim (continues f
   | inl (ds, whole) ↦ added ds whole same (last_view ds)
   | inr (cs, ds, x, y, some, some', first, whole) ↦
       absurd (longer (after rooted cs) ds x y some some' (append_cancel_left (counted rooted cs) _ _ (sym
-      (counted-append rooted cs
-      (classed x ∷ [])) ∙ ap (counted rooted) (sym first) ∙ same ∙ ap (counted rooted) whole ∙ counted-append rooted cs (classed
-      (x ++ y) ∷ ds))))
+      (counted-append rooted cs (classed x ∷ [])) ∙ ap (counted rooted) (sym first) ∙ same ∙ ap (counted rooted) whole
+      ∙ counted-append rooted cs (classed (x ++ y) ∷ ds))))
 ]
   where
     longer : (rooted' : Bool) (ds : List Step) (x y : List ℕ) → 0 < length x → 0 < length y
@@ -147,11 +147,11 @@ shorter-counted rooted front rest nonempty end last = λ same. elim (continues f
         → (ds ≡ []) ⊎ ((es : List Step) × (c : Step) × (ds ≡ es ++ c ∷ [])) → ⊥
     added ds whole same (inl none) =
         let shortest =
-        IsShortestPrefix-from (subst (λ t. IsPrefix t
-        (front ++ rest)) (append-nil (front ++ rest)) (IsPrefix-append (front ++ rest) [])) refl end in
+        IsShortestPrefix-from
+        (subst (λ t. IsPrefix t (front ++ rest)) (append-nil (front ++ rest)) (IsPrefix-append (front ++ rest) [])) refl end in
         let at =
-        shortest.shortest (length front) (ap components (take_at front rest
-        (length front) refl) ∙ sym (whole ∙ ap (λ es. components front ++ es) none
+        shortest.shortest (length front)
+        (ap components (take_at front rest (length front) refl) ∙ sym (whole ∙ ap (λ es. components front ++ es) none
         ∙ append-nil (components front))) in
         omega (arith, length-append front rest)
     added ds whole same (inr (es, c, split)) =
@@ -163,12 +163,9 @@ shorter-counted rooted front rest nonempty end last = λ same. elim (continues f
         omega (
           arith,
           ap length same,
-          ap (λ fs. length
-              (counted rooted fs)) whole,
-          ap length (counted-append rooted
-              (components front) es),
-          length-append (counted rooted (components front)) (counted (after rooted
-              (components front)) es),
+          ap (λ fs. length (counted rooted fs)) whole,
+          ap length (counted-append rooted (components front) es),
+          length-append (counted rooted (components front)) (counted (after rooted (components front)) es),
         )
 
 -- ---- going up
@@ -209,9 +206,10 @@ shortest-trimmed text p prefix end last root k root_k same =
         ap (λ t. counted (has_root text) (components t)) front
         ∙ ap (λ r. counted r (components (take k text))) (sym root_k) ∙ same
         ∙ ap (λ r. counted r (components p)) root in
-        shorter-counted (has_root text) (take k p) (drop k p) left (subst (λ t. get_or t
-        (length t - 1) 0 ≢ slash) (sym whole) end) (subst (λ t. LastCounts
-        (has_root text) (components t)) (sym whole) last) (same_front ∙ ap (λ t. counted (has_root text) (components t)) (sym whole))
+        shorter-counted (has_root text) (take k p) (drop k p) left
+        (subst (λ t. get_or t (length t - 1) 0 ≢ slash) (sym whole) end)
+        (subst (λ t. LastCounts (has_root text) (components t)) (sym whole) last)
+        (same_front ∙ ap (λ t. counted (has_root text) (components t)) (sym whole))
 
 pub IsIdleFree-from : {rooted rooted' : Bool} {text text' left : List ℕ} → rooted ≡ rooted' → text ≡ text'
     → left ≡ take (length left) text → get_or left (length left - 1) 0 ≢ slash
@@ -234,8 +232,8 @@ module _ (text end front parent : List ℕ) (taken : Option Component) (some : i
           let whole : counted (has_root text) (components front ++ step_of c ∷ []) ≡ unix_components text =
           ap (counted (has_root text)) (sym last) ∙ trimmed.0.same in
           let counts =
-          counted-front (has_root text) (components front) (step_of c) (subst (LastCounts
-          (has_root text)) last trimmed.1) in
+          counted-front (has_root text) (components front) (step_of c)
+          (subst (LastCounts (has_root text)) last trimmed.1) in
           (counts.0 ∙ ap but_last whole, λ none. counts.1 (whole ∙ none))
 
   pub IsAbove-parent : (has_root text ≡ false) ⊎ (length parent ≢ 0) → IsAbove text parent
@@ -266,8 +264,7 @@ module _ (text end front parent : List ℕ) (taken : Option Component) (some : i
         ap (counted true) (components-slash [] ∙ ap components (sym empty))
         ∙ ap (λ r. counted r (components parent)) (sym rooted) ∙ trimmed'.0.same ∙ fronts.0;
     shortest =
-        λ _ k root _. ⊎_elim (λ none. absurd (true≢false (sym rooted ∙ sym root ∙ ap (λ j. has_root
-        (take j text)) none))) (λ some. some) (cases_zero k);
+        λ _ k root _. ⊎_elim (λ none. absurd (true≢false (sym rooted ∙ sym root ∙ ap (λ j. has_root (take j text)) none))) (λ some. some) (cases_zero k);
   }
     where
       root : (bs : List ℕ) → has_root bs ≡ true → slash ∷ [] ≡ take 1 bs

@@ -53,8 +53,7 @@ pub length-inner_le : (text : List ℕ) → length (without_inner_curs (componen
 length-inner_le text =
     omega (
       arith,
-      length_padded (without_inner_curs
-          (components text)),
+      length_padded (without_inner_curs (components text)),
       padded_len-inner (components text),
       padded_len-components text,
     )
@@ -149,8 +148,7 @@ pub length-spell-without_curs : (text : List ℕ) → length (spell (without_cur
 length-spell-without_curs text =
     omega (
       arith,
-      length-spell (without_curs
-          (components text)),
+      length-spell (without_curs (components text)),
       padded_len-filter (λ c. not (is_cur c)) (components text),
       padded_len-components text,
     )

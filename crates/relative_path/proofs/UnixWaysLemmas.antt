@@ -82,9 +82,9 @@ AreProper-drop (suc n) (c ∷ cs) proper = AreProper-drop n cs proper.1
 
 AreProper-unix : (text : List ℕ) → AreProper (unix_components text)
 AreProper-unix text =
-    cond_both (has_root text) (without_curs
-    (components text)) (without_inner_curs (components text)) AreProper (λ _. AreProper-filter (λ c. not
-    (is_cur c)) (components text) (AreProper-components text)) (λ _. AreProper-inner text)
+    cond_both (has_root text) (without_curs (components text)) (without_inner_curs (components text)) AreProper
+    (λ _. AreProper-filter (λ c. not (is_cur c)) (components text) (AreProper-components text))
+    (λ _. AreProper-inner text)
 
 pub components-climb : (n : ℕ) → components (spell (replicate n up)) ≡ replicate n up
 components-climb n = components-spell (replicate n up) (AreProper-replicate n)
@@ -118,9 +118,8 @@ IsSame-way path root way is = leads (walk [] from) refl is
     leads (Some place) at e =
         let written : way ≡ replicate (length place) up ++ to = cc in
         let proper : AreProper (replicate (length place) up ++ to) =
-        AreProper-append (replicate
-        (length place) up) to (AreProper-replicate
-        (length place)) (AreProper-drop shared (unix_components path) (AreProper-unix path)) in
+        AreProper-append (replicate (length place) up) to (AreProper-replicate (length place))
+        (AreProper-drop shared (unix_components path) (AreProper-unix path)) in
         let spelled : components (spell way) ≡ replicate (length place) up ++ to =
         ap (λ cs. components (spell cs)) written ∙ components-spell (replicate (length place) up ++ to) proper in
         let front = take shared (unix_components root) in
@@ -132,5 +131,5 @@ IsSame-way path root way is = leads (walk [] from) refl is
         ap₂ (λ cs ds. cs ++ ds) (sym roots) spelled ∙ append_assoc front from (replicate (length place) up ++ to) in
         let leads : IsSame (front ++ (from ++ (replicate (length place) up ++ to))) (front ++ to) =
         IsSame-append_left front (from ++ (replicate (length place) up ++ to)) to (IsSame-back from to place at) in
-        subst (λ cs. IsSame cs (unix_components path)) (sym whole) (subst (IsSame (front ++ (from ++ (replicate
-        (length place) up ++ to)))) paths leads)
+        subst (λ cs. IsSame cs (unix_components path)) (sym whole)
+        (subst (IsSame (front ++ (from ++ (replicate (length place) up ++ to)))) paths leads)

@@ -9,8 +9,8 @@ use Rattle.relative_path.proofs.naming.split_name.Goals.{in_default-via-in-Some+
 pub returns-in-Some : goal.returns-in-Some
 returns-in-Some c =
     let found =
-    rsplit_once_parts dot c.args.name.now (Some
-    (c.in-Some.stem, c.in-Some.extension)) c.in-Some.ensures.cases (lit< tt) in
+    rsplit_once_parts dot c.args.name.now (Some (c.in-Some.stem, c.in-Some.extension)) c.in-Some.ensures.cases
+    (lit< tt) in
     let split =
     IsSplit-dot _ c.in-Some.stem.now _ found (eqb-false _ 0 (sym c.is_empty.ensures ∙ c.if-not-is_empty.true)) in
     record { stem = sym split.stem_is; extension = sym split.extension_is; joined = found.0 }

@@ -23,5 +23,5 @@ returns-clause-text c =
     let front : path_text c.new.result ≡ placed.0 ++ c.split_name.result.0.now =
     c.new.ensures ∙ c.range.ensures.value
     ∙ slice_range-stem _ placed.0 n c.split_name.result.0.now c.split_name.result.1 placed.1 c.split_name.ensures.joined in
-    rw (front, c.split_name.ensures.stem) (IsExtended-stem text placed.0 n named (subst (IsCut text (kept_len
-    (components text) + 1)) placed.1 placed.2))
+    rw (front, c.split_name.ensures.stem)
+    (IsExtended-stem text placed.0 n named (subst (IsCut text (kept_len (components text) + 1)) placed.1 placed.2))

@@ -16,12 +16,11 @@ push_each-requires-clause-room c =
     let written : components c.in_ok-path.path.text ++ unix_left c.without_curs-components.result ≡ without_curs (components c.args.text.now) =
     ap₂
     (λ cs ds. cs ++ ds)
-    (ap components c.in_ok-path.ensures.empty ∙ components-nil) (c.without_curs-components.ensures ∙ ap
-    (λ t. without_curs (components t)) c.in_ok-view.ensures.text) in
+    (ap components c.in_ok-path.ensures.empty ∙ components-nil)
+    (c.without_curs-components.ensures ∙ ap (λ t. without_curs (components t)) c.in_ok-view.ensures.text) in
     omega (
       arith,
-      ap (λ cs. length
-          (spell cs)) written,
+      ap (λ cs. length (spell cs)) written,
       length-spell-without_curs c.args.text.now,
       c.in_ok-path.ensures.room,
     )
@@ -31,9 +30,9 @@ returns-clause-ok c =
     let written : components c.in_ok-path.path.text ++ unix_left c.without_curs-components.result ≡ without_curs (components c.args.text.now) =
     ap₂
     (λ cs ds. cs ++ ds)
-    (ap components c.in_ok-path.ensures.empty ∙ components-nil) (c.without_curs-components.ensures ∙ ap
-    (λ t. without_curs (components t)) c.in_ok-view.ensures.text) in
+    (ap components c.in_ok-path.ensures.empty ∙ components-nil)
+    (c.without_curs-components.ensures ∙ ap (λ t. without_curs (components t)) c.in_ok-view.ensures.text) in
     let unrooted : has_root c.args.text.now ≡ false =
-    ⊎_elim (λ e. absurd (true≢false (sym
-    (c.in_ok-view.ensures.refused.1 e)))) (λ e. e) (cases_Bool (has_root c.args.text.now)) in
+    ⊎_elim (λ e. absurd (true≢false (sym (c.in_ok-view.ensures.refused.1 e)))) (λ e. e)
+    (cases_Bool (has_root c.args.text.now)) in
     c.push_each.ensures ∙ ap spell (written ∙ sym (without_curs-unix c.args.text.now unrooted))

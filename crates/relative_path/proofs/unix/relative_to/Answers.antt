@@ -24,8 +24,7 @@ push_each-requires-clause-room c =
     omega (
       arith,
       len,
-      ap (λ cs. length (spell
-          (cs ++ unix_left c.without_shared.result.0))) climbed,
+      ap (λ cs. length (spell (cs ++ unix_left c.without_shared.result.0))) climbed,
       c.in_ok-answer.ensures.room,
     )
 
@@ -44,5 +43,4 @@ pub returns-clause-leads : goal.returns-clause-leads
 returns-clause-leads c =
     let found = returns-clause-ok c in
     subst (λ text. IsSame
-    (unix_components c.args.root.now ++ components text)
-    (unix_components c.args.path.now)) (sym found.2) (IsSame-way c.args.path.now c.args.root.now found.0 found.1)
+    (unix_components c.args.root.now ++ components text) (unix_components c.args.path.now)) (sym found.2) (IsSame-way c.args.path.now c.args.root.now found.0 found.1)

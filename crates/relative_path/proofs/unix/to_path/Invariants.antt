@@ -9,5 +9,5 @@ use Rattle.relative_path.proofs.unix.to_path.Given as goal
 abbrev pub invariant-loop-component : goal.invariant-loop-component
 invariant-loop-component l =
     let left = components_left l.component-iterator in
-    (onto (string_bytes l.text) left ≡ onto l.fn.base (path_components l.fn.path)) × (length
-    (string_bytes l.text) + padded_len left ≤ string_capacity l.text)
+    (onto (string_bytes l.text) left ≡ onto l.fn.base (path_components l.fn.path)) ×
+    (length (string_bytes l.text) + padded_len left ≤ string_capacity l.text)

@@ -15,16 +15,16 @@ loop-init c =
 pub unwrap-requires : goal.unwrap-requires
 unwrap-requires c =
     let fits =
-    Spells-fits _ _ _ _ _ (subst
-    (Spells _ _ _) (replicate_first _ _ c.loop-test.true) c.loop.invariant.0) IsProper-up in
+    Spells-fits _ _ _ _ _
+    (subst (Spells _ _ _) (replicate_first _ _ c.loop-test.true) c.loop.invariant.0) IsProper-up in
     let full = rw c.new.ensures at c.push.ensures.full in
     IsOk-otherwise c.push.result full (λ long. omega (arith, long, fits))
 
 pub loop-preserved : goal.loop-preserved
 loop-preserved c =
     let pushes =
-    Spells-push _ _ _ _ _ (subst
-    (Spells _ _ _) (replicate_first _ _ c.loop-test.true) c.loop.invariant.0) IsProper-up in
+    Spells-push _ _ _ _ _
+    (subst (Spells _ _ _) (replicate_first _ _ c.loop-test.true) c.loop.invariant.0) IsProper-up in
     let text = rw (c.unwrap.ensures, c.new.ensures) at c.push.ensures.ok in
     let room = c.loop.invariant.1 in
     (rw text (Spells-roomier _ _ _ _ _ pushes c.push.ensures.room), omega (arith, c.push.ensures.room))

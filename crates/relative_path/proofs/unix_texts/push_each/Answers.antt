@@ -19,8 +19,8 @@ pub unwrap-requires : goal.unwrap-requires
 unwrap-requires c =
     let first = c.in-Some.ensures.steps in
     let fits =
-    Spells-fits _ _ _ _ _ (subst
-    (Spells _ _ _) first c.loop-component.invariant) (proper_first c.loop-component.component-iterator _ _ first) in
+    Spells-fits _ _ _ _ _ (subst (Spells _ _ _) first c.loop-component.invariant)
+    (proper_first c.loop-component.component-iterator _ _ first) in
     let full = rw c.as_relative_path.ensures at c.push.ensures.full in
     IsOk-otherwise c.push.result full (λ long. omega (arith, long, fits))
 
@@ -28,8 +28,8 @@ pub loop-component-preserved : goal.loop-component-preserved
 loop-component-preserved c =
     let first = c.in-Some.ensures.steps in
     let pushes =
-    Spells-push _ _ _ _ _ (subst
-    (Spells _ _ _) first c.loop-component.invariant) (proper_first c.loop-component.component-iterator _ _ first) in
+    Spells-push _ _ _ _ _ (subst (Spells _ _ _) first c.loop-component.invariant)
+    (proper_first c.loop-component.component-iterator _ _ first) in
     let text = rw (c.unwrap.ensures, c.as_relative_path.ensures) at c.push.ensures.ok in
     rw text (Spells-roomier _ _ _ _ _ pushes c.push.ensures.room)
 

@@ -99,6 +99,7 @@ fn to_logical_path_of_texts(rt: HostRuntime) {
     assert!(rt; answer.map_or(true, |text| text.as_str() == "//x"));
 }
 
+// From one platform path to another.
 #[test]
 fn relative_to(rt: HostRuntime) {
     let path = Path::new("some/path");

@@ -7,5 +7,5 @@ returns-clause-runs g c =
     let becomes = g.I.IntoIterator.into_iter_gives in
     let steps = g.I.IntoIter.Iterator.next_gives in
     let runs = c.in_ok-extend.ensures.runs in
-    subst (λ
-    (old : List ℕ). PushesWholeRun becomes steps c.args.paths old c.extend.new.self.text) c.new-buf.ensures runs
+    subst
+    (λ (old : List ℕ). PushesWholeRun becomes steps c.args.paths old c.extend.new.self.text) c.new-buf.ensures runs

@@ -11,8 +11,8 @@ returns c =
     let ys = components_left c.args.other.now in
     let value : c.is_eq.result ≡ steps_eq xs ys =
     c.is_eq.ensures
-    ∙ ap is_eq (c.cmp.ensures ∙ ap₂ (λ x y. steps_cmp
-    (components x) (components y)) c.as_relative_path.ensures c.as_relative_path-2.ensures)
+    ∙ ap is_eq
+    (c.cmp.ensures ∙ ap₂ (λ x y. steps_cmp (components x) (components y)) c.as_relative_path.ensures c.as_relative_path-2.ensures)
     ∙ sym (steps_comparison.agree xs ys) in
     let decides = steps_eq-Decides xs ys in
     record { value = value; same = (λ e. decides.0 (sym value ∙ e), λ e. value ∙ decides.1 e) }

@@ -16,8 +16,8 @@ returns c =
     let walk = YieldsList-components (skip_while_source c.skip_while.result) _ left in
     let skipped = c.skip_while.ensures in
     let answer : c.all.result ≡ list_all is_name (drop (prefix_len is_up cs) cs) =
-    all_from_yields_List is_name c.all.new.self _ _ c.all.ensures.ran (YieldsList-from_skip_while _ step_of _ is_up _
-    (λ x b q k. search
-    (rules, tests)) walk skipped.closure skipped.done_skipping) (λ x b q k. search (rules, tests)) in
+    all_from_yields_List is_name c.all.new.self _ _ c.all.ensures.ran
+    (YieldsList-from_skip_while _ step_of _ is_up _ (λ x b q k. search (rules, tests)) walk skipped.closure skipped.done_skipping)
+    (λ x b q k. search (rules, tests)) in
     let decides = IsNormal-list_all cs in
     (λ e. decides.0 (sym answer ∙ e), λ normal. answer ∙ decides.1 normal)

@@ -11,8 +11,8 @@ loop-component-init c =
     let left = c.into_iter-component-iterator.ensures.into_iter_gives in
     record {
       normalizes =
-          rw (c.requires.empty, left, c.components-component-items.ensures.text) (Normalizes-start
-          (path_text c.args.self));
+          rw (c.requires.empty, left, c.components-component-items.ensures.text)
+          (Normalizes-start (path_text c.args.self));
       fits = c.requires.room;
       room = omega arith;
     }

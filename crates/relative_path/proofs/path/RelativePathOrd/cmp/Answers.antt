@@ -7,7 +7,6 @@ use Rattle.relative_path.proofs.ComponentsLemmas.{YieldsList-components}
 
 pub returns : goal.returns
 returns c =
-    cmp_from_yields_List
-    (λ x y. y ≡ x) c.components-2.result step_cmp c.cmp.result c.cmp.ensures.ran
-    (YieldsList-components c.components.result _ c.components.ensures.text) (λ it e. YieldsList-components it _
-    (ap text_left e ∙ c.components-2.ensures.text)) (λ x y. refl)
+    cmp_from_yields_List (λ x y. y ≡ x) c.components-2.result step_cmp c.cmp.result c.cmp.ensures.ran
+    (YieldsList-components c.components.result _ c.components.ensures.text)
+    (λ it e. YieldsList-components it _ (ap text_left e ∙ c.components-2.ensures.text)) (λ x y. refl)
