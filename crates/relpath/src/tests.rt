@@ -2,5 +2,6 @@
 
 mod fault;
 mod meter;
+mod mover;
 mod run;
 mod streams;
