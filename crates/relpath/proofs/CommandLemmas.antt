@@ -25,8 +25,10 @@ AnswersCommand-take command arguments answer a =
     rw (
       same_count arguments 1 (lit< tt),
       same_count arguments 2 (lit< tt),
+      same_count arguments 3 (lit< tt),
       same_field arguments 0 (lit< tt),
       same_field arguments 1 (lit< tt),
+      same_field arguments 2 (lit< tt),
     ) a
 
 AnswersFields-take : (fields : List (List ℕ)) (answer : List ℕ)
@@ -70,3 +72,34 @@ Adds-two (x ∷ []) none P (Ok u) old new first second answer two e f a added = 
 Adds-two (x ∷ y ∷ []) none P (Ok u) old new first second answer two e f a added =
     (answer, rw (sym e, sym f) a, added)
 Adds-two (x ∷ y ∷ z ∷ more) none P (Ok u) old new first second answer two e f a added = absurd (omega arith)
+
+-- the answer to three arguments
+pub Adds-three : {E : Type 0} (arguments : List (Bor (List ℕ))) (none : Bor (List ℕ))
+    (P : List ℕ → List ℕ → List ℕ → List ℕ → Type 0) (r : Result (Unit {0}) E)
+    (old new first second third answer : List ℕ) → length arguments ≡ 3 → first ≡ (get_or arguments 0 none).now
+    → second ≡ (get_or arguments 1 none).now → third ≡ (get_or arguments 2 none).now → P first second third answer
+    → OnOk r (new ≡ old ++ answer)
+    → OnOk r (Adds (Takes 3 (map (λ field. field.now) arguments)
+    (P (field (map (λ field. field.now) arguments) 0) (field (map (λ field. field.now) arguments) 1)
+    (field (map (λ field. field.now) arguments) 2))) old new)
+Adds-three arguments none P (Err x) old new first second third answer three e f g a added = tt
+Adds-three [] none P (Ok u) old new first second third answer three e f g a added = absurd (omega arith)
+Adds-three (x ∷ []) none P (Ok u) old new first second third answer three e f g a added = absurd (omega arith)
+Adds-three (x ∷ y ∷ []) none P (Ok u) old new first second third answer three e f g a added = absurd (omega arith)
+Adds-three (x ∷ y ∷ z ∷ []) none P (Ok u) old new first second third answer three e f g a added =
+    (answer, rw (sym e, sym f, sym g) a, added)
+Adds-three (x ∷ y ∷ z ∷ w ∷ more) none P (Ok u) old new first second third answer three e f g a added =
+    absurd (omega arith)
+
+-- the answer to three arguments, by what is known where there is one
+pub Adds-three_known : {E : Type 0} (arguments : List (Bor (List ℕ))) (none : Bor (List ℕ))
+    (P : List ℕ → List ℕ → List ℕ → List ℕ → Type 0) (r : Result (Unit {0}) E) (known : Type 0)
+    (old new first second third answer : List ℕ) → length arguments ≡ 3 → first ≡ (get_or arguments 0 none).now
+    → second ≡ (get_or arguments 1 none).now → third ≡ (get_or arguments 2 none).now
+    → (known → P first second third answer) → OnOk r (known × (new ≡ old ++ answer))
+    → OnOk r (Adds (Takes 3 (map (λ field. field.now) arguments)
+    (P (field (map (λ field. field.now) arguments) 0) (field (map (λ field. field.now) arguments) 1)
+    (field (map (λ field. field.now) arguments) 2))) old new)
+Adds-three_known {E = E} arguments none P (Err x) known old new first second third answer three e f g a added = tt
+Adds-three_known {E = E} arguments none P (Ok u) known old new first second third answer three e f g a (is, added) =
+    Adds-three {E = E} arguments none P (Ok u) old new first second third answer three e f g (a is) added

@@ -15,7 +15,7 @@ use Rattle.relative_path.specs.RelativePath.{path_text, path_components}
 use Rattle.relative_path.specs.declared.path.RelativePath.{RelativePath}
 use Rattle.relpath.specs.declared.mover.MoveError.{MoveError}
 use Rattle.relpath.specs.declared.mover.MoveError.TheVariants.{NoFileName, SameOld, AboveRoot, NoPath, OutOfMemory}
-use Rattle.relpath.specs.Mover.{Move, LacksFileName, IsFirstNameless, moves_of, move_at, meant, directory, MovesFrom, IsTarget, OfTarget, AreApart, ClimbsAbove, BelowTop, IsBeyond, IsMovedText, Refuses, AreNamed, IsFirstPair}
+use Rattle.relpath.specs.Mover.{Move, LacksFileName, IsFirstNameless, moves_of, move_at, meant, directory, MovesFrom, IsTarget, OfTarget, AreApart, ClimbsAbove, BelowTop, IsBeyond, IsMovedText, Refuses, AreNamed, IsFirstPair, IsAnswered}
 use Rattle.relpath.specs.MoveTable.{IsOfMoves}
 
 -- a move by its number
@@ -92,7 +92,7 @@ one_move moves place j k apart first second = elim (cases_order j k) [
 ]
 
 -- so a place has one target
-IsTarget-only : (moves : List Move) (place one other : List Step) → AreApart moves → IsTarget moves place one
+pub IsTarget-only : (moves : List Move) (place one other : List Step) → AreApart moves → IsTarget moves place one
     → IsTarget moves place other → other ≡ one
 IsTarget-only moves place one other apart (inl (j, from, e)) (inl (k, from_2, f)) =
     f ∙ ap (λ k. (move_at moves k).new) (one_move moves place k j apart from_2 from) ∙ sym e
@@ -323,3 +323,18 @@ pub IfOk-sound : {T : Type 0} (moves : List Move) (r : Result T MoveError) (P : 
     → AreNamed moves → AreApart moves → IfOk r P → IfOk r (λ way. AreNamed moves × AreApart moves × P way)
 IfOk-sound moves (Ok way) P all_named apart holds = (all_named, apart, holds)
 IfOk-sound moves (Err e) P all_named apart holds = tt
+
+-- a refusal that isn't want of memory is the answer
+pub IsAnswered-refused : {T : Type 0} (moves : List Move) (i : ℕ) (reference : List Step) (e : MoveError)
+    → e ≢ OutOfMemory
+    → ((k : ℕ) → IsErrOf {T = T} (Err e) (NoFileName k) ↔ IsFirstNameless moves k)
+    → ((j k : ℕ) → Refuses {T = T} (Err e) (SameOld j k) (AreNamed moves × IsFirstPair moves j k))
+    → Refuses {T = T} (Err e) AboveRoot (AreNamed moves × AreApart moves × OfTarget moves i reference ClimbsAbove)
+    → Refuses {T = T} (Err e) NoPath
+    (AreNamed moves × AreApart moves × OfTarget moves i reference (BelowTop (IsBeyond moves i)))
+    → IsAnswered moves i reference (Err e)
+IsAnswered-refused moves i reference (NoFileName k) some lacks pair above beyond = (lacks k).0 refl
+IsAnswered-refused moves i reference (SameOld j k) some lacks pair above beyond = (pair j k).only refl
+IsAnswered-refused moves i reference AboveRoot some lacks pair above beyond = above.only refl
+IsAnswered-refused moves i reference NoPath some lacks pair above beyond = beyond.only refl
+IsAnswered-refused moves i reference OutOfMemory some lacks pair above beyond = absurd (some refl)

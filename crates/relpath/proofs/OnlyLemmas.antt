@@ -1,11 +1,16 @@
 -- Each input has one output at most, for each command has one answer at most.
-use Rattle.std.proofs.Common.{◌≡◌, ℕ, ◌<◌, Bool, true, false, List, [], ◌∷◌, ◌++◌, ◌⊎◌, length, drop, codes, MatchBool, inl, inr, refl, sym, ap, ◌∙◌, arith, true≢false}
+use Rattle.std.proofs.Common.{◌≡◌, ℕ, ◌<◌, ◌≤◌, Result, Ok, Err, Bool, true, false, List, [], ◌∷◌, ◌++◌, ◌⊎◌, length, drop, codes, MatchBool, inl, inr, refl, sym, ap, ◌∙◌, arith, true≢false}
 use Rattle.std.specs.Str.{bytes_eq}
 use Rattle.std.proofs.lemmas.Slice.Eq.{bytes_eq-Decides}
+use Rattle.std.proofs.lemmas.Bool.{cases_order}
 use Rattle.relative_path.specs.Steps.{Step, components, spell}
 use Rattle.relative_path.specs.Normalizing.{IsNormalTextOf}
 use Rattle.relative_path.specs.Relating.{IsReachable, IsShortestText}
-use Rattle.relpath.specs.Command.{path_answer, words_answer, GivesPath, IsWayText, TellsWay, Takes, field, AnswersNormalize, AnswersJoin, AnswersRelative, AnswersTryRelative, AnswersCommand}
+use Rattle.relpath.specs.Command.{path_answer, words_answer, GivesPath, IsWayText, TellsWay, Takes, field, AnswersNormalize, AnswersJoin, AnswersRelative, AnswersTryRelative, AnswersMove, AnswersCommand, TellsMoved, moved_answer, one_move}
+use Rattle.relpath.specs.Mover.{Move, OfTarget, ClimbsAbove, BelowTop, IsBeyond, IsMovedText, AreNamed, AreApart, IsFirstNameless, IsFirstPair, IsAnswered}
+use Rattle.relpath.specs.declared.mover.MoveError.{MoveError}
+use Rattle.relpath.specs.declared.mover.MoveError.TheVariants.{NoFileName, SameOld, AboveRoot, NoPath, OutOfMemory}
+use Rattle.relpath.proofs.MoverLemmas.{IsTarget-only}
 use Rattle.relpath.specs.Lines.{line_feed, lines_of, fields_of}
 use Rattle.relpath.specs.Output.{AnswersLines, IsOutput}
 
@@ -62,6 +67,83 @@ TellsWay-IsOfOne f t one other (inr (none, e)) (inl (text, way, f_2)) =
     absurd (none (components text, way.shortest.leads))
 TellsWay-IsOfOne f t one other (inr (none, e)) (inr (none_2, f_2)) = f_2 ∙ sym e
 
+-- two targets with a property are one, for moves that are apart
+OfTarget-both : (moves : List Move) (i : ℕ) (reference : List Step) (P Q : List Step → Type 0) → AreApart moves
+    → OfTarget moves i reference P → OfTarget moves i reference Q → (target : List Step) × P target × Q target
+OfTarget-both moves i reference P Q apart (target, is, p) (other, other_is, q) =
+    (target, p, rw (sym (IsTarget-only moves _ target other apart is other_is)) q)
+
+IsFirstNameless-only : (moves : List Move) (j k : ℕ) → IsFirstNameless moves j → IsFirstNameless moves k → k ≡ j
+IsFirstNameless-only moves j k first second = elim (cases_order j k) [
+  | inl same ↦ sym same
+  | inr (inl less) ↦ absurd (second.first j less first.lacks)
+  | inr (inr more) ↦ absurd (first.first k more second.lacks)
+]
+
+IsFirstPair-only : (moves : List Move) (j k a b : ℕ) → IsFirstPair moves j k → IsFirstPair moves a b
+    → (a ≡ j) × (b ≡ k)
+IsFirstPair-only moves j k a b first second = tell (first.first a b second.pair) (second.first j k first.pair) where
+  tell : (j < a) ⊎ (j ≡ a) × (k ≤ b) → (a < j) ⊎ (a ≡ j) × (b ≤ k) → (a ≡ j) × (b ≡ k)
+  tell (inl less) (inl more) = absurd (omega arith)
+  tell (inl less) (inr same) = absurd (omega (arith, same.0))
+  tell (inr same) (inl more) = absurd (omega (arith, same.0))
+  tell (inr same) (inr same_2) = (same_2.0, omega (arith, same.1, same_2.1))
+
+unnamed : (moves : List Move) (k : ℕ) → AreNamed moves → IsFirstNameless moves k → ⊥
+unnamed moves k all_named first = all_named k first.within first.lacks
+
+-- the moves and a reference have one outcome
+IsAnswered-only : (moves : List Move) (i : ℕ) (reference : List Step) (one other : Result (List ℕ) MoveError)
+    → IsAnswered moves i reference one → IsAnswered moves i reference other → other ≡ one
+IsAnswered-only moves i reference (Err (NoFileName j)) (Err (NoFileName k)) h n =
+    ap (λ k. Err (NoFileName k)) (IsFirstNameless-only moves j k h n)
+IsAnswered-only moves i reference (Err (NoFileName k)) (Err (SameOld a b)) h n = absurd (unnamed moves k n.0 h)
+IsAnswered-only moves i reference (Err (NoFileName k)) (Err AboveRoot) h n = absurd (unnamed moves k n.0 h)
+IsAnswered-only moves i reference (Err (NoFileName k)) (Err NoPath) h n = absurd (unnamed moves k n.0 h)
+IsAnswered-only moves i reference (Err (NoFileName k)) (Err OutOfMemory) h n = absurd n
+IsAnswered-only moves i reference (Err (NoFileName k)) (Ok text) h n = absurd (unnamed moves k n.0 h)
+IsAnswered-only moves i reference (Err (SameOld j k)) (Err (NoFileName m)) h n = absurd (unnamed moves m h.0 n)
+IsAnswered-only moves i reference (Err (SameOld j k)) (Err (SameOld a b)) h n =
+    let same = IsFirstPair-only moves j k a b h.1 n.1 in
+    ap (λ a. Err (SameOld a b)) same.0 ∙ ap (λ b. Err (SameOld j b)) same.1
+IsAnswered-only moves i reference (Err (SameOld j k)) (Err AboveRoot) h n = absurd (n.1 j k h.1.pair)
+IsAnswered-only moves i reference (Err (SameOld j k)) (Err NoPath) h n = absurd (n.1 j k h.1.pair)
+IsAnswered-only moves i reference (Err (SameOld j k)) (Err OutOfMemory) h n = absurd n
+IsAnswered-only moves i reference (Err (SameOld j k)) (Ok text) h n = absurd (n.1 j k h.1.pair)
+IsAnswered-only moves i reference (Err AboveRoot) (Err (NoFileName m)) h n = absurd (unnamed moves m h.0 n)
+IsAnswered-only moves i reference (Err AboveRoot) (Err (SameOld a b)) h n = absurd (h.1 a b n.1.pair)
+IsAnswered-only moves i reference (Err AboveRoot) (Err AboveRoot) h n = refl
+IsAnswered-only moves i reference (Err AboveRoot) (Err NoPath) (named, apart, h) (named_2, apart_2, n) =
+    let (target, none, below) = OfTarget-both moves i reference ClimbsAbove _ apart h n in absurd (below.0 none)
+IsAnswered-only moves i reference (Err AboveRoot) (Err OutOfMemory) h n = absurd n
+IsAnswered-only moves i reference (Err AboveRoot) (Ok text) (named, apart, h) (named_2, apart_2, n) =
+    let (target, none, below) = OfTarget-both moves i reference ClimbsAbove _ apart h n in absurd (below.0 none)
+IsAnswered-only moves i reference (Err NoPath) (Err (NoFileName m)) h n = absurd (unnamed moves m h.0 n)
+IsAnswered-only moves i reference (Err NoPath) (Err (SameOld a b)) h n = absurd (h.1 a b n.1.pair)
+IsAnswered-only moves i reference (Err NoPath) (Err AboveRoot) (named, apart, h) (named_2, apart_2, n) =
+    let (target, none, below) = OfTarget-both moves i reference ClimbsAbove _ apart n h in absurd (below.0 none)
+IsAnswered-only moves i reference (Err NoPath) (Err NoPath) h n = refl
+IsAnswered-only moves i reference (Err NoPath) (Err OutOfMemory) h n = absurd n
+IsAnswered-only moves i reference (Err NoPath) (Ok text) (named, apart, h) (named_2, apart_2, n) =
+    let (target, beyond, way) = OfTarget-both moves i reference (BelowTop (IsBeyond moves i)) _ apart h n in
+    absurd (beyond.1 (components text, way.1.shortest.leads))
+IsAnswered-only moves i reference (Err OutOfMemory) other h n = absurd h
+IsAnswered-only moves i reference (Ok text) (Err (NoFileName m)) h n = absurd (unnamed moves m h.0 n)
+IsAnswered-only moves i reference (Ok text) (Err (SameOld a b)) h n = absurd (h.1 a b n.1.pair)
+IsAnswered-only moves i reference (Ok text) (Err AboveRoot) (named, apart, h) (named_2, apart_2, n) =
+    let (target, none, below) = OfTarget-both moves i reference ClimbsAbove _ apart n h in absurd (below.0 none)
+IsAnswered-only moves i reference (Ok text) (Err NoPath) (named, apart, h) (named_2, apart_2, n) =
+    let (target, beyond, way) = OfTarget-both moves i reference (BelowTop (IsBeyond moves i)) _ apart n h in
+    absurd (beyond.1 (components text, way.1.shortest.leads))
+IsAnswered-only moves i reference (Ok text) (Err OutOfMemory) h n = absurd n
+IsAnswered-only moves i reference (Ok text) (Ok other) (named, apart, h) (named_2, apart_2, n) =
+    let (target, way, way_2) = OfTarget-both moves i reference (BelowTop (IsMovedText moves i text)) _ apart h n in
+    ap Ok (IsShortestText-IsOfOne _ target text other way.1 way_2.1)
+
+TellsMoved-IsOfOne : (old new reference : List Step) → IsOfOne (TellsMoved old new reference)
+TellsMoved-IsOfOne old new reference one other (outcome, is, e) (outcome_2, is_2, f) =
+    f ∙ ap moved_answer (IsAnswered-only (one_move old new) 0 reference outcome outcome_2 is is_2) ∙ sym e
+
 AnswersCommand-IsOfOne : (command : List ℕ) (arguments : List (List ℕ)) → IsOfOne (AnswersCommand command arguments)
 AnswersCommand-IsOfOne command arguments =
     MatchBool-IsOfOne _ (AnswersNormalize arguments) _
@@ -70,7 +152,8 @@ AnswersCommand-IsOfOne command arguments =
     (MatchBool-IsOfOne _ (AnswersRelative arguments) _
     (Takes-IsOfOne 2 arguments _ (GivesPath-IsOfOne _ (IsWayText-IsOfOne _ _)))
     (MatchBool-IsOfOne _ (AnswersTryRelative arguments) _ (Takes-IsOfOne 2 arguments _ (TellsWay-IsOfOne _ _))
-    (is-IsOfOne _))))
+    (MatchBool-IsOfOne _ (AnswersMove arguments) _ (Takes-IsOfOne 3 arguments _ (TellsMoved-IsOfOne _ _ _))
+    (is-IsOfOne _)))))
 
 -- each line has one answer
 AnswersLines-IsOfOne : (lines : List (List ℕ)) → IsOfOne (AnswersLines lines)

@@ -1,10 +1,12 @@
 -- The answer to a line, by its command.
-use Rattle.std.specs.Prelude.{◌≡◌, ◌⊎◌, ℕ, ◌==◌, List, [], ◌++◌, length, drop, codes, MatchBool, slice_index_or}
+use Rattle.std.specs.Prelude.{◌≡◌, ◌⊎◌, ℕ, ◌==◌, List, [], ◌∷◌, ◌++◌, Result, Ok, Err, length, drop, codes, MatchBool, slice_index_or}
 use Rattle.std.specs.Str.{bytes_eq}
 use Rattle.relative_path.specs.Steps.{Step, components}
 use Rattle.relative_path.specs.Normalizing.{IsNormalTextOf}
 use Rattle.relative_path.specs.Editing.{pushed}
 use Rattle.relative_path.specs.Relating.{IsReachable, IsShortestText}
+use Rattle.relpath.specs.declared.mover.MoveError.{MoveError}
+use Rattle.relpath.specs.Mover.{Move, IsAnswered, refusal_text}
 use Rattle.relpath.specs.Lines.{fields_of}
 
 -- the answer that gives a path
@@ -61,6 +63,26 @@ abbrev pub AnswersTryRelative : List (List ℕ) → List ℕ → Type 0
 AnswersTryRelative arguments =
     Takes 2 arguments (TellsWay (field_components arguments 0) (field_components arguments 1))
 
+-- the answer gives the path, or refuses in the refusal's words
+abbrev pub moved_answer : Result (List ℕ) MoveError → List ℕ
+moved_answer (Ok text) = path_answer text
+moved_answer (Err refusal) = words_answer (refusal_text refusal)
+
+-- the move from one path to another
+abbrev pub one_move : List Step → List Step → List Move
+one_move old new = record { old = old; new = new } ∷ []
+
+-- the answer tells what the reference becomes in the file that moved from one path to another, or why it becomes nothing
+abbrev pub TellsMoved : List Step → List Step → List Step → List ℕ → Type 0
+TellsMoved old new reference answer =
+    (outcome : Result (List ℕ) MoveError) × IsAnswered (one_move old new) 0 reference outcome
+    × (answer ≡ moved_answer outcome)
+
+-- `move`, path, path, path: what the third becomes in the file that moved from the first to the second
+abbrev pub AnswersMove : List (List ℕ) → List ℕ → Type 0
+AnswersMove arguments = Takes 3 arguments
+    (TellsMoved (field_components arguments 0) (field_components arguments 1) (field_components arguments 2))
+
 -- the answer to a command and its arguments
 abbrev pub AnswersCommand : List ℕ → List (List ℕ) → List ℕ → Type 0
 AnswersCommand command arguments answer =
@@ -68,7 +90,8 @@ AnswersCommand command arguments answer =
     (MatchBool (bytes_eq command (codes "join")) (AnswersJoin arguments answer)
     (MatchBool (bytes_eq command (codes "relative")) (AnswersRelative arguments answer)
     (MatchBool (bytes_eq command (codes "try_relative")) (AnswersTryRelative arguments answer)
-    (answer ≡ words_answer (codes "unknown command")))))
+    (MatchBool (bytes_eq command (codes "move")) (AnswersMove arguments answer)
+    (answer ≡ words_answer (codes "unknown command"))))))
 
 -- the answer to the fields of a line, the command first
 abbrev pub AnswersFields : List (List ℕ) → List ℕ → Type 0

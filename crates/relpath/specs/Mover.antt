@@ -1,5 +1,5 @@
 -- Files that moved, and where a reference of one of them has to lead.
-use Rattle.std.specs.Prelude.{◌≡◌, ◌≢◌, ◌⊎◌, ◌<◌, ◌≤◌, ℕ, List, [], ◌++◌, map, take, length, codes, decimal, None, Result, IsErrOf, slice_index_or}
+use Rattle.std.specs.Prelude.{◌≡◌, ◌≢◌, ◌⊎◌, ◌<◌, ◌≤◌, ℕ, List, [], ◌++◌, map, take, length, codes, decimal, None, Result, Ok, Err, IsErrOf, slice_index_or}
 use Rattle.relative_path.specs.Steps.{Step}
 use Rattle.relative_path.specs.Walk.{walk, IsSame}
 use Rattle.relative_path.specs.Editing.{kept_len}
@@ -103,3 +103,15 @@ refusal_text (SameOld j k) = codes "moves " ++ decimal j ++ codes " and " ++ dec
 refusal_text AboveRoot = codes "reference climbs above the root"
 refusal_text NoPath = codes "no path"
 refusal_text OutOfMemory = codes "out of memory"
+
+-- what the moves and the reference are where this is the answer, a text or a refusal; want of memory answers nothing
+abbrev pub IsAnswered : List Move → ℕ → List Step → Result (List ℕ) MoveError → Type 0
+IsAnswered moves i reference (Ok text) =
+    AreNamed moves × AreApart moves × OfTarget moves i reference (BelowTop (IsMovedText moves i text))
+IsAnswered moves i reference (Err (NoFileName k)) = IsFirstNameless moves k
+IsAnswered moves i reference (Err (SameOld j k)) = AreNamed moves × IsFirstPair moves j k
+IsAnswered moves i reference (Err AboveRoot) =
+    AreNamed moves × AreApart moves × OfTarget moves i reference ClimbsAbove
+IsAnswered moves i reference (Err NoPath) =
+    AreNamed moves × AreApart moves × OfTarget moves i reference (BelowTop (IsBeyond moves i))
+IsAnswered moves i reference (Err OutOfMemory) = ⊥

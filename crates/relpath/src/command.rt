@@ -1,5 +1,5 @@
 //! The commands, and the answer that each gives.
-ghost use Rattle.std.specs.Prelude.{◌≡◌, ◌++◌, map, string_bytes, OnOk};
+ghost use Rattle.std.specs.Prelude.{◌≡◌, ◌≢◌, ◌++◌, map, string_bytes, OnOk};
 ghost use Rattle.relpath.specs.Command.{
   Answers,
   AnswersCommand,
@@ -7,12 +7,15 @@ ghost use Rattle.relpath.specs.Command.{
   AnswersJoin,
   AnswersRelative,
   AnswersTryRelative,
+  AnswersMove,
   Adds,
   path_answer,
   words_answer,
 };
+ghost use Rattle.relpath.specs.Mover.{refusal_text};
 
 use crate::lines::{MAX_FIELDS, split_fields};
+use crate::mover::{MoveError, moved};
 use relative_path::{RelativePath, RelativePathBuf};
 use std::alloc::{AllocError, Global};
 
@@ -45,6 +48,7 @@ fn answer_command(
         "join" => answer_join(alloc, arguments, output),
         "relative" => answer_relative(alloc, arguments, output),
         "try_relative" => answer_try_relative(alloc, arguments, output),
+        "move" => answer_move(alloc, arguments, output),
         _ => add_words(output, "unknown command"),
     }
 }
@@ -103,6 +107,32 @@ fn answer_try_relative(
     match RelativePath::new(from).try_relative(alloc, RelativePath::new(to))? {
         Some(way) => add_path(output, &way),
         None => add_words(output, "no path"),
+    }
+}
+
+/// Adds the answer of `move`.
+fn answer_move(alloc: Global, arguments: &[&str], output: &mut String) -> Result<(), AllocError>
+    ensures { OnOk result (Adds (AnswersMove (map (λ field. field.now) arguments.now))
+        (string_bytes output.old) (string_bytes output.new)) }
+{
+    let [old, new, reference] = arguments else {
+        return add_words(output, WRONG_NUMBER);
+    };
+    let moves = [(RelativePath::new(old), RelativePath::new(new))];
+    match moved(alloc, &moves, 0, RelativePath::new(reference)) {
+        Ok(way) => add_path(output, &way),
+        Err(refusal) => add_refusal(alloc, refusal, output),
+    }
+}
+
+/// Adds the answer that refuses a reference, unless memory was refused.
+fn add_refusal(alloc: Global, refusal: MoveError, output: &mut String) -> Result<(), AllocError>
+    ensures { OnOk result ((refusal ≢ MoveError.OutOfMemory)
+        × (string_bytes output.new ≡ string_bytes output.old ++ words_answer (refusal_text refusal))) }
+{
+    match refusal {
+        MoveError::OutOfMemory => Err(AllocError),
+        _ => add_words(output, refusal.to_string(alloc)?.as_str()),
     }
 }
 

@@ -3,5 +3,6 @@
 mod fault;
 mod meter;
 mod refusals;
+mod mover;
 mod run;
 mod streams;

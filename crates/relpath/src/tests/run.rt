@@ -25,6 +25,12 @@ const TWO_PATHS: &[u8] =
 const TWO_PATHS_ANSWERS: &[u8] =
     b"= foo/bar\n! wrong number of fields\n= \n= \n! no path\n= \n! wrong number of fields\n";
 
+const MOVES: &[u8] =
+    b"move\tdocs/a.md\tdocs/sub/b.md\t../img/x.png\nmove\tdocs/a.md\tdocs/sub/b.md\t../docs/./a.md\nmove\ta.md\tb.md\t.\nmove\t..\tb.md\tx\nmove\ta.md\t..\tx\nmove\ta.md\t../b.md\tx.md\nmove\ta.md\tsub/a.md\t../x\nmove\ta.md\tb.md\n";
+
+const MOVES_ANSWERS: &[u8] =
+    b"= ../../img/x.png\n= b.md\n= \n! move 0 lacks a file name\n! move 0 lacks a file name\n! no path\n! reference climbs above the root\n! wrong number of fields\n";
+
 const NOTHING: &[u8] = b"";
 
 const UNKNOWN_COMMAND: &[u8] = b"! unknown command\n";
@@ -66,6 +72,7 @@ fn answers_the_lines_of_an_input(rt: HostRuntime) -> Result<(), Fail> {
             2,
             MANY_FIELDS_ANSWERS,
         ),
+        ("moves", Source::new(MOVES), 2, MOVES_ANSWERS),
         ("two paths", Source::new(TWO_PATHS), 2, TWO_PATHS_ANSWERS),
         ("the longest path", longest, 2, answer.as_bytes()),
     ] {
