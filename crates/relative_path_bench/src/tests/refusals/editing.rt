@@ -72,6 +72,16 @@ fn push_that_fits(rt: HostRuntime) -> Result<(), Fail> {
 }
 
 #[test]
+fn pop(rt: HostRuntime) -> Result<(), Fail> {
+    let mut buf = RelativePathBuf::from_text(rt.alloc(), "foo/bar")?;
+    begin(rt.alloc());
+    let popped = buf.pop();
+    end(rt.alloc(), false);
+    assert_eq!(rt; (popped, text_of(&buf)), (true, "foo"));
+    Ok(())
+}
+
+#[test]
 fn from_paths(rt: HostRuntime) {
     let paths = ["a", "/b", "", "c"].map(RelativePath::new);
     begin(rt.alloc());
