@@ -2,7 +2,7 @@
 
 mod fault;
 mod meter;
-mod refusals;
 mod mover;
+mod refusals;
 mod run;
 mod streams;
