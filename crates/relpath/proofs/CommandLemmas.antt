@@ -1,9 +1,14 @@
 -- The answer to a line is the answer to the fields of it that are shown.
-use Rattle.std.proofs.Common.{◌≡◌, ◌≢◌, ◌⊎◌, ℕ, ◌<◌, ◌==◌, true, false, List, [], ◌∷◌, ◌++◌, length, map, take, drop, get_or, codes, Bor, Result, Ok, Err, OnOk, inl, inr, refl, sym, ◌∙◌, arith, lit<}
+use Rattle.std.proofs.Common.{◌≡◌, ◌≢◌, ◌⊎◌, ℕ, ◌<◌, ◌==◌, true, false, List, [], ◌∷◌, ◌++◌, length, map, take, drop, get_or, codes, Bor, Bool, Some, None, Result, Ok, Err, OnOk, inl, inr, refl, sym, ◌∙◌, arith, lit<, true≢false}
 use Rattle.std.proofs.lemmas.Bool.{eq-eqb, ne_eqb}
 use Rattle.std.proofs.lemmas.Bool.Decides.{eqb_tells}
 use Rattle.std.proofs.lemmas.List.{length-map, length-take, drop-take, get_or-take}
-use Rattle.relpath.specs.Command.{Answers, AnswersFields, AnswersCommand, Adds, field, Takes, words_answer}
+use Rattle.relpath.specs.Command.{Answers, AnswersFields, AnswersCommand, Adds, field, Takes, TellsWayBack, path_answer, words_answer}
+use Rattle.relative_path.specs.Steps.{Step, spell}
+use Rattle.relative_path.specs.Unix.{has_root, way_to}
+use Rattle.relative_path.specs.RelativeToError.{relative_to_words}
+use Rattle.relative_path.specs.declared.relative_to_error.RelativeToErrorKind.{RelativeToErrorKind}
+use Rattle.relative_path.specs.declared.relative_to_error.RelativeToErrorKind.TheVariants.{NonUtf8, PrefixMismatch, AmbiguousTraversal, IllegalComponent, OutOfMemory}
 use Rattle.relpath.specs.Lines.{fields_of}
 use Rattle.relpath.specs.declared.lines.TheConstants.{MAX_FIELDS}
 
@@ -103,3 +108,40 @@ pub Adds-three_known : {E : Type 0} (arguments : List (Bor (List ℕ))) (none : 
 Adds-three_known {E = E} arguments none P (Err x) known old new first second third answer three e f g a added = tt
 Adds-three_known {E = E} arguments none P (Ok u) known old new first second third answer three e f g a (is, added) =
     Adds-three {E = E} arguments none P (Ok u) old new first second third answer three e f g (a is) added
+
+-- the answer to two arguments, by what is known where there is one
+pub Adds-two_known : {E : Type 0} (arguments : List (Bor (List ℕ))) (none : Bor (List ℕ))
+    (P : List ℕ → List ℕ → List ℕ → Type 0) (r : Result (Unit {0}) E) (known : Type 0)
+    (old new first second answer : List ℕ)
+    → length arguments ≡ 2 → first ≡ (get_or arguments 0 none).now → second ≡ (get_or arguments 1 none).now
+    → (known → P first second answer) → OnOk r (known × (new ≡ old ++ answer))
+    → OnOk r (Adds (Takes 2 (map (λ field. field.now) arguments)
+    (P (field (map (λ field. field.now) arguments) 0) (field (map (λ field. field.now) arguments) 1))) old new)
+Adds-two_known arguments none P (Err x) known old new first second answer two e f a added = tt
+Adds-two_known {E = E} arguments none P (Ok u) known old new first second answer two e f a (is, added) =
+    Adds-two {E = E} arguments none P (Ok u) old new first second answer two e f (a is) added
+
+same_root : (a b : Bool) → ((a ≢ b) → ⊥) → a ≡ b
+same_root true true same = refl
+same_root true false same = absurd (same true≢false)
+same_root false true same = absurd (same (λ e. true≢false (sym e)))
+same_root false false same = refl
+
+-- a way back is answered
+pub TellsWayBack-found : (path root : List ℕ) (text : List ℕ) (way : List Step)
+    → ((has_root path ≢ has_root root) → ⊥) → way_to path root ≡ Some way → text ≡ spell way
+    → TellsWayBack path root (path_answer text)
+TellsWayBack-found path root text way same is e =
+    inr (same_root (has_root path) (has_root root) same, rw (is, e) refl)
+
+-- and so is why there is none
+pub TellsWayBack-refused : (path root : List ℕ) (kind : RelativeToErrorKind) → kind ≢ OutOfMemory
+    → (kind ≡ PrefixMismatch → has_root path ≢ has_root root)
+    → (kind ≡ AmbiguousTraversal → (has_root path ≡ has_root root) × (way_to path root ≡ None))
+    → (kind ≢ NonUtf8) × (kind ≢ IllegalComponent) → TellsWayBack path root (words_answer (relative_to_words kind))
+TellsWayBack-refused path root NonUtf8 some prefix ambiguous other = absurd (other.0 refl)
+TellsWayBack-refused path root PrefixMismatch some prefix ambiguous other = inl (prefix refl, refl)
+TellsWayBack-refused path root AmbiguousTraversal some prefix ambiguous other =
+    let none = ambiguous refl in inr (none.0, rw none.1 refl)
+TellsWayBack-refused path root IllegalComponent some prefix ambiguous other = absurd (other.1 refl)
+TellsWayBack-refused path root OutOfMemory some prefix ambiguous other = absurd (some refl)

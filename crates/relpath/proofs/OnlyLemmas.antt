@@ -1,12 +1,15 @@
 -- Each input has one output at most, for each command has one answer at most.
-use Rattle.std.proofs.Common.{◌≡◌, ℕ, ◌<◌, ◌≤◌, Result, Ok, Err, Bool, true, false, List, [], ◌∷◌, ◌++◌, ◌⊎◌, length, drop, codes, MatchBool, inl, inr, refl, sym, ap, ◌∙◌, arith, true≢false}
+use Rattle.std.proofs.Common.{◌≡◌, Option, Some, None, MatchOption, ℕ, ◌<◌, ◌≤◌, Result, Ok, Err, Bool, true, false, List, [], ◌∷◌, ◌++◌, ◌⊎◌, length, drop, codes, MatchBool, inl, inr, refl, sym, ap, ◌∙◌, arith, true≢false}
 use Rattle.std.specs.Str.{bytes_eq}
 use Rattle.std.proofs.lemmas.Slice.Eq.{bytes_eq-Decides}
 use Rattle.std.proofs.lemmas.Bool.{cases_order}
 use Rattle.relative_path.specs.Steps.{Step, components, spell}
+use Rattle.relative_path.specs.Unix.{way_to}
+use Rattle.relative_path.specs.RelativeToError.{relative_to_words}
+use Rattle.relative_path.specs.declared.relative_to_error.RelativeToErrorKind.TheVariants.{AmbiguousTraversal}
 use Rattle.relative_path.specs.Normalizing.{IsNormalTextOf}
 use Rattle.relative_path.specs.Relating.{IsReachable, IsShortestText}
-use Rattle.relpath.specs.Command.{path_answer, words_answer, GivesPath, IsWayText, TellsWay, Takes, field, AnswersNormalize, AnswersJoin, AnswersRelative, AnswersTryRelative, AnswersMove, AnswersCommand, TellsMoved, moved_answer, one_move}
+use Rattle.relpath.specs.Command.{path_answer, words_answer, GivesPath, IsWayText, TellsWay, Takes, field, AnswersNormalize, AnswersJoin, AnswersRelative, AnswersTryRelative, AnswersRelativeTo, TellsWayBack, AnswersMove, AnswersCommand, TellsMoved, moved_answer, one_move}
 use Rattle.relpath.specs.Mover.{Move, OfTarget, ClimbsAbove, BelowTop, IsBeyond, IsMovedText, AreNamed, AreApart, IsFirstNameless, IsFirstPair, IsAnswered}
 use Rattle.relpath.specs.declared.mover.MoveError.{MoveError}
 use Rattle.relpath.specs.declared.mover.MoveError.TheVariants.{NoFileName, SameOld, AboveRoot, NoPath, OutOfMemory}
@@ -144,6 +147,18 @@ TellsMoved-IsOfOne : (old new reference : List Step) → IsOfOne (TellsMoved old
 TellsMoved-IsOfOne old new reference one other (outcome, is, e) (outcome_2, is_2, f) =
     f ∙ ap moved_answer (IsAnswered-only (one_move old new) 0 reference outcome outcome_2 is is_2) ∙ sym e
 
+TellsWayBack-IsOfOne : (path root : List ℕ) → IsOfOne (TellsWayBack path root)
+TellsWayBack-IsOfOne path root one other (inl (differ, e)) (inl (differ_2, f)) = f ∙ sym e
+TellsWayBack-IsOfOne path root one other (inl (differ, e)) (inr (same, f)) = absurd (differ same)
+TellsWayBack-IsOfOne path root one other (inr (same, e)) (inl (differ, f)) = absurd (differ same)
+TellsWayBack-IsOfOne path root one other (inr (same, e)) (inr (same_2, f)) = tell (way_to path root) e f where
+  tell : (found : Option (List Step))
+      → MatchOption found (one ≡ words_answer (relative_to_words AmbiguousTraversal)) (λ way. one ≡ path_answer (spell way))
+      → MatchOption found (other ≡ words_answer (relative_to_words AmbiguousTraversal))
+      (λ way. other ≡ path_answer (spell way)) → other ≡ one
+  tell None e f = f ∙ sym e
+  tell (Some way) e f = f ∙ sym e
+
 AnswersCommand-IsOfOne : (command : List ℕ) (arguments : List (List ℕ)) → IsOfOne (AnswersCommand command arguments)
 AnswersCommand-IsOfOne command arguments =
     MatchBool-IsOfOne _ (AnswersNormalize arguments) _
@@ -152,8 +167,9 @@ AnswersCommand-IsOfOne command arguments =
     (MatchBool-IsOfOne _ (AnswersRelative arguments) _
     (Takes-IsOfOne 2 arguments _ (GivesPath-IsOfOne _ (IsWayText-IsOfOne _ _)))
     (MatchBool-IsOfOne _ (AnswersTryRelative arguments) _ (Takes-IsOfOne 2 arguments _ (TellsWay-IsOfOne _ _))
+    (MatchBool-IsOfOne _ (AnswersRelativeTo arguments) _ (Takes-IsOfOne 2 arguments _ (TellsWayBack-IsOfOne (field arguments 0) (field arguments 1)))
     (MatchBool-IsOfOne _ (AnswersMove arguments) _ (Takes-IsOfOne 3 arguments _ (TellsMoved-IsOfOne _ _ _))
-    (is-IsOfOne _)))))
+    (is-IsOfOne _))))))
 
 -- each line has one answer
 AnswersLines-IsOfOne : (lines : List (List ℕ)) → IsOfOne (AnswersLines lines)

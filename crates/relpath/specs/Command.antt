@@ -1,10 +1,13 @@
 -- The answer to a line, by its command.
-use Rattle.std.specs.Prelude.{◌≡◌, ◌⊎◌, ℕ, ◌==◌, List, [], ◌∷◌, ◌++◌, Result, Ok, Err, length, drop, codes, MatchBool, slice_index_or}
+use Rattle.std.specs.Prelude.{◌≡◌, ◌≢◌, ◌⊎◌, MatchOption, ℕ, ◌==◌, List, [], ◌∷◌, ◌++◌, Result, Ok, Err, length, drop, codes, MatchBool, slice_index_or}
 use Rattle.std.specs.Str.{bytes_eq}
-use Rattle.relative_path.specs.Steps.{Step, components}
+use Rattle.relative_path.specs.Steps.{Step, components, spell}
 use Rattle.relative_path.specs.Normalizing.{IsNormalTextOf}
 use Rattle.relative_path.specs.Editing.{pushed}
 use Rattle.relative_path.specs.Relating.{IsReachable, IsShortestText}
+use Rattle.relative_path.specs.Unix.{has_root, way_to}
+use Rattle.relative_path.specs.RelativeToError.{relative_to_words}
+use Rattle.relative_path.specs.declared.relative_to_error.RelativeToErrorKind.TheVariants.{PrefixMismatch, AmbiguousTraversal}
 use Rattle.relpath.specs.declared.mover.MoveError.{MoveError}
 use Rattle.relpath.specs.Mover.{Move, IsAnswered, refusal_text}
 use Rattle.relpath.specs.Lines.{fields_of}
@@ -63,6 +66,18 @@ abbrev pub AnswersTryRelative : List (List ℕ) → List ℕ → Type 0
 AnswersTryRelative arguments =
     Takes 2 arguments (TellsWay (field_components arguments 0) (field_components arguments 1))
 
+-- the answer gives the way from the root to the path, two platform paths, or says why none is known
+abbrev pub TellsWayBack : List ℕ → List ℕ → List ℕ → Type 0
+TellsWayBack path root answer =
+    ((has_root path ≢ has_root root) × (answer ≡ words_answer (relative_to_words PrefixMismatch)))
+    ⊎ (has_root path ≡ has_root root)
+    × MatchOption (way_to path root) (answer ≡ words_answer (relative_to_words AmbiguousTraversal))
+    (λ way. answer ≡ path_answer (spell way))
+
+-- `relative_to`, path, root: the relative path from the root to the path, both platform paths, or why none is known
+abbrev pub AnswersRelativeTo : List (List ℕ) → List ℕ → Type 0
+AnswersRelativeTo arguments = Takes 2 arguments (TellsWayBack (field arguments 0) (field arguments 1))
+
 -- the answer gives the path, or refuses in the refusal's words
 abbrev pub moved_answer : Result (List ℕ) MoveError → List ℕ
 moved_answer (Ok text) = path_answer text
@@ -90,8 +105,9 @@ AnswersCommand command arguments answer =
     (MatchBool (bytes_eq command (codes "join")) (AnswersJoin arguments answer)
     (MatchBool (bytes_eq command (codes "relative")) (AnswersRelative arguments answer)
     (MatchBool (bytes_eq command (codes "try_relative")) (AnswersTryRelative arguments answer)
+    (MatchBool (bytes_eq command (codes "relative_to")) (AnswersRelativeTo arguments answer)
     (MatchBool (bytes_eq command (codes "move")) (AnswersMove arguments answer)
-    (answer ≡ words_answer (codes "unknown command"))))))
+    (answer ≡ words_answer (codes "unknown command")))))))
 
 -- the answer to the fields of a line, the command first
 abbrev pub AnswersFields : List (List ℕ) → List ℕ → Type 0

@@ -7,16 +7,19 @@ ghost use Rattle.relpath.specs.Command.{
   AnswersJoin,
   AnswersRelative,
   AnswersTryRelative,
+  AnswersRelativeTo,
   AnswersMove,
   Adds,
   path_answer,
   words_answer,
 };
+ghost use Rattle.relative_path.specs.RelativeToError.{relative_to_kind, relative_to_words};
+ghost use Rattle.relative_path.specs.declared.relative_to_error.RelativeToErrorKind.TheVariants as RelativeToErrorKind;
 ghost use Rattle.relpath.specs.Mover.{refusal_text};
 
 use crate::lines::{MAX_FIELDS, split_fields};
 use crate::mover::{MoveError, moved};
-use relative_path::{RelativePath, RelativePathBuf};
+use relative_path::{RelativePath, RelativePathBuf, RelativeToError, RelativeToErrorKind, unix};
 use std::alloc::{AllocError, Global};
 
 /// What a line is told that has too few fields for its command, or too many.
@@ -48,6 +51,7 @@ fn answer_command(
         "join" => answer_join(alloc, arguments, output),
         "relative" => answer_relative(alloc, arguments, output),
         "try_relative" => answer_try_relative(alloc, arguments, output),
+        "relative_to" => answer_relative_to(alloc, arguments, output),
         "move" => answer_move(alloc, arguments, output),
         _ => add_words(output, "unknown command"),
     }
@@ -107,6 +111,36 @@ fn answer_try_relative(
     match RelativePath::new(from).try_relative(alloc, RelativePath::new(to))? {
         Some(way) => add_path(output, &way),
         None => add_words(output, "no path"),
+    }
+}
+
+/// Adds the answer of `relative_to`.
+fn answer_relative_to(
+    alloc: Global,
+    arguments: &[&str],
+    output: &mut String,
+) -> Result<(), AllocError>
+    ensures { OnOk result (Adds (AnswersRelativeTo (map (λ field. field.now) arguments.now))
+        (string_bytes output.old) (string_bytes output.new)) }
+{
+    let [path, root] = arguments else {
+        return add_words(output, WRONG_NUMBER);
+    };
+    match unix::relative_to(alloc, path, root) {
+        Ok(way) => add_path(output, &way),
+        Err(error) => add_error(alloc, error, output),
+    }
+}
+
+/// Adds the answer that tells why no relative path is known, unless memory was refused.
+fn add_error(alloc: Global, error: RelativeToError, output: &mut String) -> Result<(), AllocError>
+    ensures { OnOk result ((relative_to_kind error ≢ RelativeToErrorKind.OutOfMemory)
+        × (string_bytes output.new
+        ≡ string_bytes output.old ++ words_answer (relative_to_words (relative_to_kind error)))) }
+{
+    match error.kind() {
+        RelativeToErrorKind::OutOfMemory => Err(AllocError),
+        _ => add_words(output, error.to_string(alloc)?.as_str()),
     }
 }
 

@@ -25,6 +25,12 @@ const TWO_PATHS: &[u8] =
 const TWO_PATHS_ANSWERS: &[u8] =
     b"= foo/bar\n! wrong number of fields\n= \n= \n! no path\n= \n! wrong number of fields\n";
 
+const ROOTS: &[u8] =
+    b"relative_to\tfoo\t/bar\nrelative_to\t.\ta/../..\nrelative_to\t/foo/bar/baz\t/foo/bar/qux\nrelative_to\t.\tfoo\nrelative_to\ta\n";
+
+const ROOTS_ANSWERS: &[u8] =
+    b"! paths contain different absolute prefixes\n! path traversal cannot be determined\n= ../baz\n= ../.\n! wrong number of fields\n";
+
 const MOVES: &[u8] =
     b"move\tdocs/a.md\tdocs/sub/b.md\t../img/x.png\nmove\tdocs/a.md\tdocs/sub/b.md\t../docs/./a.md\nmove\ta.md\tb.md\t.\nmove\t..\tb.md\tx\nmove\ta.md\t..\tx\nmove\ta.md\t../b.md\tx.md\nmove\ta.md\tsub/a.md\t../x\nmove\ta.md\tb.md\n";
 
@@ -72,6 +78,7 @@ fn answers_the_lines_of_an_input(rt: HostRuntime) -> Result<(), Fail> {
             2,
             MANY_FIELDS_ANSWERS,
         ),
+        ("roots", Source::new(ROOTS), 2, ROOTS_ANSWERS),
         ("moves", Source::new(MOVES), 2, MOVES_ANSWERS),
         ("two paths", Source::new(TWO_PATHS), 2, TWO_PATHS_ANSWERS),
         ("the longest path", longest, 2, answer.as_bytes()),
