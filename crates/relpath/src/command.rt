@@ -30,10 +30,8 @@ pub fn answer_line(alloc: Global, line: &str, output: &mut String) -> Result<(),
     ensures { OnOk result (Adds (Answers line.now) (string_bytes output.old) (string_bytes output.new)) }
 {
     let mut room = [""; MAX_FIELDS];
-    match split_fields(line, &mut room) {
-        [command, arguments @ ..] => answer_command(alloc, command, arguments, output),
-        [] => unreachable!("a line has a field"),
-    }
+    let fields = split_fields(line, &mut room);
+    answer_command(alloc, fields[0], &fields[1..], output)
 }
 
 /// Adds the answer to a command and its arguments.
