@@ -1,9 +1,11 @@
 -- The answer to a line is the answer to the fields of it that are shown.
-use Rattle.std.proofs.Common.{◌≡◌, ◌≢◌, ◌⊎◌, ℕ, ◌<◌, ◌==◌, true, false, List, [], ◌∷◌, ◌++◌, length, map, take, drop, get_or, codes, Bor, Bool, Some, None, Result, Ok, Err, OnOk, inl, inr, refl, sym, ◌∙◌, arith, lit<, true≢false}
+use Rattle.std.proofs.Common.{◌≡◌, ◌≢◌, ◌⊎◌, ℕ, ◌<◌, ◌==◌, true, false, List, [], ◌∷◌, ◌++◌, length, map, take, drop, get_or, codes, Bor, Bool, Some, None, Result, Ok, Err, OnOk, inl, inr, refl, sym, ◌∙◌, arith, lit<, true≢false, zero, suc, Option, MatchOption, MatchBool}
 use Rattle.std.proofs.lemmas.Bool.{eq-eqb, ne_eqb}
 use Rattle.std.proofs.lemmas.Bool.Decides.{eqb_tells}
 use Rattle.std.proofs.lemmas.List.{length-map, length-take, drop-take, get_or-take}
-use Rattle.relpath.specs.Command.{Answers, AnswersFields, AnswersCommand, Adds, field, Takes, TellsWayBack, path_answer, words_answer}
+use Rattle.relpath.specs.Command.{Answers, AnswersFields, AnswersCommand, AnswersArguments, Adds, field, command_named, arity_of, TellsWayBack, path_answer, words_answer}
+use Rattle.relpath.specs.declared.command.Command.{Command}
+use Rattle.relpath.specs.declared.command.Command.TheVariants.{Normalize, Join, Relative, TryRelative, RelativeTo, Moved}
 use Rattle.relative_path.specs.Steps.{Step, spell}
 use Rattle.relative_path.specs.Unix.{has_root, way_to}
 use Rattle.relative_path.specs.RelativeToError.{relative_to_words}
@@ -24,17 +26,51 @@ same_count arguments n l = tell (eqb_tells (length arguments) n) where
 same_field : (arguments : List (List ℕ)) (n : ℕ) → n < 4 → field arguments n ≡ field (take 4 arguments) n
 same_field arguments n l = sym (get_or-take 4 arguments n [] l)
 
+AnswersArguments-take : (command : Command) (arguments : List (List ℕ)) (answer : List ℕ)
+    → AnswersArguments command (take 4 arguments) answer → AnswersArguments command arguments answer
+AnswersArguments-take Normalize arguments answer a = rw (same_field arguments 0 (lit< tt)) a
+AnswersArguments-take Join arguments answer a =
+    rw (same_field arguments 0 (lit< tt), same_field arguments 1 (lit< tt)) a
+AnswersArguments-take Relative arguments answer a =
+    rw (same_field arguments 0 (lit< tt), same_field arguments 1 (lit< tt)) a
+AnswersArguments-take TryRelative arguments answer a =
+    rw (same_field arguments 0 (lit< tt), same_field arguments 1 (lit< tt)) a
+AnswersArguments-take RelativeTo arguments answer a =
+    rw (same_field arguments 0 (lit< tt), same_field arguments 1 (lit< tt)) a
+AnswersArguments-take Moved arguments answer a =
+    rw (same_field arguments 0 (lit< tt), same_field arguments 1 (lit< tt), same_field arguments 2 (lit< tt)) a
+
+arity_of_lt : (command : Command) → arity_of command < 4
+arity_of_lt Normalize = lit< tt
+arity_of_lt Join = lit< tt
+arity_of_lt Relative = lit< tt
+arity_of_lt TryRelative = lit< tt
+arity_of_lt RelativeTo = lit< tt
+arity_of_lt Moved = lit< tt
+
+-- the answer of a command that is one, or is none, to these arguments
+abbrev AnswersNamed : Option Command → List (List ℕ) → List ℕ → Type 0
+AnswersNamed named arguments answer =
+    MatchOption named (answer ≡ words_answer (codes "unknown command"))
+    (λ command. MatchBool (length arguments == arity_of command) (AnswersArguments command arguments answer)
+    (answer ≡ words_answer (codes "wrong number of fields")))
+
+AnswersNamed-take : (named : Option Command) (arguments : List (List ℕ)) (answer : List ℕ)
+    → AnswersNamed named (take 4 arguments) answer → AnswersNamed named arguments answer
+AnswersNamed-take None arguments answer a = a
+AnswersNamed-take (Some command) arguments answer a =
+    counted (length arguments == arity_of command)
+    (rw (sym (same_count arguments (arity_of command) (arity_of_lt command))) at a)
+  where
+    counted : (b : Bool)
+        → MatchBool b (AnswersArguments command (take 4 arguments) answer) (answer ≡ words_answer (codes "wrong number of fields"))
+        → MatchBool b (AnswersArguments command arguments answer) (answer ≡ words_answer (codes "wrong number of fields"))
+    counted true shown = AnswersArguments-take command arguments answer shown
+    counted false wrong = wrong
+
 AnswersCommand-take : (command : List ℕ) (arguments : List (List ℕ)) (answer : List ℕ)
     → AnswersCommand command (take 4 arguments) answer → AnswersCommand command arguments answer
-AnswersCommand-take command arguments answer a =
-    rw (
-      same_count arguments 1 (lit< tt),
-      same_count arguments 2 (lit< tt),
-      same_count arguments 3 (lit< tt),
-      same_field arguments 0 (lit< tt),
-      same_field arguments 1 (lit< tt),
-      same_field arguments 2 (lit< tt),
-    ) a
+AnswersCommand-take command = AnswersNamed-take (command_named command)
 
 AnswersFields-take : (fields : List (List ℕ)) (answer : List ℕ)
     → AnswersFields (take MAX_FIELDS fields) answer → AnswersFields fields answer
@@ -53,73 +89,47 @@ Adds-shown line (command ∷ arguments) none (Err x) old new e some adds = tt
 Adds-shown line (command ∷ arguments) none (Ok u) old new e some (added, a, grew) =
     (added, AnswersFields-take (fields_of line) added (rw (sym e) a), grew)
 
--- the answer to a wrong number of arguments
-pub Adds-miscounted : {E : Type 0} (n : ℕ) (arguments : List (Bor (List ℕ))) (P : List ℕ → Type 0)
-    (r : Result (Unit {0}) E) (old new : List ℕ) → length arguments ≢ n
+-- the answer to two texts, by what is known where there is one
+pub Adds-two : {E : Type 0} (P : List ℕ → List ℕ → List ℕ → Type 0) (r : Result (Unit {0}) E) (known : Type 0)
+    (old new first second a b answer : List ℕ) → a ≡ first → b ≡ second → (known → P a b answer)
+    → OnOk r (known × (new ≡ old ++ answer)) → OnOk r (Adds (P first second) old new)
+Adds-two P (Err x) known old new first second a b answer e f holds added = tt
+Adds-two P (Ok u) known old new first second a b answer e f holds (is, added) =
+    (answer, rw (sym e, sym f) (holds is), added)
+
+-- the answer to three texts, by what is known where there is one
+pub Adds-three : {E : Type 0} (P : List ℕ → List ℕ → List ℕ → List ℕ → Type 0) (r : Result (Unit {0}) E)
+    (known : Type 0) (old new first second third a b c answer : List ℕ) → a ≡ first → b ≡ second → c ≡ third
+    → (known → P a b c answer) → OnOk r (known × (new ≡ old ++ answer))
+    → OnOk r (Adds (P first second third) old new)
+Adds-three P (Err x) known old new first second third a b c answer e f g holds added = tt
+Adds-three P (Ok u) known old new first second third a b c answer e f g holds (is, added) =
+    (answer, rw (sym e, sym f, sym g) (holds is), added)
+
+-- nothing is known but the answer
+pub OnOk-known : {E : Type 0} (X : Type 0) (r : Result (Unit {0}) E) → OnOk r X → OnOk r (Unit {0} × X)
+OnOk-known X (Err x) h = tt
+OnOk-known X (Ok u) h = (tt, h)
+
+-- the answer to a command with another number of arguments
+pub Adds-miscounted : {E : Type 0} (name : List ℕ) (found : Option Command) (command : Command)
+    (arguments : List (Bor (List ℕ))) (r : Result (Unit {0}) E) (old new : List ℕ)
+    → found ≡ command_named name → found ≡ Some command → length arguments ≢ arity_of command
     → OnOk r (new ≡ old ++ words_answer (codes "wrong number of fields"))
-    → OnOk r (Adds (Takes n (map (λ field. field.now) arguments) P) old new)
-Adds-miscounted n arguments P (Err x) old new other added = tt
-Adds-miscounted n arguments P (Ok u) old new other added =
+    → OnOk r (Adds (AnswersCommand name (map (λ field. field.now) arguments)) old new)
+Adds-miscounted name found command arguments (Err x) old new is known other added = tt
+Adds-miscounted name found command arguments (Ok u) old new is known other added =
     let mapped = length-map arguments (λ field. field.now) in
-    let differs = ne_eqb (length (map (λ field. field.now) arguments)) n (λ e. other (omega (arith, mapped, e))) in
-    (words_answer (codes "wrong number of fields"), rw differs refl, added)
+    let differs = ne_eqb (length (map (λ field. field.now) arguments)) (arity_of command)
+    (λ e. other (omega (arith, mapped, e))) in
+    (words_answer (codes "wrong number of fields"), rw (sym is ∙ known, differs) refl, added)
 
--- the answer to two arguments
-pub Adds-two : {E : Type 0} (arguments : List (Bor (List ℕ))) (none : Bor (List ℕ))
-    (P : List ℕ → List ℕ → List ℕ → Type 0) (r : Result (Unit {0}) E) (old new first second answer : List ℕ)
-    → length arguments ≡ 2 → first ≡ (get_or arguments 0 none).now → second ≡ (get_or arguments 1 none).now
-    → P first second answer → OnOk r (new ≡ old ++ answer)
-    → OnOk r (Adds (Takes 2 (map (λ field. field.now) arguments)
-    (P (field (map (λ field. field.now) arguments) 0) (field (map (λ field. field.now) arguments) 1))) old new)
-Adds-two arguments none P (Err x) old new first second answer two e f a added = tt
-Adds-two [] none P (Ok u) old new first second answer two e f a added = absurd (omega arith)
-Adds-two (x ∷ []) none P (Ok u) old new first second answer two e f a added = absurd (omega arith)
-Adds-two (x ∷ y ∷ []) none P (Ok u) old new first second answer two e f a added =
-    (answer, rw (sym e, sym f) a, added)
-Adds-two (x ∷ y ∷ z ∷ more) none P (Ok u) old new first second answer two e f a added = absurd (omega arith)
-
--- the answer to three arguments
-pub Adds-three : {E : Type 0} (arguments : List (Bor (List ℕ))) (none : Bor (List ℕ))
-    (P : List ℕ → List ℕ → List ℕ → List ℕ → Type 0) (r : Result (Unit {0}) E)
-    (old new first second third answer : List ℕ) → length arguments ≡ 3 → first ≡ (get_or arguments 0 none).now
-    → second ≡ (get_or arguments 1 none).now → third ≡ (get_or arguments 2 none).now → P first second third answer
-    → OnOk r (new ≡ old ++ answer)
-    → OnOk r (Adds (Takes 3 (map (λ field. field.now) arguments)
-    (P (field (map (λ field. field.now) arguments) 0) (field (map (λ field. field.now) arguments) 1)
-    (field (map (λ field. field.now) arguments) 2))) old new)
-Adds-three arguments none P (Err x) old new first second third answer three e f g a added = tt
-Adds-three [] none P (Ok u) old new first second third answer three e f g a added = absurd (omega arith)
-Adds-three (x ∷ []) none P (Ok u) old new first second third answer three e f g a added = absurd (omega arith)
-Adds-three (x ∷ y ∷ []) none P (Ok u) old new first second third answer three e f g a added = absurd (omega arith)
-Adds-three (x ∷ y ∷ z ∷ []) none P (Ok u) old new first second third answer three e f g a added =
-    (answer, rw (sym e, sym f, sym g) a, added)
-Adds-three (x ∷ y ∷ z ∷ w ∷ more) none P (Ok u) old new first second third answer three e f g a added =
-    absurd (omega arith)
-
--- the answer to three arguments, by what is known where there is one
-pub Adds-three_known : {E : Type 0} (arguments : List (Bor (List ℕ))) (none : Bor (List ℕ))
-    (P : List ℕ → List ℕ → List ℕ → List ℕ → Type 0) (r : Result (Unit {0}) E) (known : Type 0)
-    (old new first second third answer : List ℕ) → length arguments ≡ 3 → first ≡ (get_or arguments 0 none).now
-    → second ≡ (get_or arguments 1 none).now → third ≡ (get_or arguments 2 none).now
-    → (known → P first second third answer) → OnOk r (known × (new ≡ old ++ answer))
-    → OnOk r (Adds (Takes 3 (map (λ field. field.now) arguments)
-    (P (field (map (λ field. field.now) arguments) 0) (field (map (λ field. field.now) arguments) 1)
-    (field (map (λ field. field.now) arguments) 2))) old new)
-Adds-three_known {E = E} arguments none P (Err x) known old new first second third answer three e f g a added = tt
-Adds-three_known {E = E} arguments none P (Ok u) known old new first second third answer three e f g a (is, added) =
-    Adds-three {E = E} arguments none P (Ok u) old new first second third answer three e f g (a is) added
-
--- the answer to two arguments, by what is known where there is one
-pub Adds-two_known : {E : Type 0} (arguments : List (Bor (List ℕ))) (none : Bor (List ℕ))
-    (P : List ℕ → List ℕ → List ℕ → Type 0) (r : Result (Unit {0}) E) (known : Type 0)
-    (old new first second answer : List ℕ)
-    → length arguments ≡ 2 → first ≡ (get_or arguments 0 none).now → second ≡ (get_or arguments 1 none).now
-    → (known → P first second answer) → OnOk r (known × (new ≡ old ++ answer))
-    → OnOk r (Adds (Takes 2 (map (λ field. field.now) arguments)
-    (P (field (map (λ field. field.now) arguments) 0) (field (map (λ field. field.now) arguments) 1))) old new)
-Adds-two_known arguments none P (Err x) known old new first second answer two e f a added = tt
-Adds-two_known {E = E} arguments none P (Ok u) known old new first second answer two e f a (is, added) =
-    Adds-two {E = E} arguments none P (Ok u) old new first second answer two e f (a is) added
+-- what one of the arguments is
+pub field-map : (arguments : List (Bor (List ℕ))) (n : ℕ) (none : Bor (List ℕ)) → n < length arguments
+    → field (map (λ argument. argument.now) arguments) n ≡ (get_or arguments n none).now
+field-map [] n none inside = absurd (omega arith)
+field-map (x ∷ xs) zero none inside = refl
+field-map (x ∷ xs) (suc n) none inside = field-map xs n none (omega arith)
 
 same_root : (a b : Bool) → ((a ≢ b) → ⊥) → a ≡ b
 same_root true true same = refl

@@ -1,5 +1,5 @@
 -- Each input has one output at most, for each command has one answer at most.
-use Rattle.std.proofs.Common.{◌≡◌, Option, Some, None, MatchOption, ℕ, ◌<◌, ◌≤◌, Result, Ok, Err, Bool, true, false, List, [], ◌∷◌, ◌++◌, ◌⊎◌, length, drop, codes, MatchBool, inl, inr, refl, sym, ap, ◌∙◌, arith, true≢false}
+use Rattle.std.proofs.Common.{◌≡◌, Option, Some, None, MatchOption, ℕ, ◌<◌, ◌≤◌, Result, Ok, Err, Bool, true, false, List, [], ◌∷◌, ◌++◌, ◌⊎◌, length, drop, codes, MatchBool, ◌==◌, inl, inr, refl, sym, ap, ◌∙◌, arith, true≢false}
 use Rattle.std.specs.Str.{bytes_eq}
 use Rattle.std.proofs.lemmas.Slice.Eq.{bytes_eq-Decides}
 use Rattle.std.proofs.lemmas.Bool.{cases_order}
@@ -9,7 +9,9 @@ use Rattle.relative_path.specs.RelativeToError.{relative_to_words}
 use Rattle.relative_path.specs.declared.relative_to_error.RelativeToErrorKind.TheVariants.{AmbiguousTraversal}
 use Rattle.relative_path.specs.Normalizing.{IsNormalTextOf}
 use Rattle.relative_path.specs.Relating.{IsReachable, IsShortestText}
-use Rattle.relpath.specs.Command.{path_answer, words_answer, GivesPath, IsWayText, TellsWay, Takes, field, AnswersNormalize, AnswersJoin, AnswersRelative, AnswersTryRelative, AnswersRelativeTo, TellsWayBack, AnswersMove, AnswersCommand, TellsMoved, moved_answer, one_move}
+use Rattle.relpath.specs.Command.{path_answer, words_answer, GivesPath, IsWayText, TellsWay, field, command_named, arity_of, TellsWayBack, AnswersArguments, AnswersCommand, TellsMoved, moved_answer, one_move}
+use Rattle.relpath.specs.declared.command.Command.{Command}
+use Rattle.relpath.specs.declared.command.Command.TheVariants.{Normalize, Join, Relative, TryRelative, RelativeTo, Moved}
 use Rattle.relpath.specs.Mover.{Move, OfTarget, ClimbsAbove, BelowTop, IsBeyond, IsMovedText, AreNamed, AreApart, IsFirstNameless, IsFirstPair, IsAnswered}
 use Rattle.relpath.specs.declared.mover.MoveError.{MoveError}
 use Rattle.relpath.specs.declared.mover.MoveError.TheVariants.{NoFileName, SameOld, AboveRoot, NoPath, OutOfMemory}
@@ -28,10 +30,6 @@ MatchBool-IsOfOne : (b : Bool) (P Q : List ℕ → Type 0) → IsOfOne P → IsO
     → IsOfOne (λ answer. MatchBool b (P answer) (Q answer))
 MatchBool-IsOfOne true P Q p q = p
 MatchBool-IsOfOne false P Q p q = q
-
-Takes-IsOfOne : (n : ℕ) (arguments : List (List ℕ)) (P : List ℕ → Type 0) → IsOfOne P → IsOfOne (Takes n arguments P)
-Takes-IsOfOne n arguments P p =
-    MatchBool-IsOfOne _ P (λ answer. answer ≡ words_answer (codes "wrong number of fields")) p (is-IsOfOne _)
 
 GivesPath-IsOfOne : (P : List ℕ → Type 0) → IsOfOne P → IsOfOne (GivesPath P)
 GivesPath-IsOfOne P p one other (text, holds, e) (text_2, holds_2, f) =
@@ -159,17 +157,23 @@ TellsWayBack-IsOfOne path root one other (inr (same, e)) (inr (same_2, f)) = tel
   tell None e f = f ∙ sym e
   tell (Some way) e f = f ∙ sym e
 
-AnswersCommand-IsOfOne : (command : List ℕ) (arguments : List (List ℕ)) → IsOfOne (AnswersCommand command arguments)
-AnswersCommand-IsOfOne command arguments =
-    MatchBool-IsOfOne _ (AnswersNormalize arguments) _
-    (Takes-IsOfOne 1 arguments _ (GivesPath-IsOfOne _ (IsNormalTextOf-IsOfOne _)))
-    (MatchBool-IsOfOne _ (AnswersJoin arguments) _ (Takes-IsOfOne 2 arguments _ (is-IsOfOne _))
-    (MatchBool-IsOfOne _ (AnswersRelative arguments) _
-    (Takes-IsOfOne 2 arguments _ (GivesPath-IsOfOne _ (IsWayText-IsOfOne _ _)))
-    (MatchBool-IsOfOne _ (AnswersTryRelative arguments) _ (Takes-IsOfOne 2 arguments _ (TellsWay-IsOfOne _ _))
-    (MatchBool-IsOfOne _ (AnswersRelativeTo arguments) _ (Takes-IsOfOne 2 arguments _ (TellsWayBack-IsOfOne (field arguments 0) (field arguments 1)))
-    (MatchBool-IsOfOne _ (AnswersMove arguments) _ (Takes-IsOfOne 3 arguments _ (TellsMoved-IsOfOne _ _ _))
-    (is-IsOfOne _))))))
+AnswersArguments-IsOfOne : (command : Command) (arguments : List (List ℕ)) → IsOfOne (AnswersArguments command arguments)
+AnswersArguments-IsOfOne Normalize arguments = GivesPath-IsOfOne _ (IsNormalTextOf-IsOfOne _)
+AnswersArguments-IsOfOne Join arguments = is-IsOfOne _
+AnswersArguments-IsOfOne Relative arguments = GivesPath-IsOfOne _ (IsWayText-IsOfOne _ _)
+AnswersArguments-IsOfOne TryRelative arguments = TellsWay-IsOfOne _ _
+AnswersArguments-IsOfOne RelativeTo arguments = TellsWayBack-IsOfOne (field arguments 0) (field arguments 1)
+AnswersArguments-IsOfOne Moved arguments = TellsMoved-IsOfOne _ _ _
+
+AnswersCommand-IsOfOne : (name : List ℕ) (arguments : List (List ℕ)) → IsOfOne (AnswersCommand name arguments)
+AnswersCommand-IsOfOne name arguments = named (command_named name) where
+  named : (found : Option Command) → IsOfOne (λ answer. MatchOption found (answer ≡ words_answer (codes "unknown command"))
+      (λ command. MatchBool (length arguments == arity_of command) (AnswersArguments command arguments answer)
+      (answer ≡ words_answer (codes "wrong number of fields"))))
+  named None = is-IsOfOne _
+  named (Some command) =
+      MatchBool-IsOfOne (length arguments == arity_of command) (AnswersArguments command arguments) _
+      (AnswersArguments-IsOfOne command arguments) (is-IsOfOne _)
 
 -- each line has one answer
 AnswersLines-IsOfOne : (lines : List (List ℕ)) → IsOfOne (AnswersLines lines)

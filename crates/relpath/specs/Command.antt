@@ -1,5 +1,5 @@
 -- The answer to a line, by its command.
-use Rattle.std.specs.Prelude.{◌≡◌, ◌≢◌, ◌⊎◌, MatchOption, ℕ, ◌==◌, List, [], ◌∷◌, ◌++◌, Result, Ok, Err, length, drop, codes, MatchBool, slice_index_or}
+use Rattle.std.specs.Prelude.{◌≡◌, ◌≢◌, ◌⊎◌, MatchOption, ℕ, ◌==◌, List, [], ◌∷◌, ◌++◌, Result, Ok, Err, length, drop, codes, MatchBool, slice_index_or, Option, Some, None, if◌then◌else◌}
 use Rattle.std.specs.Str.{bytes_eq}
 use Rattle.relative_path.specs.Steps.{Step, components, spell}
 use Rattle.relative_path.specs.Normalizing.{IsNormalTextOf}
@@ -10,6 +10,8 @@ use Rattle.relative_path.specs.RelativeToError.{relative_to_words}
 use Rattle.relative_path.specs.declared.relative_to_error.RelativeToErrorKind.TheVariants.{PrefixMismatch, AmbiguousTraversal}
 use Rattle.relpath.specs.declared.mover.MoveError.{MoveError}
 use Rattle.relpath.specs.Mover.{Move, IsAnswered, refusal_text}
+use Rattle.relpath.specs.declared.command.Command.{Command}
+use Rattle.relpath.specs.declared.command.Command.TheVariants.{Normalize, Join, Relative, TryRelative, RelativeTo, Moved}
 use Rattle.relpath.specs.Lines.{fields_of}
 
 -- the answer that gives a path
@@ -38,33 +40,21 @@ TellsWay f t answer =
 abbrev pub field : List (List ℕ) → ℕ → List ℕ
 field fields n = slice_index_or fields n []
 
--- the components of the path that field number n is
-abbrev pub field_components : List (List ℕ) → ℕ → List Step
-field_components fields n = components (field fields n)
-
--- P holds of the answer where there are n arguments, and else the answer says that there aren't
-abbrev pub Takes : ℕ → List (List ℕ) → (List ℕ → Type 0) → List ℕ → Type 0
-Takes n arguments P answer =
-    MatchBool (length arguments == n) (P answer) (answer ≡ words_answer (codes "wrong number of fields"))
-
 -- `normalize`, path: the path's normal text
-abbrev pub AnswersNormalize : List (List ℕ) → List ℕ → Type 0
-AnswersNormalize arguments = Takes 1 arguments (GivesPath (IsNormalTextOf (field_components arguments 0)))
+abbrev pub AnswersNormalize : List ℕ → List ℕ → Type 0
+AnswersNormalize path = GivesPath (IsNormalTextOf (components path))
 
 -- `join`, path, path: the text of the first with the second pushed onto it
-abbrev pub AnswersJoin : List (List ℕ) → List ℕ → Type 0
-AnswersJoin arguments =
-    Takes 2 arguments (λ answer. answer ≡ path_answer (pushed (field arguments 0) (field arguments 1)))
+abbrev pub AnswersJoin : List ℕ → List ℕ → List ℕ → Type 0
+AnswersJoin path more answer = answer ≡ path_answer (pushed path more)
 
 -- `relative`, path, path: the shortest path that leads from the first to the second, and the empty one where none leads
-abbrev pub AnswersRelative : List (List ℕ) → List ℕ → Type 0
-AnswersRelative arguments =
-    Takes 2 arguments (GivesPath (IsWayText (field_components arguments 0) (field_components arguments 1)))
+abbrev pub AnswersRelative : List ℕ → List ℕ → List ℕ → Type 0
+AnswersRelative from to = GivesPath (IsWayText (components from) (components to))
 
 -- `try_relative`, path, path: the shortest path that leads from the first to the second, or that none leads
-abbrev pub AnswersTryRelative : List (List ℕ) → List ℕ → Type 0
-AnswersTryRelative arguments =
-    Takes 2 arguments (TellsWay (field_components arguments 0) (field_components arguments 1))
+abbrev pub AnswersTryRelative : List ℕ → List ℕ → List ℕ → Type 0
+AnswersTryRelative from to = TellsWay (components from) (components to)
 
 -- the answer gives the way from the root to the path, two platform paths, or says why none is known
 abbrev pub TellsWayBack : List ℕ → List ℕ → List ℕ → Type 0
@@ -75,8 +65,8 @@ TellsWayBack path root answer =
     (λ way. answer ≡ path_answer (spell way))
 
 -- `relative_to`, path, root: the relative path from the root to the path, both platform paths, or why none is known
-abbrev pub AnswersRelativeTo : List (List ℕ) → List ℕ → Type 0
-AnswersRelativeTo arguments = Takes 2 arguments (TellsWayBack (field arguments 0) (field arguments 1))
+abbrev pub AnswersRelativeTo : List ℕ → List ℕ → List ℕ → Type 0
+AnswersRelativeTo path root = TellsWayBack path root
 
 -- the answer gives the path, or refuses in the refusal's words
 abbrev pub moved_answer : Result (List ℕ) MoveError → List ℕ
@@ -94,20 +84,44 @@ TellsMoved old new reference answer =
     × (answer ≡ moved_answer outcome)
 
 -- `move`, path, path, path: what the third becomes in the file that moved from the first to the second
-abbrev pub AnswersMove : List (List ℕ) → List ℕ → Type 0
-AnswersMove arguments = Takes 3 arguments
-    (TellsMoved (field_components arguments 0) (field_components arguments 1) (field_components arguments 2))
+abbrev pub AnswersMove : List ℕ → List ℕ → List ℕ → List ℕ → Type 0
+AnswersMove old new reference = TellsMoved (components old) (components new) (components reference)
 
--- the answer to a command and its arguments
+-- the command of this name
+abbrev pub command_named : List ℕ → Option Command
+command_named name =
+    if bytes_eq name (codes "normalize") then Some Normalize
+    else if bytes_eq name (codes "join") then Some Join
+    else if bytes_eq name (codes "relative") then Some Relative
+    else if bytes_eq name (codes "try_relative") then Some TryRelative
+    else if bytes_eq name (codes "relative_to") then Some RelativeTo
+    else if bytes_eq name (codes "move") then Some Moved
+    else None
+
+-- how many arguments a command takes
+abbrev pub arity_of : Command → ℕ
+arity_of Normalize = 1
+arity_of Join = 2
+arity_of Relative = 2
+arity_of TryRelative = 2
+arity_of RelativeTo = 2
+arity_of Moved = 3
+
+-- the answer to a command and as many arguments as it takes
+abbrev pub AnswersArguments : Command → List (List ℕ) → List ℕ → Type 0
+AnswersArguments Normalize arguments = AnswersNormalize (field arguments 0)
+AnswersArguments Join arguments = AnswersJoin (field arguments 0) (field arguments 1)
+AnswersArguments Relative arguments = AnswersRelative (field arguments 0) (field arguments 1)
+AnswersArguments TryRelative arguments = AnswersTryRelative (field arguments 0) (field arguments 1)
+AnswersArguments RelativeTo arguments = AnswersRelativeTo (field arguments 0) (field arguments 1)
+AnswersArguments Moved arguments = AnswersMove (field arguments 0) (field arguments 1) (field arguments 2)
+
+-- the answer to a command, by its name, and its arguments
 abbrev pub AnswersCommand : List ℕ → List (List ℕ) → List ℕ → Type 0
-AnswersCommand command arguments answer =
-    MatchBool (bytes_eq command (codes "normalize")) (AnswersNormalize arguments answer)
-    (MatchBool (bytes_eq command (codes "join")) (AnswersJoin arguments answer)
-    (MatchBool (bytes_eq command (codes "relative")) (AnswersRelative arguments answer)
-    (MatchBool (bytes_eq command (codes "try_relative")) (AnswersTryRelative arguments answer)
-    (MatchBool (bytes_eq command (codes "relative_to")) (AnswersRelativeTo arguments answer)
-    (MatchBool (bytes_eq command (codes "move")) (AnswersMove arguments answer)
-    (answer ≡ words_answer (codes "unknown command")))))))
+AnswersCommand name arguments answer =
+    MatchOption (command_named name) (answer ≡ words_answer (codes "unknown command"))
+    (λ command. MatchBool (length arguments == arity_of command) (AnswersArguments command arguments answer)
+    (answer ≡ words_answer (codes "wrong number of fields")))
 
 -- the answer to the fields of a line, the command first
 abbrev pub AnswersFields : List (List ℕ) → List ℕ → Type 0

@@ -1,8 +1,9 @@
 //! The commands, and the answer that each gives.
-ghost use Rattle.std.specs.Prelude.{◌≡◌, ◌≢◌, ◌++◌, map, string_bytes, OnOk};
+ghost use Rattle.std.specs.Prelude.{◌≡◌, ◌≢◌, ◌++◌, length, map, string_bytes, OnOk};
 ghost use Rattle.relpath.specs.Command.{
   Answers,
   AnswersCommand,
+  AnswersArguments,
   AnswersNormalize,
   AnswersJoin,
   AnswersRelative,
@@ -10,6 +11,8 @@ ghost use Rattle.relpath.specs.Command.{
   AnswersRelativeTo,
   AnswersMove,
   Adds,
+  command_named,
+  arity_of,
   path_answer,
   words_answer,
 };
@@ -22,8 +25,47 @@ use crate::mover::{MoveError, moved};
 use relative_path::{RelativePath, RelativePathBuf, RelativeToError, RelativeToErrorKind, unix};
 use std::alloc::{AllocError, Global};
 
-/// What a line is told that has too few fields for its command, or too many.
-const WRONG_NUMBER: &str = "wrong number of fields";
+/// A command.
+#[derive(Clone, Copy)]
+enum Command {
+    Normalize,
+    Join,
+    Relative,
+    TryRelative,
+    RelativeTo,
+    Moved,
+}
+
+impl Command {
+    /// The command of this name.
+    fn named(name: &str) -> Option<Command>
+        ensures { result ≡ command_named name.now }
+    {
+        match name {
+            "normalize" => Some(Command::Normalize),
+            "join" => Some(Command::Join),
+            "relative" => Some(Command::Relative),
+            "try_relative" => Some(Command::TryRelative),
+            "relative_to" => Some(Command::RelativeTo),
+            "move" => Some(Command::Moved),
+            _ => None,
+        }
+    }
+
+    /// How many arguments it takes.
+    fn arity(self) -> usize
+        ensures { result ≡ arity_of self }
+    {
+        match self {
+            Command::Normalize => 1,
+            Command::Join => 2,
+            Command::Relative => 2,
+            Command::TryRelative => 2,
+            Command::RelativeTo => 2,
+            Command::Moved => 3,
+        }
+    }
+}
 
 /// Adds the answer to a line, whose first field is the command.
 pub fn answer_line(alloc: Global, line: &str, output: &mut String) -> Result<(), AllocError>
@@ -34,62 +76,74 @@ pub fn answer_line(alloc: Global, line: &str, output: &mut String) -> Result<(),
     answer_command(alloc, fields[0], &fields[1..], output)
 }
 
-/// Adds the answer to a command and its arguments.
+/// Adds the answer to a command, by its name, and its arguments.
 fn answer_command(
     alloc: Global,
-    command: &str,
+    name: &str,
     arguments: &[&str],
     output: &mut String,
 ) -> Result<(), AllocError>
-    ensures { OnOk result (Adds (AnswersCommand command.now (map (λ field. field.now) arguments.now))
+    ensures { OnOk result (Adds (AnswersCommand name.now (map (λ field. field.now) arguments.now))
+        (string_bytes output.old) (string_bytes output.new)) }
+{
+    let Some(command) = Command::named(name) else {
+        return add_words(output, "unknown command");
+    };
+    if arguments.len() != command.arity() {
+        return add_words(output, "wrong number of fields");
+    }
+    answer_arguments(alloc, command, arguments, output)
+}
+
+/// Adds the answer to a command and as many arguments as it takes.
+fn answer_arguments(
+    alloc: Global,
+    command: Command,
+    arguments: &[&str],
+    output: &mut String,
+) -> Result<(), AllocError>
+    requires { length arguments.now ≡ arity_of command }
+    ensures { OnOk result
+        (Adds (AnswersArguments command (map (λ field. field.now) arguments.now))
         (string_bytes output.old) (string_bytes output.new)) }
 {
     match command {
-        "normalize" => answer_normalize(alloc, arguments, output),
-        "join" => answer_join(alloc, arguments, output),
-        "relative" => answer_relative(alloc, arguments, output),
-        "try_relative" => answer_try_relative(alloc, arguments, output),
-        "relative_to" => answer_relative_to(alloc, arguments, output),
-        "move" => answer_move(alloc, arguments, output),
-        _ => add_words(output, "unknown command"),
+        Command::Normalize => answer_normalize(alloc, arguments[0], output),
+        Command::Join => answer_join(alloc, arguments[0], arguments[1], output),
+        Command::Relative => answer_relative(alloc, arguments[0], arguments[1], output),
+        Command::TryRelative => answer_try_relative(alloc, arguments[0], arguments[1], output),
+        Command::RelativeTo => answer_relative_to(alloc, arguments[0], arguments[1], output),
+        Command::Moved => answer_move(alloc, arguments[0], arguments[1], arguments[2], output),
     }
 }
 
 /// Adds the answer of `normalize`.
-fn answer_normalize(
-    alloc: Global,
-    arguments: &[&str],
-    output: &mut String,
-) -> Result<(), AllocError>
-    ensures { OnOk result (Adds (AnswersNormalize (map (λ field. field.now) arguments.now))
-        (string_bytes output.old) (string_bytes output.new)) }
+fn answer_normalize(alloc: Global, path: &str, output: &mut String) -> Result<(), AllocError>
+    ensures { OnOk result
+        (Adds (AnswersNormalize path.now) (string_bytes output.old) (string_bytes output.new)) }
 {
-    let [path] = arguments else {
-        return add_words(output, WRONG_NUMBER);
-    };
     add_path(output, &RelativePath::new(path).normalize(alloc)?)
 }
 
 /// Adds the answer of `join`.
-fn answer_join(alloc: Global, arguments: &[&str], output: &mut String) -> Result<(), AllocError>
-    ensures { OnOk result (Adds (AnswersJoin (map (λ field. field.now) arguments.now))
-        (string_bytes output.old) (string_bytes output.new)) }
+fn answer_join(alloc: Global, path: &str, more: &str, output: &mut String) -> Result<(), AllocError>
+    ensures { OnOk result
+        (Adds (AnswersJoin path.now more.now) (string_bytes output.old) (string_bytes output.new)) }
 {
-    let [path, more] = arguments else {
-        return add_words(output, WRONG_NUMBER);
-    };
     let joined = RelativePath::new(path).join(alloc, RelativePath::new(more))?;
     add_path(output, &joined)
 }
 
 /// Adds the answer of `relative`.
-fn answer_relative(alloc: Global, arguments: &[&str], output: &mut String) -> Result<(), AllocError>
-    ensures { OnOk result (Adds (AnswersRelative (map (λ field. field.now) arguments.now))
-        (string_bytes output.old) (string_bytes output.new)) }
+fn answer_relative(
+    alloc: Global,
+    from: &str,
+    to: &str,
+    output: &mut String,
+) -> Result<(), AllocError>
+    ensures { OnOk result
+        (Adds (AnswersRelative from.now to.now) (string_bytes output.old) (string_bytes output.new)) }
 {
-    let [from, to] = arguments else {
-        return add_words(output, WRONG_NUMBER);
-    };
     let way = RelativePath::new(from).relative(alloc, RelativePath::new(to))?;
     add_path(output, &way)
 }
@@ -97,15 +151,13 @@ fn answer_relative(alloc: Global, arguments: &[&str], output: &mut String) -> Re
 /// Adds the answer of `try_relative`.
 fn answer_try_relative(
     alloc: Global,
-    arguments: &[&str],
+    from: &str,
+    to: &str,
     output: &mut String,
 ) -> Result<(), AllocError>
-    ensures { OnOk result (Adds (AnswersTryRelative (map (λ field. field.now) arguments.now))
-        (string_bytes output.old) (string_bytes output.new)) }
+    ensures { OnOk result
+        (Adds (AnswersTryRelative from.now to.now) (string_bytes output.old) (string_bytes output.new)) }
 {
-    let [from, to] = arguments else {
-        return add_words(output, WRONG_NUMBER);
-    };
     match RelativePath::new(from).try_relative(alloc, RelativePath::new(to))? {
         Some(way) => add_path(output, &way),
         None => add_words(output, "no path"),
@@ -115,18 +167,34 @@ fn answer_try_relative(
 /// Adds the answer of `relative_to`.
 fn answer_relative_to(
     alloc: Global,
-    arguments: &[&str],
+    path: &str,
+    root: &str,
     output: &mut String,
 ) -> Result<(), AllocError>
-    ensures { OnOk result (Adds (AnswersRelativeTo (map (λ field. field.now) arguments.now))
-        (string_bytes output.old) (string_bytes output.new)) }
+    ensures { OnOk result
+        (Adds (AnswersRelativeTo path.now root.now) (string_bytes output.old) (string_bytes output.new)) }
 {
-    let [path, root] = arguments else {
-        return add_words(output, WRONG_NUMBER);
-    };
     match unix::relative_to(alloc, path, root) {
         Ok(way) => add_path(output, &way),
         Err(error) => add_error(alloc, error, output),
+    }
+}
+
+/// Adds the answer of `move`.
+fn answer_move(
+    alloc: Global,
+    old: &str,
+    new: &str,
+    reference: &str,
+    output: &mut String,
+) -> Result<(), AllocError>
+    ensures { OnOk result (Adds (AnswersMove old.now new.now reference.now)
+        (string_bytes output.old) (string_bytes output.new)) }
+{
+    let moves = [(RelativePath::new(old), RelativePath::new(new))];
+    match moved(alloc, &moves, 0, RelativePath::new(reference)) {
+        Ok(way) => add_path(output, &way),
+        Err(refusal) => add_refusal(alloc, refusal, output),
     }
 }
 
@@ -139,21 +207,6 @@ fn add_error(alloc: Global, error: RelativeToError, output: &mut String) -> Resu
     match error.kind() {
         RelativeToErrorKind::OutOfMemory => Err(AllocError),
         _ => add_words(output, error.to_string(alloc)?.as_str()),
-    }
-}
-
-/// Adds the answer of `move`.
-fn answer_move(alloc: Global, arguments: &[&str], output: &mut String) -> Result<(), AllocError>
-    ensures { OnOk result (Adds (AnswersMove (map (λ field. field.now) arguments.now))
-        (string_bytes output.old) (string_bytes output.new)) }
-{
-    let [old, new, reference] = arguments else {
-        return add_words(output, WRONG_NUMBER);
-    };
-    let moves = [(RelativePath::new(old), RelativePath::new(new))];
-    match moved(alloc, &moves, 0, RelativePath::new(reference)) {
-        Ok(way) => add_path(output, &way),
-        Err(refusal) => add_refusal(alloc, refusal, output),
     }
 }
 

@@ -1,21 +1,11 @@
--- The arguments are two, and none leads where there is no answer; another number of them is told.
-use Rattle.std.proofs.Common.{rules, ◌≢◌, length}
-use borrow.Author.Tests.{tests}
+-- None leads where there is no answer.
+use Rattle.std.proofs.Common.{rules}
 use Rattle.relative_path.specs.Steps.{components}
 use Rattle.relpath.specs.Command.{TellsWay}
-use Rattle.relpath.proofs.CommandLemmas.{Adds-miscounted, Adds-two}
-use Rattle.relpath.proofs.command.answer_try_relative.Goals.{in_default-via-then-arguments-lt2, in_default-via-else-arguments-lt2+else-arguments-lt3}
+use Rattle.relpath.proofs.CommandLemmas.{Adds-two, OnOk-known}
 use Rattle.relpath.proofs.command.answer_try_relative.Goals as goal
-
-pub returns-in_default : goal.returns-in_default
-returns-in_default c =
-    let other : length c.args.arguments.now ≢ 2 = elim c.in_default.branch [
-      | in_default-via-then-arguments-lt2 w ↦ λ same. search (rules, tests)
-      | in_default-via-else-arguments-lt2+else-arguments-lt3 w ↦ λ same. search (rules, tests)
-    ] in
-    Adds-miscounted 2 c.args.arguments.now _ c.add_words.result _ _ other c.add_words.ensures
 
 pub returns-in-None : goal.returns-in-None
 returns-in-None c =
-    Adds-two c.args.arguments.now _ (λ from to. TellsWay (components from) (components to)) c.add_words-in-None.result
-    _ _ _ _ _ (search rules) c.new.ensures c.new-2.ensures (search rules) c.add_words-in-None.ensures
+    Adds-two (λ from to. TellsWay (components from) (components to)) c.add_words.result _ _ _ _ _ _ _ _
+    c.new.ensures c.new-2.ensures (λ _. search rules) (OnOk-known _ c.add_words.result c.add_words.ensures)
