@@ -165,10 +165,12 @@ HasPair-later moves n first pair here from later has = (
   ]
 
 -- the first pair with one more move
-pub HasPair-next : (moves : List Move) (old new : BTreeMap (String Global) ℕ) (n first : ℕ) (pair next : Option (ℕ × ℕ))
+pub HasPair-next : (moves : List Move) (old new : BTreeMap (String Global) ℕ) (n first : ℕ)
+    (pair next : Option (ℕ × ℕ))
     → n < length moves → HasFirsts moves n old → IsFirstWith moves old new n first → HasPair moves n pair
     → (n ≤ first → next ≡ pair) → IfSome pair (λ earlier. earlier.0 ≤ first → next ≡ pair)
-    → MatchOption pair (first < n → next ≡ Some (first, n)) (λ later. first < n → first < later.0 → next ≡ Some (first, n))
+    → MatchOption pair (first < n → next ≡ Some (first, n))
+    (λ later. first < n → first < later.0 → next ≡ Some (first, n))
     → HasPair moves (n + 1) next
 HasPair-next moves old new n first pair next within firsts is has one earlier later =
     tell pair has one earlier later (cases_lt first n) where
@@ -183,7 +185,8 @@ HasPair-next moves old new n first pair next within firsts is has one earlier la
 
       tell : (pair : Option (ℕ × ℕ)) → HasPair moves n pair → (n ≤ first → next ≡ pair)
           → IfSome pair (λ earlier. earlier.0 ≤ first → next ≡ pair)
-          → MatchOption pair (first < n → next ≡ Some (first, n)) (λ later. first < n → first < later.0 → next ≡ Some (first, n))
+          → MatchOption pair (first < n → next ≡ Some (first, n))
+          (λ later. first < n → first < later.0 → next ≡ Some (first, n))
           → (first < n) ⊎ (n ≤ first) → HasPair moves (n + 1) next
       tell pair has one earlier later (inr le) = rw (one le) (HasPair-kept moves n pair (none le) has)
       tell None has one earlier later (inl l) = rw (later l) (HasPair-later moves n first None (here l) from tt has)

@@ -56,7 +56,7 @@ abbrev pub AnswersJoin : List (List ℕ) → List ℕ → Type 0
 AnswersJoin arguments =
     Takes 2 arguments (λ answer. answer ≡ path_answer (pushed (field arguments 0) (field arguments 1)))
 
--- `relative`, path, path: the shortest path that leads from the first to the second, and the empty one where none leads
+-- `relative`, path, path: the shortest path that leads from the first to the second; the empty one where none leads
 abbrev pub AnswersRelative : List (List ℕ) → List ℕ → Type 0
 AnswersRelative arguments =
     Takes 2 arguments (GivesPath (IsWayText (field_components arguments 0) (field_components arguments 1)))
@@ -87,7 +87,7 @@ moved_answer (Err refusal) = words_answer (refusal_text refusal)
 abbrev pub one_move : List Step → List Step → List Move
 one_move old new = record { old = old; new = new } ∷ []
 
--- the answer tells what the reference becomes in the file that moved from one path to another, or why it becomes nothing
+-- the answer tells what the reference becomes in the file that moved from one path to another, or why nothing
 abbrev pub TellsMoved : List Step → List Step → List Step → List ℕ → Type 0
 TellsMoved old new reference answer =
     (outcome : Result (List ℕ) MoveError) × IsAnswered (one_move old new) 0 reference outcome
