@@ -1,16 +1,11 @@
 -- The answer to a line is the answer to the fields of it that are shown.
-use Rattle.std.proofs.Common.{◌≡◌, ◌≢◌, ◌⊎◌, ℕ, ◌<◌, ◌==◌, true, false, List, [], ◌∷◌, ◌++◌, length, map, take, drop, get_or, codes, Bor, Bool, Some, None, Result, Ok, Err, OnOk, inl, inr, refl, sym, ◌∙◌, arith, lit<, true≢false, zero, suc, Option, MatchOption, MatchBool}
+use Rattle.std.proofs.Common.{◌≡◌, ◌≢◌, ◌⊎◌, ℕ, ◌<◌, ◌==◌, true, false, List, [], ◌∷◌, ◌++◌, length, map, take, drop, get_or, codes, Bor, Bool, Some, None, Result, Ok, Err, OnOk, inl, inr, refl, sym, ◌∙◌, arith, lit<, zero, suc, Option, MatchOption, MatchBool}
 use Rattle.std.proofs.lemmas.Bool.{eq-eqb, ne_eqb}
 use Rattle.std.proofs.lemmas.Bool.Decides.{eqb_tells}
 use Rattle.std.proofs.lemmas.List.{length-map, length-take, drop-take, get_or-take}
-use Rattle.relpath.specs.Command.{Answers, AnswersFields, AnswersCommand, AnswersArguments, Adds, field, command_named, arity_of, TellsWayBack, path_answer, words_answer}
+use Rattle.relpath.specs.Command.{Answers, AnswersFields, AnswersCommand, AnswersArguments, Adds, field, command_named, arity_of, words_answer}
 use Rattle.relpath.specs.declared.command.Command.{Command}
 use Rattle.relpath.specs.declared.command.Command.TheVariants.{Normalize, Join, Relative, TryRelative, RelativeTo, Moved}
-use Rattle.relative_path.specs.Steps.{Step, spell}
-use Rattle.relative_path.specs.Unix.{has_root, way_to}
-use Rattle.relative_path.specs.RelativeToError.{relative_to_words}
-use Rattle.relative_path.specs.declared.relative_to_error.RelativeToErrorKind.{RelativeToErrorKind}
-use Rattle.relative_path.specs.declared.relative_to_error.RelativeToErrorKind.TheVariants.{NonUtf8, PrefixMismatch, AmbiguousTraversal, IllegalComponent, OutOfMemory}
 use Rattle.relpath.specs.Lines.{fields_of}
 use Rattle.relpath.specs.declared.lines.TheConstants.{MAX_FIELDS}
 
@@ -130,28 +125,3 @@ pub field-map : (arguments : List (Bor (List ℕ))) (n : ℕ) (none : Bor (List 
 field-map [] n none inside = absurd (omega arith)
 field-map (x ∷ xs) zero none inside = refl
 field-map (x ∷ xs) (suc n) none inside = field-map xs n none (omega arith)
-
-same_root : (a b : Bool) → ((a ≢ b) → ⊥) → a ≡ b
-same_root true true same = refl
-same_root true false same = absurd (same true≢false)
-same_root false true same = absurd (same (λ e. true≢false (sym e)))
-same_root false false same = refl
-
--- a way back is answered
-pub TellsWayBack-found : (path root : List ℕ) (text : List ℕ) (way : List Step)
-    → ((has_root path ≢ has_root root) → ⊥) → way_to path root ≡ Some way → text ≡ spell way
-    → TellsWayBack path root (path_answer text)
-TellsWayBack-found path root text way same is e =
-    inr (same_root (has_root path) (has_root root) same, rw (is, e) refl)
-
--- and so is why there is none
-pub TellsWayBack-refused : (path root : List ℕ) (kind : RelativeToErrorKind) → kind ≢ OutOfMemory
-    → (kind ≡ PrefixMismatch → has_root path ≢ has_root root)
-    → (kind ≡ AmbiguousTraversal → (has_root path ≡ has_root root) × (way_to path root ≡ None))
-    → (kind ≢ NonUtf8) × (kind ≢ IllegalComponent) → TellsWayBack path root (words_answer (relative_to_words kind))
-TellsWayBack-refused path root NonUtf8 some prefix ambiguous other = absurd (other.0 refl)
-TellsWayBack-refused path root PrefixMismatch some prefix ambiguous other = inl (prefix refl, refl)
-TellsWayBack-refused path root AmbiguousTraversal some prefix ambiguous other =
-    let none = ambiguous refl in inr (none.0, rw none.1 refl)
-TellsWayBack-refused path root IllegalComponent some prefix ambiguous other = absurd (other.1 refl)
-TellsWayBack-refused path root OutOfMemory some prefix ambiguous other = absurd (some refl)

@@ -70,7 +70,8 @@ HasFirsts-next moves old new n first firsts (text, normal, e, updated) = record 
       → (k < n + 1) × IsNormalTextOf (move_at moves k).old other
   held other k is = tell (bytes_eq text other) (bytes_eq-Decides text other) (sym (updated other) ∙ is) where
     tell : (b : Bool) → ((b ≡ true → text ≡ other) × (text ≡ other → b ≡ true))
-        → cond b (Some first) (get_by_text old other) ≡ Some k → (k < n + 1) × IsNormalTextOf (move_at moves k).old other
+        → cond b (Some first) (get_by_text old other) ≡ Some k
+        → (k < n + 1) × IsNormalTextOf (move_at moves k).old other
     tell true (same, _) found = rw (sym (ap (λ is. unwrap_or is 0) found), sym (same refl)) here
     tell false _ found = let before = firsts.held other k found in (omega (arith, before.0), before.1)
 
@@ -165,10 +166,12 @@ HasPair-later moves n first pair here from later has = (
   ]
 
 -- the first pair with one more move
-pub HasPair-next : (moves : List Move) (old new : BTreeMap (String Global) ℕ) (n first : ℕ) (pair next : Option (ℕ × ℕ))
+pub HasPair-next : (moves : List Move) (old new : BTreeMap (String Global) ℕ) (n first : ℕ)
+    (pair next : Option (ℕ × ℕ))
     → n < length moves → HasFirsts moves n old → IsFirstWith moves old new n first → HasPair moves n pair
     → (n ≤ first → next ≡ pair) → IfSome pair (λ earlier. earlier.0 ≤ first → next ≡ pair)
-    → MatchOption pair (first < n → next ≡ Some (first, n)) (λ later. first < n → first < later.0 → next ≡ Some (first, n))
+    → MatchOption pair (first < n → next ≡ Some (first, n))
+    (λ later. first < n → first < later.0 → next ≡ Some (first, n))
     → HasPair moves (n + 1) next
 HasPair-next moves old new n first pair next within firsts is has one earlier later =
     tell pair has one earlier later (cases_lt first n) where
@@ -183,7 +186,8 @@ HasPair-next moves old new n first pair next within firsts is has one earlier la
 
       tell : (pair : Option (ℕ × ℕ)) → HasPair moves n pair → (n ≤ first → next ≡ pair)
           → IfSome pair (λ earlier. earlier.0 ≤ first → next ≡ pair)
-          → MatchOption pair (first < n → next ≡ Some (first, n)) (λ later. first < n → first < later.0 → next ≡ Some (first, n))
+          → MatchOption pair (first < n → next ≡ Some (first, n))
+          (λ later. first < n → first < later.0 → next ≡ Some (first, n))
           → (first < n) ⊎ (n ≤ first) → HasPair moves (n + 1) next
       tell pair has one earlier later (inr le) = rw (one le) (HasPair-kept moves n pair (none le) has)
       tell None has one earlier later (inl l) = rw (later l) (HasPair-later moves n first None (here l) from tt has)

@@ -37,7 +37,8 @@ directory_none (b ∷ text) none = absurd (none (λ e. omega (arith, ap length e
 pub directory_parent : (file : RelativePath) (parent : Option RelativePath)
     → (IsSome parent ↔ (path_text file ≢ [])) → IfSome parent (λ parent. IsPopped (path_text file) (path_text parent))
     → path_components (unwrap_or parent file) ≡ directory (path_components file)
-directory_parent file None some popped = directory_none (path_text file) (λ text. absurd (true≢false (sym (some.1 text))))
+directory_parent file None some popped =
+    directory_none (path_text file) (λ text. absurd (true≢false (sym (some.1 text))))
 directory_parent file (Some parent) some popped = popped.same_components
 
 components_up : (text : List ℕ) → text ≡ codes ".." → components text ≡ up ∷ []
@@ -126,7 +127,8 @@ number_of (Err AboveRoot) = 3
 number_of (Err NoPath) = 4
 number_of (Err OutOfMemory) = 5
 
-pub Refuses-this : {T : Type 0} (refusal : MoveError) (case : Type 0) → case → Refuses {T = T} (Err refusal) refusal case
+pub Refuses-this : {T : Type 0} (refusal : MoveError) (case : Type 0) → case
+    → Refuses {T = T} (Err refusal) refusal case
 Refuses-this refusal case holds = record { only = λ is. holds; always = λ is. inl refl }
 
 pub Refuses-other : {T : Type 0} (result : Result T MoveError) (refusal : MoveError) (case : Type 0)
@@ -258,7 +260,8 @@ named-next moves none k within before old new j l lacks = elim (cases_lt j k) [
 -- the first move without a file name
 pub IsFirstNameless-here : (moves : List (RelativePath × RelativePath)) (none : RelativePath × RelativePath) (k : ℕ)
     → k < length moves → ((j : ℕ) → j < k → ¬ LacksFileName (move_at (moves_of moves) j))
-    → (file_name_of (path_text (get_or moves k none).0) ≡ None) ⊎ (file_name_of (path_text (get_or moves k none).1) ≡ None)
+    → (file_name_of (path_text (get_or moves k none).0) ≡ None)
+    ⊎ (file_name_of (path_text (get_or moves k none).1) ≡ None)
     → IsFirstNameless (moves_of moves) k
 IsFirstNameless-here moves none k within before lacks = record {
   within = rw (length-moves_of moves) within;
@@ -291,7 +294,8 @@ Refuses-same_err e f case refuses = record {
 }
 
 -- where the moves are refused, no reference is
-pub Refuses-of_moves : {S T : Type 0} (moves : List Move) (e f : MoveError) (P : Type 0) → (¬ IsOfMoves f) → IsOfMoves e
+pub Refuses-of_moves : {S T : Type 0} (moves : List Move) (e f : MoveError) (P : Type 0)
+    → (¬ IsOfMoves f) → IsOfMoves e
     → ((k : ℕ) → IsErrOf {T = S} (Err e) (NoFileName k) ↔ IsFirstNameless moves k)
     → ((j k : ℕ) → Refuses {T = S} (Err e) (SameOld j k) (AreNamed moves × IsFirstPair moves j k))
     → Refuses {T = T} (Err e) f (AreNamed moves × AreApart moves × P)

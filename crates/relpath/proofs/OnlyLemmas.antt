@@ -157,7 +157,8 @@ TellsWayBack-IsOfOne path root one other (inr (same, e)) (inr (same_2, f)) = tel
   tell None e f = f ∙ sym e
   tell (Some way) e f = f ∙ sym e
 
-AnswersArguments-IsOfOne : (command : Command) (arguments : List (List ℕ)) → IsOfOne (AnswersArguments command arguments)
+AnswersArguments-IsOfOne : (command : Command) (arguments : List (List ℕ))
+    → IsOfOne (AnswersArguments command arguments)
 AnswersArguments-IsOfOne Normalize arguments = GivesPath-IsOfOne _ (IsNormalTextOf-IsOfOne _)
 AnswersArguments-IsOfOne Join arguments = is-IsOfOne _
 AnswersArguments-IsOfOne Relative arguments = GivesPath-IsOfOne _ (IsWayText-IsOfOne _ _)
@@ -167,7 +168,8 @@ AnswersArguments-IsOfOne Moved arguments = TellsMoved-IsOfOne _ _ _
 
 AnswersCommand-IsOfOne : (name : List ℕ) (arguments : List (List ℕ)) → IsOfOne (AnswersCommand name arguments)
 AnswersCommand-IsOfOne name arguments = named (command_named name) where
-  named : (found : Option Command) → IsOfOne (λ answer. MatchOption found (answer ≡ words_answer (codes "unknown command"))
+  named : (found : Option Command)
+      → IsOfOne (λ answer. MatchOption found (answer ≡ words_answer (codes "unknown command"))
       (λ command. MatchBool (length arguments == arity_of command) (AnswersArguments command arguments answer)
       (answer ≡ words_answer (codes "wrong number of fields"))))
   named None = is-IsOfOne _

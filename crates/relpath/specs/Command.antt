@@ -48,7 +48,7 @@ AnswersNormalize path = GivesPath (IsNormalTextOf (components path))
 abbrev pub AnswersJoin : List ℕ → List ℕ → List ℕ → Type 0
 AnswersJoin path more answer = answer ≡ path_answer (pushed path more)
 
--- `relative`, path, path: the shortest path that leads from the first to the second, and the empty one where none leads
+-- `relative`, path, path: the shortest path that leads from the first to the second; the empty one where none leads
 abbrev pub AnswersRelative : List ℕ → List ℕ → List ℕ → Type 0
 AnswersRelative from to = GivesPath (IsWayText (components from) (components to))
 
@@ -77,7 +77,7 @@ moved_answer (Err refusal) = words_answer (refusal_text refusal)
 abbrev pub one_move : List Step → List Step → List Move
 one_move old new = record { old = old; new = new } ∷ []
 
--- the answer tells what the reference becomes in the file that moved from one path to another, or why it becomes nothing
+-- the answer tells what the reference becomes in the file that moved from one path to another, or why nothing
 abbrev pub TellsMoved : List Step → List Step → List Step → List ℕ → Type 0
 TellsMoved old new reference answer =
     (outcome : Result (List ℕ) MoveError) × IsAnswered (one_move old new) 0 reference outcome

@@ -65,7 +65,7 @@ pub record MovesFrom (moves : List Move) (place : List Step) (j : ℕ) : Type 0 
   pub within : j < length moves
   pub same : IsSame place (move_at moves j).old
 
--- where what is at a place is after the moves: the new path of the file that moved from there, or else the place itself
+-- where the file at a place is after the moves: the new path, if it moved, and else the place itself
 abbrev pub IsTarget : List Move → List Step → List Step → Type 0
 IsTarget moves place target =
     ((j : ℕ) × MovesFrom moves place j × (target ≡ (move_at moves j).new))
@@ -83,11 +83,11 @@ ClimbsAbove target = walk [] target ≡ None
 abbrev pub BelowTop : (List Step → Type 0) → List Step → Type 0
 BelowTop P target = (walk [] target ≢ None) × P target
 
--- no list leads to the target from the directory that the file of move number i moved to
+-- no list leads to the target from the directory where the file of move i is now
 abbrev pub IsBeyond : List Move → ℕ → List Step → Type 0
 IsBeyond moves i target = ¬ IsReachable (directory (move_at moves i).new) target
 
--- the text spells the shortest list that leads to the target from the directory that the file of move number i moved to
+-- the text spells the shortest list that leads to the target from the directory where the file of move i is now
 abbrev pub IsMovedText : List Move → ℕ → List ℕ → List Step → Type 0
 IsMovedText moves i text target = IsShortestText (directory (move_at moves i).new) target text
 
@@ -99,7 +99,8 @@ pub record Refuses {T : Type 0} (result : Result T MoveError) (refusal : MoveErr
 -- what is printed of a refusal
 abbrev pub refusal_text : MoveError → List ℕ
 refusal_text (NoFileName k) = codes "move " ++ decimal k ++ codes " lacks a file name"
-refusal_text (SameOld j k) = codes "moves " ++ decimal j ++ codes " and " ++ decimal k ++ codes " have the same old path"
+refusal_text (SameOld j k) =
+    codes "moves " ++ decimal j ++ codes " and " ++ decimal k ++ codes " have the same old path"
 refusal_text AboveRoot = codes "reference climbs above the root"
 refusal_text NoPath = codes "no path"
 refusal_text OutOfMemory = codes "out of memory"

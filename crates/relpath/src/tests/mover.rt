@@ -1,3 +1,4 @@
+use crate::move_table::MoveTable;
 use crate::mover::{MoveError, moved};
 use relative_path::RelativePath;
 use std::alloc::{AllocError, Global};
@@ -168,6 +169,21 @@ fn answers_among_a_thousand_moves(rt: HostRuntime) -> Result<(), Fail> {
     if moves.len() == 1_000 {
         let way = moved(alloc, moves.as_slice(), 7, RelativePath::new("./999.md"))?;
         assert_eq!(rt; way.as_relative_path().as_str(), "../999/page.md");
+        let table = MoveTable::new(alloc, moves.as_slice())?;
+        for reference in 0..10_000 {
+            let i = reference % 1_000;
+            let way = table.moved(alloc, i, RelativePath::new("../docs/500.md"))?;
+            let text = way.as_relative_path().as_str();
+            assert_eq!(rt;
+                text,
+                if i == 500 {
+                    "page.md"
+                } else {
+                    "../500/page.md"
+                },
+                "{i}"
+            );
+        }
     }
     Ok(())
 }

@@ -12,7 +12,8 @@ returns-in_err-new-clause-no_file_name c = λ k.
 
 pub returns-in_err-new-clause-same_old : goal.returns-in_err-new-clause-same_old
 returns-in_err-new-clause-same_old c = λ j k.
-    rw (is_err_of c.from_residual.result _ c.from_residual.ensures.1) (Refuses-same_err _ (SameOld j k) _ (c.in_err-new.ensures.same_old j k))
+    rw (is_err_of c.from_residual.result _ c.from_residual.ensures.1)
+    (Refuses-same_err _ (SameOld j k) _ (c.in_err-new.ensures.same_old j k))
 
 pub returns-in_err-new-clause-above_root : goal.returns-in_err-new-clause-above_root
 returns-in_err-new-clause-above_root c =

@@ -31,7 +31,8 @@ returns-in-Some-clause-above_root c =
     let reference = path_components c.args.reference in
     let lead = LeadToTarget-meant c.args.self.now.moves.now _ c.args.i (path_components c.args.reference) _ _ _
     c.requires.within c.directory.ensures c.in_ok-meant.ensures.normal_form c.target-target.ensures in
-    let some : walk [] (path_components c.target-target.result) ≢ None = λ none. absurd (true≢false (sym (c.in_ok-climbs_above.ensures.1 none) ∙ c.if-branch.false)) in
+    let some : walk [] (path_components c.target-target.result) ≢ None =
+    λ none. absurd (true≢false (sym (c.in_ok-climbs_above.ensures.1 none) ∙ c.if-branch.false)) in
     Refuses-not_above moves c.args.i reference _ lead (Ok _) (λ e. omega (arith, e)) c.requires.sound.apart some
 
 pub returns-in-Some-clause-no_path : goal.returns-in-Some-clause-no_path
@@ -51,7 +52,8 @@ returns-in-Some-clause-shortest c =
     let lead = LeadToTarget-meant c.args.self.now.moves.now _ c.args.i (path_components c.args.reference) _ _ _
     c.requires.within c.directory.ensures c.in_ok-meant.ensures.normal_form c.target-target.ensures in
     let new = directory_new c.args.self.now.moves.now _ c.args.i _ c.requires.within c.directory-2.ensures in
-    let some : walk [] (path_components c.target-target.result) ≢ None = λ none. absurd (true≢false (sym (c.in_ok-climbs_above.ensures.1 none) ∙ c.if-branch.false)) in
+    let some : walk [] (path_components c.target-target.result) ≢ None =
+    λ none. absurd (true≢false (sym (c.in_ok-climbs_above.ensures.1 none) ∙ c.if-branch.false)) in
     let way = rw c.in-Some.is at c.in_ok-way.ensures.shortest in
     OfTarget-moved moves c.args.i reference _ _ _ lead new some way
 
@@ -61,7 +63,8 @@ returns-clause-above_root c =
     let reference = path_components c.args.reference in
     let lead = LeadToTarget-meant c.args.self.now.moves.now _ c.args.i (path_components c.args.reference) _ _ _
     c.requires.within c.directory.ensures c.in_ok-meant.ensures.normal_form c.target-target.ensures in
-    let some : walk [] (path_components c.target-target.result) ≢ None = λ none. absurd (true≢false (sym (c.in_ok-climbs_above.ensures.1 none) ∙ c.if-branch.false)) in
+    let some : walk [] (path_components c.target-target.result) ≢ None =
+    λ none. absurd (true≢false (sym (c.in_ok-climbs_above.ensures.1 none) ∙ c.if-branch.false)) in
     Refuses-not_above moves c.args.i reference _ lead (Err NoPath) (λ e. omega (arith, e)) c.requires.sound.apart some
 
 pub returns-clause-no_path : goal.returns-clause-no_path
@@ -71,5 +74,6 @@ returns-clause-no_path c =
     let lead = LeadToTarget-meant c.args.self.now.moves.now _ c.args.i (path_components c.args.reference) _ _ _
     c.requires.within c.directory.ensures c.in_ok-meant.ensures.normal_form c.target-target.ensures in
     let new = directory_new c.args.self.now.moves.now _ c.args.i _ c.requires.within c.directory-2.ensures in
-    let some : walk [] (path_components c.target-target.result) ≢ None = λ none. absurd (true≢false (sym (c.in_ok-climbs_above.ensures.1 none) ∙ c.if-branch.false)) in
+    let some : walk [] (path_components c.target-target.result) ≢ None =
+    λ none. absurd (true≢false (sym (c.in_ok-climbs_above.ensures.1 none) ∙ c.if-branch.false)) in
     Refuses-beyond moves c.args.i reference _ lead _ new some (c.in_ok-way.ensures.none.0 (rw c.in-None.is refl))
