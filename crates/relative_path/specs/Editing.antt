@@ -28,7 +28,7 @@ is_cur (name n) = false
 abbrev pub kept_len : List Step → ℕ
 kept_len cs = length cs - suffix_len is_cur cs - 1
 
--- p is what `pop` leaves of the text, and what `parent` answers of a text that isn't empty
+-- p is the shortest prefix with the components that a parent keeps: what `pop` leaves, and `parent` answers
 abbrev pub IsPopped : List ℕ → List ℕ → Type 0
 IsPopped text p = IsCut text (kept_len (components text)) p
 

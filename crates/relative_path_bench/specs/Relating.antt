@@ -12,7 +12,7 @@ EndAt base cs ds place = (walk base cs ≡ Some place) × (walk base ds ≡ Some
 abbrev pub ClimbAway : List (List ℕ) → List Step → List Step → Type 0
 ClimbAway base cs ds = (walk base cs ≡ None) × (walk base ds ≡ None)
 
--- from every base, both climb above the top or both end in the same place
+-- from every base, both climb above the top or both end in the same place: `IsSame`, told by its two cases
 abbrev pub EndAlike : List Step → List Step → Type 0
 EndAlike cs ds = (base : List (List ℕ)) → ClimbAway base cs ds ⊎ ((place : List (List ℕ)) × EndAt base cs ds place)
 

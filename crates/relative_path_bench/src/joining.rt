@@ -92,8 +92,8 @@ pub fn join_normalized_law(
     Ok((joined, normal))
 }
 
-/// Three paths joined in normal form: the first two before the third, and the last two before the
-/// first.
+/// Three paths joined in normal form: once with `a` and `b` joined first, and once with `b` and `c`
+/// joined first.
 ///
 /// Both have the same text. It asks for memory for these and for the two joins on the way, and
 /// fails only where that is refused.

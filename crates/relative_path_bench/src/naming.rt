@@ -33,8 +33,8 @@ pub fn stem_law(path: RelativePath<'_>) -> Option<(&str, &str, Option<&str>)>
     Some((file_name, stem, path.extension()))
 }
 
-/// A copy of the path with its extension set, which is neither empty nor has a dot or a slash;
-/// `None` exactly if the path has no file name.
+/// A copy of the path with this extension in place of its own; `None` exactly if the path has no
+/// file name. The extension has at least one byte, and no dot or slash.
 ///
 /// The copy has that extension. It asks for memory for the copy, and fails only where that is
 /// refused.

@@ -9,8 +9,8 @@ ghost use Rattle.relative_path_bench.specs.Relating.{EndAlike, IsWay};
 use relative_path::{RelativePath, RelativePathBuf};
 use std::alloc::{AllocError, Global};
 
-/// `from` followed by the way to `to`, and `to`, both in normal form. Where no path leads from
-/// `from` to `to`, the way is empty.
+/// `from` followed by the shortest way to `to`, and `to`, both in normal form. Where no path leads
+/// from `from` to `to`, the way is empty, and the first is `from` in normal form.
 ///
 /// They have the same text exactly if some path leads from `from` to `to`. It asks for memory for
 /// its two answers and for the way, and fails only where that is refused.
@@ -43,8 +43,9 @@ pub fn leads_back(
 /// Both paths in normal form, and where they lead apart.
 ///
 /// The two texts are the same exactly if from every base both paths climb above the top or both
-/// end in the same place, and exactly then the third answer is `None`. It asks for memory for
-/// these, and fails only where that is refused.
+/// end in the same place, and exactly then the third answer is `None`. Else it is the least number
+/// of names of a base from which they don't. It asks for memory for these, and fails only where
+/// that is refused.
 ///
 /// ```
 /// let path = RelativePath::new("a//b");
@@ -71,11 +72,12 @@ pub fn same_law(
     Ok((normal, other_normal, path.leads_apart(alloc, other)?))
 }
 
-/// The ways from `a` to `c`, from `a` to `b`, and from `b` to `c`.
+/// The shortest ways from `a` to `c`, from `a` to `b`, and from `b` to `c`, each empty where no path
+/// leads.
 ///
-/// Where paths lead from `a` to `b` and from `b` to `c`, the way from `a` to `c` has no more
-/// components than the other two together. It asks for memory for the three, and fails only where
-/// that is refused.
+/// What leads from `a` to `b`, and then from `b` to `c`, leads from `a` to `c`; so where both lead,
+/// the way from `a` to `c` has no more components than the other two together. It asks for memory
+/// for the three, and fails only where that is refused.
 ///
 /// ```
 /// let [a, b, c] = ["a/b", "a", "c"].map(RelativePath::new);
@@ -111,10 +113,10 @@ pub fn triangle(
     Ok((a_c, a_b, b.relative(alloc, c)?))
 }
 
-/// The way from `from` to `to`, and `from` followed by it in normal form; `None` exactly if no path
-/// leads from `from` to `to`.
+/// The shortest way from `from` to `to`, and `from` followed by it in normal form; `None` exactly if
+/// no path leads from `from` to `to`.
 ///
-/// The second text is the one that `to.normalize` answers. It asks for memory for both, and fails
+/// The second text is the normal text of `to`. It asks for memory for both, and fails
 /// only where that is refused.
 ///
 /// ```
