@@ -51,7 +51,8 @@ IsRest-none text r none empty = rw empty (record {
 IsFront-none : (text p : List ℕ) → components text ≡ [] → p ≡ [] → IsFront text p
 IsFront-none text p none empty = rw (empty, none) (IsShortestPrefix-nil text)
 
-module _ (text trimmed piece rest left : List ℕ) (trim : IsTrimmedStart text trimmed) (whole : All (λ b. b ≢ slash) piece) (trim' : IsTrimmedStart rest left) where
+module _ (text trimmed piece rest left : List ℕ) (trim : IsTrimmedStart text trimmed)
+    (whole : All (λ b. b ≢ slash) piece) (trim' : IsTrimmedStart rest left) where
   first_none : (trimmed ≡ piece ++ slash ∷ rest) ⊎ ((trimmed ≡ piece) × (rest ≡ [])) → piece ≡ []
       → (components text ≡ []) × (left ≡ [])
   first_none (inl joined) empty =
@@ -104,7 +105,8 @@ ends_in_slash xs =
     let index : length (xs ++ slash ∷ []) - 1 ≡ length xs = omega (arith, length-append xs (slash ∷ [])) in
     ap (λ i. get_or (xs ++ slash ∷ []) i 0) index ∙ get_or_at xs slash [] 0 (length xs) refl
 
-module _ (text trimmed piece front left : List ℕ) (trim : IsTrimmedEnd text trimmed) (whole : All (λ b. b ≢ slash) piece) (trim' : IsTrimmedEnd front left) where
+module _ (text trimmed piece front left : List ℕ) (trim : IsTrimmedEnd text trimmed)
+    (whole : All (λ b. b ≢ slash) piece) (trim' : IsTrimmedEnd front left) where
   last_none : (trimmed ≡ front ++ slash ∷ piece) ⊎ ((trimmed ≡ piece) × (front ≡ [])) → piece ≡ []
       → (components text ≡ []) × (left ≡ [])
   last_none (inl joined) empty =
@@ -152,7 +154,11 @@ pub MakesProgress-TakesLast : (s t : Components) (r : Option Component) → Take
     → MakesProgress (λ _. ⊤) (item_count components_left) s r t
 MakesProgress-TakesLast s t None taken = record { on = λ _. tt; keeps = tt; rests = λ h. h }
 MakesProgress-TakesLast s t (Some c) (joined, _) =
-    record { on = λ h. (tt, h, omega (arith, ap length joined, length-append (components_left t) (step_of c ∷ []))); keeps = tt; rests = λ _. tt }
+    record {
+      on = λ h. (tt, h, omega (arith, ap length joined, length-append (components_left t) (step_of c ∷ [])));
+      keeps = tt;
+      rests = λ _. tt;
+    }
 
 -- a walk gives the components of its text, one after another
 pub YieldsList-components : (s : Components) (text : List ℕ) → text_left s ≡ text

@@ -102,7 +102,8 @@ IsPopped-none text left front h none cut =
     rw kept (subst (λ cs. IsShortestPrefix text cs front) nothing (IsShortestPrefix-trans h.prefix cut))
 
 -- where the component before the lost ones stands
-module _ (text left front : List ℕ) (c : Step) (h : LosesCurs text left) (other : is_cur c ≡ false) (last : components left ≡ components front ++ c ∷ []) where
+module _ (text left front : List ℕ) (c : Step) (h : LosesCurs text left) (other : is_cur c ≡ false)
+    (last : components left ≡ components front ++ c ∷ []) where
   whole : components text ≡ (components front ++ c ∷ []) ++ replicate h.lost cur
   whole = h.joined ∙ ap (λ cs. cs ++ replicate h.lost cur) last
 
@@ -149,14 +150,16 @@ components-with_separator (b ∷ bs) rest =
     ap (λ x. components (x ++ rest)) (cond-true _ _ _ e ∙ ends) ∙ ap components (append_assoc front (slash ∷ []) rest)
     ∙ components-append front rest
     ∙ ap (λ cs. cs ++ components rest) (sym (components-trailing_slash front) ∙ ap components (sym ends)))
-    (λ e. ap (λ x. components (x ++ rest)) (cond-false _ _ _ e) ∙ ap components (append_assoc (b ∷ bs) (slash ∷ []) rest) ∙ components-append (b ∷ bs) rest)
+    (λ e. ap (λ x. components (x ++ rest)) (cond-false _ _ _ e)
+    ∙ ap components (append_assoc (b ∷ bs) (slash ∷ []) rest) ∙ components-append (b ∷ bs) rest)
     (cases_Bool (eqb (get_or (b ∷ bs) (length bs) 0) slash))
 
 components-unslashed : (path : List ℕ) → components (unslashed path) ≡ components path
 components-unslashed [] = refl
 components-unslashed (b ∷ bs) =
     ⊎_elim
-    (λ e. ap components (cond-true _ _ _ e) ∙ sym (components-slash bs) ∙ ap (λ x. components (x ∷ bs)) (sym (eqb-true b slash e)))
+    (λ e. ap components (cond-true _ _ _ e) ∙ sym (components-slash bs)
+    ∙ ap (λ x. components (x ∷ bs)) (sym (eqb-true b slash e)))
     (λ e. ap components (cond-false _ _ _ e))
     (cases_Bool (eqb b slash))
 

@@ -109,7 +109,9 @@ pub last_slash : (text : List ℕ)
     → HasNoSlash text ⊎ ((xs : List ℕ) × (ys : List ℕ) × (text ≡ xs ++ slash ∷ ys) × HasNoSlash ys)
 last_slash [] = inl tt
 last_slash (b ∷ bs) = elim (last_slash bs) [
-  | inl none ↦ ⊎_elim (λ e. inr ([], bs, ap (λ x. x ∷ bs) (eqb-true b slash e), none)) (λ e. inl (e, none)) (cases_Bool (is_slash b))
+  | inl none ↦
+      ⊎_elim (λ e. inr ([], bs, ap (λ x. x ∷ bs) (eqb-true b slash e), none)) (λ e. inl (e, none))
+      (cases_Bool (is_slash b))
   | inr (xs, ys, joined, none) ↦ inr (b ∷ xs, ys, ap (λ x. b ∷ x) joined, none)
 ]
 
@@ -186,12 +188,20 @@ pub record IsEnd (text before : List ℕ) (last : Option (Bor (List ℕ))) (thro
 pub IsEnd-none : (text left front : List ℕ) → LosesCurs text left → (components left ≡ []) × IsFront left front
     → IsEnd text front None left
 IsEnd-none text left front h (none, cut) =
-    record { popped = IsPopped-none text left front h none cut; named = sym (last_name-none text left h none); placed = tt }
+    record {
+      popped = IsPopped-none text left front h none cut;
+      named = sym (last_name-none text left h none);
+      placed = tt;
+    }
 
 pub IsEnd-up : (text left front : List ℕ) → LosesCurs text left
     → (components left ≡ components front ++ up ∷ []) × IsFront left front → IsEnd text front None left
 IsEnd-up text left front h (last, cut) =
-    record { popped = IsPopped-front text left front up h refl last cut; named = sym (last_name-at text left front up h refl last); placed = tt }
+    record {
+      popped = IsPopped-front text left front up h refl last cut;
+      named = sym (last_name-at text left front up h refl last);
+      placed = tt;
+    }
 
 pub IsEnd-name : (text left front : List ℕ) (n : Bor (List ℕ)) → LosesCurs text left
     → (components left ≡ components front ++ name n.now ∷ []) × IsFront left front → IsEnd text front (Some n) left
@@ -231,7 +241,8 @@ IsCharBoundary-after front (Some e) =
           (dot ∷ e.now),
     )) (let at = get_or_at front dot e.now 0 (length front) refl in omega (arith, at))
 
-module _ (through head n stem : List ℕ) (extension : Option (Bor (List ℕ))) (placed : through ≡ head ++ n) (joined : IsJoined n stem extension) where
+module _ (through head n stem : List ℕ) (extension : Option (Bor (List ℕ))) (placed : through ≡ head ++ n)
+    (joined : IsJoined n stem extension) where
   whole : through ≡ (head ++ stem) ++ after_stem extension
   whole =
       placed ∙ ap (λ x. head ++ x) (IsJoined-after n stem extension joined)
@@ -334,4 +345,9 @@ ExceedsRoom-named text f base room len is count longer = record {
 pub ExceedsRoom-extended : (text e extended : List ℕ) (room len : ℕ) → IsExtended text e extended
     → len ≡ length extended → room < len → ExceedsRoom (IsExtended text e) room
 ExceedsRoom-extended text e extended room len is count longer =
-    record { text = extended; holds = is; only = λ other is_other. IsExtended-unique text e other extended is_other is; longer = omega arith }
+    record {
+      text = extended;
+      holds = is;
+      only = λ other is_other. IsExtended-unique text e other extended is_other is;
+      longer = omega arith;
+    }

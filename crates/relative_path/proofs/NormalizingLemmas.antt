@@ -62,7 +62,11 @@ IsNormalText-nil = record { spelled = sym (ap spell components-nil); normal = rw
 pub Normalizes-start : (text : List ℕ) → Normalizes (components text) (length text) [] (components text)
 Normalizes-start text =
     let whole : components [] ++ components text ≡ components text = ap (λ cs. cs ++ components text) components-nil in
-    record { normal_text = IsNormalText-nil; same = rw whole (IsSame-refl (components text)); fits = rw whole (length-spell-components text) }
+    record {
+      normal_text = IsNormalText-nil;
+      same = rw whole (IsSame-refl (components text));
+      fits = rw whole (length-spell-components text);
+    }
 
 Normalizes-cur : (source : List Step) (limit : ℕ) (text : List ℕ) (left : List Step)
     → Normalizes source limit text (cur ∷ left) → Normalizes source limit text left
@@ -104,7 +108,10 @@ Normalizes-push source limit text c left h proper normal =
     sym (append_assoc (components text) (c ∷ []) left) ∙ ap (λ cs. cs ++ left) (sym pushes) in
     record {
       normal_text =
-          record { spelled = spell-pushed text c h.normal_text.spelled proper ∙ ap spell (sym pushes); normal = rw pushes normal };
+          record {
+            spelled = spell-pushed text c h.normal_text.spelled proper ∙ ap spell (sym pushes);
+            normal = rw pushes normal;
+          };
       same = rw (← joined) h.same;
       fits = rw (← joined) h.fits;
     }
@@ -140,7 +147,10 @@ Normalizes-pop source limit text popped cs n left h last pops =
     ap (λ ds. ds ++ up ∷ left) last ∙ append_assoc cs (name n ∷ []) (up ∷ left) in
     record {
       normal_text =
-          record { spelled = spelled ∙ ap spell (sym cut.same_components); normal = rw cut.same_components (IsNormal-front cs (name n) (subst IsNormal last h.normal_text.normal)) };
+          record {
+            spelled = spelled ∙ ap spell (sym cut.same_components);
+            normal = rw cut.same_components (IsNormal-front cs (name n) (subst IsNormal last h.normal_text.normal));
+          };
       same =
           rw cut.same_components
           (IsSame-trans _ _ _ (subst (IsSame source) left_over h.same) (IsSame-name_up cs left n));
@@ -236,7 +246,8 @@ pub IsNormal-push_up : (cs : List Step) → IsNormal cs → ((ds : List Step) (n
     → IsNormal (cs ++ up ∷ [])
 IsNormal-push_up cs normal other = elim (last_view cs) [
   | inl none ↦ rw none tt
-  | inr (ds, c, joined) ↦ rw joined (push_up ds c (subst IsNormal joined normal) (λ n e. other ds n (joined ∙ ap (λ d. ds ++ d ∷ []) e)))
+  | inr (ds, c, joined) ↦
+      rw joined (push_up ds c (subst IsNormal joined normal) (λ n e. other ds n (joined ∙ ap (λ d. ds ++ d ∷ []) e)))
 ]
   where
     push_up : (ds : List Step) (c : Step) → IsNormal (ds ++ c ∷ []) → ((n : List ℕ) → c ≢ name n)

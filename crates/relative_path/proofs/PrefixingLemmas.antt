@@ -94,7 +94,8 @@ pub record AgreesBack (cs child left child_left : List Step) : Type 0 where
   pub joined : cs ≡ left ++ taken
   pub child_joined : child ≡ child_left ++ taken
 
-module _ {cs child child_left : List Step} {left : List ℕ} (h : AgreesBack cs child (components left) child_left) (c : Component) (child_front : List Step) {front : List ℕ} where
+module _ {cs child child_left : List Step} {left : List ℕ} (h : AgreesBack cs child (components left) child_left)
+    (c : Component) (child_front : List Step) {front : List ℕ} where
   -- the next component from the back is the same
   pub AgreesBack-taken : (t : Option Component)
       → TakesLast left t front → child_left ≡ child_front ++ step_of c ∷ [] → is_other t c ≡ false

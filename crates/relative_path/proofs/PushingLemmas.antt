@@ -33,7 +33,8 @@ length-pushed_all-le text [] = omega arith
 length-pushed_all-le text (p ∷ ps) = omega (arith, length-pushed-le text p, length-pushed_all-le (pushed text p) ps)
 
 -- where some were pushed, and the room is too short for the next one
-module _ (old new : Buffer) (front : List (List ℕ)) (path : List ℕ) (more texts : List (List ℕ)) (joined : texts ≡ (front ++ path ∷ []) ++ more) (text : new.text ≡ pushed_all old.text front) where
+module _ (old new : Buffer) (front : List (List ℕ)) (path : List ℕ) (more texts : List (List ℕ))
+    (joined : texts ≡ (front ++ path ∷ []) ++ more) (text : new.text ≡ pushed_all old.text front) where
   count : length (front ++ path ∷ []) ≡ length front + 1
   count = omega (arith, length-append front (path ∷ []))
 

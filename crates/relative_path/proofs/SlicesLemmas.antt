@@ -109,11 +109,17 @@ pub record IsSuffix (text r : List ℕ) : Type 0 where
 
 pub IsSuffix-from : {text r : List ℕ} → r ≡ drop (length text - length r) text → IsSuffix text r
 IsSuffix-from {text} {r} e =
-    record { front = take (length text - length r) text; joined = sym (ap (λ x. take (length text - length r) text ++ x) e ∙ take-append-drop (length text - length r) text) }
+    record {
+      front = take (length text - length r) text;
+      joined = sym (ap (λ x. take (length text - length r) text ++ x) e ∙ take-append-drop (length text - length r) text);
+    }
 
 pub IsSuffix-drop : {text r : List ℕ} → IsSuffix text r → r ≡ drop (length text - length r) text
 IsSuffix-drop {text} {r} h = sym (end_rest text r h.front h.joined)
 
 pub IsSuffix-trans : {text q r : List ℕ} → IsSuffix text q → IsSuffix q r → IsSuffix text r
 IsSuffix-trans {text} {q} {r} h i =
-    record { front = h.front ++ i.front; joined = h.joined ∙ ap (λ x. h.front ++ x) i.joined ∙ sym (append_assoc h.front i.front r) }
+    record {
+      front = h.front ++ i.front;
+      joined = h.joined ∙ ap (λ x. h.front ++ x) i.joined ∙ sym (append_assoc h.front i.front r);
+    }

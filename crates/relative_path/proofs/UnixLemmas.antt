@@ -33,7 +33,8 @@ components-before : (front : List ℕ)
     × ((rest : List ℕ) → components (front ++ rest) ≡ cs ++ components (x ++ rest))
 components-before front = elim (last_slash front) [
   | inl none ↦ ([], front, none, λ rest. refl)
-  | inr (xs, ys, joined, none) ↦ (components xs, ys, none, λ rest. ap (λ t. components (t ++ rest)) joined ∙ ap components (append_assoc xs (slash ∷ ys) rest) ∙ components-append xs (ys ++ rest))
+  | inr (xs, ys, joined, none) ↦
+      (components xs, ys, none, λ rest. ap (λ t. components (t ++ rest)) joined ∙ ap components (append_assoc xs (slash ∷ ys) rest) ∙ components-append xs (ys ++ rest))
 ]
 
 -- whatever stands before a text, only its first piece can change
@@ -42,7 +43,8 @@ components-behind : (rest : List ℕ)
     × ((front : List ℕ) → components (front ++ rest) ≡ components (front ++ y) ++ cs)
 components-behind rest = elim (first_slash rest) [
   | inl none ↦ ([], rest, none, λ front. sym (append-nil (components (front ++ rest))))
-  | inr (xs, ys, joined, none) ↦ (components ys, xs, none, λ front. ap (λ t. components (front ++ t)) joined ∙ ap components (sym (append_assoc front xs (slash ∷ ys))) ∙ components-append (front ++ xs) ys)
+  | inr (xs, ys, joined, none) ↦
+      (components ys, xs, none, λ front. ap (λ t. components (front ++ t)) joined ∙ ap components (sym (append_assoc front xs (slash ∷ ys))) ∙ components-append (front ++ xs) ys)
 ]
 
 HasNoSlash-append : (x y : List ℕ) → HasNoSlash x → HasNoSlash y → HasNoSlash (x ++ y)
@@ -139,7 +141,8 @@ shorter-counted rooted front rest nonempty end last = λ same. elim (continues f
         same ∙ counted_first rooted' (classed (x ++ y)) ds long in
         ⊎_elim
         (λ none. absurd (omega (arith, ap length (sym none ∙ kept))))
-        (λ one. let texts : x ≡ x ++ y = sym (step_text-classed x) ∙ ap step_text (head_same (sym one ∙ kept)) ∙ step_text-classed (x ++ y) in absurd (omega (arith, ap length texts, length-append x y)))
+        (λ one. let texts : x ≡ x ++ y = sym (step_text-classed x) ∙ ap step_text (head_same (sym one ∙ kept))
+        ∙ step_text-classed (x ++ y) in absurd (omega (arith, ap length texts, length-append x y)))
         (counted_alone rooted' (classed x))
 
     added : (ds : List Step) → components (front ++ rest) ≡ components front ++ ds
@@ -218,7 +221,9 @@ pub IsIdleFree-from : {rooted rooted' : Bool} {text text' left : List ℕ} → r
 IsIdleFree-from roots texts front end same last =
     rw (← roots, ← texts) (record { prefix = record { front = front }; end = end; same = same }, last)
 
-module _ (text end front parent : List ℕ) (taken : Option Component) (some : is_some taken ≡ true) (trimmed : IsIdleFree (has_root text) text end) (takes : TakesLast end taken front) (trimmed' : IsIdleFree (has_root text) front parent) where
+module _ (text end front parent : List ℕ) (taken : Option Component) (some : is_some taken ≡ true)
+    (trimmed : IsIdleFree (has_root text) text end) (takes : TakesLast end taken front)
+    (trimmed' : IsIdleFree (has_root text) front parent) where
   prefix : IsPrefix text parent
   prefix = IsPrefix-trans trimmed.0.prefix (IsPrefix-trans (IsPrefix-shortest takes.1) trimmed'.0.prefix)
 

@@ -18,7 +18,12 @@ returns-in-Some c =
 pub returns-in_default : goal.returns-in_default
 returns-in_default c =
     let split : IsSplit c.args.name.now c.args.name.now None = elim c.in_default.branch [
-      | in_default-via-in-Some+else-not-is_empty w ↦ let found = rsplit_once_parts dot c.args.name.now (Some (w.in-Some.stem, w.in-Some.extension)) w.in-Some.ensures.cases (lit< tt) in IsSplit-leading_dot _ w.in-Some.stem.now _ found (eqb-true _ 0 (sym w.is_empty.ensures ∙ w.if-not-is_empty.false))
-      | in_default-via-in_default w ↦ IsSplit-no_dot _ (rsplit_once_parts dot c.args.name.now None w.in_default.ensures.cases (lit< tt))
+      | in_default-via-in-Some+else-not-is_empty w ↦
+          let found = rsplit_once_parts dot c.args.name.now
+          (Some (w.in-Some.stem, w.in-Some.extension)) w.in-Some.ensures.cases
+          (lit< tt) in IsSplit-leading_dot _ w.in-Some.stem.now _ found
+          (eqb-true _ 0 (sym w.is_empty.ensures ∙ w.if-not-is_empty.false))
+      | in_default-via-in_default w ↦
+          IsSplit-no_dot _ (rsplit_once_parts dot c.args.name.now None w.in_default.ensures.cases (lit< tt))
     ] in
     record { stem = sym split.stem_is; extension = sym split.extension_is; joined = refl }

@@ -41,4 +41,9 @@ returns-in-Normal c =
     let f : Follows text (step_of c.args.component) c.push_reserved-in-Normal.new.self.text =
     rw (c.push_reserved-in-Normal.ensures.text, c.new-in-Normal.ensures, c.in-Normal.is)
     (Follows-push text c.requires.normal _ (rw c.in-Normal.is at alone) ends) in
-    record { normal = f.normal_text; same = f.same; no_longer = f.no_longer; room = c.push_reserved-in-Normal.ensures.room }
+    record {
+      normal = f.normal_text;
+      same = f.same;
+      no_longer = f.no_longer;
+      room = c.push_reserved-in-Normal.ensures.room;
+    }

@@ -27,6 +27,7 @@ returns-else-rooted c =
     let parent = c.as_str-parent.ensures in
     rw parent
     (IsAbove-parent _ _ _ _ c.next_back.result c.if-is_none.ensures trimmed takes trimmed' (elim c.else-rooted.branch [
-      | else-rooted-via-then-rooted+else-is_empty w ↦ inr (λ none. eqb-false _ 0 (sym w.if-is_empty.ensures) (ap length parent ∙ none))
+      | else-rooted-via-then-rooted+else-is_empty w ↦
+          inr (λ none. eqb-false _ 0 (sym w.if-is_empty.ensures) (ap length parent ∙ none))
       | else-rooted-via-else-rooted w ↦ inl (sym w.if-rooted.ensures)
     ]))

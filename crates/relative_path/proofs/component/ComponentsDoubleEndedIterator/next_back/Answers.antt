@@ -10,4 +10,7 @@ returns c =
     TakesLast-from _ _ _ _ _
     (record { prefix = record { front = trim.prefix }; end = trim.end; same = trim.same }) c.split_last.ensures.piece
     (record { prefix = record { front = trim'.prefix }; end = trim'.end; same = trim'.same }) c.component_of.result c.split_last.ensures.joined c.component_of.ensures in
-    record { steps = last; goes = MakesProgress-TakesLast c.args.self.now (record { text = c.without_trailing_slashes-self.result }) _ last }
+    record {
+      steps = last;
+      goes = MakesProgress-TakesLast c.args.self.now (record { text = c.without_trailing_slashes-self.result }) _ last;
+    }

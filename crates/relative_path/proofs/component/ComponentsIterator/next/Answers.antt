@@ -11,4 +11,7 @@ returns c =
     TakesFirst-from _ _ _ _ _
     (record { suffix = IsSuffix-from trim.suffix; start = trim.start; same = trim.same }) c.split_first.ensures.piece
     (record { suffix = IsSuffix-from trim'.suffix; start = trim'.start; same = trim'.same }) c.component_of.result c.split_first.ensures.joined c.component_of.ensures in
-    record { steps = first; goes = MakesProgress-TakesFirst c.args.self.now (record { text = c.without_leading_slashes-self.result }) _ first }
+    record {
+      steps = first;
+      goes = MakesProgress-TakesFirst c.args.self.now (record { text = c.without_leading_slashes-self.result }) _ first;
+    }
