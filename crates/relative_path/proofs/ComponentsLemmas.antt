@@ -57,8 +57,10 @@ module _ (text trimmed piece rest left : List ℕ) (trim : IsTrimmedStart text t
       → (components text ≡ []) × (left ≡ [])
   first_none (inl joined) empty =
       absurd (trim.start (ap (λ x. get_or x 0 0) (joined ∙ ap (λ x. x ++ slash ∷ rest) empty)))
-  first_none (inr (joined, none)) empty =
-      (sym trim.same ∙ ap components (joined ∙ empty) ∙ components-nil, nil_from_suffix left (subst (λ x. IsSuffix x left) none trim'.suffix))
+  first_none (inr (joined, none)) empty = (
+    sym trim.same ∙ ap components (joined ∙ empty) ∙ components-nil,
+    nil_from_suffix left (subst (λ x. IsSuffix x left) none trim'.suffix),
+  )
 
   first_components : (trimmed ≡ piece ++ slash ∷ rest) ⊎ ((trimmed ≡ piece) × (rest ≡ [])) → piece ≢ []
       → components text ≡ classed piece ∷ components left
@@ -112,8 +114,10 @@ module _ (text trimmed piece front left : List ℕ) (trim : IsTrimmedEnd text tr
   last_none (inl joined) empty =
       let ended = joined ∙ ap (λ x. front ++ slash ∷ x) empty in
       absurd (trim.end (ap (λ x. get_or x (length x - 1) 0) ended ∙ ends_in_slash front))
-  last_none (inr (joined, none)) empty =
-      (sym trim.same ∙ ap components (joined ∙ empty) ∙ components-nil, nil_from_prefix left (subst (λ x. IsPrefix x left) none trim'.prefix))
+  last_none (inr (joined, none)) empty = (
+    sym trim.same ∙ ap components (joined ∙ empty) ∙ components-nil,
+    nil_from_prefix left (subst (λ x. IsPrefix x left) none trim'.prefix),
+  )
 
   last_components : (trimmed ≡ front ++ slash ∷ piece) ⊎ ((trimmed ≡ piece) × (front ≡ [])) → piece ≢ []
       → components text ≡ components left ++ classed piece ∷ []
@@ -139,8 +143,11 @@ module _ (text trimmed piece front left : List ℕ) (trim : IsTrimmedEnd text tr
       omega (arith, ap length cs, length-append (components left) (classed piece ∷ [])) in
       let firsts =
       sym
-      (ap (take (length (components left))) cs ∙ take_at (components left) (classed piece ∷ []) (length (components left)) refl) in
-      (cs ∙ ap (λ d. components left ++ d ∷ []) (sym is), IsShortestPrefix-from (IsPrefix-trans trim.prefix (IsPrefix-trans (front_prefix split) trim'.prefix)) (firsts ∙ ap (λ n. take n (components text)) counted) trim'.end)
+      (ap (take (length (components left))) cs ∙ take_at (components left) (classed piece ∷ []) (length (components left)) refl) in (
+        cs ∙ ap (λ d. components left ++ d ∷ []) (sym is),
+        IsShortestPrefix-from (IsPrefix-trans trim.prefix (IsPrefix-trans (front_prefix split) trim'.prefix))
+            (firsts ∙ ap (λ n. take n (components text)) counted) trim'.end,
+      )
 
 -- ---- what follows of the lists of components, and that the walk ends
 

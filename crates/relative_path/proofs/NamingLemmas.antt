@@ -132,8 +132,11 @@ ends_in_last text cs c end last = elim (last_slash text) [
       let parts =
       ap components joined ∙ components-append xs (b ∷ bs)
       ∙ ap (λ ds. components xs ++ ds) (components_whole (b ∷ bs) (omega arith) none) in
-      let same = last_same cs (components xs) c (classed (b ∷ bs)) (sym last ∙ parts) in
-      (xs ++ slash ∷ [], joined ∙ sym (append_assoc xs (slash ∷ []) (b ∷ bs)) ∙ ap (λ x. (xs ++ slash ∷ []) ++ x) (sym (step_text-classed (b ∷ bs)) ∙ ap step_text (sym same)))
+      let same = last_same cs (components xs) c (classed (b ∷ bs)) (sym last ∙ parts) in (
+        xs ++ slash ∷ [],
+        joined ∙ sym (append_assoc xs (slash ∷ []) (b ∷ bs))
+            ∙ ap (λ x. (xs ++ slash ∷ []) ++ x) (sym (step_text-classed (b ∷ bs)) ∙ ap step_text (sym same)),
+      )
 ]
   where
     whole : (bs : List ℕ) → HasNoSlash bs → components bs ≡ cs ++ c ∷ [] → bs ≡ step_text c

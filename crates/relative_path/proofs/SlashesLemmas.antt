@@ -78,8 +78,10 @@ pub IsSplitFirst-split_once : (text : List ℕ) (r : Option (Bor (List ℕ) × B
     → whole.now ≡ text → nothing.now ≡ []
     → MatchOption r (FindsChar slash text None) (λ x. SplitsAroundMatch (FindsChar slash) text x.0.now x.1.now)
     → IsSplitFirst text (unwrap_or r (whole, nothing))
-IsSplitFirst-split_once text None whole nothing all none found =
-    (rw all (All-from_get_or (λ b. b ≢ slash) text 0 (λ i h. NoCharPasses-char slash text i found (lit< tt) h)), inr (sym all, none))
+IsSplitFirst-split_once text None whole nothing all none found = (
+  rw all (All-from_get_or (λ b. b ≢ slash) text 0 (λ i h. NoCharPasses-char slash text i found (lit< tt) h)),
+  inr (sym all, none),
+)
 IsSplitFirst-split_once text (Some parts) whole nothing all none found =
     let split = split_parts slash text (Some parts) found (lit< tt) in
     (All-from_get_or (λ b. b ≢ slash) parts.0.now 0 split.1, inl split.0)

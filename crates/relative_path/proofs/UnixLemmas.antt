@@ -33,8 +33,13 @@ components-before : (front : List ℕ)
     × ((rest : List ℕ) → components (front ++ rest) ≡ cs ++ components (x ++ rest))
 components-before front = elim (last_slash front) [
   | inl none ↦ ([], front, none, λ rest. refl)
-  | inr (xs, ys, joined, none) ↦
-      (components xs, ys, none, λ rest. ap (λ t. components (t ++ rest)) joined ∙ ap components (append_assoc xs (slash ∷ ys) rest) ∙ components-append xs (ys ++ rest))
+  | inr (xs, ys, joined, none) ↦ (
+    components xs,
+    ys,
+    none,
+    λ rest. ap (λ t. components (t ++ rest)) joined ∙ ap components (append_assoc xs (slash ∷ ys) rest)
+        ∙ components-append xs (ys ++ rest),
+  )
 ]
 
 -- whatever stands before a text, only its first piece can change
@@ -43,8 +48,13 @@ components-behind : (rest : List ℕ)
     × ((front : List ℕ) → components (front ++ rest) ≡ components (front ++ y) ++ cs)
 components-behind rest = elim (first_slash rest) [
   | inl none ↦ ([], rest, none, λ front. sym (append-nil (components (front ++ rest))))
-  | inr (xs, ys, joined, none) ↦
-      (components ys, xs, none, λ front. ap (λ t. components (front ++ t)) joined ∙ ap components (sym (append_assoc front xs (slash ∷ ys))) ∙ components-append (front ++ xs) ys)
+  | inr (xs, ys, joined, none) ↦ (
+    components ys,
+    xs,
+    none,
+    λ front. ap (λ t. components (front ++ t)) joined ∙ ap components (sym (append_assoc front xs (slash ∷ ys)))
+        ∙ components-append (front ++ xs) ys,
+  )
 ]
 
 HasNoSlash-append : (x y : List ℕ) → HasNoSlash x → HasNoSlash y → HasNoSlash (x ++ y)

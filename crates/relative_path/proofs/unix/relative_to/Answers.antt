@@ -36,8 +36,12 @@ returns-clause-ok c =
     let own_root =
     c.without_shared.ensures.root ∙ ap₂ (λ cs ds. drop (shared_len cs ds) ds) c.new.ensures c.new-2.ensures in
     let way = way_to-from c.args.path.now c.args.root.now _ _ depth.0 own_path own_root depth.1 in
-    let climbed = ap components c.in_ok-answer.ensures.text ∙ components-climb c.in_ok-climb.climb in
-    (_, way, c.push_each.ensures ∙ ap (λ cs. spell (cs ++ unix_left c.without_shared.result.0)) climbed ∙ ap (λ n. spell (replicate n up ++ unix_left c.without_shared.result.0)) depth.2)
+    let climbed = ap components c.in_ok-answer.ensures.text ∙ components-climb c.in_ok-climb.climb in (
+      _,
+      way,
+      c.push_each.ensures ∙ ap (λ cs. spell (cs ++ unix_left c.without_shared.result.0)) climbed
+          ∙ ap (λ n. spell (replicate n up ++ unix_left c.without_shared.result.0)) depth.2,
+    )
 
 pub returns-clause-leads : goal.returns-clause-leads
 returns-clause-leads c =

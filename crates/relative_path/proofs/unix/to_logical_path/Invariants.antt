@@ -9,4 +9,5 @@ use Rattle.relative_path.proofs.unix.to_logical_path.Given as goal
 abbrev pub invariant-loop-component : goal.invariant-loop-component
 invariant-loop-component l =
     let left = components_left l.component-iterator in
-    ((end : List ℕ) → IsLogical (string_bytes l.text) left end → IsLogical l.fn.base (path_components l.fn.path) end) × (length (string_bytes l.text) + padded_len left ≤ string_capacity l.text)
+    ((end : List ℕ) → IsLogical (string_bytes l.text) left end → IsLogical l.fn.base (path_components l.fn.path) end)
+    × (length (string_bytes l.text) + padded_len left ≤ string_capacity l.text)

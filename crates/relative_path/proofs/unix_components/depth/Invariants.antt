@@ -5,4 +5,6 @@ use Rattle.relative_path.proofs.unix_components.depth.Given as goal
 
 abbrev pub invariant-loop-component : goal.invariant-loop-component
 invariant-loop-component l =
-    (place : List (List ℕ)) × (l.depth ≡ length place) × (walk [] (unix_left l.fn.left) ≡ walk place (unix_left l.component-iterator)) × (l.depth + length (unix_left l.component-iterator) ≤ length (unix_left l.fn.left))
+    (place : List (List ℕ)) × (l.depth ≡ length place)
+    × (walk [] (unix_left l.fn.left) ≡ walk place (unix_left l.component-iterator))
+    × (l.depth + length (unix_left l.component-iterator) ≤ length (unix_left l.fn.left))

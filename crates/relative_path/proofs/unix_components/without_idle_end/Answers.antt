@@ -11,8 +11,11 @@ returns-then-ne-clause-last c =
     (LastCounts-taken _ _ _ c.next_back-last.result c.next_back-last.ensures.steps (elim c.then-ne.branch [
       | then-ne-via-then-ne w ↦ inl (not-true _ (sym w.if-ne.ensures))
       | then-ne-via-else-ne+then-not-rooted w ↦
-          inr
-          (sym c.as_relative_path.ensures ∙ sym c.as_str-in-loop-components.ensures ∙ nil_from_length _ (eqb-true _ 0 (sym c.is_empty-is_first.ensures ∙ w.if-not-rooted.true.0)), w.if-not-rooted.true.1)
+          inr (
+            sym c.as_relative_path.ensures ∙ sym c.as_str-in-loop-components.ensures
+                ∙ nil_from_length _ (eqb-true _ 0 (sym c.is_empty-is_first.ensures ∙ w.if-not-rooted.true.0)),
+            w.if-not-rooted.true.1,
+          )
     ]))
 
 pub loop-components-preserved : goal.loop-components-preserved
