@@ -172,7 +172,8 @@ pub YieldsList-components : (s : Components) (text : List ℕ) → text_left s �
     → YieldsList (λ s taken t. TakesFirst (text_left s) taken (text_left t)) step_of s (components text)
 YieldsList-components s text same =
     subst (λ x. YieldsList (λ s taken t. TakesFirst (text_left s) taken (text_left t)) step_of s (components x)) same
-    (YieldsList-from_shown (λ s taken t. TakesFirst (text_left s) taken (text_left t)) step_of components_left (λ s t taken. ap length taken.0) (λ s c t taken. taken.0) s)
+    (YieldsList-from_shown (λ s taken t. TakesFirst (text_left s) taken (text_left t))
+    step_of components_left (λ s t taken. ap length taken.0) (λ s c t taken. taken.0) s)
 
 -- a call of `next` of a walk, and of an `Iter`
 abbrev walk_steps : Components → Option Component → Components → Type 0

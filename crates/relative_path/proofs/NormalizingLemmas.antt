@@ -84,7 +84,8 @@ pushed-spell cs c propers proper = ap (λ x. with_separator (spell cs) ++ x) sol
     solid : unslashed (step_text c) ≡ step_text c
     solid =
         unslashed-solid (step_text c)
-        (subst (λ x. get_or x 0 0 ≢ slash) (append-nil (step_text c)) (HasNoSlash-start (step_text c) [] (nonempty_proper c proper) (HasNoSlash-proper c proper)))
+        (subst (λ x. get_or x 0 0 ≢ slash) (append-nil (step_text c))
+        (HasNoSlash-start (step_text c) [] (nonempty_proper c proper) (HasNoSlash-proper c proper)))
 
     behind : (ds : List Step) → AreProper ds → with_separator (spell ds) ++ step_text c ≡ spell (ds ++ c ∷ [])
     behind [] h = refl
@@ -226,7 +227,8 @@ Normalizes-end source limit text left h none =
         only = λ other normal leads.
             normal.spelled
             ∙ ap spell
-            (normal_unique (components other) (components text) normal.normal h.normal_text.normal (IsSame-trans _ _ _ (IsSame-sym _ _ leads) same))
+            (normal_unique (components other) (components text) normal.normal h.normal_text.normal
+            (IsSame-trans _ _ _ (IsSame-sym _ _ leads) same))
             ∙ sym h.normal_text.spelled;
       },
       let e = ap length h.normal_text.spelled in omega arith,

@@ -71,7 +71,8 @@ pub step_text-classed : (p : List ℕ) → step_text (classed p) ≡ p
 step_text-classed p =
     cond_both (bytes_eq p (dot ∷ [])) cur (cond (bytes_eq p (dot ∷ dot ∷ [])) up (name p)) (λ c. step_text c ≡ p)
     (λ e. sym ((bytes_eq-Decides p (dot ∷ [])).0 e))
-    (λ _. cond_both (bytes_eq p (dot ∷ dot ∷ [])) up (name p) (λ c. step_text c ≡ p) (λ e. sym ((bytes_eq-Decides p (dot ∷ dot ∷ [])).0 e)) (λ _. refl))
+    (λ _. cond_both (bytes_eq p (dot ∷ dot ∷ [])) up (name p) (λ c. step_text c ≡ p)
+    (λ e. sym ((bytes_eq-Decides p (dot ∷ dot ∷ [])).0 e)) (λ _. refl))
 
 -- ---- what a component is: its own text has it alone
 
@@ -109,7 +110,8 @@ parts_len-slice_split [] = refl
 parts_len-slice_split (b ∷ bs) =
     ⊎_elim
     (λ e. rw (cond-true (is_slash b) _ _ e, cond-true (is_slash b) _ _ e) (omega (arith, parts_len-slice_split bs)))
-    (λ e. rw (cond-false (is_slash b) _ _ e, cond-false (is_slash b) _ _ e) (omega (arith, parts_len-onto_first b (slice_split is_slash bs), parts_len-slice_split bs)))
+    (λ e. rw (cond-false (is_slash b) _ _ e, cond-false (is_slash b) _ _ e)
+    (omega (arith, parts_len-onto_first b (slice_split is_slash bs), parts_len-slice_split bs)))
     (cases_Bool (is_slash b))
 
 pub parts_len-filter : (ps : List (List ℕ)) → parts_len (filter is_not_empty ps) ≡ parts_len ps
@@ -217,7 +219,11 @@ HasNoSlash-from_solid [] solid = tt
 HasNoSlash-from_solid (b ∷ bs) solid =
     ⊎_elim
     (λ e. absurd (let h = rw (cond-true (is_slash b) (solid_len bs) (suc (solid_len bs)) e) at solid in omega (arith, h, solid_len_le bs)))
-    (λ e. (e, HasNoSlash-from_solid bs (let h = rw (cond-false (is_slash b) (solid_len bs) (suc (solid_len bs)) e) at solid in omega (arith, h))))
+    (λ e. (
+      e,
+      HasNoSlash-from_solid bs
+          (let h = rw (cond-false (is_slash b) (solid_len bs) (suc (solid_len bs)) e) at solid in omega (arith, h)),
+    ))
     (cases_Bool (is_slash b))
 
 -- the text of a proper component has no slash

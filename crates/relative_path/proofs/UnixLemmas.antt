@@ -199,8 +199,16 @@ counted-front rooted cs c last =
     let fewer = rw (but_last-push cs c) at (last some) in
     let whole = counted-append rooted cs (c ∷ []) in
     ⊎_elim
-    (λ none. absurd (omega (arith, ap length whole, ap length none, length-append (counted rooted cs) (counted (after rooted cs) (c ∷ [])))))
-    (λ one. (sym (ap but_last (whole ∙ ap (λ ds. counted rooted cs ++ ds) one) ∙ but_last-push (counted rooted cs) c), λ none. omega (arith, ap length none)))
+    (λ none. absurd (omega (
+      arith,
+      ap length whole,
+      ap length none,
+      length-append (counted rooted cs) (counted (after rooted cs) (c ∷ [])),
+    )))
+    (λ one. (
+      sym (ap but_last (whole ∙ ap (λ ds. counted rooted cs ++ ds) one) ∙ but_last-push (counted rooted cs) c),
+      λ none. omega (arith, ap length none),
+    ))
     (counted_alone (after rooted cs) c)
 
 -- the shortest prefix, where it is not the root alone
@@ -279,7 +287,8 @@ module _ (text end front parent : List ℕ) (taken : Option Component) (some : i
         ap (counted true) (components-slash [] ∙ ap components (sym empty))
         ∙ ap (λ r. counted r (components parent)) (sym rooted) ∙ trimmed'.0.same ∙ fronts.0;
     shortest =
-        λ _ k root _. ⊎_elim (λ none. absurd (true≢false (sym rooted ∙ sym root ∙ ap (λ j. has_root (take j text)) none))) (λ some. some) (cases_zero k);
+        λ _ k root _. ⊎_elim (λ none. absurd (true≢false (sym rooted ∙ sym root ∙ ap (λ j. has_root (take j text)) none)))
+        (λ some. some) (cases_zero k);
   }
     where
       root : (bs : List ℕ) → has_root bs ≡ true → slash ∷ [] ≡ take 1 bs

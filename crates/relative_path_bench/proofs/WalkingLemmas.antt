@@ -8,7 +8,8 @@ use Rattle.relative_path_bench.specs.declared.walking.End.TheVariants.{Front, Ba
 use Rattle.relative_path_bench.specs.Walking.{TakesAt, TakesInTurn, firsts, lasts, IsTakenInTurn}
 
 -- one call more
-pub TakesInTurn-push : (text : List ℕ) (es : List End) (ts : List (Option Component)) (middle : List ℕ) (e : End) (t : Option Component) (left : List ℕ)
+pub TakesInTurn-push : (text : List ℕ) (es : List End) (ts : List (Option Component)) (middle : List ℕ)
+    (e : End) (t : Option Component) (left : List ℕ)
     → TakesInTurn text es ts middle → TakesAt e middle t left → TakesInTurn text (es ++ e ∷ []) (ts ++ t ∷ []) left
 TakesInTurn-push text [] [] middle e t left same takes = (left, subst (λ x. TakesAt e x t left) same takes, refl)
 TakesInTurn-push text [] (u ∷ ts) middle e t left none takes = absurd none

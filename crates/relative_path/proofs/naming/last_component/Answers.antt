@@ -14,7 +14,8 @@ loop-name-preserved c =
 pub returns-in-loop-name : goal.returns-in-loop-name
 returns-in-loop-name c =
     let left = c.loop-name.invariant in
-    let end : IsEnd (path_text c.args.path) (text_left c.next_back.new.self) c.match-next_back.name (text_left c.loop-name.components) = elim c.match-next_back.branch [
+    let end : IsEnd (path_text c.args.path) (text_left c.next_back.new.self) c.match-next_back.name
+    (text_left c.loop-name.components) = elim c.match-next_back.branch [
       | in-Some-Normal w ↦
           rw w.name-is (IsEnd-name _ _ _ _ left (rw w.in-Some-Normal.field-0-is at w.in-Some-Normal.ensures.steps))
       | in-Some-ParentDir w ↦

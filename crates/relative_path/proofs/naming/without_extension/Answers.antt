@@ -11,7 +11,8 @@ use Rattle.relative_path.proofs.naming.without_extension.Goals as goal
 pub range-requires-clause-end_boundary : goal.range-requires-clause-end_boundary
 range-requires-clause-end_boundary c =
     let placed = rw c.in_ok-name.was at c.last_component-end.ensures.up_to_end in
-    IsCharBoundary-stem _ placed.0 c.in_ok-name.name.now c.split_name.result.0.now c.split_name.result.1 placed.1 c.split_name.ensures.joined
+    IsCharBoundary-stem _ placed.0 c.in_ok-name.name.now
+    c.split_name.result.0.now c.split_name.result.1 placed.1 c.split_name.ensures.joined
 
 pub returns-clause-text : goal.returns-clause-text
 returns-clause-text c =

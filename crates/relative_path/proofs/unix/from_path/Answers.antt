@@ -13,7 +13,8 @@ push_each-requires-clause-spelled c =
 
 pub push_each-requires-clause-room : goal.push_each-requires-clause-room
 push_each-requires-clause-room c =
-    let written : components c.in_ok-path.path.text ++ unix_left c.without_curs-components.result ≡ without_curs (components c.args.text.now) =
+    let written : components c.in_ok-path.path.text ++ unix_left c.without_curs-components.result ≡
+    without_curs (components c.args.text.now) =
     ap₂
     (λ cs ds. cs ++ ds)
     (ap components c.in_ok-path.ensures.empty ∙ components-nil)
@@ -27,7 +28,8 @@ push_each-requires-clause-room c =
 
 pub returns-clause-ok : goal.returns-clause-ok
 returns-clause-ok c =
-    let written : components c.in_ok-path.path.text ++ unix_left c.without_curs-components.result ≡ without_curs (components c.args.text.now) =
+    let written : components c.in_ok-path.path.text ++ unix_left c.without_curs-components.result ≡
+    without_curs (components c.args.text.now) =
     ap₂
     (λ cs ds. cs ++ ds)
     (ap components c.in_ok-path.ensures.empty ∙ components-nil)

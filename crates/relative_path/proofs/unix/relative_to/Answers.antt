@@ -47,4 +47,5 @@ pub returns-clause-leads : goal.returns-clause-leads
 returns-clause-leads c =
     let found = returns-clause-ok c in
     subst (λ text. IsSame
-    (unix_components c.args.root.now ++ components text) (unix_components c.args.path.now)) (sym found.2) (IsSame-way c.args.path.now c.args.root.now found.0 found.1)
+    (unix_components c.args.root.now ++ components text) (unix_components c.args.path.now)) (sym found.2)
+    (IsSame-way c.args.path.now c.args.root.now found.0 found.1)

@@ -22,6 +22,7 @@ pub loop-components-preserved : goal.loop-components-preserved
 loop-components-preserved c =
     let counts =
     ⊎_elim (λ h. inr h.1)
-    (λ e. inl (λ none. eqb-false _ 0 (sym c.is_empty-is_first.ensures ∙ e) (ap length (c.as_str-in-loop-components.ensures ∙ c.as_relative_path.ensures ∙ none)))) c.if-not-rooted.either in
+    (λ e. inl (λ none. eqb-false _ 0 (sym c.is_empty-is_first.ensures ∙ e)
+    (ap length (c.as_str-in-loop-components.ensures ∙ c.as_relative_path.ensures ∙ none)))) c.if-not-rooted.either in
     LosesIdle-cur _ _ _ _ c.next_back-last.result
     (not-false _ (sym c.if-ne.ensures)) c.loop-components.invariant c.next_back-last.ensures.steps counts

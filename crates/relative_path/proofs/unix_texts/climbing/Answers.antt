@@ -10,7 +10,11 @@ loop-init c =
     let nothing = ap components empty ∙ components-nil in
     let room = c.requires in
     let all : c.args.climb - 0 ≡ c.args.climb = omega arith in (
-      record { spelled = empty ∙ sym (ap spell nothing); joined = ap₂ (λ cs n. cs ++ replicate n up) nothing all; fits = omega (arith, room, c.in_ok-path.ensures.room) },
+      record {
+        spelled = empty ∙ sym (ap spell nothing);
+        joined = ap₂ (λ cs n. cs ++ replicate n up) nothing all;
+        fits = omega (arith, room, c.in_ok-path.ensures.room);
+      },
       omega (arith, c.in_ok-path.ensures.room),
     )
 

@@ -10,7 +10,8 @@ returns c =
     let first : TakesFirst c.args.self.now.text.now c.component_of.result c.without_leading_slashes-self.result.now =
     TakesFirst-from _ _ _ _ _
     (record { suffix = IsSuffix-from trim.suffix; start = trim.start; same = trim.same }) c.split_first.ensures.piece
-    (record { suffix = IsSuffix-from trim'.suffix; start = trim'.start; same = trim'.same }) c.component_of.result c.split_first.ensures.joined c.component_of.ensures in
+    (record { suffix = IsSuffix-from trim'.suffix; start = trim'.start; same = trim'.same })
+    c.component_of.result c.split_first.ensures.joined c.component_of.ensures in
     record {
       steps = first;
       goes = MakesProgress-TakesFirst c.args.self.now (record { text = c.without_leading_slashes-self.result }) _ first;
