@@ -196,6 +196,7 @@ impl<'a> Iterator for Components<'a> {
     ghost remaining = { item_count components_left };
 
     /// The first component of the text that is left.
+    #[inline]
     fn next(&mut self) -> Option<Component<'a>> {
         let (piece, rest) = split_first(without_leading_slashes(self.text));
         self.text = without_leading_slashes(rest);
@@ -207,6 +208,7 @@ impl<'a> DoubleEndedIterator for Components<'a> {
     ghost next_back_gives = { λ s taken t. TakesLast (text_left s) taken (text_left t) };
 
     /// The last component of the text that is left.
+    #[inline]
     fn next_back(&mut self) -> Option<Component<'a>> {
         let (front, piece) = split_last(without_trailing_slashes(self.text));
         self.text = without_trailing_slashes(front);
@@ -272,14 +274,15 @@ impl<'a> DoubleEndedIterator for Iter<'a> {
 }
 
 // The component that a piece of a text is; an empty piece is none.
+#[inline(always)]
 fn component_of(piece: &str) -> Option<Component<'_>>
     ensures { MatchOption result (piece.now ≡ [])
         (λ c. (piece.now ≢ []) × (step_of c ≡ classed piece.now)) }
 {
-    match piece {
-        "" => None,
-        "." => Some(Component::CurDir),
-        ".." => Some(Component::ParentDir),
-        name => Some(Component::Normal(name)),
+    match piece.as_bytes() {
+        [] => None,
+        [b'.'] => Some(Component::CurDir),
+        [b'.', b'.'] => Some(Component::ParentDir),
+        _ => Some(Component::Normal(piece)),
     }
 }
