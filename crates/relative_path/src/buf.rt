@@ -194,7 +194,9 @@ impl RelativePathBuf {
     ///
     /// ```
     /// let mut buf = RelativePathBuf::with_capacity(alloc, 3)?;
-    /// buf.push(RelativePath::new("foo"))?; // this asks for none
+    /// assert_eq!(rt; buf.spare(), 3);
+    /// buf.push(RelativePath::new("foo"))?;
+    /// assert_eq!(rt; buf.spare(), 0);
     /// ```
     pub fn spare(&self) -> usize
         ensures { length self.now.text + result ≡ self.now.room }

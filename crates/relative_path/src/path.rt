@@ -63,7 +63,7 @@ impl<'a> RelativePath<'a> {
     /// The path with this text, whatever the text is. It takes no memory.
     ///
     /// ```
-    /// let path = RelativePath::new("foo/bar");
+    /// assert_eq!(rt; RelativePath::new("foo/bar"), RelativePath::new("foo//bar"));
     /// ```
     pub fn new(text: &'a str) -> RelativePath<'a>
         ensures { path_text result ≡ text.now }
@@ -102,7 +102,7 @@ impl<'a> RelativePath<'a> {
     ///
     /// ```
     /// let display = RelativePath::new("foo/bar").display();
-    /// let text = format!(in alloc; "{display}")?; // foo/bar
+    /// assert_eq!(rt; format!(in alloc; "{display}")?.as_str(), "foo/bar");
     /// ```
     pub fn display(self) -> Display<'a>
         ensures { display_text result ≡ path_text self.entry }
@@ -657,7 +657,7 @@ impl fmt::Display for RelativePath<'_> {
 ///
 /// ```
 /// let display = RelativePath::new("foo").display();
-/// let text = format!(in alloc; "{display:>5}")?; //   foo
+/// assert_eq!(rt; format!(in alloc; "{display:>5}")?.as_str(), "  foo");
 /// ```
 #[derive(Clone, Copy)]
 pub struct Display<'a> {

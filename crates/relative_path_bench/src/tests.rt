@@ -1,5 +1,6 @@
 //! What no clause says: outside vectors in tables, and each call that takes memory once with enough of it.
 mod awkward;
+mod calling;
 mod comparing;
 mod decompositions;
 mod editing;

@@ -19,7 +19,7 @@ use std::fmt;
 /// ```
 /// let error = json::view_value(&Value::Null).unwrap_err();
 /// assert_eq!(rt; error, FromValueError::NotAString);
-/// let text = format!(in alloc; "{error}")?; // expected a relative path
+/// assert_eq!(rt; format!(in alloc; "{error}")?.as_str(), "expected a relative path");
 /// ```
 #[derive(Clone, Copy, Debug, PartialEq, Eq)]
 pub enum FromValueError {

@@ -18,7 +18,7 @@ use std::process::ExitCode;
 /// A fault prints its name.
 ///
 /// ```
-/// println!(rt; "relpath: {}", Fault::NotText)?; // relpath: NotText
+/// assert_eq!(rt; Fault::NotText.to_string(alloc)?.as_str(), "NotText");
 /// ```
 #[derive(Clone, Copy, Debug, PartialEq, Eq)]
 pub enum Fault {
@@ -81,8 +81,8 @@ impl From<AllocError> for Fault {
 ///
 /// ```
 /// let mut errors = Meter::new(Vec::new(alloc));
-/// let status = report(Err(Fault::NotText), &mut errors); // ExitCode::FAILURE
-/// let printed = errors.into_inner(); // "relpath: NotText\n"
+/// assert_eq!(rt; report(Err(Fault::NotText), &mut errors), ExitCode::FAILURE);
+/// assert_eq!(rt; errors.into_inner().as_slice(), b"relpath: NotText\n".as_slice());
 /// ```
 pub fn report<W: Write>(ended: Result<(), Fault>, errors: &mut Meter<W>) -> ExitCode
     requires { IsFresh errors.old }

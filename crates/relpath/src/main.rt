@@ -1,6 +1,6 @@
 //! `relpath`: answers commands on relative paths, a line for a line.
 //!
-//! ```text
+//! ```console
 //! $ printf 'normalize\ta/../b\n' | relpath
 //! = b
 //! ```

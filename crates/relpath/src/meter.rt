@@ -10,8 +10,8 @@ use std::io::{Read, Result, Write};
 /// ```
 /// let mut reader = Meter::new(b"a/b".as_slice());
 /// let mut buf = [0; 2];
-/// let taken = reader.read(&mut buf)?; // 2
-/// let calls = reader.calls(); // 1
+/// assert_eq!(rt; reader.read(&mut buf)?, 2);
+/// assert_eq!(rt; reader.calls(), 1);
 /// ```
 #[derive(Drop)]
 pub struct Meter<T> {

@@ -26,7 +26,8 @@ use std::fmt;
 /// A refusal prints its words.
 ///
 /// ```
-/// println!(rt; "{}", MoveError::NoFileName(3))?; // move 3 lacks a file name
+/// let refusal = MoveError::NoFileName(3);
+/// assert_eq!(rt; refusal.to_string(alloc)?.as_str(), "move 3 lacks a file name");
 /// ```
 #[derive(Clone, Copy, Debug, PartialEq, Eq)]
 pub enum MoveError {
@@ -83,7 +84,8 @@ impl From<AllocError> for MoveError {
 /// let page = (RelativePath::new("docs/a.md"), RelativePath::new("docs/sub/b.md"));
 /// let image = (RelativePath::new("img/x.png"), RelativePath::new("art/y.png"));
 /// let reference = RelativePath::new("../img/x.png");
-/// let moved = moved(alloc, &[page, image], 0, reference)?; // "../../art/y.png"
+/// let way = moved(alloc, &[page, image], 0, reference)?;
+/// assert_eq!(rt; way.as_relative_path().as_str(), "../../art/y.png");
 /// ```
 pub fn moved(
     alloc: Global,

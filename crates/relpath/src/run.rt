@@ -30,7 +30,7 @@ use std::io::{Read, Write};
 /// let mut reader = Meter::new(b"normalize\ta/../b\n".as_slice());
 /// let mut writer = Meter::new(Vec::new(alloc));
 /// run(alloc, &mut reader, &mut writer)?;
-/// let written = writer.into_inner(); // "= b\n"
+/// assert_eq!(rt; writer.into_inner().as_slice(), b"= b\n".as_slice());
 /// ```
 pub fn run<R: Read, W: Write>(
     alloc: Global,

@@ -1,0 +1,33 @@
+//! The caller that the page on calling shows.
+ghost use Rattle.std.specs.Prelude.{◌++◌, ◌↔◌, IfOk, IfSome, IsNone};
+ghost use Rattle.relative_path.specs.RelativePath.{path_components};
+ghost use Rattle.relative_path.specs.Relating.{IsReachable, IsShortestText};
+
+use relative_path::{RelativePath, RelativePathBuf};
+use std::alloc::{AllocError, Global};
+
+/// The shortest link from a directory to what a link in another directory means; `None` exactly if
+/// none leads there.
+pub fn carry(
+    alloc: Global,
+    directory: RelativePath<'_>,
+    link: RelativePath<'_>,
+    to: RelativePath<'_>,
+) -> Result<Option<RelativePathBuf>, AllocError>
+    ensures none { IfOk result (λ found. IsNone found ↔ (¬ IsReachable (path_components to.entry)
+        (path_components directory.entry ++ path_components link.entry))) }
+    ensures shortest { IfOk result (λ found. IfSome found (λ way.
+        IsShortestText (path_components to.entry)
+        (path_components directory.entry ++ path_components link.entry) way.text)) }
+{
+    let target = directory.join(alloc, link)?;
+    to.try_relative(alloc, target.as_relative_path())
+}
+
+#[test]
+fn carries_a_link(rt: HostRuntime) -> Result<(), std::test::Fail> {
+    let [docs, link, archive] = ["docs/guide", "../img/a.png", "archive"].map(RelativePath::new);
+    let way = carry(rt.alloc(), docs, link, archive)?;
+    assert!(rt; way.is_some_and(|way| way.as_relative_path().as_str() == "../docs/img/a.png"));
+    Ok(())
+}
