@@ -1,0 +1,9 @@
+//! Three users of relative paths, each proved from the public contracts of the crates below.
+#![tactic(auto)]
+
+pub use self::router::{routed, routed_alike};
+
+mod places;
+mod router;
+#[cfg(test)]
+mod tests;

@@ -1,0 +1,2 @@
+//! The users on real input.
+mod router;
