@@ -124,10 +124,12 @@ none_behind-rfind text None found = rfind_char slash text None found (lit< tt)
 none_behind-rfind text (Some n) found = (rfind_char slash text (Some n) found (lit< tt)).2
 
 -- a stretch without a slash before n, and from n on
-pub All-take : (text : List ℕ) (n : ℕ) → ((k : ℕ) → k < n → get_or text k 0 ≢ slash) → All (λ b. b ≢ slash) (take n text)
+pub All-take : (text : List ℕ) (n : ℕ) → ((k : ℕ) → k < n → get_or text k 0 ≢ slash)
+    → All (λ b. b ≢ slash) (take n text)
 All-take text n before =
     All-from_get_or (λ b. b ≢ slash) (take n text) 0
-    (λ k h. let inside : k < n = omega (arith, length-take n text) in rw (get_or-take n text k 0 inside) (before k inside))
+    (λ k h. let inside : k < n = omega (arith, length-take n text) in
+    rw (get_or-take n text k 0 inside) (before k inside))
 
 pub All-drop : (text : List ℕ) (n : ℕ) → ((k : ℕ) → n ≤ k → k < length text → get_or text k 0 ≢ slash)
     → All (λ b. b ≢ slash) (drop n text)

@@ -82,7 +82,10 @@ impl PartialEq for Component<'_> {
         ensures value { result ≡ step_eq (step_of self.now) (step_of other.now) }
         ensures same { IsTrue result ↔ (step_of self.now ≡ step_of other.now) }
     {
-        self.cmp(other).is_eq()
+        match (self, other) {
+            (Component::Normal(name), Component::Normal(other)) => name == other,
+            _ => self.rank() == other.rank(),
+        }
     }
 }
 
@@ -110,8 +113,10 @@ impl Ord for Component<'_> {
     ghost matches_eq = { (by_component step_of).agree };
 
     fn cmp(&self, other: &Self) -> Ordering {
-        let by_rank = self.rank().cmp(&other.rank());
-        by_rank.then(self.as_str().cmp(other.as_str()))
+        match (self, other) {
+            (Component::Normal(name), Component::Normal(other)) => name.cmp(other),
+            _ => self.rank().cmp(&other.rank()),
+        }
     }
 }
 
