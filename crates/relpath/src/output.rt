@@ -16,7 +16,7 @@ pub fn answer_lines(alloc: Global, text: &str) -> Result<String, AllocError>
     ensures only { IfOk result (λ output. (other : List ℕ) → IsOutput text.now other
         → other ≡ string_bytes output) }
 {
-    let mut output = String::new(alloc);
+    let mut output = String::with_capacity(alloc, text.len())?;
     let mut left = text;
     while let Some((line, rest)) = first_line(left) {
         answer_line(alloc, line, &mut output)?;
