@@ -3,7 +3,7 @@ use Rattle.std.proofs.Common.{◌≡◌, ◌≢◌, ℕ, ◌+◌, ◌%◌, ◌<�
 use Rattle.std.proofs.lemmas.Bool.{eq-eqb, ne_eqb, cases_lt, both_ways}
 use Rattle.std.proofs.lemmas.Bool.Decides.{eqb_tells}
 use Rattle.std.proofs.lemmas.List.Sums.{prefix_len_is, prefix_len_passes, prefix_len_stops, prefix_len-le-length}
-use Rattle.std.proofs.lemmas.Simd.{bitmask_splat, leading_from_mask_l, trailing_mask_l, run_in_chunk_fails, run_in_chunk_stops}
+use Rattle.std.proofs.lemmas.Simd.{bitmask_splat, leading_from_mask_l, trailing_mask_l, run_in_chunk_le, run_in_chunk_fails, run_in_chunk_stops}
 use Rattle.std.specs.List.{position_or_len}
 use lib.Count.{count_trailing_zeros}
 use lib.Lanes.{zip2, mask_l, top}
@@ -60,6 +60,23 @@ position-behind p bytes at n r before room is whole =
       | inl inside ↦ absurd (both_ways _ (prefix_len_stops (λ b. not (p b)) bytes 0 (omega arith))
           (ap not (run_in_chunk_fails p bytes at n r 0 room is first (omega arith) (omega arith))))
       | inr behind ↦ omega arith
+    ]
+
+-- the first place in the last block
+pub position-last : (p : ℕ → Bool) (bytes : List ℕ) (at last n r : ℕ) → at ≤ position_or_len p bytes → last ≤ at
+    → last + n ≡ length bytes → r ≡ position_or_len p (take n (drop last bytes)) → last + r ≡ position_or_len p bytes
+position-last p bytes at last n r before early end is =
+    let bound = prefix_len-le-length (λ b. not (p b)) bytes in
+    let short = run_in_chunk_le p bytes last n r 0 (omega (arith, end)) is in
+    elim (cases_lt r n) [
+      | inl within ↦ position-here p bytes last n r (omega (arith, before, early)) (omega (arith, end)) is within
+      | inr whole ↦ omega (
+        arith,
+        bound,
+        short,
+        end,
+        position-behind p bytes last n r (omega (arith, before, early)) (omega (arith, end)) is whole,
+      )
     ]
 
 -- the first place is behind another byte

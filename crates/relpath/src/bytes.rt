@@ -25,7 +25,7 @@ pub fn find_byte(bytes: &[u8], byte: u8) -> usize
     find_at_end(bytes, at, byte)
 }
 
-/// The same, where the byte isn't among the first ones.
+/// The same, where the byte isn't among the first ones. The last block overlaps the one before it.
 fn find_at_end(bytes: &[u8], from: usize, byte: u8) -> usize
     requires { from ≤ position_or_len (λ b. b == byte) bytes.now }
     ensures { result ≡ position_or_len (λ b. b == byte) bytes.now }
@@ -38,7 +38,11 @@ fn find_at_end(bytes: &[u8], from: usize, byte: u8) -> usize
         }
         at += NEAR;
     }
-    find_by_one(bytes, at, byte)
+    if bytes.len() < NEAR {
+        return find_by_one(bytes, at, byte);
+    }
+    let last = bytes.len() - NEAR;
+    last + find_near(bytes, last, byte)
 }
 
 /// The same, byte by byte.

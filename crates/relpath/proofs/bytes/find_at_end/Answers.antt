@@ -1,6 +1,6 @@
 -- A block at a time, while one fits.
 use Rattle.std.proofs.Common.{◌==◌, arith}
-use Rattle.relpath.proofs.BytesLemmas.{position-here, position-behind, position-le}
+use Rattle.relpath.proofs.BytesLemmas.{position-here, position-behind, position-last, position-le}
 use Rattle.relpath.proofs.bytes.find_at_end.Goals as goal
 
 pub overflow_sub-bytes : goal.overflow_sub-bytes
@@ -19,3 +19,8 @@ returns-then-passed-lt-NEAR c =
     position-here (λ b. b == c.args.byte) c.args.bytes.now c.loop-at.at 16 c.find_near-passed.result
     c.loop-at.invariant (omega (arith, within, c.loop-at-test.true)) c.find_near-passed.ensures
     c.if-passed-lt-NEAR.true
+
+pub returns : goal.returns
+returns c =
+    position-last (λ b. b == c.args.byte) c.args.bytes.now c.loop-at.at _ 16 c.find_near.result c.loop-at.invariant
+    (omega (arith, c.loop-at-test.false)) (omega arith) c.find_near.ensures
