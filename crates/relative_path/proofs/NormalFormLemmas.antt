@@ -231,7 +231,8 @@ with_pieces-sixteens text (suc k) =
 
 -- sixteen at a time, and then the others
 pub with_pieces-ups : (text : List ℕ) (climb : ℕ)
-    → fold with_piece (fold with_piece text (replicate (climb / 16) sixteen_ups)) (replicate (climb % 16) (step_text up))
+    → fold with_piece
+    (fold with_piece text (replicate (climb / 16) sixteen_ups)) (replicate (climb % 16) (step_text up))
     ≡ fold with_piece text (replicate climb (step_text up))
 with_pieces-ups text climb =
     let few = replicate (climb % 16) (step_text up) in

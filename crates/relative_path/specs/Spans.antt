@@ -1,11 +1,18 @@
 -- Components as spans of a text, or of one of two texts.
-use Rattle.std.specs.Prelude.{◌≡◌, ℕ, ◌<◌, List, [], ◌∷◌, slice_range, slice_index_or}
+use Rattle.std.specs.Prelude.{◌≡◌, ◌≢◌, ℕ, ◌<◌, ◌≤◌, List, [], ◌∷◌, length, slice_index, slice_range}
 use Rattle.std.specs.Str.{IsCharBoundary}
 use Rattle.relative_path.specs.declared.spans.Source.{Source}
 use Rattle.relative_path.specs.declared.spans.Source.TheVariants.{First, Second}
 use Rattle.relative_path.specs.declared.spans.Sources.{Sources}
 use Rattle.relative_path.specs.declared.spans.Span.{Span}
 use Rattle.relative_path.specs.Steps.{Step, name, slash, step_text, components}
+
+-- between two indices stands a piece of the text: it has no slash, and behind it stands one, or nothing
+pub record IsPiece (text : List ℕ) (start end : ℕ) : Type 0 where
+  pub in_order : start ≤ end
+  pub inside : end ≤ length text
+  pub no_slash : (k : ℕ) → start ≤ k → k < end → slice_index text k ≢ slash
+  pub behind : end < length text → slice_index text end ≡ slash
 
 -- the text of a source
 abbrev pub source_text : Sources → Source → List ℕ
@@ -22,7 +29,8 @@ pub record IsRun (sources : Sources) (span : Span) : Type 0 where
   pub not_empty : span.start < span.end
   pub start : IsCharBoundary (source_text sources span.source) span.start
   pub end : IsCharBoundary (source_text sources span.source) span.end
-  pub behind : slice_index_or (source_text sources span.source) span.end slash ≡ slash
+  pub behind : span.end < length (source_text sources span.source)
+      → slice_index (source_text sources span.source) span.end ≡ slash
 
 -- the span cuts the text of one component out of its source
 pub record Cuts (sources : Sources) (span : Span) (c : Step) : Type 0 where

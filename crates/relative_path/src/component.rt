@@ -280,7 +280,7 @@ impl<'a> DoubleEndedIterator for Iter<'a> {
 
 // The component that a piece of a text is; an empty piece is none.
 #[inline(always)]
-fn component_of(piece: &str) -> Option<Component<'_>>
+pub(crate) fn component_of(piece: &str) -> Option<Component<'_>>
     ensures { MatchOption result (piece.now ≡ [])
         (λ c. (piece.now ≢ []) × (step_of c ≡ classed piece.now)) }
 {

@@ -9,11 +9,10 @@ ghost use Rattle.relative_path.specs.Spans.{source_text, span_text, Cuts, CutsNa
 ghost use Rattle.relative_path.specs.Steps.{up, components, spell, step_text};
 
 use crate::buf::RelativePathBuf;
-use crate::component::{Component, Components};
+use crate::component::{Component, component_of};
 use crate::counting::component_count;
 use crate::path::RelativePath;
-use crate::slashes::without_leading_slashes;
-use crate::spans::{Source, Sources, Span};
+use crate::spans::{Source, Sources, Span, past_slashes, piece_end};
 use std::alloc::{AllocError, Global};
 
 // Sixteen `..`.
@@ -226,12 +225,16 @@ impl<'a> NormalForm<'a> {
         ensures sources { form_sources result ≡ form_sources self.entry }
     {
         let text = self.sources.text(source);
-        let mut components = Components::new(without_leading_slashes(text));
-        let mut start = text.len() - components.as_relative_path().as_str().len();
-        while let Some(component) = components.next() {
-            let end = start + component.as_str().len();
-            self.take(component, Span { source, start, end });
-            start = text.len() - components.as_relative_path().as_str().len();
+        let mut start = 0;
+        while start < text.len() {
+            let end = piece_end(text, start);
+            match component_of(&text[start..end]) {
+                Some(component) => {
+                    self.take(component, Span { source, start, end });
+                    start = end + 1;
+                }
+                None => start = past_slashes(text, start),
+            }
         }
         self
     }

@@ -103,7 +103,7 @@ fn first_piece_len(text: &str) -> usize
 
 // How many bytes stand before the first slash, where they are many.
 #[inline(never)]
-fn far_first_piece_len(text: &str) -> usize
+pub(crate) fn far_first_piece_len(text: &str) -> usize
     ensures bound { result ≤ length text.now }
     ensures before { (k : ℕ) → k < result → slice_index text.now k ≢ slash }
     ensures slash { result < length text.now → slice_index text.now result ≡ slash }

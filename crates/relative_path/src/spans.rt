@@ -1,6 +1,13 @@
 //! Spans of a text, or of one of two. The table that holds them is `normal_form.rt`'s.
-ghost use Rattle.std.specs.Prelude.{◌≡◌, ◌+◌, ◌↔◌, IsTrue};
-ghost use Rattle.relative_path.specs.Spans.{source_text, span_text, IsRun};
+ghost use Rattle.std.specs.Prelude.{◌≡◌, ◌<◌, ◌≤◌, ◌+◌, ◌↔◌, IsTrue, drop, length, slice_index};
+ghost use Rattle.std.specs.Str.{IsCharBoundary};
+ghost use Rattle.relative_path.specs.Spans.{source_text, span_text, IsPiece, IsRun};
+ghost use Rattle.relative_path.specs.Steps.{slash, components};
+
+use crate::slashes::{far_first_piece_len, without_leading_slashes};
+
+// So many bytes of a piece are looked at where they stand. A longer piece is searched out of line, by blocks.
+const NEAR: usize = 32;
 
 // Which of two texts.
 #[derive(Clone, Copy, PartialEq, Eq)]
@@ -52,4 +59,37 @@ impl Span {
     {
         self.source == other.source && self.end < other.start && other.start - self.end == 1
     }
+}
+
+// Where the piece that starts at this index ends: before the next slash, or at the end of the text.
+#[inline(always)]
+pub(crate) fn piece_end(text: &str, start: usize) -> usize
+    requires { IsCharBoundary text.now start }
+    ensures { IsPiece text.now start result }
+{
+    let bytes = text.as_bytes();
+    let near = bytes.len().min(start + NEAR);
+    for end in start..near {
+        if bytes[end] == b'/' {
+            return end;
+        }
+    }
+    if near < start + NEAR {
+        near
+    } else {
+        start + far_first_piece_len(&text[start..])
+    }
+}
+
+// Where the slashes end that start at this index.
+#[inline(never)]
+pub(crate) fn past_slashes(text: &str, start: usize) -> usize
+    requires boundary { IsCharBoundary text.now start }
+    requires slash { (start < length text.now) × (slice_index text.now start ≡ slash) }
+    ensures further { start < result }
+    ensures inside { result ≤ length text.now }
+    ensures boundary { IsCharBoundary text.now result }
+    ensures same { components (drop result text.now) ≡ components (drop start text.now) }
+{
+    text.len() - without_leading_slashes(&text[start..]).len()
 }

@@ -1,48 +1,61 @@
-use Rattle.std.proofs.Common.{◌+◌, length, refl, sym, ap, ◌∙◌, subst, arith}
-use Rattle.std.specs.Str.{IsUtf8}
-use Rattle.relative_path.specs.Components.{step_of}
+use Rattle.std.proofs.Common.{◌++◌, length, refl, sym, ap, ◌∙◌, subst, append-nil, arith}
+use Rattle.std.proofs.lemmas.List.{drop_all}
+use Rattle.std.proofs.lemmas.Str.{IsCharBoundary-start}
+use Rattle.relative_path.specs.NormalForm.{form_steps, Reduces}
 use Rattle.relative_path.specs.Spans.{source_text}
-use Rattle.relative_path.specs.Steps.{components}
+use Rattle.relative_path.specs.Steps.{classed, components}
+use Rattle.relative_path.proofs.StepsLemmas.{components-nil}
 use Rattle.relative_path.proofs.NormalFormLemmas.{Reduces-refl, Reduces-step}
-use Rattle.relative_path.proofs.SpansLemmas.{IsLeft-suffix, IsLeft-rest, Cuts-first}
+use Rattle.relative_path.proofs.SpansLemmas.{components-taken, Cuts-piece, IsCharBoundary-next}
 use Rattle.relative_path.proofs.normal_form.NormalForm.follow.Goals as goal
 
-pub loop-component-init : goal.loop-component-init
-loop-component-init c =
-    let shown = c.as_str.ensures ∙ c.as_relative_path.ensures in
-    let left = c.new-components.ensures in
-    let whole = ap components left ∙ c.without_leading_slashes.ensures.same in
-    let trimmed = c.without_leading_slashes.ensures in
-    record {
-      can_next = tt;
-      is_finite = tt;
-      sources = refl;
-      left = rw (shown, left) (IsLeft-suffix _ _ trimmed.suffix c.without_leading_slashes.utf8 trimmed.start);
-      steps = rw whole (Reduces-refl _);
-      len = rw whole (omega arith);
-      room = refl;
-    }
+pub loop-start-init : goal.loop-start-init
+loop-start-init c = record {
+  sources = refl;
+  boundary = λ _. IsCharBoundary-start c.text-text.result.now c.text-text.utf8;
+  steps = Reduces-refl _;
+  len = omega arith;
+  room = refl;
+}
 
 pub take-requires-clause-cuts : goal.take-requires-clause-cuts
 take-requires-clause-cuts c =
-    let loop = c.loop-component in
+    let loop = c.loop-start in
     let text = c.text-text.ensures ∙ ap (λ sources. source_text sources c.args.source) (sym loop.invariant.sources) in
-    let first = c.in-Some.ensures.steps.0 in
-    let ends = ap (λ x. loop.start + length x) c.as_str-in-Some.ensures in
-    let taken = step_of c.in-Some.component in
-    Cuts-first loop.self.sources _ c.text-text.result.now _ taken _ text loop.invariant.left first ends
+    let some = c.in-Some.ensures in
+    let cut = c.range.ensures.value in
+    Cuts-piece loop.self.sources _ c.text-text.result.now _ text c.piece_end-end.ensures
+    (loop.invariant.boundary c.loop-start-test.true) (λ none. some.0 (cut ∙ none)) (some.1 ∙ ap classed cut)
 
-pub loop-component-preserved : goal.loop-component-preserved
-loop-component-preserved c =
-    let invariant = c.loop-component.invariant in
-    let first = c.in-Some.ensures.steps in
-    let shown = c.as_str-in-Some-2.ensures ∙ c.as_relative_path-in-Some.ensures in
+pub take-requires-clause-room : goal.take-requires-clause-room
+take-requires-clause-room c =
+    let before = c.loop-start.invariant.len in
+    let room = c.loop-start.invariant.room in
+    let some = c.in-Some.ensures in
+    let cut = c.range.ensures.value in
+    let first = components-taken _ _ c.loop-start.start _ _ c.piece_end-end.ensures cut some.0 some.1 in
+    let source = ap (λ x. length (components x)) c.text-text.ensures in
+    omega (arith, c.requires.room, ap length first)
+
+pub loop-start-preserved-in-Some : goal.loop-start-preserved-in-Some
+loop-start-preserved-in-Some c =
+    let invariant = c.loop-start.invariant in
+    let text = c.text-text.result.now in
+    let some = c.in-Some.ensures in
+    let cut = c.range.ensures.value in
+    let first = components-taken _ _ c.loop-start.start _ _ c.piece_end-end.ensures cut some.0 some.1 in
     record {
-      can_next = tt;
-      is_finite = tt;
       sources = c.take.ensures.sources ∙ invariant.sources;
-      left = rw shown (IsLeft-rest invariant.left first.1 (subst IsUtf8 shown c.as_str-in-Some-2.utf8));
-      steps = Reduces-step _ _ _ _ _ _ invariant.steps first.0 c.take.ensures.steps;
-      len = let step = c.take.ensures.len in let before = invariant.len in omega (arith, ap length first.0);
+      boundary = IsCharBoundary-next text c.loop-start.start _ c.text-text.utf8 c.piece_end-end.ensures;
+      steps = Reduces-step _ _ _ _ _ _ invariant.steps first c.take.ensures.steps;
+      len = let step = c.take.ensures.len in let before = invariant.len in omega (arith, ap length first);
       room = c.take.ensures.room ∙ invariant.room;
     }
+
+pub returns-clause-steps : goal.returns-clause-steps
+returns-clause-steps c =
+    let text = c.text-text.result.now in
+    let none = ap components (drop_all c.loop-start.start text c.loop-start-test.false) ∙ components-nil in
+    let whole = ap (λ cs. form_steps c.loop-start.self ++ cs) none ∙ append-nil (form_steps c.loop-start.self) in
+    let steps = c.loop-start.invariant.steps in
+    rw (← c.text-text.ensures) (subst (Reduces (form_steps c.args.self ++ components text)) whole steps)

@@ -15,7 +15,8 @@ push_piece-requires c =
     let f = span_text c.args.self.now.sources in
     let buf = c.loop-span.buf in
     let items = slice_range c.names_past-names.result.now 1 (length c.names_past-names.result.now) in
-    let shorter = length-with_pieces_le (with_piece buf.text (f c.loop-span.run)) (map f (drop c.loop-span.span-index items)) in
+    let left = map f (drop c.loop-span.span-index items) in
+    let shorter = length-with_pieces_le (with_piece buf.text (f c.loop-span.run)) left in
     let whole = ap length c.loop-span.invariant.text in
     let piece = ap (λ p. length (with_piece buf.text p)) c.cut.ensures in
     let room = c.loop-span.invariant.room in
@@ -30,7 +31,8 @@ loop-span-preserved c =
     let i = c.loop-span.span-index in
     let run = c.loop-span.run in
     let all : All (CutsName sources) items =
-    subst (All (CutsName sources)) (sym (take_rest names 1)) (All-drop (CutsName sources) 1 names c.names_past-names.ensures.cut) in
+    subst (All (CutsName sources)) (sym (take_rest names 1))
+    (All-drop (CutsName sources) 1 names c.names_past-names.ensures.cut) in
     let none : Span = record { source = First; start = 0; end = 0 } in
     let span = get_or items i none in
     let here = (all i none c.loop-span-test.true).run in
