@@ -1,3 +1,4 @@
 pub mod PlacesLemmas
 pub mod RouterLemmas
 pub mod ManifestLemmas
+pub mod SiteMapLemmas

@@ -1,3 +1,4 @@
 pub mod Places
 pub mod Router
 pub mod Manifest
+pub mod SiteMap

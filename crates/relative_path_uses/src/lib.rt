@@ -3,9 +3,11 @@
 
 pub use self::manifest::{ManifestError, manifest_files};
 pub use self::router::{routed, routed_alike};
+pub use self::site_map::SiteMap;
 
 mod manifest;
 mod places;
 mod router;
+mod site_map;
 #[cfg(test)]
 mod tests;

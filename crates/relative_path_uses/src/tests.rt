@@ -1,3 +1,4 @@
 //! The users on real input.
 mod manifest;
 mod router;
+mod site_map;
