@@ -1,5 +1,5 @@
 -- Climbs and names: that they are normal, what one component more does to them, and the text that spells them.
-use Rattle.std.proofs.Common.{◌≡◌, ℕ, zero, suc, ◌+◌, ◌-◌, ◌<◌, ◌≤◌, true, List, [], ◌∷◌, ◌++◌, All, Option, Some, None, map, replicate, length, drop, sym, refl, ap, ◌∙◌, subst, append_assoc, append-nil, arith, length-append, length-take, length-drop, get_or, fold, ◌*◌}
+use Rattle.std.proofs.Common.{◌≡◌, ℕ, zero, suc, ◌+◌, ◌-◌, ◌<◌, ◌≤◌, true, List, [], ◌∷◌, ◌++◌, All, Option, Some, None, map, replicate, length, drop, sym, refl, ap, ◌∙◌, subst, append_assoc, append-nil, arith, length-append, get_or, fold, ◌*◌, ◌/◌, ◌%◌}
 use Rattle.std.specs.List.{AllByRecursion}
 use Rattle.std.specs.Option.{is_some, option_to_list}
 use Rattle.std.proofs.lemmas.List.Elements.{recursion_from_All, All-from_recursion, All-drop}
@@ -12,10 +12,11 @@ use Rattle.relative_path.specs.Normalizing.{AreNames, IsNormal, IsNormalTextOf}
 use Rattle.relative_path.specs.declared.normal_form.NormalForm.{NormalForm}
 use Rattle.relative_path.specs.declared.spans.Sources.{Sources}
 use Rattle.relative_path.specs.declared.spans.Span.{Span}
-use Rattle.relative_path.specs.Spans.{source_text, span_text, Cuts, CutsName}
+use Rattle.relative_path.specs.Spans.{span_text, IsRun, CutsName}
 use Rattle.relative_path.specs.NormalForm.{climbed, form_names, form_steps, padded_len, Reduces, IsNormalFormOf}
 use Rattle.relative_path.proofs.StepsLemmas.{IsProper, components_whole, AreProper, components-spell, nonempty_proper}
 use Rattle.relative_path.proofs.NormalStepsLemmas.{normal_unique}
+use Rattle.relative_path.proofs.SpansLemmas.{through, span_text-through, length-run}
 use Rattle.relative_path.proofs.WalkLemmas.{IsSame-refl, IsSame-sym, IsSame-trans, IsSame-append_right, IsSame-cur, IsSame-name_up}
 
 -- ---- reducing a list of components
@@ -158,6 +159,23 @@ IsNormalFormOf-form cs form reduces =
 
 -- ---- writing pieces one behind another
 
+-- two pieces with a slash between, at once or in turn
+with_piece-joined : (text p q : List ℕ) → 0 < length p
+    → with_piece text (p ++ slash ∷ q) ≡ with_piece (with_piece text p) q
+with_piece-joined [] [] q some = absurd (omega arith)
+with_piece-joined [] (b ∷ bs) q some = refl
+with_piece-joined (b ∷ bs) p q some = sym (append_assoc (b ∷ bs) (slash ∷ p) (slash ∷ q))
+
+-- two runs that stand beside each other, at once or in turn
+pub with_piece-through : (sources : Sources) (text : List ℕ) (run span : Span) → IsRun sources run → IsRun sources span
+    → span.source ≡ run.source → span.start ≡ run.end + 1
+    → with_piece text (span_text sources (through run span))
+    ≡ with_piece (with_piece text (span_text sources run)) (span_text sources span)
+with_piece-through sources text run span first second same beside =
+    let start = first.not_empty in
+    ap (with_piece text) (span_text-through sources run span first second same beside)
+    ∙ with_piece-joined text (span_text sources run) (span_text sources span) (omega (arith, length-run first))
+
 length-with_piece_le : (text p : List ℕ) → length text ≤ length (with_piece text p)
 length-with_piece_le [] p = omega arith
 length-with_piece_le (b ∷ bs) p = omega (arith, length-append bs (slash ∷ p))
@@ -182,6 +200,47 @@ with_pieces-solid b bs c [] = refl
 with_pieces-solid b bs c (d ∷ cs) =
     with_pieces-solid b (bs ++ slash ∷ step_text c) d cs
     ∙ append_assoc (b ∷ bs) (slash ∷ step_text c) (slash ∷ spell (d ∷ cs))
+
+-- ---- writing `..` by sixteen
+
+abbrev pub sixteen_ups : List ℕ
+sixteen_ups = spell (replicate 16 up)
+
+with_piece-sixteen : (text : List ℕ)
+    → with_piece text sixteen_ups ≡ fold with_piece text (replicate 16 (step_text up))
+with_piece-sixteen [] = refl
+with_piece-sixteen (b ∷ bs) = sym (with_pieces-solid b bs up (replicate 15 up))
+
+replicate-append : {X : Type 0} (n m : ℕ) (x : X) → replicate n x ++ replicate m x ≡ replicate (n + m) x
+replicate-append zero m x = ap (λ k. replicate k x) (let e : m ≡ 0 + m = omega arith in e)
+replicate-append (suc n) m x =
+    ap (λ xs. x ∷ xs) (replicate-append n m x)
+    ∙ ap (λ k. replicate k x) (let e : suc (n + m) ≡ suc n + m = omega arith in e)
+
+with_pieces-sixteens : (text : List ℕ) (k : ℕ)
+    → fold with_piece text (replicate k sixteen_ups) ≡ fold with_piece text (replicate (k * 16) (step_text up))
+with_pieces-sixteens text zero = refl
+with_pieces-sixteens text (suc k) =
+    let ups = replicate (k * 16) (step_text up) in
+    let more : 16 + k * 16 ≡ suc k * 16 = omega arith in
+    with_pieces-sixteens (with_piece text sixteen_ups) k
+    ∙ ap (λ x. fold with_piece x ups) (with_piece-sixteen text)
+    ∙ sym (fold-append with_piece text (replicate 16 (step_text up)) ups)
+    ∙ ap (fold with_piece text) (replicate-append 16 (k * 16) (step_text up))
+    ∙ ap (λ n. fold with_piece text (replicate n (step_text up))) more
+
+-- sixteen at a time, and then the others
+pub with_pieces-ups : (text : List ℕ) (climb : ℕ)
+    → fold with_piece (fold with_piece text (replicate (climb / 16) sixteen_ups)) (replicate (climb % 16) (step_text up))
+    ≡ fold with_piece text (replicate climb (step_text up))
+with_pieces-ups text climb =
+    let few = replicate (climb % 16) (step_text up) in
+    let many = replicate (climb / 16 * 16) (step_text up) in
+    let whole : climb / 16 * 16 + climb % 16 ≡ climb = omega arith in
+    ap (λ x. fold with_piece x few) (with_pieces-sixteens text (climb / 16))
+    ∙ sym (fold-append with_piece text many few)
+    ∙ ap (fold with_piece text) (replicate-append (climb / 16 * 16) (climb % 16) (step_text up))
+    ∙ ap (λ n. fold with_piece text (replicate n (step_text up))) whole
 
 -- the texts of proper components one behind another spell them
 pub with_pieces-spell : (cs : List Step) → AreProper cs → fold with_piece [] (map step_text cs) ≡ spell cs
@@ -221,15 +280,6 @@ pub length-padded_le : (names : List (List ℕ)) → length names ≤ padded_len
 length-padded_le [] = omega arith
 length-padded_le (n ∷ ns) = omega (arith, length-padded_le ns)
 
--- a span is as long as what it cuts out
-pub length-Cuts : {sources : Sources} {span : Span} {c : Step} → Cuts sources span c
-    → span.end - span.start ≡ length (span_text sources span)
-length-Cuts {sources} {span} {c} cuts =
-    let text = source_text sources span.source in
-    let fits = cuts.end.0 in
-    let ordered = cuts.in_order in
-    omega (arith, length-take (span.end - span.start) (drop span.start text), length-drop span.start text)
-
 -- the names from an index on, counted with the span at that index
 pub padded_len-span : (sources : Sources) (spans : List Span) (i : ℕ) (d : Span) → i < length spans
     → All (CutsName sources) spans
@@ -238,7 +288,7 @@ pub padded_len-span : (sources : Sources) (spans : List Span) (i : ℕ) (d : Spa
     + padded_len (map name (map (span_text sources) (drop (i + 1) spans)))
 padded_len-span sources spans i d less cut =
     let more = ap (λ xs. padded_len (map name (map (span_text sources) xs))) (drop_more spans i d less) in
-    omega (arith, length-Cuts (cut i d less))
+    omega (arith, length-run (cut i d less).run)
 
 -- the text that spells a normal form is the only normal text that leads where the components lead
 pub IsNormalTextOf-spell : (cs ds : List Step) (text : List ℕ) → IsNormalFormOf cs ds → text ≡ spell ds

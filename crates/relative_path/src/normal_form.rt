@@ -16,6 +16,9 @@ use crate::slashes::without_leading_slashes;
 use crate::spans::{Source, Sources, Span};
 use std::alloc::{AllocError, Global};
 
+// Sixteen `..`.
+const SIXTEEN_UPS: &str = "../../../../../../../../../../../../../../../..";
+
 // A normal list of components: as many `..` as it climbs, and then the names, each a span of a source.
 #[derive(Drop)]
 pub(crate) struct NormalForm<'a> {
@@ -155,9 +158,20 @@ impl<'a> NormalForm<'a> {
             ≤ buf.old.room }
         ensures { buf.new.text ≡ fold with_piece buf.old.text (drop skipped (form_names self.now)) }
     {
-        for span in self.names_past(skipped) {
-            buf.push_piece(self.sources.cut(*span));
+        let names = self.names_past(skipped);
+        let Some(first) = names.first() else {
+            return;
+        };
+        let mut run = *first;
+        for span in &names[1..] {
+            if run.is_beside(*span) {
+                run.end = span.end;
+            } else {
+                buf.push_piece(self.sources.cut(run));
+                run = *span;
+            }
         }
+        buf.push_piece(self.sources.cut(run));
     }
 
     // The normal form of nothing, with room for so many names.
@@ -229,7 +243,17 @@ fn push_climb(buf: &mut RelativePathBuf, climb: usize)
     ensures text { buf.new.text ≡ fold with_piece buf.old.text (replicate climb (step_text up)) }
     ensures room { buf.old.room ≤ buf.new.room }
 {
-    for _ in 0..climb {
-        buf.push_piece("..");
+    push_times(buf, SIXTEEN_UPS, climb / 16);
+    push_times(buf, "..", climb % 16);
+}
+
+// Adds a piece so many times.
+fn push_times(buf: &mut RelativePathBuf, piece: &str, times: usize)
+    requires { length (fold with_piece buf.old.text (replicate times piece.now)) ≤ buf.old.room }
+    ensures text { buf.new.text ≡ fold with_piece buf.old.text (replicate times piece.now) }
+    ensures room { buf.old.room ≤ buf.new.room }
+{
+    for _ in 0..times {
+        buf.push_piece(piece);
     }
 }

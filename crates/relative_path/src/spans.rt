@@ -1,9 +1,9 @@
 //! Spans of a text, or of one of two. The table that holds them is `normal_form.rt`'s.
-ghost use Rattle.std.specs.Prelude.{◌≡◌};
-ghost use Rattle.relative_path.specs.Spans.{source_text, span_text, CutsName};
+ghost use Rattle.std.specs.Prelude.{◌≡◌, ◌+◌, ◌↔◌, IsTrue};
+ghost use Rattle.relative_path.specs.Spans.{source_text, span_text, IsRun};
 
 // Which of two texts.
-#[derive(Clone, Copy)]
+#[derive(Clone, Copy, PartialEq, Eq)]
 pub(crate) enum Source {
     First,
     Second,
@@ -29,7 +29,7 @@ impl<'a> Sources<'a> {
 
     // What a span cuts out of its source.
     pub(crate) fn cut(self, span: Span) -> &'a str
-        requires { CutsName self span }
+        requires { IsRun self span }
         ensures { result.now ≡ span_text self.entry span }
     {
         &self.text(span.source)[span.start..span.end]
@@ -42,4 +42,14 @@ pub(crate) struct Span {
     pub(crate) source: Source,
     pub(crate) start: usize,
     pub(crate) end: usize,
+}
+
+impl Span {
+    // Whether the other span begins a byte behind this one's end, in the same source.
+    #[inline]
+    pub(crate) fn is_beside(self, other: Span) -> bool
+        ensures { IsTrue result ↔ ((other.source ≡ self.source) × (other.start ≡ self.end + 1)) }
+    {
+        self.source == other.source && self.end < other.start && other.start - self.end == 1
+    }
 }

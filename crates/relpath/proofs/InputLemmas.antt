@@ -1,6 +1,7 @@
 -- The bytes that came from a reader, by one read after another.
-use Rattle.std.proofs.Common.{◌≡◌, ℕ, ◌+◌, List, ◌++◌, length, take, drop, sym, ap, ◌∙◌, subst, Option, Result, Ok, Err, IfErr, IsErrAnd}
+use Rattle.std.proofs.Common.{◌≡◌, ℕ, ◌+◌, ◌≤◌, List, ◌++◌, length, take, drop, sym, ap, ◌∙◌, subst, Option, Result, Ok, Err, IfErr, IsErrAnd}
 use Rattle.std.proofs.KnownBytes.{Consumes-trans}
+use Rattle.std.proofs.lemmas.List.{take-take}
 use Rattle.std.proofs.Math.Seq.{take-add, take-append_seam}
 use Rattle.std.specs.Io.KnownBytes.{Consumes}
 
@@ -22,3 +23,10 @@ pub Consumes-next : (old mid new : Option (List ℕ)) (filled count room : ℕ) 
 Consumes-next old mid new filled count room buffer before after same whole front came more =
     rw (take-over room after (drop (length after) buffer) whole, take-add filled count after, front, same)
     (Consumes-trans old mid new _ _ came more)
+
+-- the filled bytes are those that came, also where more room is behind them
+pub Consumes-widened : (old new : Option (List ℕ)) (filled len : ℕ) (before after : List ℕ)
+    → take len after ≡ before → filled ≤ len → Consumes old new (take filled before)
+    → Consumes old new (take filled after)
+Consumes-widened old new filled len before after kept within came =
+    rw (sym (take-take filled len after within), kept) came

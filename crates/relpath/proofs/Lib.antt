@@ -1,3 +1,4 @@
+pub mod BytesLemmas
 pub mod CommandLemmas
 pub mod InputLemmas
 pub mod LinesLemmas

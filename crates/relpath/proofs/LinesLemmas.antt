@@ -1,11 +1,13 @@
 -- The first piece of a text that is cut at a byte: its first line, or its first field.
-use Rattle.std.proofs.Common.{◌≡◌, ◌≢◌, ℕ, ◌<◌, ◌==◌, false, List, [], ◌∷◌, ◌++◌, length, map, take, set, get_or, Bor, Option, None, refl, ap, ◌∙◌, ◌+◌, append_assoc, arith}
+use Rattle.std.proofs.Common.{◌≡◌, ◌≢◌, ℕ, ◌<◌, ◌==◌, false, List, [], ◌∷◌, ◌++◌, length, map, take, drop, set, get_or, Bor, Option, None, refl, ap, ◌∙◌, ◌+◌, append_assoc, arith, suc}
 use Rattle.std.proofs.lemmas.List.Elements.{All-from_get_or}
 use Rattle.std.proofs.lemmas.List.Splits.{slice_split_none, slice_split_at, length-slice_split}
-use Rattle.std.proofs.lemmas.List.{length-append, length-map, map-append, take_more_set}
-use Rattle.std.specs.List.{All, slice_split}
+use Rattle.std.proofs.lemmas.List.{length-append, length-map, length-take, get_or-take, map-append, take_more_set}
+use Rattle.std.proofs.Math.Seq.{split_at}
+use Rattle.std.specs.List.{All, slice_split, position_or_len}
 use Rattle.std.proofs.lemmas.Bool.{eq-eqb, ne_eqb}
-use Rattle.relpath.specs.Lines.{line_feed, is_line_feed, is_tab, without_empty_last, last_line, lines_of, fields_of, fields_left}
+use Rattle.relpath.proofs.BytesLemmas.{position-lacks, position-holds}
+use Rattle.relpath.specs.Lines.{is_line_feed, is_tab, without_empty_last, last_line, lines_of, fields_of, fields_left}
 
 -- no byte of the text is this one
 pub record Lacks (byte : ℕ) (text : List ℕ) : Type 0 where
@@ -27,6 +29,26 @@ slice_split-next byte text piece rest e none =
     ap (slice_split (λ b. b == byte)) e
     ∙ slice_split_at (λ b. b == byte) piece byte rest (all_differ byte piece none) (eq-eqb byte byte refl)
 
+-- a text in which the byte has no place is its only piece
+pub slice_split-none : (byte : ℕ) (text : List ℕ) (at : ℕ) → at ≡ position_or_len (λ b. b == byte) text
+    → at ≡ length text → slice_split (λ b. b == byte) text ≡ text ∷ []
+slice_split-none byte text at is end =
+    slice_split-last byte text (record { lacks = λ i l. position-lacks text byte i (omega (arith, is, end, l)) })
+
+-- what stands before the first place of the byte is the first piece
+pub slice_split-first : (byte : ℕ) (text : List ℕ) (at : ℕ) → at ≡ position_or_len (λ b. b == byte) text
+    → at < length text
+    → slice_split (λ b. b == byte) text ≡ take at text ∷ slice_split (λ b. b == byte) (drop (at + 1) text)
+slice_split-first byte text at is inside =
+    let next : suc at ≡ at + 1 = omega arith in
+    slice_split-next byte text (take at text) (drop (at + 1) text)
+    (rw (position-holds text byte at is inside, next) at (split_at text at 0 inside))
+    (record {
+      lacks = λ i l.
+          let before : i < at = omega (arith, length-take at text, l) in
+          rw (get_or-take at text i 0 before) (position-lacks text byte i (omega (arith, is, before)));
+    })
+
 without_empty_last-cons : (piece : List ℕ) (pieces : List (List ℕ)) → 0 < length pieces
     → without_empty_last (piece ∷ pieces) ≡ piece ∷ without_empty_last pieces
 without_empty_last-cons piece [] some = absurd (omega arith)
@@ -36,18 +58,17 @@ last_line-some : (text : List ℕ) → 0 < length text → last_line text ≡ te
 last_line-some [] some = absurd (omega arith)
 last_line-some (b ∷ text) some = refl
 
--- a text with no line feed is its only line
-pub lines_of-last : (text : List ℕ) → Lacks line_feed text → 0 < length text
+-- a text that is one piece is its only line
+pub lines_of-last : (text : List ℕ) → slice_split is_line_feed text ≡ text ∷ [] → 0 < length text
     → lines_of text ≡ text ∷ lines_of []
-lines_of-last text none some = ap without_empty_last (slice_split-last line_feed text none) ∙ last_line-some text some
+lines_of-last text one some = ap without_empty_last one ∙ last_line-some text some
 
--- what stands before the first line feed is the first line
-pub lines_of-next : (text line rest : List ℕ) → text ≡ line ++ line_feed ∷ rest → Lacks line_feed line
+-- the first piece is the first line, if there is another
+pub lines_of-next : (text line rest : List ℕ) → slice_split is_line_feed text ≡ line ∷ slice_split is_line_feed rest
     → lines_of text ≡ line ∷ lines_of rest
-lines_of-next text line rest e none =
+lines_of-next text line rest next =
     let some = length-slice_split is_line_feed rest in
-    ap without_empty_last (slice_split-next line_feed text line rest e none)
-    ∙ without_empty_last-cons line (slice_split is_line_feed rest) (omega (arith, some))
+    ap without_empty_last next ∙ without_empty_last-cons line (slice_split is_line_feed rest) (omega (arith, some))
 
 -- one more field is moved into the room
 pub fields-more : (fields : List (List ℕ)) (room : List (Bor (List ℕ))) (count : ℕ) (field : Bor (List ℕ))

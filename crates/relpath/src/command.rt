@@ -24,6 +24,7 @@ use crate::lines::{MAX_FIELDS, split_fields};
 use crate::mover::{MoveError, moved};
 use relative_path::{RelativePath, RelativePathBuf, RelativeToError, RelativeToErrorKind, unix};
 use std::alloc::{AllocError, Global};
+use std::fmt::Write;
 
 /// A command.
 #[derive(Clone, Copy)]
@@ -176,7 +177,7 @@ fn answer_relative_to(
 {
     match unix::relative_to(alloc, path, root) {
         Ok(way) => add_path(output, &way),
-        Err(error) => add_error(alloc, error, output),
+        Err(error) => add_error(error, output),
     }
 }
 
@@ -194,30 +195,30 @@ fn answer_move(
     let moves = [(RelativePath::new(old), RelativePath::new(new))];
     match moved(alloc, &moves, 0, RelativePath::new(reference)) {
         Ok(way) => add_path(output, &way),
-        Err(refusal) => add_refusal(alloc, refusal, output),
+        Err(refusal) => add_refusal(refusal, output),
     }
 }
 
 /// Adds the answer that tells why no relative path is known, unless memory was refused.
-fn add_error(alloc: Global, error: RelativeToError, output: &mut String) -> Result<(), AllocError>
+fn add_error(error: RelativeToError, output: &mut String) -> Result<(), AllocError>
     ensures { OnOk result ((relative_to_kind error ≢ RelativeToErrorKind.OutOfMemory)
         × (string_bytes output.new
         ≡ string_bytes output.old ++ words_answer (relative_to_words (relative_to_kind error)))) }
 {
     match error.kind() {
         RelativeToErrorKind::OutOfMemory => Err(AllocError),
-        _ => add_words(output, error.to_string(alloc)?.as_str()),
+        _ => write!(output, "! {error}"),
     }
 }
 
 /// Adds the answer that refuses a reference, unless memory was refused.
-fn add_refusal(alloc: Global, refusal: MoveError, output: &mut String) -> Result<(), AllocError>
+fn add_refusal(refusal: MoveError, output: &mut String) -> Result<(), AllocError>
     ensures { OnOk result ((refusal ≢ MoveError.OutOfMemory)
         × (string_bytes output.new ≡ string_bytes output.old ++ words_answer (refusal_text refusal))) }
 {
     match refusal {
         MoveError::OutOfMemory => Err(AllocError),
-        _ => add_words(output, refusal.to_string(alloc)?.as_str()),
+        _ => write!(output, "! {refusal}"),
     }
 }
 

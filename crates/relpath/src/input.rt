@@ -1,5 +1,6 @@
 //! Reading the whole input.
-ghost use Rattle.std.specs.Prelude.{◌≡◌, ◌+◌, ◌<◌, ◌≤◌, take, drop, length, vec_len, is_err, IfOk, IfErr, OnOk, OnErr};
+ghost use Rattle.std.specs.Prelude.{◌≡◌, ◌+◌, ◌<◌, ◌≤◌, take, drop, length, vec_len, max, is_err, IfOk, IfErr, OnOk, OnErr};
+ghost use Rattle.std.specs.Vec.{vec_capacity};
 ghost use Rattle.relpath.specs.Input.{max_input_len, IsRead, StopsShort};
 ghost use Rattle.relpath.specs.Meter.{
   calls_of,
@@ -14,11 +15,14 @@ ghost use Rattle.relpath.specs.Meter.{
 
 use crate::fault::Fault;
 use crate::meter::Meter;
-use std::alloc::{AllocError, Global};
+use std::alloc::Global;
 use std::io::Read;
 
 /// How many bytes an input may have.
 pub const MAX_INPUT: usize = 65_536;
+
+/// How many bytes the first read has room for, and how many are made zero at once.
+const STEP: usize = 1_024;
 
 /// Reads until a read gives no byte, or until more bytes came than an input may have. Memory is
 /// asked for once, before the first read.
@@ -32,9 +36,10 @@ pub fn read_input<R: Read>(alloc: Global, reader: &mut Meter<R>) -> Result<Vec<u
     ensures reads { calls_of reader.new ≤ max_input_len + 1 }
     ensures flushes { flushes_of reader.new ≡ 0 }
 {
-    let mut input = buffer(alloc)?;
+    let mut input = Vec::with_capacity(alloc, MAX_INPUT + 1)?;
     let mut filled = 0;
     while filled <= MAX_INPUT {
+        widen(&mut input, (4 * filled).clamp(STEP, MAX_INPUT + 1));
         let count = read_more(reader, input.as_mut_slice(), filled)?;
         if count == 0 {
             input.truncate(filled);
@@ -45,11 +50,18 @@ pub fn read_input<R: Read>(alloc: Global, reader: &mut Meter<R>) -> Result<Vec<u
     Err(Fault::InputTooLong)
 }
 
-/// Room for a byte more than an input may have.
-fn buffer(alloc: Global) -> Result<Vec<u8>, AllocError>
-    ensures { IfOk result (λ buffer. vec_len buffer ≡ max_input_len + 1) }
+/// Zeros behind the bytes up to this length, in steps: a short input needs few, and for a step
+/// they are cheap.
+fn widen(input: &mut Vec<u8>, len: usize)
+    requires { len ≤ vec_capacity input.old }
+    ensures kept { take (vec_len input.old) input.new.items ≡ input.old.items }
+    ensures len { vec_len input.new ≡ max (vec_len input.old) len }
+    ensures capacity { vec_capacity input.old ≤ vec_capacity input.new }
 {
-    vec![in alloc; 0; MAX_INPUT + 1]
+    while input.len() < len {
+        let next = (input.len() + STEP).min(len);
+        input.resize(next, 0).unwrap();
+    }
 }
 
 /// Reads once, behind the filled bytes, and answers how many bytes came.

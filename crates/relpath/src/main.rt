@@ -10,6 +10,7 @@ use crate::fault::report;
 use crate::meter::Meter;
 use std::process::ExitCode;
 
+mod bytes;
 mod command;
 mod fault;
 mod input;

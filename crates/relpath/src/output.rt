@@ -10,13 +10,17 @@ use crate::meter::Meter;
 use std::alloc::{AllocError, Global};
 use std::io::Write;
 
+/// How many bytes of output there is room for at first, for each byte of input: most answers are no
+/// longer than their line, and the longest are some times as long.
+const ROOM: usize = 4;
+
 /// The answers to the lines of a text, one for each, in order, each with a line feed.
 pub fn answer_lines(alloc: Global, text: &str) -> Result<String, AllocError>
     ensures output { IfOk result (λ output. IsOutput text.now (string_bytes output)) }
     ensures only { IfOk result (λ output. (other : List ℕ) → IsOutput text.now other
         → other ≡ string_bytes output) }
 {
-    let mut output = String::new(alloc);
+    let mut output = String::with_capacity(alloc, text.len().saturating_mul(ROOM))?;
     let mut left = text;
     while let Some((line, rest)) = first_line(left) {
         answer_line(alloc, line, &mut output)?;

@@ -81,7 +81,7 @@ fn answers_the_lines_of_an_input(rt: HostRuntime) -> Result<(), Fail> {
         ("roots", Source::new(ROOTS), 2, ROOTS_ANSWERS),
         ("moves", Source::new(MOVES), 2, MOVES_ANSWERS),
         ("two paths", Source::new(TWO_PATHS), 2, TWO_PATHS_ANSWERS),
-        ("the longest path", longest, 2, answer.as_bytes()),
+        ("the longest path", longest, 5, answer.as_bytes()),
     ] {
         let (result, calls, written) = outcome(rt.alloc(), source);
         assert_eq!(rt; result, Ok(()), "{what}");
@@ -106,8 +106,8 @@ fn tells_why_an_input_has_no_answer(rt: HostRuntime) -> Result<(), Fail> {
     let pieces = Source::new(SIX_LINES).in_pieces(10);
     let interrupted = pieces.failing_at(2, ErrorKind::Interrupted);
     for (what, source, fault, reads) in [
-        ("a byte too many", too_long, Fault::InputTooLong, 1),
-        ("too long, no text", long_no_text, Fault::InputTooLong, 1),
+        ("a byte too many", too_long, Fault::InputTooLong, 5),
+        ("too long, no text", long_no_text, Fault::InputTooLong, 5),
         ("no text", no_text, Fault::NotText, 2),
         ("a line, then no text", late_no_text, Fault::NotText, 2),
         ("the first read fails", first_fails, Fault::Read, 1),

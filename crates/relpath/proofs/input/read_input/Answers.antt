@@ -1,7 +1,7 @@
 -- Each read adds what came behind the filled bytes.
 use Rattle.std.proofs.Common.{rules, ◌≡◌, ◌+◌, length-take, arith}
 use Rattle.std.proofs.KnownBytes.{Consumes-kept}
-use Rattle.relpath.proofs.InputLemmas.{IfErr-at, Consumes-next}
+use Rattle.relpath.proofs.InputLemmas.{IfErr-at, Consumes-next, Consumes-widened}
 use Rattle.relpath.proofs.input.read_input.Goals as goal
 
 pub returns-in_err-count-clause-fault : goal.returns-in_err-count-clause-fault
@@ -19,18 +19,21 @@ returns-then-count-eq0-clause-input g c =
     let no_more : c.loop-filled.filled + c.in_ok-count.count ≡ c.loop-filled.filled = omega arith in
     let before = c.loop-filled.invariant in
     let buffer = c.as_mut_slice.ensures.value in
+    let came = Consumes-widened _ _ _ _ _ _ c.widen.ensures.kept before.filled before.came in
     rw (c.truncate.ensures.items, ← no_more)
-    (Consumes-next _ _ _ _ _ _ _ _ _ buffer (search rules) read.front before.came read.came)
+    (Consumes-next _ _ _ _ _ _ _ _ _ buffer (search rules) read.front came read.came)
 
 pub loop-filled-preserved : goal.loop-filled-preserved
 loop-filled-preserved g c =
     let read = c.in_ok-count.ensures in
     let before = c.loop-filled.invariant in
     let buffer = c.as_mut_slice.ensures.value in
+    let came = Consumes-widened _ _ _ _ _ _ c.widen.ensures.kept before.filled before.came in
     record {
       room = search rules;
+      within = search rules;
       filled = search rules;
-      came = Consumes-next _ _ _ _ _ _ _ _ _ buffer (search rules) read.front before.came read.came;
+      came = Consumes-next _ _ _ _ _ _ _ _ _ buffer (search rules) read.front came read.came;
       some = search rules;
       reads = search rules;
       failures = search rules;

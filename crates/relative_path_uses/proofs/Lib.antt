@@ -1,0 +1,3 @@
+pub mod PlacesLemmas
+pub mod RouterLemmas
+pub mod ManifestLemmas

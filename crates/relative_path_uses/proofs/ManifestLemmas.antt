@@ -1,0 +1,75 @@
+-- The files of a manifest's entries, one after the other, and the first that is refused.
+use Rattle.std.proofs.Common.{◌≡◌, ◌<◌, ◌+◌, ℕ, List, [], ◌∷◌, ◌++◌, map, length, take, get_or, IsSome, Option, Some, None, codes, option_map, option_and_then, refl, sym, ap, ◌∙◌, true≢false}
+use Rattle.std.proofs.lemmas.List.{get_or-map, length-map, take_more}
+use Rattle.std.proofs.lemmas.Slice.Zip.{all_zipped_more}
+use Rattle.serde_json.specs.Data.{Data, null}
+use Rattle.serde_json.specs.Find.{get, as_str, as_array}
+use Rattle.serde_json.specs.View.{view, items_of, items_view}
+use Rattle.serde_json.specs.declared.value.Value.{Value}
+use Rattle.relative_path.specs.Steps.{Step, components}
+use Rattle.relative_path.specs.Walk.{LeadsInTurn}
+use Rattle.relative_path.specs.Normalizing.{IsNormalTextOf}
+use Rattle.relative_path.specs.RelativePathBuf.{Buffer}
+use Rattle.relative_path_uses.proofs.PlacesLemmas.{IsAt-in_turn}
+use Rattle.relative_path_uses.specs.declared.manifest.ManifestError.{ManifestError}
+use Rattle.relative_path_uses.specs.declared.manifest.ManifestError.TheVariants.{NoBase, NoFiles, NotAString, ClimbsAbove, OutOfMemory}
+use Rattle.relative_path_uses.specs.Places.{place_of}
+use Rattle.relative_path_uses.specs.Manifest.{base_of, item_list, entries_of, OfManifest, Refuses, IsFileOf, AreFiles, IsRefusedFor, file_text}
+
+-- the file of an entry whose path has a place
+pub IsFileOf-some : (base : List Step) (entry : Data) (path file : List ℕ) → as_str entry ≡ Some path
+    → IsSome (place_of (components path)) → IsNormalTextOf (base ++ components path) file
+    → LeadsInTurn base (components path) (components file) → IsFileOf base entry file
+IsFileOf-some base entry path file string some normal turn = tell (place_of (components path)) refl some where
+  tell : (named : Option (List (List ℕ))) → place_of (components path) ≡ named → IsSome named → IsFileOf base entry file
+  tell None is some = absurd (true≢false (sym some))
+  tell (Some place) is some = record {
+    path = path;
+    place = place;
+    string = string;
+    named = is;
+    normal = normal;
+    below = IsAt-in_turn base (components path) (components file) place turn is;
+  }
+
+-- the items of a list made of data are these
+pub item_list-items_of : (ds : List Data) → item_list (items_of ds) ≡ ds
+item_list-items_of [] = refl
+item_list-items_of (d ∷ ds) = ap (λ es. d ∷ es) (item_list-items_of ds)
+
+map_push : {A B : Type 0} (f : A → B) (xs : List A) (x : A) → map f (xs ++ x ∷ []) ≡ map f xs ++ f x ∷ []
+map_push f [] x = refl
+map_push f (y ∷ ys) x = ap (λ zs. f y ∷ zs) (map_push f ys x)
+
+-- the files with that of the next entry
+pub AreFiles-next : (base : List Step) (values : List Value) (none : Value) (files : List Buffer) (file : Buffer) (k : ℕ)
+    → k < length values → AreFiles (map file_text files) base (take k (map view values))
+    → IsFileOf base (view (get_or values k none)) file.text
+    → AreFiles (map file_text (files ++ file ∷ [])) base (take (k + 1) (map view values))
+AreFiles-next base values none files file k l are is =
+    let within : k < length (map view values) = rw (length-map values view) l in
+    let entry = get_or-map view values k none null l in
+    rw (take_more (map view values) k null within, map_push file_text files file)
+    (all_zipped_more (IsFileOf base) (take k (map view values)) (map file_text files) _ file.text are (rw entry is))
+
+-- what holds of the entries of a manifest with this base
+pub OfManifest-of : (manifest : Data) (base : List ℕ) (entries : List Data) (P : List Step → List Data → Type 0)
+    → base_of manifest ≡ Some base → entries_of manifest ≡ Some entries → P (components base) entries
+    → OfManifest manifest P
+OfManifest-of manifest base entries P based listed holds = (base, entries, based, listed, holds)
+
+-- the manifest whose entries are refused
+pub Refuses-entries : (manifest : Data) (base : List ℕ) (entries : List Data) (refusal : ManifestError)
+    → base_of manifest ≡ Some base → entries_of manifest ≡ Some entries
+    → IsRefusedFor refusal (components base) entries → Refuses manifest refusal
+Refuses-entries manifest base entries NoBase based listed is = absurd is
+Refuses-entries manifest base entries NoFiles based listed is = absurd is
+Refuses-entries manifest base entries (NotAString k) based listed is = (base, entries, based, listed, is)
+Refuses-entries manifest base entries (ClimbsAbove k) based listed is = (base, entries, based, listed, is)
+Refuses-entries manifest base entries OutOfMemory based listed is = tt
+
+-- the list of entries that are these values
+pub entries_of-values : (manifest : Data) (values : List Value)
+    → option_and_then as_array (get (codes "files") manifest) ≡ Some (items_view values)
+    → entries_of manifest ≡ Some (map view values)
+entries_of-values manifest values is = ap (option_map item_list) is ∙ ap Some (item_list-items_of (map view values))

@@ -1,0 +1,94 @@
+-- A manifest in JSON, the files that it names, and why it is refused.
+use Rattle.std.specs.Prelude.{◌≡◌, ◌≢◌, ◌<◌, ℕ, List, [], ◌∷◌, ◌++◌, length, take, codes, decimal, Option, Some, None, slice_index_or, option_and_then, ⊤}
+use Rattle.std.specs.List.{AllZip}
+use Rattle.std.specs.Option.{option_map}
+use Rattle.serde_json.specs.Data.{Data, null, Items, no_items, item}
+use Rattle.serde_json.specs.Find.{get, as_str, as_array}
+use Rattle.relative_path.specs.Steps.{Step, components}
+use Rattle.relative_path.specs.Normalizing.{IsNormalTextOf}
+use Rattle.relative_path.specs.RelativePathBuf.{Buffer}
+use Rattle.relative_path_uses.specs.declared.manifest.ManifestError.{ManifestError}
+use Rattle.relative_path_uses.specs.declared.manifest.ManifestError.TheVariants.{NoBase, NoFiles, NotAString, ClimbsAbove, OutOfMemory}
+use Rattle.relative_path_uses.specs.Places.{place_of, IsAt}
+
+-- the text of the member `base`, if it is a string
+abbrev pub base_of : Data → Option (List ℕ)
+base_of manifest = option_and_then as_str (get (codes "base") manifest)
+
+-- the items of a list
+abbrev pub item_list : Items → List Data
+item_list no_items = []
+item_list (item d ds) = d ∷ item_list ds
+
+-- the items of the member `files`, if it is a list
+abbrev pub entries_of : Data → Option (List Data)
+entries_of manifest = option_map item_list (option_and_then as_array (get (codes "files") manifest))
+
+-- the entry is a path with a place from the top, and the file is the normal text of where base and entry lead in turn:
+-- from every base at that place, below the directory that the base is
+pub record IsFileOf (base : List Step) (entry : Data) (file : List ℕ) : Type 0 where
+  pub path : List ℕ
+  pub place : List (List ℕ)
+  pub string : as_str entry ≡ Some path
+  pub named : place_of (components path) ≡ Some place
+  pub normal : IsNormalTextOf (base ++ components path) file
+  pub below : IsAt base place (components file)
+
+-- the entry is no string
+abbrev pub IsNoString : Data → Type 0
+IsNoString entry = as_str entry ≡ None
+
+-- the entry is a path that climbs above where it starts
+abbrev pub Climbs : Data → Type 0
+Climbs entry = (path : List ℕ) × (as_str entry ≡ Some path) × (place_of (components path) ≡ None)
+
+-- entry number k is in this case, and each before it has its file
+pub record IsFirst (Case : Data → Type 0) (base : List Step) (entries : List Data) (k : ℕ) : Type 0 where
+  pub within : k < length entries
+  pub case : Case (slice_index_or entries k null)
+  pub before : (files : List (List ℕ)) × AllZip (IsFileOf base) (take k entries) files
+
+-- P holds of the components of the manifest's base, and of its entries
+abbrev pub OfManifest : Data → (List Step → List Data → Type 0) → Type 0
+OfManifest manifest P = (base : List ℕ) × (entries : List Data)
+    × (base_of manifest ≡ Some base) × (entries_of manifest ≡ Some entries) × P (components base) entries
+
+-- these are the files of the entries, in order
+abbrev pub AreFiles : List (List ℕ) → List Step → List Data → Type 0
+AreFiles files base entries = AllZip (IsFileOf base) entries files
+
+-- what the entries are where they are refused so; want of memory says nothing of them
+abbrev pub IsRefusedFor : ManifestError → List Step → List Data → Type 0
+IsRefusedFor NoBase base entries = ⊥
+IsRefusedFor NoFiles base entries = ⊥
+IsRefusedFor (NotAString k) base entries = IsFirst IsNoString base entries k
+IsRefusedFor (ClimbsAbove k) base entries = IsFirst Climbs base entries k
+IsRefusedFor OutOfMemory base entries = ⊤
+
+-- what the manifest is where it is refused so
+abbrev pub Refuses : Data → ManifestError → Type 0
+Refuses manifest NoBase = base_of manifest ≡ None
+Refuses manifest NoFiles = (base_of manifest ≢ None) × (entries_of manifest ≡ None)
+Refuses manifest (NotAString k) = OfManifest manifest (IsRefusedFor (NotAString k))
+Refuses manifest (ClimbsAbove k) = OfManifest manifest (IsRefusedFor (ClimbsAbove k))
+Refuses manifest OutOfMemory = ⊤
+
+-- what the entry with this number is where it is refused so
+abbrev pub IsEntryRefused : Data → ℕ → ManifestError → Type 0
+IsEntryRefused entry k NoBase = ⊥
+IsEntryRefused entry k NoFiles = ⊥
+IsEntryRefused entry k (NotAString j) = (j ≡ k) × IsNoString entry
+IsEntryRefused entry k (ClimbsAbove j) = (j ≡ k) × Climbs entry
+IsEntryRefused entry k OutOfMemory = ⊤
+
+-- the text of a file
+abbrev pub file_text : Buffer → List ℕ
+file_text file = file.text
+
+-- what is printed of a refusal
+abbrev pub refusal_text : ManifestError → List ℕ
+refusal_text NoBase = codes "no base directory"
+refusal_text NoFiles = codes "no list of files"
+refusal_text (NotAString k) = codes "file " ++ decimal k ++ codes " is no string"
+refusal_text (ClimbsAbove k) = codes "file " ++ decimal k ++ codes " climbs above the base"
+refusal_text OutOfMemory = codes "out of memory"

@@ -1,0 +1,134 @@
+//! A manifest in JSON: a base directory, and files that are read from there.
+ghost use Rattle.std.specs.Prelude.{◌≡◌, ◌≢◌, ◌↔◌, map, IfErr, IfOk, IsErrOf, None, Some};
+ghost use Rattle.relative_path.specs.RelativePath.{path_components};
+ghost use Rattle.serde_json.specs.View.{view};
+ghost use Rattle.relative_path_uses.specs.Manifest.{base_of, entries_of, file_text, AreFiles, IsEntryRefused, IsFileOf, IsRefusedFor, OfManifest, Refuses};
+
+use crate::places::has_place;
+use relative_path::{RelativePath, RelativePathBuf};
+use relative_path_shared::view_value;
+use serde_json::Value;
+use std::alloc::{AllocError, AllocFailed, Global};
+use std::error::Error;
+use std::fmt;
+
+/// Why a manifest is refused. Its files are told by their numbers, counted from 0.
+///
+/// A refusal prints its words.
+///
+/// ```
+/// println!(rt; "{}", ManifestError::ClimbsAbove(3))?; // file 3 climbs above the base
+/// ```
+#[derive(Clone, Copy, Debug, PartialEq, Eq)]
+pub enum ManifestError {
+    /// The member `base` is missing, or no string.
+    NoBase,
+    /// There is a base, but the member `files` is missing, or no list.
+    NoFiles,
+    /// The first file to be refused is no string.
+    NotAString(usize),
+    /// The first file to be refused climbs above the base.
+    ClimbsAbove(usize),
+    /// Memory was refused.
+    OutOfMemory,
+}
+
+impl fmt::Display for ManifestError {
+    ghost use Rattle.relative_path_uses.specs.Manifest.{refusal_text};
+
+    ghost output = { λ refusal. Some (refusal_text refusal) };
+
+    fn fmt<W: fmt::Write>(&self, f: &mut fmt::Formatter<W>) -> fmt::Result {
+        match self {
+            ManifestError::NoBase => f.write_str("no base directory"),
+            ManifestError::NoFiles => f.write_str("no list of files"),
+            ManifestError::NotAString(k) => write!(f, "file {k} is no string"),
+            ManifestError::ClimbsAbove(k) => write!(f, "file {k} climbs above the base"),
+            ManifestError::OutOfMemory => f.write_str("out of memory"),
+        }
+    }
+}
+
+impl Error for ManifestError {}
+
+impl From<AllocError> for ManifestError {
+    ghost use Rattle.relative_path_uses.specs.declared.manifest.ManifestError.TheVariants.{OutOfMemory};
+
+    ghost from_gives = { λ _ refusal. refusal ≡ OutOfMemory };
+
+    fn from(_: AllocError) -> ManifestError {
+        ManifestError::OutOfMemory
+    }
+}
+
+impl<T: Drop> From<AllocFailed<T>> for ManifestError {
+    ghost use Rattle.relative_path_uses.specs.declared.manifest.ManifestError.TheVariants.{OutOfMemory};
+
+    ghost from_gives = { λ _ refusal. refusal ≡ OutOfMemory };
+
+    fn from(_: AllocFailed<T>) -> ManifestError {
+        ManifestError::OutOfMemory
+    }
+}
+
+/// The files of a manifest, each as the normal path of the base and the file.
+///
+/// ```
+/// let manifest = json!(in alloc; {"base": "assets", "files": ["img/x.png", "./css/../js/a.js"]})?;
+/// let files = manifest_files(alloc, &manifest)?; // assets/img/x.png, assets/js/a.js
+/// ```
+pub fn manifest_files(
+    alloc: Global,
+    manifest: &Value,
+) -> Result<Vec<RelativePathBuf>, ManifestError>
+    ensures files { IfOk result
+        (λ files. OfManifest (view manifest.now) (AreFiles (map file_text files.items))) }
+    ensures refused { IfErr result (Refuses (view manifest.now)) }
+    ensures no_base { IsErrOf result ManifestError.NoBase ↔ (base_of (view manifest.now) ≡ None) }
+    ensures no_files { IsErrOf result ManifestError.NoFiles
+        ↔ (base_of (view manifest.now) ≢ None) × (entries_of (view manifest.now) ≡ None) }
+{
+    let base = manifest.get("base").and_then(Value::as_str);
+    let base = base.ok_or(ManifestError::NoBase)?;
+    let files = manifest.get("files").and_then(Value::as_array);
+    let files = files.ok_or(ManifestError::NoFiles)?;
+    files_below(alloc, RelativePath::new(base), files)
+}
+
+/// Each of the files as the normal path of the base and the file.
+fn files_below(
+    alloc: Global,
+    base: RelativePath<'_>,
+    files: &[Value],
+) -> Result<Vec<RelativePathBuf>, ManifestError>
+    ensures files { IfOk result (λ paths.
+        AreFiles (map file_text paths.items) (path_components base.entry) (map view files.now)) }
+    ensures refused { IfErr result
+        (λ refusal. IsRefusedFor refusal (path_components base.entry) (map view files.now)) }
+{
+    let mut paths = Vec::new(alloc);
+    for (k, file) in files.iter().enumerate() {
+        paths.push(file_below(alloc, base, file, k)?)?;
+    }
+    Ok(paths)
+}
+
+/// File number `k` as the normal path of the base and the file.
+fn file_below(
+    alloc: Global,
+    base: RelativePath<'_>,
+    file: &Value,
+    k: usize,
+) -> Result<RelativePathBuf, ManifestError>
+    ensures file { IfOk result
+        (λ path. IsFileOf (path_components base.entry) (view file.now) path.text) }
+    ensures refused { IfErr result (IsEntryRefused (view file.now) k) }
+{
+    let Ok(file) = view_value(file) else {
+        return Err(ManifestError::NotAString(k));
+    };
+    if !has_place(alloc, file)? {
+        return Err(ManifestError::ClimbsAbove(k));
+    }
+    Ok(base.join_normalized(alloc, file)?)
+}

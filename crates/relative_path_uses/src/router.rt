@@ -1,0 +1,56 @@
+//! A router of static files: what a request names below a root.
+ghost use Rattle.std.specs.Prelude.{◌≡◌, ◌↔◌, ℕ, List, IfOk, IfSome, IsNone, None, Some};
+ghost use Rattle.relative_path.specs.RelativePath.{path_components};
+ghost use Rattle.relative_path.specs.Steps.{components};
+ghost use Rattle.relative_path_uses.specs.Places.{place_of};
+ghost use Rattle.relative_path_uses.specs.Router.{IsFileAt, answer_text};
+
+use crate::places::has_place;
+use relative_path::{RelativePath, RelativePathBuf};
+use std::alloc::{AllocError, Global};
+
+/// The file below the root that a request's path names; `None` where the path has no place from the
+/// top.
+///
+/// ```
+/// let root = RelativePath::new("site/public");
+/// let file = routed(alloc, root, "/css//./site.css")?; // site/public/css/site.css
+/// let file = routed(alloc, root, "/../secrets")?; // none
+/// ```
+pub fn routed(
+    alloc: Global,
+    root: RelativePath<'_>,
+    request: &str,
+) -> Result<Option<RelativePathBuf>, AllocError>
+    ensures refused { IfOk result (λ found. IsNone found ↔ (place_of (components request.now) ≡ None)) }
+    ensures below { IfOk result (λ found. IfSome found (λ file. (place : List (List ℕ))
+        × (place_of (components request.now) ≡ Some place)
+        × IsFileAt (path_components root.entry) place file.text)) }
+{
+    let request = RelativePath::new(request);
+    if !has_place(alloc, request)? {
+        return Ok(None);
+    }
+    Ok(Some(root.join_normalized(alloc, request)?))
+}
+
+/// The answers to two requests: the same if both have the same place from the top, or none.
+///
+/// ```
+/// let root = RelativePath::new("site");
+/// let (file, other) = routed_alike(alloc, root, "/a/../b.css", "b.css/.")?;
+/// assert!(rt; file == other);
+/// ```
+pub fn routed_alike(
+    alloc: Global,
+    root: RelativePath<'_>,
+    request: &str,
+    other: &str,
+) -> Result<(Option<RelativePathBuf>, Option<RelativePathBuf>), AllocError>
+    ensures { IfOk result (λ found.
+        place_of (components request.now) ≡ place_of (components other.now)
+        → answer_text found.0 ≡ answer_text found.1) }
+{
+    let file = routed(alloc, root, request)?;
+    Ok((file, routed(alloc, root, other)?))
+}

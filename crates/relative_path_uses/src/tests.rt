@@ -1,0 +1,3 @@
+//! The users on real input.
+mod manifest;
+mod router;

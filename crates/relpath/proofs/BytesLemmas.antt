@@ -1,0 +1,148 @@
+-- Where a byte stands first, by blocks of bytes.
+use Rattle.std.proofs.Common.{◌≡◌, ◌≢◌, ℕ, ◌+◌, ◌%◌, ◌<◌, ◌≤◌, ◌==◌, Bool, true, false, not, List, length, map, take, drop, get_or, replicate, cond, eqb, sym, ap, ◌∙◌, arith, ◌⊎◌, inl, inr, w8}
+use Rattle.std.proofs.lemmas.Bool.{eq-eqb, ne_eqb, cases_lt, both_ways}
+use Rattle.std.proofs.lemmas.Bool.Decides.{eqb_tells}
+use Rattle.std.proofs.lemmas.List.Sums.{prefix_len_is, prefix_len_passes, prefix_len_stops, prefix_len-le-length}
+use Rattle.std.proofs.lemmas.Simd.{bitmask_splat, leading_from_mask_l, trailing_mask_l, run_in_chunk_le, run_in_chunk_fails, run_in_chunk_stops}
+use Rattle.std.specs.List.{position_or_len}
+use lib.Count.{count_trailing_zeros}
+use lib.Lanes.{zip2, mask_l, top}
+
+-- a bit for each byte of a block, set where it is the one that is looked for
+abbrev pub places : List ℕ → ℕ → ℕ → ℕ
+places block n byte =
+    mask_l (map (top 7) (zip2 (λ a b. cond (eqb a b) 255 0) block (replicate n byte))) % 18446744073709551616
+
+-- no bit is set where the byte isn't in the block
+pub position-none : (block : List ℕ) (n byte : ℕ) → length block ≡ n → n ≤ 64
+    → places block n byte ≡ 0 → n ≡ position_or_len (λ b. b == byte) block
+position-none block n byte long small none =
+    let mask = bitmask_splat w8 eqb block n byte long small in
+    sym (leading_from_mask_l (λ b. b == byte) block (sym mask ∙ none) ∙ long)
+
+positive : (m : ℕ) → m ≢ 0 → 0 < m
+positive m some = elim (cases_lt 0 m) [
+  | inl more ↦ more
+  | inr none ↦ absurd (some (omega arith))
+]
+
+-- and else the lowest bit is the first place
+pub position-some : (block : List ℕ) (n byte : ℕ) → length block ≡ n → n ≤ 64
+    → places block n byte ≢ 0
+    → count_trailing_zeros 64 (places block n byte) ≡ position_or_len (λ b. b == byte) block
+position-some block n byte long small some =
+    let mask = bitmask_splat w8 eqb block n byte long small in
+    ap (count_trailing_zeros 64) mask
+    ∙ trailing_mask_l (λ b. b == byte) 64 block (omega arith) (positive _ (λ none. some (mask ∙ none)))
+
+-- the first place in a block, before which the byte isn't, is the first of all
+pub position-here : (p : ℕ → Bool) (bytes : List ℕ) (at n r : ℕ) → at ≤ position_or_len p bytes → at + n ≤ length bytes
+    → r ≡ position_or_len p (take n (drop at bytes)) → r < n → at + r ≡ position_or_len p bytes
+position-here p bytes at n r before room is within =
+    sym (prefix_len_is (λ b. not (p b)) bytes (at + r) 0 (omega arith) passes stops)
+  where
+    passes : (k : ℕ) → k < at + r → not (p (get_or bytes k 0)) ≡ true
+    passes k l = elim (cases_lt k at) [
+      | inl early ↦ prefix_len_passes (λ b. not (p b)) bytes k 0 (omega arith)
+      | inr late ↦ ap not (run_in_chunk_fails p bytes at n r 0 room is k (omega arith) l)
+    ]
+
+    stops : at + r < length bytes → not (p (get_or bytes (at + r) 0)) ≡ false
+    stops l = ap not (run_in_chunk_stops p bytes at n r 0 room is within)
+
+-- the first place is behind a block without the byte
+pub position-behind : (p : ℕ → Bool) (bytes : List ℕ) (at n r : ℕ) → at ≤ position_or_len p bytes
+    → at + n ≤ length bytes → r ≡ position_or_len p (take n (drop at bytes)) → n ≤ r
+    → at + n ≤ position_or_len p bytes
+position-behind p bytes at n r before room is whole =
+    let first = position_or_len p bytes in
+    elim (cases_lt first (at + n)) [
+      | inl inside ↦ absurd (both_ways _ (prefix_len_stops (λ b. not (p b)) bytes 0 (omega arith))
+          (ap not (run_in_chunk_fails p bytes at n r 0 room is first (omega arith) (omega arith))))
+      | inr behind ↦ omega arith
+    ]
+
+-- the first place in the last block
+pub position-last : (p : ℕ → Bool) (bytes : List ℕ) (at last n r : ℕ) → at ≤ position_or_len p bytes → last ≤ at
+    → last + n ≡ length bytes → r ≡ position_or_len p (take n (drop last bytes)) → last + r ≡ position_or_len p bytes
+position-last p bytes at last n r before early end is =
+    let bound = prefix_len-le-length (λ b. not (p b)) bytes in
+    let short = run_in_chunk_le p bytes last n r 0 (omega (arith, end)) is in
+    elim (cases_lt r n) [
+      | inl within ↦ position-here p bytes last n r (omega (arith, before, early)) (omega (arith, end)) is within
+      | inr whole ↦ omega (
+        arith,
+        bound,
+        short,
+        end,
+        position-behind p bytes last n r (omega (arith, before, early)) (omega (arith, end)) is whole,
+      )
+    ]
+
+-- the first place is behind another byte
+pub position-next : (bytes : List ℕ) (at byte : ℕ) → at ≤ position_or_len (λ b. b == byte) bytes → at < length bytes
+    → get_or bytes at 0 ≢ byte → at + 1 ≤ position_or_len (λ b. b == byte) bytes
+position-next bytes at byte before inside other =
+    elim (cases_lt at (position_or_len (λ b. b == byte) bytes)) [
+      | inl behind ↦ omega arith
+      | inr here ↦ absurd (stopped (omega arith))
+    ]
+  where
+    stopped : position_or_len (λ b. b == byte) bytes ≡ at → ⊥
+    stopped is = both_ways _
+        (ap (λ n. not (get_or bytes n 0 == byte)) (sym is)
+        ∙ prefix_len_stops (λ b. not (b == byte)) bytes 0 (omega arith))
+        (ap not (ne_eqb _ _ other))
+
+-- a place of the byte, before which it isn't, is the first
+pub position-at : (bytes : List ℕ) (at byte : ℕ) → at ≤ position_or_len (λ b. b == byte) bytes
+    → get_or bytes at 0 ≡ byte → at ≡ position_or_len (λ b. b == byte) bytes
+position-at bytes at byte before same =
+    elim (cases_lt at (position_or_len (λ b. b == byte) bytes)) [
+      | inl later ↦ absurd (both_ways _ (ap not (eq-eqb _ _ same))
+          (prefix_len_passes (λ b. not (b == byte)) bytes at 0 later))
+      | inr here ↦ omega arith
+    ]
+
+-- a place before which the byte isn't is within the bytes, or behind the last
+pub position-le : (bytes : List ℕ) (at byte : ℕ) → at ≤ position_or_len (λ b. b == byte) bytes → at ≤ length bytes
+position-le bytes at byte before =
+    let bound = prefix_len-le-length (λ b. not (b == byte)) bytes in omega arith
+
+different : (x y : ℕ) → not (x == y) ≡ true → x ≢ y
+different x y other e = both_ways _ (ap not (eq-eqb x y e)) other
+
+-- the byte isn't before its first place
+pub position-lacks : (bytes : List ℕ) (byte i : ℕ) → i < position_or_len (λ b. b == byte) bytes
+    → get_or bytes i 0 ≢ byte
+position-lacks bytes byte i before =
+    different _ byte (prefix_len_passes (λ b. not (b == byte)) bytes i 0 before)
+
+same : (x y : ℕ) → not (x == y) ≡ false → x ≡ y
+same x y found = told (eqb_tells x y) where
+  told : (((x == y) ≡ true) × (x ≡ y)) ⊎ (((x == y) ≡ false) × (x ≢ y)) → x ≡ y
+  told (inl (is, e)) = e
+  told (inr (isnt, other)) = absurd (both_ways _ found (ap not isnt))
+
+-- the byte is at its first place
+pub position-holds : (bytes : List ℕ) (byte at : ℕ) → at ≡ position_or_len (λ b. b == byte) bytes → at < length bytes
+    → get_or bytes at 0 ≡ byte
+position-holds bytes byte at is inside =
+    same _ byte (ap (λ n. not (get_or bytes n 0 == byte)) is
+    ∙ prefix_len_stops (λ b. not (b == byte)) bytes 0 (omega (arith, is, inside)))
+
+-- a place that isn't the end is within the bytes
+pub position-inside : (bytes : List ℕ) (byte at : ℕ) → at ≡ position_or_len (λ b. b == byte) bytes
+    → at ≢ length bytes → at < length bytes
+position-inside bytes byte at is short =
+    let bound = prefix_len-le-length (λ b. not (b == byte)) bytes in
+    elim (cases_lt at (length bytes)) [
+      | inl inside ↦ inside
+      | inr end ↦ absurd (short (omega (arith, bound, is, end)))
+    ]
+
+-- the byte isn't there at all
+pub position-end : (bytes : List ℕ) (at byte : ℕ) → at ≤ position_or_len (λ b. b == byte) bytes
+    → length bytes ≤ at → at ≡ position_or_len (λ b. b == byte) bytes
+position-end bytes at byte before end =
+    let bound = prefix_len-le-length (λ b. not (b == byte)) bytes in omega arith
