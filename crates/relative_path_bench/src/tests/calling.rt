@@ -1,4 +1,4 @@
-//! The caller that the page on calling shows.
+//! The callers that the page on calling shows.
 ghost use Rattle.std.specs.Prelude.{◌++◌, ◌↔◌, IfOk, IfSome, IsNone};
 ghost use Rattle.relative_path.specs.RelativePath.{path_components};
 ghost use Rattle.relative_path.specs.Relating.{IsReachable, IsShortestText};
@@ -24,10 +24,34 @@ pub fn carry(
     to.try_relative(alloc, target.as_relative_path())
 }
 
+/// The shortest way back from what a link means to the link's directory, if there is one.
+pub fn way_back(
+    alloc: Global,
+    directory: RelativePath<'_>,
+    link: RelativePath<'_>,
+) -> Result<RelativePathBuf, AllocError>
+    ensures { IfOk result (λ back. IsReachable
+        (path_components directory.entry ++ path_components link.entry) (path_components directory.entry)
+        → IsShortestText (path_components directory.entry ++ path_components link.entry)
+        (path_components directory.entry) back.text) }
+{
+    let target = directory.join_normalized(alloc, link)?;
+    let back = target.as_relative_path().relative(alloc, directory)?;
+    Ok(back)
+}
+
 #[test]
 fn carries_a_link(rt: HostRuntime) -> Result<(), std::test::Fail> {
     let [docs, link, archive] = ["docs/guide", "../img/a.png", "archive"].map(RelativePath::new);
     let way = carry(rt.alloc(), docs, link, archive)?;
     assert!(rt; way.is_some_and(|way| way.as_relative_path().as_str() == "../docs/img/a.png"));
+    Ok(())
+}
+
+#[test]
+fn finds_the_way_back(rt: HostRuntime) -> Result<(), std::test::Fail> {
+    let [docs, link] = ["docs/guide", "../img"].map(RelativePath::new);
+    let back = way_back(rt.alloc(), docs, link)?;
+    assert_eq!(rt; back.as_relative_path().as_str(), "../guide");
     Ok(())
 }
