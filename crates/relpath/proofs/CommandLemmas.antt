@@ -1,8 +1,8 @@
 -- The answer to a line is the answer to the fields of it that are shown.
-use Rattle.std.proofs.Common.{◌≡◌, ◌≢◌, ◌⊎◌, ℕ, ◌<◌, ◌==◌, true, false, List, [], ◌∷◌, ◌++◌, length, map, take, drop, get_or, codes, Bor, Bool, Some, None, Result, Ok, Err, OnOk, inl, inr, refl, sym, ◌∙◌, arith, lit<, zero, suc, Option, MatchOption, MatchBool}
+use Rattle.std.proofs.Common.{◌≡◌, ◌≢◌, ◌⊎◌, ℕ, ◌<◌, ◌==◌, true, false, List, [], ◌∷◌, ◌++◌, length, map, take, drop, get_or, codes, Bor, Bool, Some, None, Result, Ok, Err, OnOk, inl, inr, refl, sym, ◌∙◌, arith, lit<, zero, suc, append_assoc, Option, MatchOption, MatchBool}
 use Rattle.std.proofs.lemmas.Bool.{eq-eqb, ne_eqb}
 use Rattle.std.proofs.lemmas.Bool.Decides.{eqb_tells}
-use Rattle.std.proofs.lemmas.List.{length-map, length-take, drop-take, get_or-take}
+use Rattle.std.proofs.lemmas.List.{length-map, length-take, drop-take, get_or-take, take-append-drop}
 use Rattle.relpath.specs.Command.{Answers, AnswersFields, AnswersCommand, AnswersArguments, Adds, field, command_named, arity_of, words_answer}
 use Rattle.relpath.specs.declared.command.Command.{Command}
 use Rattle.relpath.specs.declared.command.Command.TheVariants.{Normalize, Join, Relative, TryRelative, RelativeTo, Moved}
@@ -125,3 +125,9 @@ pub field-map : (arguments : List (Bor (List ℕ))) (n : ℕ) (none : Bor (List 
 field-map [] n none inside = absurd (omega arith)
 field-map (x ∷ xs) zero none inside = refl
 field-map (x ∷ xs) (suc n) none inside = field-map xs n none (omega arith)
+
+-- a piece is moved from what is left to what was added
+pub added-piece : (n : ℕ) (whole before left piece rest after : List ℕ) → before ++ left ≡ whole
+    → piece ≡ take n left → rest ≡ drop n left → after ≡ before ++ piece → after ++ rest ≡ whole
+added-piece n whole before left piece rest after so_far is_piece is_rest grown =
+    rw (grown, append_assoc, is_piece, is_rest, take-append-drop n left) so_far

@@ -1,5 +1,5 @@
 //! Searches over bytes.
-ghost use Rattle.std.specs.Prelude.{◌≡◌, ◌+◌, ◌≤◌, ◌==◌, length, take, drop};
+ghost use Rattle.std.specs.Prelude.{◌≡◌, ◌+◌, ◌<◌, ◌≤◌, ◌==◌, ℕ, IsTrue, length, slice_index_or, take, drop};
 ghost use Rattle.std.specs.List.{position_or_len};
 
 use std::simd::prelude::*;
@@ -14,19 +14,42 @@ const NEAR: usize = 16;
 pub fn find_byte(bytes: &[u8], byte: u8) -> usize
     ensures { result ≡ position_or_len (λ b. b == byte) bytes.now }
 {
-    let mut at = 0;
-    while bytes.len() - at >= FAR {
-        let passed = find_far(bytes, at, byte);
-        if passed < FAR {
-            return at + passed;
+    if bytes.len() >= FAR {
+        let near = find_far(bytes, 0, byte);
+        if near < FAR {
+            return near;
         }
-        at += FAR;
     }
-    find_at_end(bytes, at, byte)
+    find_from(bytes, pass_far(bytes, byte), byte)
 }
 
-/// The same, where the byte isn't among the first ones. The last block overlaps the one before it.
-fn find_at_end(bytes: &[u8], from: usize, byte: u8) -> usize
+/// A place before which the byte isn't: that of the first block that has it, or that is cut off by
+/// the end.
+fn pass_far(bytes: &[u8], byte: u8) -> usize
+    ensures { result ≤ position_or_len (λ b. b == byte) bytes.now }
+{
+    let mut at = 0;
+    while bytes.len() - at >= FAR && !has_byte(bytes, at, byte) {
+        at += FAR;
+    }
+    at
+}
+
+/// Whether a block has the byte. With no early end, it looks at many bytes at once.
+fn has_byte(bytes: &[u8], at: usize, byte: u8) -> bool
+    requires { at + FAR ≤ length bytes.now }
+    ensures { (k : ℕ) → k < FAR → slice_index_or bytes.now (at + k) 0 ≡ byte → IsTrue result }
+{
+    let mut found = false;
+    for i in 0..FAR {
+        found |= bytes[at + i] == byte;
+    }
+    found
+}
+
+/// Where a byte stands first, if it isn't among the first bytes. The last block overlaps the one
+/// before it.
+fn find_from(bytes: &[u8], from: usize, byte: u8) -> usize
     requires { from ≤ position_or_len (λ b. b == byte) bytes.now }
     ensures { result ≡ position_or_len (λ b. b == byte) bytes.now }
 {

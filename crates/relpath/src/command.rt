@@ -26,6 +26,9 @@ use relative_path::{RelativePath, RelativePathBuf, RelativeToError, RelativeToEr
 use std::alloc::{AllocError, Global};
 use std::fmt::Write;
 
+/// How many bytes of a text are copied at once.
+const PIECE: usize = 2_048;
+
 /// A command.
 #[derive(Clone, Copy)]
 enum Command {
@@ -228,7 +231,21 @@ fn add_path(output: &mut String, path: &RelativePathBuf) -> Result<(), AllocErro
         (string_bytes output.new ≡ string_bytes output.old ++ path_answer path.now.text) }
 {
     output.push_str("= ")?;
-    output.push_str(path.as_relative_path().as_str())
+    add_text(output, path.as_relative_path().as_str())
+}
+
+/// Adds a text, piece by piece: the C library copies a short piece by vectors, and a long one by
+/// bytes.
+fn add_text(output: &mut String, text: &str) -> Result<(), AllocError>
+    ensures { OnOk result (string_bytes output.new ≡ string_bytes output.old ++ text.now) }
+{
+    let mut left = text;
+    while left.len() > PIECE && left.is_char_boundary(PIECE) {
+        let (piece, rest) = left.split_at(PIECE);
+        output.push_str(piece)?;
+        left = rest;
+    }
+    output.push_str(left)
 }
 
 /// Adds the answer that refuses in words.

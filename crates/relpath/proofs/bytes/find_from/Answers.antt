@@ -1,7 +1,7 @@
 -- A block at a time, while one fits.
 use Rattle.std.proofs.Common.{◌==◌, arith}
 use Rattle.relpath.proofs.BytesLemmas.{position-here, position-behind, position-last, position-le}
-use Rattle.relpath.proofs.bytes.find_at_end.Goals as goal
+use Rattle.relpath.proofs.bytes.find_from.Goals as goal
 
 pub overflow_sub-bytes : goal.overflow_sub-bytes
 overflow_sub-bytes c = position-le c.args.bytes.now c.loop-at.at c.args.byte c.loop-at.invariant
