@@ -17,7 +17,8 @@ use std::fmt;
 /// A refusal prints its words.
 ///
 /// ```
-/// println!(rt; "{}", ManifestError::ClimbsAbove(3))?; // file 3 climbs above the base
+/// let error = ManifestError::ClimbsAbove(3);
+/// assert_eq!(rt; error.to_string(alloc)?.as_str(), "file 3 climbs above the base");
 /// ```
 #[derive(Clone, Copy, Debug, PartialEq, Eq)]
 pub enum ManifestError {
@@ -75,7 +76,9 @@ impl<T: Drop> From<AllocFailed<T>> for ManifestError {
 ///
 /// ```
 /// let manifest = json!(in alloc; {"base": "assets", "files": ["img/x.png", "./css/../js/a.js"]})?;
-/// let files = manifest_files(alloc, &manifest)?; // assets/img/x.png, assets/js/a.js
+/// let files = manifest_files(alloc, &manifest)?;
+/// assert_eq!(rt; files[0].as_relative_path().as_str(), "assets/img/x.png");
+/// assert_eq!(rt; files[1].as_relative_path().as_str(), "assets/js/a.js");
 /// ```
 pub fn manifest_files(
     alloc: Global,
