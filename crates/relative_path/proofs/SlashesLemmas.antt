@@ -1,10 +1,9 @@
 -- A text trimmed of the slashes at an end, and cut at its first or its last slash.
 use Rattle.std.proofs.Common.{◌≡◌, ◌≢◌, ◌<◌, ℕ, suc, zero, List, [], ◌∷◌, ◌++◌, All, take, drop, replicate, Option, Some, None, MatchOption, Bor, refl, sym, subst, ap, ap₂, ◌∙◌, lit<, take-append-drop, append-nil, ◌+◌, ◌-◌, length, get_or, get_or-drop, length-take, length-drop, arith, take_all, ◌≤◌}
-use Rattle.std.specs.Option.{unwrap_or}
 use Rattle.std.specs.Str.{IsUtf8, IsCharBoundary}
-use Rattle.std.specs.Str.Pattern.{FindsChar, RFindsChar, FindsTextPrefix, FindsTextSuffix, SplitsAroundMatch, MatchBeginsAt, StripsPrefix, StripsSuffix, FindsCharPrefix, FindsCharSuffix, IsTrimStartMatches, IsTrimEndMatches, CutsPrefixes, CutsSuffixes}
+use Rattle.std.specs.Str.Pattern.{RFindsChar, FindsTextPrefix, FindsTextSuffix, SplitsAroundMatch, StripsPrefix, StripsSuffix, FindsCharPrefix, FindsCharSuffix, IsTrimStartMatches, IsTrimEndMatches, CutsPrefixes, CutsSuffixes}
 use Rattle.std.proofs.lemmas.List.Elements.{All-from_get_or}
-use Rattle.std.proofs.lemmas.Str.Pattern.{NoCharPasses-char, drop_at_char, find_char, rfind_char}
+use Rattle.std.proofs.lemmas.Str.Pattern.{NoCharPasses-char, drop_at_char}
 use Rattle.relative_path.specs.Steps.{slash, components}
 use Rattle.std.proofs.lemmas.List.{drop_all, take_more, get_or-take}
 use Rattle.std.proofs.lemmas.Str.{encode_ascii, IsCharBoundary-after_ascii}
@@ -108,20 +107,6 @@ pub IsCharBoundary-behind : (text : List ℕ) (n : ℕ) → IsUtf8 text → 0 < 
 IsCharBoundary-behind text n utf8 some inside at =
     let same : n - 1 + 1 ≡ n = omega arith in
     subst (IsCharBoundary text) same (IsCharBoundary-after_ascii text (n - 1) utf8 (omega arith) (omega (arith, at)))
-
--- no slash stands where `find` stops, or before the end where it finds none
-pub none_before-find : (text : List ℕ) (r : Option ℕ)
-    → MatchOption r (FindsChar slash text None) (MatchBeginsAt (FindsChar slash) text)
-    → (k : ℕ) → k < unwrap_or r (length text) → get_or text k 0 ≢ slash
-none_before-find text None found = find_char slash text None found (lit< tt)
-none_before-find text (Some n) found = (find_char slash text (Some n) found (lit< tt)).2
-
-pub none_behind-rfind : (text : List ℕ) (r : Option ℕ)
-    → MatchOption r (RFindsChar slash text None) (MatchBeginsAt (RFindsChar slash) text)
-    → MatchOption r ((k : ℕ) → k < length text → get_or text k 0 ≢ slash)
-    (λ n. (k : ℕ) → n < k → k < length text → get_or text k 0 ≢ slash)
-none_behind-rfind text None found = rfind_char slash text None found (lit< tt)
-none_behind-rfind text (Some n) found = (rfind_char slash text (Some n) found (lit< tt)).2
 
 -- a stretch without a slash before n, and from n on
 pub All-take : (text : List ℕ) (n : ℕ) → ((k : ℕ) → k < n → get_or text k 0 ≢ slash)

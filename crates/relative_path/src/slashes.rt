@@ -1,10 +1,14 @@
 //! A text cut at its slashes.
-ghost use Rattle.std.specs.Prelude.{◌≡◌, ◌≢◌, ◌≤◌, ◌<◌, ◌-◌, ◌⊎◌, ◌↔◌, ℕ, [], ◌∷◌, ◌++◌, IsTrue, length, drop, take, slice_index};
+ghost use Rattle.std.specs.Prelude.{◌≡◌, ◌≢◌, ◌≤◌, ◌<◌, ◌+◌, ◌-◌, false, ◌⊎◌, ℕ, [], ◌∷◌, ◌++◌, length, drop, take, slice_index};
 ghost use Rattle.std.specs.List.{All};
 ghost use Rattle.relative_path.specs.Steps.{slash, components};
 
-// So many bytes of a piece are looked at where they stand. A longer piece is searched out of line, by blocks.
-const NEAR: usize = 32;
+// So many bytes of a piece are looked at one by one, where they stand. A longer piece is searched out of line, by
+// blocks.
+const NEAR: usize = 24;
+
+// So many bytes are compared side by side.
+const BLOCK: usize = 16;
 
 // A run of slashes is taken off by so many, and then one by one.
 const SLASHES: &str = "////////////////";
@@ -108,7 +112,38 @@ pub(crate) fn far_first_piece_len(text: &str) -> usize
     ensures before { (k : ℕ) → k < result → slice_index text.now k ≢ slash }
     ensures slash { result < length text.now → slice_index text.now result ≡ slash }
 {
-    text.find('/').unwrap_or(text.len())
+    let bytes = text.as_bytes();
+    let mut len = whole_blocks_len(bytes);
+    while len < bytes.len() && bytes[len] != b'/' {
+        len += 1;
+    }
+    len
+}
+
+// How many bytes the blocks have that stand before the first with a slash.
+#[inline(always)]
+fn whole_blocks_len(bytes: &[u8]) -> usize
+    ensures bound { result ≤ length bytes.now }
+    ensures before { (k : ℕ) → k < result → slice_index bytes.now k ≢ slash }
+{
+    let mut len = 0;
+    while bytes.len() - len >= BLOCK && !has_slash(bytes, len) {
+        len += BLOCK;
+    }
+    len
+}
+
+// Whether the block that starts there has a slash.
+#[inline(always)]
+fn has_slash(bytes: &[u8], start: usize) -> bool
+    requires { start + 16 ≤ length bytes.now }
+    ensures { (k : ℕ) → (result ≡ false) → start ≤ k → k < start + 16 → slice_index bytes.now k ≢ slash }
+{
+    let mut found = false;
+    for i in 0..BLOCK {
+        found |= bytes[start + i] == b'/';
+    }
+    found
 }
 
 // What stands before the last slash, and what stands after it.
@@ -156,8 +191,23 @@ fn far_last_piece_start(text: &str) -> usize
     ensures behind { (k : ℕ) → result ≤ k → k < length text.now → slice_index text.now k ≢ slash }
     ensures slash { 0 < result → slice_index text.now (result - 1) ≡ slash }
 {
-    match text.rfind('/') {
-        Some(last) => last + 1,
-        None => 0,
+    let bytes = text.as_bytes();
+    let mut start = whole_blocks_start(bytes);
+    while start > 0 && bytes[start - 1] != b'/' {
+        start -= 1;
     }
+    start
+}
+
+// Where the blocks begin that stand behind the last with a slash.
+#[inline(always)]
+fn whole_blocks_start(bytes: &[u8]) -> usize
+    ensures bound { result ≤ length bytes.now }
+    ensures behind { (k : ℕ) → result ≤ k → k < length bytes.now → slice_index bytes.now k ≢ slash }
+{
+    let mut start = bytes.len();
+    while start >= BLOCK && !has_slash(bytes, start - BLOCK) {
+        start -= BLOCK;
+    }
+    start
 }
