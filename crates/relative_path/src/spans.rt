@@ -7,7 +7,7 @@ ghost use Rattle.relative_path.specs.Steps.{slash, components};
 use crate::slashes::{far_first_piece_len, without_leading_slashes};
 
 // So many bytes of a piece are looked at where they stand. A longer piece is searched out of line, by blocks.
-const NEAR: usize = 32;
+const NEAR: usize = 16;
 
 // Which of two texts.
 #[derive(Clone, Copy, PartialEq, Eq)]
@@ -68,17 +68,29 @@ pub(crate) fn piece_end(text: &str, start: usize) -> usize
     ensures { IsPiece text.now start result }
 {
     let bytes = text.as_bytes();
-    let near = bytes.len().min(start + NEAR);
-    for end in start..near {
+    if bytes.len() - start < NEAR {
+        return last_piece_end(text, start);
+    }
+    for len in 0..NEAR {
+        if bytes[start + len] == b'/' {
+            return start + len;
+        }
+    }
+    start + far_first_piece_len(&text[start..])
+}
+
+// The same, where few bytes are left.
+fn last_piece_end(text: &str, start: usize) -> usize
+    requires { start ≤ length text.now }
+    ensures { IsPiece text.now start result }
+{
+    let bytes = text.as_bytes();
+    for end in start..bytes.len() {
         if bytes[end] == b'/' {
             return end;
         }
     }
-    if near < start + NEAR {
-        near
-    } else {
-        start + far_first_piece_len(&text[start..])
-    }
+    bytes.len()
 }
 
 // Where the slashes end that start at this index.
