@@ -33,7 +33,7 @@ HasNoSlash-from_All p h =
     (All-weaker (λ b. b ≢ slash) (λ b. is_slash b ≡ false) (λ b other. ne_eqb b slash other) p h)
 
 -- a piece that has a byte is its one component
-components_piece : (p : List ℕ) → p ≢ [] → All (λ b. b ≢ slash) p → components p ≡ classed p ∷ []
+pub components_piece : (p : List ℕ) → p ≢ [] → All (λ b. b ≢ slash) p → components p ≡ classed p ∷ []
 components_piece [] nonempty h = absurd (nonempty refl)
 components_piece (b ∷ bs) nonempty h = components_whole (b ∷ bs) (omega arith) (HasNoSlash-from_All (b ∷ bs) h)
 
