@@ -11,7 +11,12 @@ use Rattle.std.proofs.iter.runs.Sources.{from_front}
 use Rattle.relative_path.specs.declared.component.Component.{Component}
 use Rattle.relative_path.specs.declared.component.Components.{Components}
 use Rattle.relative_path.specs.declared.component.Iter.{Iter}
-use Rattle.relative_path.specs.Steps.{slash, is_slash, classed, components}
+use Rattle.std.specs.Ordering.{ordering_reverse}
+use Rattle.std.specs.declared.cmp.Ordering.{Ordering}
+use Rattle.std.specs.declared.cmp.Ordering.TheVariants.{Less, Equal, Greater}
+use Rattle.relative_path.specs.Steps.{Step, slash, is_slash, classed, components}
+use Rattle.relative_path.specs.Comparing.{steps_cmp}
+use Rattle.relative_path.specs.ComparingLaws.{steps_comparison}
 use Rattle.relative_path.specs.Slices.{IsRest, IsFront}
 use Rattle.relative_path.specs.Components.{step_of, text_left, components_left, TakesFirst, TakesLast, TakesFirstText, text_of, iter_text_left, texts_left, GivesComponents, GivesTextsOfComponents}
 use Rattle.relative_path.proofs.StepsLemmas.{HasNoSlash, components-nil, components-append, components_whole}
@@ -150,6 +155,15 @@ module _ (text trimmed piece front left : List ℕ) (trim : IsTrimmedEnd text tr
       )
 
 -- ---- what follows of the lists of components, and that the walk ends
+
+equal_from_reverse : (o : Ordering) → o ≡ ordering_reverse o → o ≡ Equal
+equal_from_reverse Less e = absurd (cc)
+equal_from_reverse Equal e = refl
+equal_from_reverse Greater e = absurd (cc)
+
+-- a list of components stands where it stands
+pub steps_cmp-same : (cs : List Step) → steps_cmp cs cs ≡ Equal
+steps_cmp-same cs = equal_from_reverse (steps_cmp cs cs) (steps_comparison.total.antisymm cs cs)
 
 pub MakesProgress-TakesFirst : (s t : Components) (r : Option Component) → TakesFirst (text_left s) r (text_left t)
     → MakesProgress (λ _. ⊤) (item_count components_left) s r t

@@ -1,13 +1,14 @@
 -- A text trimmed of the slashes at an end, and cut at its first or its last slash.
-use Rattle.std.proofs.Common.{◌≡◌, ◌≢◌, ◌⊎◌, ◌<◌, ℕ, List, [], ◌∷◌, ◌++◌, All, take, drop, Option, Some, None, MatchOption, Bor, sym, ap, ap₂, ◌∙◌, inl, inr, lit<, take-append-drop, ◌+◌, ◌-◌, length, get_or, arith, take_all}
-use Rattle.std.specs.Option.{unwrap_or}
-use Rattle.std.specs.Str.Pattern.{FindsChar, RFindsChar, SplitsAroundMatch, FindsCharPrefix, FindsCharSuffix, IsTrimStartMatches, IsTrimEndMatches, CutsPrefixes, CutsSuffixes}
+use Rattle.std.proofs.Common.{◌≡◌, ◌≢◌, ◌<◌, ℕ, suc, zero, List, [], ◌∷◌, ◌++◌, All, take, drop, replicate, Option, Some, None, MatchOption, Bor, refl, sym, subst, ap, ap₂, ◌∙◌, lit<, take-append-drop, append-nil, ◌+◌, ◌-◌, length, get_or, get_or-drop, length-take, length-drop, arith, take_all, ◌≤◌}
+use Rattle.std.specs.Str.{IsUtf8, IsCharBoundary}
+use Rattle.std.specs.Str.Pattern.{RFindsChar, FindsTextPrefix, FindsTextSuffix, SplitsAroundMatch, StripsPrefix, StripsSuffix, FindsCharPrefix, FindsCharSuffix, IsTrimStartMatches, IsTrimEndMatches, CutsPrefixes, CutsSuffixes}
 use Rattle.std.proofs.lemmas.List.Elements.{All-from_get_or}
-use Rattle.std.proofs.lemmas.Str.Pattern.{NoCharPasses-char, drop_at_char, split_parts}
+use Rattle.std.proofs.lemmas.Str.Pattern.{NoCharPasses-char, drop_at_char}
 use Rattle.relative_path.specs.Steps.{slash, components}
-use Rattle.std.proofs.lemmas.List.{drop_all, take_more}
-use Rattle.std.proofs.lemmas.Str.{encode_ascii}
-use Rattle.relative_path.proofs.StepsLemmas.{components-slash, components-trailing_slash}
+use Rattle.std.proofs.lemmas.List.{drop_all, take_more, get_or-take}
+use Rattle.std.proofs.lemmas.Str.{encode_ascii, IsCharBoundary-after_ascii}
+use Rattle.relative_path.proofs.StepsLemmas.{components-nil, components-append, components-slash, components-trailing_slash}
+use Rattle.relative_path.proofs.SlicesLemmas.{IsSuffix-from, IsSuffix-drop, IsSuffix-trans, IsPrefix-trans}
 
 -- ---- trimmed
 
@@ -60,31 +61,66 @@ end-trim_end s r (_, (None, other, _)) =
     ends_otherwise r (λ front e. other front (e ∙ sym (ap (λ x. front ++ x) (encode_ascii slash (lit< tt)))))
 end-trim_end s r (_, (Some n, found, nothing)) = absurd (let e = found.0 in omega (arith, e, nothing))
 
+-- ---- stripped of many slashes at once
+
+components-replicate : (n : ℕ) (r : List ℕ) → components (replicate n slash ++ r) ≡ components r
+components-replicate zero r = refl
+components-replicate (suc n) r = components-slash (replicate n slash ++ r) ∙ components-replicate n r
+
+components-append_replicate : (xs : List ℕ) (n : ℕ) → components (xs ++ replicate n slash) ≡ components xs
+components-append_replicate xs zero = ap components (append-nil xs)
+components-append_replicate xs (suc n) =
+    let none = sym (ap components (append-nil (replicate n slash))) ∙ components-replicate n [] ∙ components-nil in
+    components-append xs (replicate n slash) ∙ ap (λ cs. components xs ++ cs) none ∙ append-nil (components xs)
+
+pub components-strip_prefix : (n : ℕ) (text left : List ℕ)
+    → StripsPrefix (FindsTextPrefix (replicate n slash)) text left → components left ≡ components text
+components-strip_prefix n text left (m, (counted, joined, _), is, _) =
+    ap components is ∙ sym (components-replicate n (drop m text)) ∙ sym (ap components joined)
+
+pub components-strip_suffix : (n : ℕ) (text left : List ℕ)
+    → StripsSuffix (FindsTextSuffix (replicate n slash)) text left → components left ≡ components text
+components-strip_suffix n text left (m, (counted, joined, _), is, _) =
+    ap components is ∙ sym (components-append_replicate (take (length text - m) text) n) ∙ sym (ap components joined)
+
+-- the end of an end of the text, and the front of a front
+pub suffix-trans : (whole text left : List ℕ) (n : ℕ) → text ≡ drop (length whole - length text) whole
+    → left ≡ drop n text → left ≡ drop (length whole - length left) whole
+suffix-trans whole text left n outer inner =
+    let joined = sym (ap (λ x. take n text ++ x) inner ∙ take-append-drop n text) in
+    IsSuffix-drop (IsSuffix-trans (IsSuffix-from outer) (record { front = take n text; joined = joined }))
+
+pub prefix-trans : (whole text left : List ℕ) → text ≡ take (length text) whole → left ≡ take (length left) text
+    → left ≡ take (length left) whole
+prefix-trans whole text left outer inner = (IsPrefix-trans (record { front = outer }) (record { front = inner })).front
+
+pub prefix-strip_suffix : (n : ℕ) (text left : List ℕ)
+    → StripsSuffix (FindsTextSuffix (replicate n slash)) text left → left ≡ take (length left) text
+prefix-strip_suffix n text left (m, _, is, counted) =
+    let len : length text - m ≡ length left = omega arith in is ∙ ap (λ k. take k text) len
+
 -- ---- cut
 
--- the pieces before and after a slash, or the text and nothing where it has none
-abbrev pub IsSplitFirst : List ℕ → Bor (List ℕ) × Bor (List ℕ) → Type 0
-IsSplitFirst text parts =
-    All (λ b. b ≢ slash) parts.0.now ×
-    ((text ≡ parts.0.now ++ slash ∷ parts.1.now) ⊎ ((text ≡ parts.0.now) × (parts.1.now ≡ [])))
+-- a text may be cut behind a slash
+pub IsCharBoundary-behind : (text : List ℕ) (n : ℕ) → IsUtf8 text → 0 < n → n ≤ length text
+    → get_or text (n - 1) 0 ≡ slash → IsCharBoundary text n
+IsCharBoundary-behind text n utf8 some inside at =
+    let same : n - 1 + 1 ≡ n = omega arith in
+    subst (IsCharBoundary text) same (IsCharBoundary-after_ascii text (n - 1) utf8 (omega arith) (omega (arith, at)))
 
-abbrev pub IsSplitLast : List ℕ → Bor (List ℕ) × Bor (List ℕ) → Type 0
-IsSplitLast text parts =
-    All (λ b. b ≢ slash) parts.1.now ×
-    ((text ≡ parts.0.now ++ slash ∷ parts.1.now) ⊎ ((text ≡ parts.1.now) × (parts.0.now ≡ [])))
+-- a stretch without a slash before n, and from n on
+pub All-take : (text : List ℕ) (n : ℕ) → ((k : ℕ) → k < n → get_or text k 0 ≢ slash)
+    → All (λ b. b ≢ slash) (take n text)
+All-take text n before =
+    All-from_get_or (λ b. b ≢ slash) (take n text) 0
+    (λ k h. let inside : k < n = omega (arith, length-take n text) in
+    rw (get_or-take n text k 0 inside) (before k inside))
 
--- what `split_once` gives, or the text and nothing
-pub IsSplitFirst-split_once : (text : List ℕ) (r : Option (Bor (List ℕ) × Bor (List ℕ))) (whole nothing : Bor (List ℕ))
-    → whole.now ≡ text → nothing.now ≡ []
-    → MatchOption r (FindsChar slash text None) (λ x. SplitsAroundMatch (FindsChar slash) text x.0.now x.1.now)
-    → IsSplitFirst text (unwrap_or r (whole, nothing))
-IsSplitFirst-split_once text None whole nothing all none found = (
-  rw all (All-from_get_or (λ b. b ≢ slash) text 0 (λ i h. NoCharPasses-char slash text i found (lit< tt) h)),
-  inr (sym all, none),
-)
-IsSplitFirst-split_once text (Some parts) whole nothing all none found =
-    let split = split_parts slash text (Some parts) found (lit< tt) in
-    (All-from_get_or (λ b. b ≢ slash) parts.0.now 0 split.1, inl split.0)
+pub All-drop : (text : List ℕ) (n : ℕ) → ((k : ℕ) → n ≤ k → k < length text → get_or text k 0 ≢ slash)
+    → All (λ b. b ≢ slash) (drop n text)
+All-drop text n behind =
+    All-from_get_or (λ b. b ≢ slash) (drop n text) 0
+    (λ k h. rw (get_or-drop n text k 0) (behind (n + k) (omega arith) (omega (arith, length-drop n text))))
 
 -- what `rsplit_once` gives at an ASCII character
 pub rsplit_once_parts : (c : ℕ) (text : List ℕ) (r : Option (Bor (List ℕ) × Bor (List ℕ)))
@@ -97,16 +133,3 @@ rsplit_once_parts c text (Some parts) (i, j, found, front, back, _, _, _) ascii 
     let last =
     All-from_get_or (λ b. b ≢ c) (drop j text) 0 (λ k h. NoCharPasses-char c (drop j text) k found.0 ascii h) in
     (joined ∙ ap₂ (λ x y. x ++ c ∷ y) (sym front) (sym back), rw back last)
-
--- what `rsplit_once` gives, or nothing and the text
-pub IsSplitLast-rsplit_once : (text : List ℕ) (r : Option (Bor (List ℕ) × Bor (List ℕ))) (nothing whole : Bor (List ℕ))
-    → nothing.now ≡ [] → whole.now ≡ text
-    → MatchOption r (RFindsChar slash text None) (λ x. SplitsAroundMatch (RFindsChar slash) text x.0.now x.1.now)
-    → IsSplitLast text (unwrap_or r (nothing, whole))
-IsSplitLast-rsplit_once text r nothing whole none all found = split r (rsplit_once_parts slash text r found (lit< tt))
-  where
-    split : (o : Option (Bor (List ℕ) × Bor (List ℕ)))
-        → MatchOption o (All (λ b. b ≢ slash) text) (λ x. (text ≡ x.0.now ++ slash ∷ x.1.now) × All (λ b. b ≢ slash) x.1.now)
-        → IsSplitLast text (unwrap_or o (nothing, whole))
-    split None other = (rw all other, inr (sym all, none))
-    split (Some parts) (joined, last) = (last, inl joined)

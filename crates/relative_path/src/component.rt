@@ -82,7 +82,10 @@ impl PartialEq for Component<'_> {
         ensures value { result ≡ step_eq (step_of self.now) (step_of other.now) }
         ensures same { IsTrue result ↔ (step_of self.now ≡ step_of other.now) }
     {
-        self.cmp(other).is_eq()
+        match (self, other) {
+            (Component::Normal(name), Component::Normal(other)) => name == other,
+            _ => self.rank() == other.rank(),
+        }
     }
 }
 
@@ -110,8 +113,10 @@ impl Ord for Component<'_> {
     ghost matches_eq = { (by_component step_of).agree };
 
     fn cmp(&self, other: &Self) -> Ordering {
-        let by_rank = self.rank().cmp(&other.rank());
-        by_rank.then(self.as_str().cmp(other.as_str()))
+        match (self, other) {
+            (Component::Normal(name), Component::Normal(other)) => name.cmp(other),
+            _ => self.rank().cmp(&other.rank()),
+        }
     }
 }
 
@@ -196,6 +201,7 @@ impl<'a> Iterator for Components<'a> {
     ghost remaining = { item_count components_left };
 
     /// The first component of the text that is left.
+    #[inline]
     fn next(&mut self) -> Option<Component<'a>> {
         let (piece, rest) = split_first(without_leading_slashes(self.text));
         self.text = without_leading_slashes(rest);
@@ -207,6 +213,7 @@ impl<'a> DoubleEndedIterator for Components<'a> {
     ghost next_back_gives = { λ s taken t. TakesLast (text_left s) taken (text_left t) };
 
     /// The last component of the text that is left.
+    #[inline]
     fn next_back(&mut self) -> Option<Component<'a>> {
         let (front, piece) = split_last(without_trailing_slashes(self.text));
         self.text = without_trailing_slashes(front);
@@ -272,14 +279,15 @@ impl<'a> DoubleEndedIterator for Iter<'a> {
 }
 
 // The component that a piece of a text is; an empty piece is none.
+#[inline(always)]
 fn component_of(piece: &str) -> Option<Component<'_>>
     ensures { MatchOption result (piece.now ≡ [])
         (λ c. (piece.now ≢ []) × (step_of c ≡ classed piece.now)) }
 {
-    match piece {
-        "" => None,
-        "." => Some(Component::CurDir),
-        ".." => Some(Component::ParentDir),
-        name => Some(Component::Normal(name)),
+    match piece.as_bytes() {
+        [] => None,
+        [b'.'] => Some(Component::CurDir),
+        [b'.', b'.'] => Some(Component::ParentDir),
+        _ => Some(Component::Normal(piece)),
     }
 }

@@ -627,6 +627,9 @@ impl Ord for RelativePath<'_> {
     ghost matches_eq = { (by_components path_components).agree };
 
     fn cmp(&self, other: &Self) -> Ordering {
+        if self.text == other.text {
+            return Ordering::Equal;
+        }
         self.components().cmp(other.components())
     }
 }
