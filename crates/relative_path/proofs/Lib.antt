@@ -18,3 +18,5 @@ pub mod UnixComponentsLemmas
 pub mod UnixLemmas
 pub mod UnixTextsLemmas
 pub mod UnixWaysLemmas
+pub mod UnixFrontsLemmas
+pub mod UnixRunsLemmas

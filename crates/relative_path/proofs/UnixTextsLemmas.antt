@@ -44,19 +44,9 @@ padded_len-filter p (c ∷ cs) = ⊎_elim
     (λ e. rw (cond-false (p c) (c ∷ filter p cs) (filter p cs) e) (omega (arith, padded_len-filter p cs)))
     (cases_Bool (p c))
 
-padded_len-inner : (cs : List Step) → padded_len (without_inner_curs cs) ≤ padded_len cs
-padded_len-inner [] = omega arith
-padded_len-inner (c ∷ cs) = omega (arith, padded_len-filter (λ d. not (is_cur d)) cs)
-
 -- a text has at most one component more than it has bytes
-pub length-inner_le : (text : List ℕ) → length (without_inner_curs (components text)) ≤ length text + 1
-length-inner_le text =
-    omega (
-      arith,
-      length_padded (without_inner_curs (components text)),
-      padded_len-inner (components text),
-      padded_len-components text,
-    )
+pub length-components_le : (text : List ℕ) → length (components text) ≤ length text + 1
+length-components_le text = omega (arith, length_padded (components text), padded_len-components text)
 
 padded_len-replicate : (n : ℕ) → padded_len (replicate n up) ≡ 3 * n
 padded_len-replicate zero = refl

@@ -20,7 +20,7 @@ use crate::from_path_error::{FromPathError, FromPathErrorKind};
 use crate::path::RelativePath;
 use crate::relative_to_error::{RelativeToError, RelativeToErrorKind};
 use crate::unix_components::{UnixComponents, depth, has_root, without_idle_end, without_shared};
-use crate::unix_texts::{base_with_room, climbing, push_each, way_len};
+use crate::unix_texts::{base_with_room, climbing, push_runs, way_len};
 use std::alloc::{AllocError, Global};
 use std::path::{Path, PathBuf};
 
@@ -82,9 +82,9 @@ pub fn from_path(alloc: Global, text: &str) -> Result<RelativePathBuf, FromPathE
     ensures kind { IfErr result (λ error. from_path_kind error
         ≡ (if has_root text.now then from_path_kinds.NonRelative else from_path_kinds.OutOfMemory)) }
 {
-    let components = UnixComponents::without_curs(view(text)?);
+    let mut components = UnixComponents::without_curs(view(text)?);
     let mut path = RelativePathBuf::with_capacity(alloc, text.len())?;
-    push_each(&mut path, components);
+    push_runs(&mut path, components.next_run(), components);
     Ok(path)
 }
 
@@ -173,11 +173,12 @@ pub fn relative_to(
     if has_root(path) != has_root(root) {
         return Err(RelativeToErrorKind::PrefixMismatch.into());
     }
-    let (path, root) = without_shared(UnixComponents::new(path), UnixComponents::new(root));
+    let (mut path, root) = without_shared(path, root);
     let climb = depth(root).ok_or(RelativeToErrorKind::AmbiguousTraversal)?;
-    let len = way_len(climb, path).ok_or(RelativeToErrorKind::OutOfMemory)?;
+    let run = path.next_run();
+    let len = way_len(climb, run, path).ok_or(RelativeToErrorKind::OutOfMemory)?;
     let mut answer = climbing(alloc, climb, len)?;
-    push_each(&mut answer, path);
+    push_runs(&mut answer, run, path);
     Ok(answer)
 }
 

@@ -1,16 +1,16 @@
 //! The components of a platform path under the Unix rules.
-ghost use Rattle.std.specs.Prelude.{◌≡◌, ◌≢◌, ◌<◌, ◌-◌, [], ℕ, List, length, take, drop, slice_index, MatchOption, Some, None};
+ghost use Rattle.std.specs.Prelude.{◌≡◌, ◌≢◌, ◌<◌, ◌≤◌, ◌-◌, [], ◌∷◌, ◌++◌, ℕ, List, length, take, drop, slice_index, IsTrue, MatchOption, Some, None};
 ghost use Rattle.std.specs.Iterator.{YieldsFirstBy, item_count};
 ghost use Rattle.relative_path.specs.Components.{step_of};
 ghost use Rattle.relative_path.specs.RelativePath.{path_text, path_components};
-ghost use Rattle.relative_path.specs.Steps.{slash, components};
+ghost use Rattle.relative_path.specs.Steps.{Step, cur, slash, components, spell};
 ghost use Rattle.relative_path.specs.Unix.{has_root, without_curs, without_inner_curs, counted, unix_components, but_last, shared_len};
 ghost use Rattle.relative_path.specs.UnixComponents.{unix_left};
 ghost use Rattle.relative_path.specs.Walk.{walk};
 
 use crate::component::Component;
 use crate::path::RelativePath;
-use crate::slashes::without_trailing_slashes;
+use crate::slashes::{split_first, without_leading_slashes, without_trailing_slashes};
 
 // The walk over the components of a platform path that count, from the front.
 #[derive(Clone, Copy)]
@@ -40,16 +40,33 @@ impl<'a> UnixComponents<'a> {
     }
 
     // The walk over the components that are no `.`.
+    #[inline]
     pub(crate) fn without_curs(path: RelativePath<'a>) -> UnixComponents<'a>
         ensures { unix_left result ≡ without_curs (path_components path.entry) }
     {
-        let mut components = path.components();
-        loop {
-            let left = components.as_relative_path();
-            if components.next() != Some(Component::CurDir) {
-                return UnixComponents { left };
-            }
+        let mut left = without_leading_slashes(path.as_str());
+        while let Some(behind) = behind_cur(left) {
+            left = without_leading_slashes(behind);
         }
+        UnixComponents {
+            left: RelativePath::new(left),
+        }
+    }
+
+    // Takes the components that stand in the text as they are spelled, and gives that text: empty
+    // only where none is left.
+    pub(crate) fn next_run(&mut self) -> &'a str
+        ensures joined { unix_left self.old ≡ components result.now ++ unix_left self.new }
+        ensures spelled { result.now ≡ spell (components result.now) }
+        ensures none { result.now ≡ [] → unix_left self.new ≡ [] }
+    {
+        let text = without_leading_slashes(self.left.as_str());
+        if text.is_empty() {
+            return text;
+        }
+        let (run, behind) = split_run(text);
+        *self = UnixComponents::without_curs(RelativePath::new(behind));
+        run
     }
 }
 
@@ -68,15 +85,109 @@ impl<'a> Iterator for UnixComponents<'a> {
     }
 }
 
+// What stands behind the first component, where that is a `.`.
+#[inline(always)]
+fn behind_cur(text: &str) -> Option<&str>
+    ensures { MatchOption result
+        (slice_index text.now 0 ≢ slash → (cs : List Step) → components text.now ≢ cur ∷ cs)
+        (λ behind. (components text.now ≡ cur ∷ components behind.now)
+        × (length behind.now < length text.now)) }
+{
+    let behind = text.strip_prefix('.')?;
+    if behind.is_empty() || has_root(behind) {
+        Some(behind)
+    } else {
+        None
+    }
+}
+
+// Whether a component begins the text, and is no `.`.
+#[inline(always)]
+fn begins_counted(text: &str) -> bool
+    ensures { IsTrue result → (text.now ≢ []) × (slice_index text.now 0 ≢ slash)
+        × ((cs : List Step) → components text.now ≢ cur ∷ cs) }
+{
+    !text.is_empty() && !has_root(text) && behind_cur(text).is_none()
+}
+
+// The front of the text up to the first slash that no component that counts stands right behind,
+// and what stands behind that slash.
+fn split_run(text: &str) -> (&str, &str)
+    requires nonempty { text.now ≢ [] }
+    requires start { slice_index text.now 0 ≢ slash }
+    ensures joined { without_inner_curs (components text.now)
+        ≡ components result.0.now ++ without_curs (components result.1.now) }
+    ensures spelled { result.0.now ≡ spell (components result.0.now) }
+    ensures nonempty { result.0.now ≢ [] }
+{
+    let mut left = text;
+    loop {
+        let (piece, behind) = split_first(left);
+        if !begins_counted(behind) {
+            let len = text.len() - left.len() + piece.len();
+            return (&text[..len], behind);
+        }
+        left = behind;
+    }
+}
+
+// How many bytes both texts begin with, up to the last slash among those.
+fn shared_front_len(path: &[u8], root: &[u8]) -> usize
+    ensures path { result ≤ length path.now }
+    ensures root { result ≤ length root.now }
+    ensures same { take result path.now ≡ take result root.now }
+    ensures slash { 0 < result → slice_index path.now (result - 1) ≡ slash }
+{
+    let mut front = 0;
+    for at in 0..path.len().min(root.len()) {
+        if path[at] != root[at] {
+            return front;
+        }
+        if path[at] == b'/' {
+            front = at + 1;
+        }
+    }
+    front
+}
+
+// What is left of two texts behind the front that both begin with, up to a slash.
+fn behind_shared_front<'a, 'b>(
+    path: &'a str,
+    root: &'b str,
+) -> (UnixComponents<'a>, UnixComponents<'b>)
+    ensures { (front : List Step) × (unix_components path.now ≡ front ++ unix_left result.0)
+        × (unix_components root.now ≡ front ++ unix_left result.1) }
+{
+    let front = shared_front_len(path.as_bytes(), root.as_bytes());
+    if front == 0 {
+        return (UnixComponents::new(path), UnixComponents::new(root));
+    }
+    (
+        UnixComponents::without_curs(RelativePath::new(&path[front..])),
+        UnixComponents::without_curs(RelativePath::new(&root[front..])),
+    )
+}
+
+// Whether the texts begin with two bytes, neither of them a slash.
+fn begin_apart(path: &[u8], root: &[u8]) -> bool
+    ensures { IsTrue result → (c : Step) → (cs ds : List Step) → components path.now ≡ c ∷ cs
+        → components root.now ≢ c ∷ ds }
+{
+    !path.is_empty() && !root.is_empty() && path[0] != root[0] && path[0] != b'/' && root[0] != b'/'
+}
+
 // What is left of two walks behind the components that both begin with.
 pub(crate) fn without_shared<'a, 'b>(
-    path: UnixComponents<'a>,
-    root: UnixComponents<'b>,
+    path: &'a str,
+    root: &'b str,
 ) -> (UnixComponents<'a>, UnixComponents<'b>)
-    ensures path { unix_left result.0 ≡ drop (shared_len (unix_left path.entry) (unix_left root.entry)) (unix_left path.entry) }
-    ensures root { unix_left result.1 ≡ drop (shared_len (unix_left path.entry) (unix_left root.entry)) (unix_left root.entry) }
+    ensures path { unix_left result.0 ≡ drop (shared_len (unix_components path.now) (unix_components root.now)) (unix_components path.now) }
+    ensures root { unix_left result.1 ≡ drop (shared_len (unix_components path.now) (unix_components root.now)) (unix_components root.now) }
 {
-    let mut left = (path, root);
+    let mut left = behind_shared_front(path, root);
+    if begin_apart(left.0.as_str().as_bytes(), left.1.as_str().as_bytes()) {
+        return left;
+    }
     loop {
         let (mut path, mut root) = left;
         match (path.next(), root.next()) {
@@ -93,10 +204,11 @@ pub(crate) fn depth(left: UnixComponents<'_>) -> Option<usize>
         (λ depth. (place : List (List ℕ)) × (walk [] (unix_left left.entry) ≡ Some place)
         × (depth ≡ length place)) }
 {
+    let left = left.left;
     // A text has fewer components than a number can count.
     prove!(left.as_str().len() < usize::MAX);
     let mut depth: usize = 0;
-    for component in left {
+    for component in left.components() {
         match component {
             Component::CurDir => {}
             Component::ParentDir => depth = depth.checked_sub(1)?,

@@ -1,5 +1,5 @@
 //! Texts that are written a component at a time into room made for them at once.
-ghost use Rattle.std.specs.Prelude.{◌≡◌, ◌≤◌, ◌+◌, ◌^◌, ◌++◌, length, replicate, IfOk, MatchOption, string_bytes};
+ghost use Rattle.std.specs.Prelude.{◌≡◌, ◌≤◌, ◌<◌, ◌+◌, ◌^◌, ◌++◌, [], length, replicate, IfOk, MatchOption, string_bytes};
 ghost use Rattle.std.specs.String.{string_capacity};
 ghost use Rattle.relative_path.specs.RelativePath.{path_text};
 ghost use Rattle.relative_path.specs.Steps.{up, components, spell};
@@ -25,17 +25,35 @@ pub(crate) fn base_with_room(
     Ok(text)
 }
 
-// How many bytes so many `..` and the components have, with single slashes between; none where no
-// text can have as many.
-pub(crate) fn way_len(climb: usize, left: UnixComponents<'_>) -> Option<usize>
-    ensures { MatchOption result (2 ^ 63 ≤ length (spell (replicate climb up ++ unix_left left.entry)))
-        (λ len. len ≡ length (spell (replicate climb up ++ unix_left left.entry))) }
+// How many bytes so many `..`, the components of a spelled text and the others have, with single
+// slashes between; none where no text can have as many.
+pub(crate) fn way_len(climb: usize, run: &str, left: UnixComponents<'_>) -> Option<usize>
+    requires spelled { run.now ≡ spell (components run.now) }
+    requires none { run.now ≡ [] → unix_left left ≡ [] }
+    ensures { MatchOption result
+        (2 ^ 63 ≤ length (spell (replicate climb up ++ (components run.now ++ unix_left left.entry))))
+        (λ len. len ≡ length (spell (replicate climb up ++ (components run.now ++ unix_left left.entry)))) }
 {
     let mut len = climb.checked_mul(3)?;
-    for component in left {
-        len = len.checked_add(component.as_str().len() + 1)?;
+    let mut run = run;
+    let mut left = left;
+    while !run.is_empty() {
+        len = len.checked_add(run.len() + 1)?;
+        run = left.next_run();
     }
     Some(len.saturating_sub(1))
+}
+
+// A text of sixteen `..`, with a slash behind each.
+const CLIMBS: &str = "../../../../../../../../../../../../../../../../";
+
+// A spelled text of so many `..`, of which there is one at least.
+fn climbs(count: usize) -> &'static str
+    requires some { 0 < count }
+    requires few { count ≤ 16 }
+    ensures { result.now ≡ spell (replicate count up) }
+{
+    &CLIMBS[..3 * count - 1]
 }
 
 // A path of so many `..`, with room for `room` bytes.
@@ -49,19 +67,27 @@ pub(crate) fn climbing(
     ensures room { IfOk result (λ path. room ≤ path.room) }
 {
     let mut path = RelativePathBuf::with_capacity(alloc, room)?;
-    for _ in 0..climb {
-        path.push(RelativePath::new("..")).unwrap();
+    let mut left = climb;
+    while left > 0 {
+        let count = left.min(16);
+        path.push_piece(climbs(count));
+        left -= count;
     }
     Ok(path)
 }
 
-// Pushes each component onto a normally spelled path with room for all.
-pub(crate) fn push_each(path: &mut RelativePathBuf, left: UnixComponents<'_>)
+// Adds a spelled text and the components to a spelled path with room for all.
+pub(crate) fn push_runs(path: &mut RelativePathBuf, run: &str, left: UnixComponents<'_>)
     requires spelled { path.old.text ≡ spell (components path.old.text) }
-    requires room { length (spell (components path.old.text ++ unix_left left)) ≤ path.old.room }
-    ensures { path.new.text ≡ spell (components path.old.text ++ unix_left left.entry) }
+    requires run { run.now ≡ spell (components run.now) }
+    requires none { run.now ≡ [] → unix_left left ≡ [] }
+    requires room { length (spell (components path.old.text ++ (components run.now ++ unix_left left))) ≤ path.old.room }
+    ensures { path.new.text ≡ spell (components path.old.text ++ (components run.now ++ unix_left left.entry)) }
 {
-    for component in left {
-        path.push(component.as_relative_path()).unwrap();
+    let mut run = run;
+    let mut left = left;
+    while !run.is_empty() {
+        path.push_piece(run);
+        run = left.next_run();
     }
 }
