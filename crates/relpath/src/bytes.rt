@@ -11,20 +11,24 @@ const FAR: usize = 64;
 const NEAR: usize = 16;
 
 /// Where a byte stands first; the number of the bytes, if it is none of them.
+#[inline(always)]
 pub fn find_byte(bytes: &[u8], byte: u8) -> usize
     ensures { result ≡ position_or_len (λ b. b == byte) bytes.now }
 {
+    let mut from = 0;
     if bytes.len() >= FAR {
         let near = find_far(bytes, 0, byte);
         if near < FAR {
             return near;
         }
+        from = pass_far(bytes, byte);
     }
-    find_from(bytes, pass_far(bytes, byte), byte)
+    find_from(bytes, from, byte)
 }
 
 /// A place before which the byte isn't: that of the first block that has it, or that is cut off by
 /// the end.
+#[inline(never)]
 fn pass_far(bytes: &[u8], byte: u8) -> usize
     ensures { result ≤ position_or_len (λ b. b == byte) bytes.now }
 {
@@ -49,6 +53,7 @@ fn has_byte(bytes: &[u8], at: usize, byte: u8) -> bool
 
 /// Where a byte stands first, if it isn't among the first bytes. The last block overlaps the one
 /// before it.
+#[inline(always)]
 fn find_from(bytes: &[u8], from: usize, byte: u8) -> usize
     requires { from ≤ position_or_len (λ b. b == byte) bytes.now }
     ensures { result ≡ position_or_len (λ b. b == byte) bytes.now }

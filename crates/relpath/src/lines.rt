@@ -50,6 +50,7 @@ fn first_field(text: &str) -> (&str, Option<&str>)
 }
 
 /// What stands before the first of an ASCII byte, and what stands after it.
+#[inline(always)]
 fn cut_at(text: &str, byte: u8) -> Option<(&str, &str)>
     requires { byte < 128 }
     ensures none { IfNone result (slice_split (λ b. b == byte) text.now ≡ text.now ∷ []) }

@@ -23,8 +23,8 @@ use std::io::{Read, Write};
 /// Reads the whole input, then writes the answers to its lines and flushes once. After a fault other
 /// than `Write`, nothing was written.
 ///
-/// A line is cut at tabs into fields, the command first. Memory is asked for before the first read,
-/// and then only for the answers.
+/// A line is cut at tabs into fields, the command first. Room for the longest input is asked for
+/// before the first read, and memory then only for the output and by the call of each line.
 ///
 /// ```
 /// let mut reader = Meter::new(b"normalize\ta/../b\n".as_slice());
