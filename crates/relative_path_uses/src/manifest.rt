@@ -17,7 +17,8 @@ use std::fmt;
 /// A refusal prints its words.
 ///
 /// ```
-/// println!(rt; "{}", ManifestError::ClimbsAbove(3))?; // file 3 climbs above the base
+/// let text = format!(in alloc; "{}", ManifestError::ClimbsAbove(3))?;
+/// assert_eq!(rt; text.as_str(), "file 3 climbs above the base");
 /// ```
 #[derive(Clone, Copy, Debug, PartialEq, Eq)]
 pub enum ManifestError {
@@ -73,9 +74,13 @@ impl<T: Drop> From<AllocFailed<T>> for ManifestError {
 
 /// The files of a manifest, each as the normal path of the base and the file.
 ///
+/// The first file that is no string, or that climbs above the base, refuses the manifest. What other
+/// members the manifest has doesn't count.
+///
 /// ```
-/// let manifest = json!(in alloc; {"base": "assets", "files": ["img/x.png", "./css/../js/a.js"]})?;
-/// let files = manifest_files(alloc, &manifest)?; // assets/img/x.png, assets/js/a.js
+/// let manifest = json!(in alloc; {"base": "assets", "files": ["./css/../js/a.js"]})?;
+/// let files = manifest_files(alloc, &manifest)?;
+/// assert_eq!(rt; files[0].as_relative_path().as_str(), "assets/js/a.js");
 /// ```
 pub fn manifest_files(
     alloc: Global,
@@ -95,7 +100,7 @@ pub fn manifest_files(
     files_below(alloc, RelativePath::new(base), files)
 }
 
-/// Each of the files as the normal path of the base and the file.
+// Each of the files as the normal path of the base and the file.
 fn files_below(
     alloc: Global,
     base: RelativePath<'_>,
@@ -113,7 +118,7 @@ fn files_below(
     Ok(paths)
 }
 
-/// File number `k` as the normal path of the base and the file.
+// File number `k` as the normal path of the base and the file.
 fn file_below(
     alloc: Global,
     base: RelativePath<'_>,

@@ -14,8 +14,9 @@ use std::alloc::{AllocError, Global};
 ///
 /// ```
 /// let root = RelativePath::new("site/public");
-/// let file = routed(alloc, root, "/css//./site.css")?; // site/public/css/site.css
-/// let file = routed(alloc, root, "/../secrets")?; // none
+/// let file = routed(alloc, root, "/css//./a.css")?;
+/// assert!(rt; file.is_some_and(|file| file.as_relative_path().as_str() == "site/public/css/a.css"));
+/// assert!(rt; routed(alloc, root, "/../secrets")?.is_none());
 /// ```
 pub fn routed(
     alloc: Global,
