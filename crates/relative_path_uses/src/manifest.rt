@@ -74,6 +74,9 @@ impl<T: Drop> From<AllocFailed<T>> for ManifestError {
 
 /// The files of a manifest, each as the normal path of the base and the file.
 ///
+/// The first file that is no string, or that climbs above the base, refuses the manifest. What other
+/// members the manifest has doesn't count.
+///
 /// ```
 /// let manifest = json!(in alloc; {"base": "assets", "files": ["img/x.png", "./css/../js/a.js"]})?;
 /// let files = manifest_files(alloc, &manifest)?;
@@ -98,7 +101,7 @@ pub fn manifest_files(
     files_below(alloc, RelativePath::new(base), files)
 }
 
-/// Each of the files as the normal path of the base and the file.
+// Each of the files as the normal path of the base and the file.
 fn files_below(
     alloc: Global,
     base: RelativePath<'_>,
@@ -116,7 +119,7 @@ fn files_below(
     Ok(paths)
 }
 
-/// File number `k` as the normal path of the base and the file.
+// File number `k` as the normal path of the base and the file.
 fn file_below(
     alloc: Global,
     base: RelativePath<'_>,

@@ -39,6 +39,12 @@ impl<'a> Model for SiteMap<'a> {
 
 impl<'a> SiteMap<'a> {
     /// The map of these pages. Where several lead to the same, the first of them is found.
+    ///
+    /// ```
+    /// let pages = ["a.html", "./a.html"].map(RelativePath::new);
+    /// let site = SiteMap::new(alloc, &pages)?;
+    /// assert_eq!(rt; site.find(alloc, RelativePath::new("./a.html"))?, Some(0));
+    /// ```
     pub fn new(alloc: Global, pages: &'a [RelativePath<'a>]) -> Result<SiteMap<'a>, AllocError>
         ensures { IfOk result (λ site. site ≡ map path_components pages.now) }
     {
@@ -49,7 +55,14 @@ impl<'a> SiteMap<'a> {
         Ok(SiteMap { pages, by_text })
     }
 
-    /// The page that a path leads to, from the same base as the pages; the first, where several do.
+    /// The first page that leads from every base to where the path leads.
+    ///
+    /// ```
+    /// let pages = ["index.html", "guide/start.html"].map(RelativePath::new);
+    /// let site = SiteMap::new(alloc, &pages)?;
+    /// assert_eq!(rt; site.find(alloc, RelativePath::new("guide//../index.html"))?, Some(0));
+    /// assert_eq!(rt; site.find(alloc, RelativePath::new("guide"))?, None);
+    /// ```
     pub fn find(&self, alloc: Global, path: RelativePath<'_>) -> Result<Option<usize>, AllocError>
         ensures found { IfOk result (λ found. MatchOption found
             (IsNoPage self.now (path_components path.entry))
@@ -67,6 +80,13 @@ impl<'a> SiteMap<'a> {
 
     /// The shortest link to a page from the directory of another, or `None` where no link leads
     /// there.
+    ///
+    /// ```
+    /// let pages = ["index.html", "guide/start.html"].map(RelativePath::new);
+    /// let site = SiteMap::new(alloc, &pages)?;
+    /// let link = site.link(alloc, 1, 0)?;
+    /// assert!(rt; link.is_some_and(|link| link.as_relative_path().as_str() == "../index.html"));
+    /// ```
     pub fn link(
         &self,
         alloc: Global,
@@ -83,7 +103,7 @@ impl<'a> SiteMap<'a> {
         directory_of(self.page(from)).try_relative(alloc, self.page(to))
     }
 
-    /// The path of a page.
+    // The path of a page.
     fn page(&self, k: usize) -> RelativePath<'a>
         requires { k < length self.now }
         ensures { path_components result ≡ page_at self.now k }
@@ -93,7 +113,7 @@ impl<'a> SiteMap<'a> {
     }
 }
 
-/// Adds page number `k` by its normal text, unless there is one with that text.
+// Adds page number `k` by its normal text, unless there is one with that text.
 fn add(
     alloc: Global,
     by_text: &mut BTreeMap<String, usize>,
@@ -109,7 +129,7 @@ fn add(
     Ok(())
 }
 
-/// The directory of a page.
+// The directory of a page.
 fn directory_of<'a>(page: RelativePath<'a>) -> RelativePath<'a>
     ensures { path_components result ≡ directory (path_components page.entry) }
 {
