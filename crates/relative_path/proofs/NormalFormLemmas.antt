@@ -281,6 +281,20 @@ pub length-padded_le : (names : List (List ℕ)) → length names ≤ padded_len
 length-padded_le [] = omega arith
 length-padded_le (n ∷ ns) = omega (arith, length-padded_le ns)
 
+-- `..` and a piece behind them
+pub length-ups_piece : (climb : ℕ) (p : List ℕ)
+    → length (with_piece (fold with_piece [] (replicate climb (step_text up))) p) ≤ 3 * climb + length p
+length-ups_piece zero p = omega arith
+length-ups_piece (suc climb) p =
+    let ups = fold with_piece [] (replicate (suc climb) (step_text up)) in
+    let spelled = ap length (with_pieces-climbed (suc climb) [] tt) in
+    let len = length-spell (climbed (suc climb) []) in
+    omega (arith, length-with_piece-le ups p, padded_len-climbed (suc climb) [])
+  where
+    length-with_piece-le : (text q : List ℕ) → length (with_piece text q) ≤ length text + 1 + length q
+    length-with_piece-le [] q = omega arith
+    length-with_piece-le (b ∷ bs) q = omega (arith, length-append bs (slash ∷ q))
+
 -- the names from an index on, counted with the span at that index
 pub padded_len-span : (sources : Sources) (spans : List Span) (i : ℕ) (d : Span) → i < length spans
     → All (CutsName sources) spans

@@ -1,11 +1,11 @@
 //! Normal forms as a count of climbs and a table of names, each a span of a text, for `normalize` and what stands on it.
-ghost use Rattle.std.specs.Prelude.{◌≡◌, ◌+◌, ◌≤◌, ◌<◌, ◌^◌, ◌++◌, [], ◌∷◌, drop, fold, length, map, replicate, slice_index_or, IfOk, MatchOption};
+ghost use Rattle.std.specs.Prelude.{◌≡◌, ◌+◌, ◌≤◌, ◌<◌, ◌^◌, ◌++◌, [], ◌∷◌, drop, fold, length, map, replicate, slice_index_or, IfOk, IfSome, List, MatchOption, ℕ};
 ghost use Rattle.std.specs.List.{All, common_prefix_len};
 ghost use Rattle.std.specs.Str.{bytes_eq};
 ghost use Rattle.relative_path.specs.Components.{step_of};
 ghost use Rattle.relative_path.specs.Editing.{with_piece};
 ghost use Rattle.relative_path.specs.RelativePath.{path_components};
-ghost use Rattle.relative_path.specs.Spans.{source_text, span_text, Cuts, CutsName};
+ghost use Rattle.relative_path.specs.Spans.{source_text, span_text, Cuts, CutsName, IsRun};
 ghost use Rattle.relative_path.specs.Steps.{up, components, spell, step_text};
 
 use crate::buf::RelativePathBuf;
@@ -119,11 +119,33 @@ impl<'a> NormalForm<'a> {
         ensures components { IfOk result
             (λ buf. components buf.text ≡ climbed climb (drop skipped (form_names self.now))) }
     {
+        if let Some(run) = self.one_run(skipped) {
+            return spelled_run(alloc, climb, self.sources.cut(run));
+        }
         let len = self.spelled_len(climb, skipped).ok_or(AllocError)?;
         let mut buf = RelativePathBuf::with_capacity(alloc, len)?;
         push_climb(&mut buf, climb);
         self.push_names(&mut buf, skipped);
         Ok(buf)
+    }
+
+    // The run that the names without the first so many are, if they stand beside each other.
+    fn one_run(&self, skipped: usize) -> Option<Span>
+        requires { skipped ≤ length (form_names self.now) }
+        ensures run { IfSome result (λ run. IsRun (form_sources self.now) run) }
+        ensures names { IfSome result
+            (λ run. (text : List ℕ) → with_piece text (span_text (form_sources self.now) run)
+            ≡ fold with_piece text (drop skipped (form_names self.now))) }
+    {
+        let names = self.names_past(skipped);
+        let mut run = *names.first()?;
+        for span in &names[1..] {
+            if !run.is_beside(*span) {
+                return None;
+            }
+            run.end = span.end;
+        }
+        Some(run)
     }
 
     // How many bytes that text has, if with a slash behind it they are no more than a `usize` holds.
@@ -238,6 +260,19 @@ impl<'a> NormalForm<'a> {
         }
         self
     }
+}
+
+// The text of so many `..` and a run behind them. It asks for memory once, for just this text.
+fn spelled_run(alloc: Global, climb: usize, run: &str) -> Result<RelativePathBuf, AllocError>
+    ensures { IfOk result (λ buf. buf.text
+        ≡ with_piece (fold with_piece [] (replicate climb (step_text up))) run.now) }
+{
+    let climbed = climb.checked_mul(3).ok_or(AllocError)?;
+    let len = climbed.checked_add(run.len()).ok_or(AllocError)?;
+    let mut buf = RelativePathBuf::with_capacity(alloc, len)?;
+    push_climb(&mut buf, climb);
+    buf.push_piece(run);
+    Ok(buf)
 }
 
 // Adds so many `..`.

@@ -1,4 +1,5 @@
 use Rattle.std.proofs.Common.{◌≡◌, [], ap, ◌∙◌, drop, fold, length, replicate, arith}
+use Rattle.std.proofs.lemmas.Result.{IfOk-weaker}
 use Rattle.relative_path.specs.Editing.{with_piece}
 use Rattle.relative_path.specs.Steps.{up, step_text, components, spell}
 use Rattle.relative_path.specs.NormalForm.{climbed, form_names}
@@ -44,3 +45,21 @@ pub returns-clause-components : goal.returns-clause-components
 returns-clause-components c =
     let proper = AreProper-climbed c.args.climb _ (AreProper-names_past c.args.self.now c.args.skipped) in
     ap components (spelled c) ∙ components-spell _ proper
+
+-- where the names are one run, it stands behind the climbs
+pub returns-in-Some-clause-text : goal.returns-in-Some-clause-text
+returns-in-Some-clause-text c =
+    let names = drop c.args.skipped (form_names c.args.self.now) in
+    let climbs = fold with_piece [] (replicate c.args.climb (step_text up)) in
+    let whole = ap (with_piece climbs) c.cut.ensures ∙ c.in-Some.ensures.names climbs
+    ∙ with_pieces-climbed c.args.climb names (AreProper-names_past c.args.self.now c.args.skipped) in
+    IfOk-weaker c.spelled_run.result _ (λ buf. buf.text ≡ spell (climbed c.args.climb names))
+    (λ buf written. written ∙ whole) c.spelled_run.ensures
+
+pub returns-in-Some-clause-components : goal.returns-in-Some-clause-components
+returns-in-Some-clause-components c =
+    let names = drop c.args.skipped (form_names c.args.self.now) in
+    let proper = AreProper-climbed c.args.climb names (AreProper-names_past c.args.self.now c.args.skipped) in
+    IfOk-weaker c.spelled_run.result _ (λ buf. components buf.text ≡ climbed c.args.climb names)
+    (λ buf spelled. ap components spelled ∙ components-spell (climbed c.args.climb names) proper)
+    (returns-in-Some-clause-text c)
