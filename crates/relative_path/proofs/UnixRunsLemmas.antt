@@ -192,7 +192,8 @@ module _ (text left piece behind : List ℕ) (h : InRun text left) (whole : All 
       joined = ⊎_elim
           (λ joined.
           h.joined ∙ ap (with_piece h.front) joined ∙ with_piece-append h.front piece (slash ∷ behind)
-          ∙ sym (with_piece-behind (with_piece h.front piece) behind (with_piece-some h.front piece (piece_some split))))
+          ∙ sym (with_piece-behind (with_piece h.front piece) behind
+          (with_piece-some h.front piece (piece_some split))))
           (λ s. absurd (some s.1)) split;
       spelled = run_spelled;
       some = some;

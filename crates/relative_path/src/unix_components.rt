@@ -181,8 +181,10 @@ pub(crate) fn without_shared<'a, 'b>(
     path: &'a str,
     root: &'b str,
 ) -> (UnixComponents<'a>, UnixComponents<'b>)
-    ensures path { unix_left result.0 ≡ drop (shared_len (unix_components path.now) (unix_components root.now)) (unix_components path.now) }
-    ensures root { unix_left result.1 ≡ drop (shared_len (unix_components path.now) (unix_components root.now)) (unix_components root.now) }
+    ensures path { unix_left result.0
+        ≡ drop (shared_len (unix_components path.now) (unix_components root.now)) (unix_components path.now) }
+    ensures root { unix_left result.1
+        ≡ drop (shared_len (unix_components path.now) (unix_components root.now)) (unix_components root.now) }
 {
     let mut left = behind_shared_front(path, root);
     if begin_apart(left.0.as_str().as_bytes(), left.1.as_str().as_bytes()) {

@@ -1,4 +1,4 @@
-//! Texts that are written a component at a time into room made for them at once.
+//! Texts that are written into room made for them at once.
 ghost use Rattle.std.specs.Prelude.{◌≡◌, ◌≤◌, ◌<◌, ◌+◌, ◌^◌, ◌++◌, [], length, replicate, IfOk, MatchOption, string_bytes};
 ghost use Rattle.std.specs.String.{string_capacity};
 ghost use Rattle.relative_path.specs.RelativePath.{path_text};
@@ -81,7 +81,8 @@ pub(crate) fn push_runs(path: &mut RelativePathBuf, run: &str, left: UnixCompone
     requires spelled { path.old.text ≡ spell (components path.old.text) }
     requires run { run.now ≡ spell (components run.now) }
     requires none { run.now ≡ [] → unix_left left ≡ [] }
-    requires room { length (spell (components path.old.text ++ (components run.now ++ unix_left left))) ≤ path.old.room }
+    requires room { length (spell (components path.old.text ++ (components run.now ++ unix_left left)))
+        ≤ path.old.room }
     ensures { path.new.text ≡ spell (components path.old.text ++ (components run.now ++ unix_left left.entry)) }
 {
     let mut run = run;

@@ -12,7 +12,7 @@ returns-then-path-ne47 c = λ root_solid. elim c.if-path-root.branch [
         | then-not-is_empty-2 v ↦ eqb-false _ _ (not-true _ (sym v.value-is ∙ w.if-path-root.true))
         | else-not-is_empty-2 v ↦ absurd (true≢false (sym w.if-path-root.true ∙ v.value-is ∙ v.if-not-is_empty-2.false))
       ] in
-      apart_first c.args.path.now c.args.root.now other
-      (eqb-false _ slash (not-true _ (sym w.value-is ∙ c.if-path-ne47.true))) (eqb-false _ slash (not-true _ root_solid))
+      let path_solid = eqb-false _ slash (not-true _ (sym w.value-is ∙ c.if-path-ne47.true)) in
+      apart_first c.args.path.now c.args.root.now other path_solid (eqb-false _ slash (not-true _ root_solid))
   | else-path-root w ↦ absurd (true≢false (sym c.if-path-ne47.true ∙ w.value-is ∙ w.if-path-root.false))
 ]

@@ -17,7 +17,8 @@ pub returns-then-has_root : goal.returns-then-has_root
 returns-then-has_root c =
     let joined =
     strip_prefix_char dot c.args.text.now (Some c.in_ok-behind.behind) c.in_ok-behind.ensures.cases (lit< tt) in
-    let ends : (c.in_ok-behind.behind.now ≡ []) ⊎ (has_root c.in_ok-behind.behind.now ≡ true) = elim c.if-is_empty.branch [
+    let behind = c.in_ok-behind.behind.now in
+    let ends : (behind ≡ []) ⊎ (has_root behind ≡ true) = elim c.if-is_empty.branch [
       | then-is_empty w ↦ inl (nil_from_length _ (eqb-true _ 0 (sym w.if-is_empty.ensures)))
       | else-is_empty w ↦ inr (sym w.has_root.ensures ∙ sym w.value-is ∙ c.if-has_root.true)
     ] in
@@ -28,7 +29,9 @@ returns-else-has_root c =
     let joined =
     strip_prefix_char dot c.args.text.now (Some c.in_ok-behind.behind) c.in_ok-behind.ensures.cases (lit< tt) in
     elim c.if-is_empty.branch [
-      | then-is_empty w ↦ absurd (true≢false (w.if-is_empty.ensures ∙ sym c.is_empty.ensures ∙ sym w.value-is ∙ c.if-has_root.false))
+      | then-is_empty w ↦
+          let empty = sym c.is_empty.ensures ∙ sym w.value-is ∙ c.if-has_root.false in
+          absurd (true≢false (w.if-is_empty.ensures ∙ empty))
       | else-is_empty w ↦
           λ start.
           not_cur-longer _ _ joined (λ none. eqb-false _ 0 (sym w.if-is_empty.ensures) (ap length none))

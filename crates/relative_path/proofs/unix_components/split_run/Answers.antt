@@ -20,5 +20,6 @@ range-requires-clause-end_boundary c =
 pub returns-then-not-begins_counted : goal.returns-then-not-begins_counted
 returns-then-not-begins_counted c =
     let split = c.split_first.ensures in
-    let run = run_is _ _ _ _ c.loop-left.invariant.1 split.piece split.joined c.range.result.now c.range.ensures.value in
+    let cut = c.range.ensures.value in
+    let run = run_is _ _ _ _ c.loop-left.invariant.1 split.piece split.joined c.range.result.now cut in
     record { joined = run.2; spelled = run.0; nonempty = run.1 }
