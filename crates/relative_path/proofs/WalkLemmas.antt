@@ -1,8 +1,10 @@
 -- Where joined lists of steps lead, and which lists lead to the same places.
-use Rattle.std.proofs.Common.{◌≡◌, ℕ, List, [], ◌∷◌, ◌++◌, length, take, Option, Some, None, option_and_then, refl, sym, ap, ◌∙◌, arith}
-use Rattle.std.proofs.lemmas.List.{take_at, length_push}
+use Rattle.std.proofs.Common.{◌≡◌, ℕ, List, [], ◌∷◌, ◌++◌, length, take, Option, Some, None, option_and_then, option_map, refl, sym, ap, ◌∙◌, arith, ◌+◌}
+use Rattle.std.proofs.lemmas.List.{append_assoc, append-nil, length-append, length_push, take_at}
+use Rattle.std.proofs.lemmas.Option.{none-some}
+use Rattle.std.proofs.Math.Seq.{take-append-add}
 use Rattle.relative_path.specs.Steps.{Step, cur, up, name}
-use Rattle.relative_path.specs.Walk.{above, walk, IsSame, LeadsInTurn}
+use Rattle.relative_path.specs.Walk.{above, walk, IsSame, LeadsBelow, LeadsInTurn}
 
 -- the place where steps lead from a place that may be none
 abbrev walk_from : List Step → Option (List (List ℕ)) → Option (List (List ℕ))
@@ -55,3 +57,32 @@ IsSame-name_up cs ds n =
 -- what leads where two lists together lead does so in turn
 pub LeadsInTurn-same : (cs ds es : List Step) → IsSame (cs ++ ds) es → LeadsInTurn cs ds es
 LeadsInTurn-same cs ds es same = record { everywhere = λ base. sym (same.everywhere base) ∙ walk-append base cs ds }
+
+-- above a place below another is what is above it there
+above-below : (top : List (List ℕ)) (n : List ℕ) (ns : List (List ℕ))
+    → above (top ++ n ∷ ns) ≡ Some (top ++ take (length ns) (n ∷ ns))
+above-below [] n ns = refl
+above-below (m ∷ ms) n ns =
+    let len : length (ms ++ n ∷ ns) ≡ length (m ∷ ms) + length ns = omega (arith, length-append ms (n ∷ ns)) in
+    ap (λ k. Some (take k ((m ∷ ms) ++ n ∷ ns))) len ∙ ap Some (take-append-add (m ∷ ms) (n ∷ ns) (length ns))
+
+-- what leads to a place leads to the same place below any other
+walk-below : (top base : List (List ℕ)) (cs : List Step) (place : List (List ℕ)) → walk base cs ≡ Some place
+    → walk (top ++ base) cs ≡ Some (top ++ place)
+walk-below top base [] place e = ap (option_map (λ names. top ++ names)) e
+walk-below top base (cur ∷ cs) place e = walk-below top base cs place e
+walk-below top [] (up ∷ cs) place e = absurd (none-some place e)
+walk-below top (n ∷ ns) (up ∷ cs) place e =
+    ap (walk_from cs) (above-below top n ns) ∙ walk-below top (take (length ns) (n ∷ ns)) cs place e
+walk-below top base (name n ∷ cs) place e =
+    ap (λ place. walk place cs) (append_assoc top base (n ∷ [])) ∙ walk-below top (base ++ n ∷ []) cs place e
+
+-- what leads in turn where a second list leads, which has a place from the top, leads to that place below the first
+pub LeadsBelow-in_turn : (cs ds es : List Step) (place : List (List ℕ)) → LeadsInTurn cs ds es
+    → walk [] ds ≡ Some place → LeadsBelow cs place es
+LeadsBelow-in_turn cs ds es place turn is = record {
+  everywhere = λ base. turn.everywhere base ∙ onward (walk base cs);
+} where
+  onward : (found : Option (List (List ℕ))) → walk_from ds found ≡ option_map (λ top. top ++ place) found
+  onward None = refl
+  onward (Some top) = ap (λ base. walk base ds) (sym (append-nil top)) ∙ walk-below top [] ds place is

@@ -1,6 +1,6 @@
 -- Where a path leads. A place is a list of names, the top first; the empty list is the top.
 use Rattle.std.specs.Prelude.{◌≡◌, ℕ, List, [], ◌∷◌, ◌++◌, length, take, Option, Some, None}
-use Rattle.std.specs.Option.{option_and_then}
+use Rattle.std.specs.Option.{option_and_then, option_map}
 use Rattle.relative_path.specs.Steps.{Step, cur, up, name}
 
 -- the place above a place: its names without the last; above the top there is none
@@ -22,3 +22,7 @@ pub record IsSame (cs ds : List Step) : Type 0 where
 -- from every base, es leads where ds leads from where cs leads
 pub record LeadsInTurn (cs ds es : List Step) : Type 0 where
   pub everywhere : (base : List (List ℕ)) → walk base es ≡ option_and_then (λ place. walk place ds) (walk base cs)
+
+-- from every base, ds leads to this place below where cs leads, and to no place where cs leads to none
+pub record LeadsBelow (cs : List Step) (place : List (List ℕ)) (ds : List Step) : Type 0 where
+  pub everywhere : (base : List (List ℕ)) → walk base ds ≡ option_map (λ top. top ++ place) (walk base cs)

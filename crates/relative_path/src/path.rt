@@ -12,7 +12,7 @@ ghost use Rattle.std.specs.Ordering.{on, as_partial_cmp};
 ghost use Rattle.std.proofs.Common.{refl};
 ghost use Rattle.relative_path.specs.Normalizing.{IsNormal, IsNormalTextOf, IsNormalForm, climb};
 ghost use Rattle.relative_path.specs.Relating.{Leads, IsReachable, IsShortestText, LeadsApart};
-ghost use Rattle.relative_path.specs.Walk.{IsSame, LeadsInTurn};
+ghost use Rattle.relative_path.specs.Walk.{walk, IsSame, LeadsBelow, LeadsInTurn};
 ghost use Rattle.relative_path.specs.Prefixing.{StartsWith, EndsWith, IsDropped};
 ghost use Rattle.relative_path.specs.RelativePath.{path_text, path_components, display_text};
 ghost use Rattle.relative_path.specs.FromPathError.{from_path_kind};
@@ -423,6 +423,9 @@ impl<'a> RelativePath<'a> {
             (path_components self.entry ++ path_components path.entry) normal.text) }
         ensures in_turn { IfOk result (λ normal. LeadsInTurn (path_components self.entry)
             (path_components path.entry) (components normal.text)) }
+        ensures below { IfOk result (λ normal. (place : List (List ℕ))
+            → walk [] (path_components path.entry) ≡ Some place
+            → LeadsBelow (path_components self.entry) place (components normal.text)) }
     {
         NormalForm::of_both(alloc, self, path)?.spelled(alloc)
     }

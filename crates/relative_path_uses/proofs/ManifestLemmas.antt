@@ -7,10 +7,9 @@ use Rattle.serde_json.specs.Find.{get, as_str, as_array}
 use Rattle.serde_json.specs.View.{view, items_of, items_view}
 use Rattle.serde_json.specs.declared.value.Value.{Value}
 use Rattle.relative_path.specs.Steps.{Step, components}
-use Rattle.relative_path.specs.Walk.{LeadsInTurn}
+use Rattle.relative_path.specs.Walk.{LeadsBelow}
 use Rattle.relative_path.specs.Normalizing.{IsNormalTextOf}
 use Rattle.relative_path.specs.RelativePathBuf.{Buffer}
-use Rattle.relative_path_uses.proofs.PlacesLemmas.{IsAt-in_turn}
 use Rattle.relative_path_uses.specs.declared.manifest.ManifestError.{ManifestError}
 use Rattle.relative_path_uses.specs.declared.manifest.ManifestError.TheVariants.{NoBase, NoFiles, NotAString, ClimbsAbove, OutOfMemory}
 use Rattle.relative_path_uses.specs.Places.{place_of}
@@ -19,8 +18,9 @@ use Rattle.relative_path_uses.specs.Manifest.{base_of, item_list, entries_of, Of
 -- the file of an entry whose path has a place
 pub IsFileOf-some : (base : List Step) (entry : Data) (path file : List ℕ) → as_str entry ≡ Some path
     → IsSome (place_of (components path)) → IsNormalTextOf (base ++ components path) file
-    → LeadsInTurn base (components path) (components file) → IsFileOf base entry file
-IsFileOf-some base entry path file string some normal turn = tell (place_of (components path)) refl some where
+    → ((place : List (List ℕ)) → place_of (components path) ≡ Some place → LeadsBelow base place (components file))
+    → IsFileOf base entry file
+IsFileOf-some base entry path file string some normal below = tell (place_of (components path)) refl some where
   tell : (named : Option (List (List ℕ))) → place_of (components path) ≡ named → IsSome named → IsFileOf base entry file
   tell None is some = absurd (true≢false (sym some))
   tell (Some place) is some = record {
@@ -29,7 +29,7 @@ IsFileOf-some base entry path file string some normal turn = tell (place_of (com
     string = string;
     named = is;
     normal = normal;
-    below = IsAt-in_turn base (components path) (components file) place turn is;
+    below = below place is;
   }
 
 -- the items of a list made of data are these

@@ -1,47 +1,15 @@
--- Whether a path has a place from the top, and where it then leads from every other place.
-use Rattle.std.proofs.Common.{◌≡◌, ◌≢◌, ℕ, ◌+◌, List, [], ◌∷◌, ◌++◌, length, take, codes, zero, suc, ◌↔◌, IsTrue, IsSome, Option, Some, None, option_map, option_and_then, unwrap_or, refl, sym, ap, ◌∙◌, arith, true≢false}
+-- Whether a path has a place from the top.
+use Rattle.std.proofs.Common.{◌≡◌, ◌≢◌, ℕ, List, [], ◌∷◌, length, codes, zero, suc, ◌↔◌, IsTrue, IsSome, Option, Some, None, unwrap_or, refl, sym, ap, ◌∙◌, arith, true≢false}
 use Rattle.std.proofs.lemmas.Bool.{ne_eqb}
-use Rattle.std.proofs.lemmas.List.{append_assoc, append-nil, length-append}
 use Rattle.std.proofs.lemmas.Option.{none-some}
-use Rattle.std.proofs.Math.Seq.{take-append-add}
 use Rattle.std.specs.Option.{option_eq}
 use lib.Dec.{eqb}
-use Rattle.relative_path.specs.Steps.{Step, cur, up, name, pieces, components}
-use Rattle.relative_path.specs.Walk.{above, walk, LeadsInTurn}
+use Rattle.relative_path.specs.Steps.{Step, up, pieces, components}
+use Rattle.relative_path.specs.Walk.{walk}
 use Rattle.relative_path.specs.Relating.{LeadsApart}
-use Rattle.relative_path_uses.specs.Places.{place_of, IsAt}
+use Rattle.relative_path_uses.specs.Places.{place_of}
 
--- above a place below another is what is above it there
-above-below : (top : List (List ℕ)) (n : List ℕ) (ns : List (List ℕ))
-    → above (top ++ n ∷ ns) ≡ Some (top ++ take (length ns) (n ∷ ns))
-above-below [] n ns = refl
-above-below (m ∷ ms) n ns =
-    let len : length (ms ++ n ∷ ns) ≡ length (m ∷ ms) + length ns = omega (arith, length-append ms (n ∷ ns)) in
-    ap (λ k. Some (take k ((m ∷ ms) ++ n ∷ ns))) len ∙ ap Some (take-append-add (m ∷ ms) (n ∷ ns) (length ns))
-
--- what leads to a place leads to the same place below any other
-walk-below : (top base : List (List ℕ)) (cs : List Step) (place : List (List ℕ)) → walk base cs ≡ Some place
-    → walk (top ++ base) cs ≡ Some (top ++ place)
-walk-below top base [] place e = ap (option_map (λ names. top ++ names)) e
-walk-below top base (cur ∷ cs) place e = walk-below top base cs place e
-walk-below top [] (up ∷ cs) place e = absurd (none-some place e)
-walk-below top (n ∷ ns) (up ∷ cs) place e =
-    ap (option_and_then (λ place. walk place cs)) (above-below top n ns)
-    ∙ walk-below top (take (length ns) (n ∷ ns)) cs place e
-walk-below top base (name n ∷ cs) place e =
-    ap (λ place. walk place cs) (append_assoc top base (n ∷ [])) ∙ walk-below top (base ++ n ∷ []) cs place e
-
--- a file that leads where a path with a place leads from where the directory leads is there, below the directory
-pub IsAt-in_turn : (directory path file : List Step) (place : List (List ℕ)) → LeadsInTurn directory path file
-    → place_of path ≡ Some place → IsAt directory place file
-IsAt-in_turn directory path file place turn is = record {
-  everywhere = λ base. turn.everywhere base ∙ onward (walk base directory);
-} where
-  onward : (found : Option (List (List ℕ)))
-      → option_and_then (λ top. walk top path) found ≡ option_map (λ top. top ++ place) found
-  onward None = refl
-  onward (Some top) = ap (λ base. walk base path) (sym (append-nil top)) ∙ walk-below top [] path place is
-
+-- the one component of `..`
 components_up : (text : List ℕ) → text ≡ codes ".." → components text ≡ up ∷ []
 unfolding components pieces
 components_up text e = ap components e

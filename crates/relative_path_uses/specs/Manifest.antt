@@ -5,11 +5,12 @@ use Rattle.std.specs.Option.{option_map}
 use Rattle.serde_json.specs.Data.{Data, null, Items, no_items, item}
 use Rattle.serde_json.specs.Find.{get, as_str, as_array}
 use Rattle.relative_path.specs.Steps.{Step, components}
+use Rattle.relative_path.specs.Walk.{LeadsBelow}
 use Rattle.relative_path.specs.Normalizing.{IsNormalTextOf}
 use Rattle.relative_path.specs.RelativePathBuf.{Buffer}
 use Rattle.relative_path_uses.specs.declared.manifest.ManifestError.{ManifestError}
 use Rattle.relative_path_uses.specs.declared.manifest.ManifestError.TheVariants.{NoBase, NoFiles, NotAString, ClimbsAbove, OutOfMemory}
-use Rattle.relative_path_uses.specs.Places.{place_of, IsAt}
+use Rattle.relative_path_uses.specs.Places.{place_of}
 
 -- the text of the member `base`, if it is a string
 abbrev pub base_of : Data → Option (List ℕ)
@@ -32,7 +33,7 @@ pub record IsFileOf (base : List Step) (entry : Data) (file : List ℕ) : Type 0
   pub string : as_str entry ≡ Some path
   pub named : place_of (components path) ≡ Some place
   pub normal : IsNormalTextOf (base ++ components path) file
-  pub below : IsAt base place (components file)
+  pub below : LeadsBelow base place (components file)
 
 -- the entry is no string
 abbrev pub IsNoString : Data → Type 0

@@ -2,15 +2,15 @@
 use Rattle.std.specs.Prelude.{◌≡◌, ℕ, List, Option}
 use Rattle.std.specs.Option.{option_map}
 use Rattle.relative_path.specs.Steps.{Step, components}
+use Rattle.relative_path.specs.Walk.{LeadsBelow}
 use Rattle.relative_path.specs.Normalizing.{IsNormalText}
 use Rattle.relative_path.specs.RelativePathBuf.{Buffer}
-use Rattle.relative_path_uses.specs.Places.{IsAt}
 
 -- the text is normal, from every base it leads to this place below the root, and it is the only normal text that does
 pub record IsFileAt (root : List Step) (place : List (List ℕ)) (text : List ℕ) : Type 0 where
   pub normal : IsNormalText text
-  pub at : IsAt root place (components text)
-  pub only : (other : List ℕ) → IsNormalText other → IsAt root place (components other) → other ≡ text
+  pub below : LeadsBelow root place (components text)
+  pub only : (other : List ℕ) → IsNormalText other → LeadsBelow root place (components other) → other ≡ text
 
 -- the text of an answer, if there is one
 abbrev pub answer_text : Option Buffer → Option (List ℕ)

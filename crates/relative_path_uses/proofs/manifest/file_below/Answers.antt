@@ -9,4 +9,4 @@ pub returns-clause-file : goal.returns-clause-file
 returns-clause-file c =
     let has : IsTrue c.in_ok-has_place.field-0 = search rules in
     IsFileOf-some (path_components c.args.base) (view c.args.file.now) (path_text c.in-Ok.file) _ c.in-Ok.ensures.ok
-    (c.in_ok-has_place.ensures.0 has) c.in_ok-join_normalized.ensures.normal_form c.in_ok-join_normalized.ensures.in_turn
+    (c.in_ok-has_place.ensures.0 has) c.in_ok-join_normalized.ensures.normal_form c.in_ok-join_normalized.ensures.below

@@ -9,4 +9,4 @@ returns-clause-below c =
     let has : IsTrue c.in_ok-has_place.field-0 = search rules in
     rw (sym c.new-request.ensures)
     (IsFileAt-some (path_components c.args.root) (path_components c.new-request.result) _
-    (c.in_ok-has_place.ensures.0 has) c.in_ok-join_normalized.ensures.normal_form c.in_ok-join_normalized.ensures.in_turn)
+    (c.in_ok-has_place.ensures.0 has) c.in_ok-join_normalized.ensures.normal_form c.in_ok-join_normalized.ensures.below)
