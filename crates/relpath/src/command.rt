@@ -231,12 +231,17 @@ fn add_path(output: &mut String, path: &RelativePathBuf) -> Result<(), AllocErro
         (string_bytes output.new ≡ string_bytes output.old ++ path_answer path.now.text) }
 {
     output.push_str("= ")?;
-    add_text(output, path.as_relative_path().as_str())
+    let text = path.as_relative_path().as_str();
+    if text.len() > PIECE {
+        return add_pieces(output, text);
+    }
+    output.push_str(text)
 }
 
-/// Adds a text, piece by piece: the C library copies a short piece by vectors, and a long one by
-/// bytes.
-fn add_text(output: &mut String, text: &str) -> Result<(), AllocError>
+/// Adds a long text, piece by piece: the C library copies a short piece by vectors, and a long one
+/// by bytes.
+#[inline(never)]
+fn add_pieces(output: &mut String, text: &str) -> Result<(), AllocError>
     ensures { OnOk result (string_bytes output.new ≡ string_bytes output.old ++ text.now) }
 {
     let mut left = text;

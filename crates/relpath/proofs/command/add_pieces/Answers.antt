@@ -1,7 +1,7 @@
 -- One more piece is added, and what is left is the rest.
 use Rattle.std.proofs.Common.{rules}
 use Rattle.relpath.proofs.CommandLemmas.{added-piece}
-use Rattle.relpath.proofs.command.add_text.Goals as goal
+use Rattle.relpath.proofs.command.add_pieces.Goals as goal
 
 pub loop-left-preserved : goal.loop-left-preserved
 loop-left-preserved c = record {
