@@ -10,7 +10,7 @@ ghost use Rattle.relative_path.specs.Steps.{up, components, spell, step_text};
 
 use crate::buf::RelativePathBuf;
 use crate::component::{Component, component_of};
-use crate::counting::component_count;
+use crate::counting::component_room;
 use crate::path::RelativePath;
 use crate::spans::{Source, Sources, Span, past_slashes, piece_end};
 use std::alloc::{AllocError, Global};
@@ -41,7 +41,7 @@ impl<'a> NormalForm<'a> {
             first: path.as_str(),
             second: "",
         };
-        let form = NormalForm::with_room(alloc, sources, component_count(path.as_str()))?;
+        let form = NormalForm::with_room(alloc, sources, component_room(path.as_str()))?;
         Ok(form.follow(Source::First))
     }
 
@@ -58,7 +58,7 @@ impl<'a> NormalForm<'a> {
             first: path.as_str(),
             second: other.as_str(),
         };
-        let room = component_count(path.as_str()) + component_count(other.as_str());
+        let room = component_room(path.as_str()) + component_room(other.as_str());
         let form = NormalForm::with_room(alloc, sources, room)?;
         Ok(form.follow(Source::First).follow(Source::Second))
     }

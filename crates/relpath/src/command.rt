@@ -26,9 +26,6 @@ use relative_path::{RelativePath, RelativePathBuf, RelativeToError, RelativeToEr
 use std::alloc::{AllocError, Global};
 use std::fmt::Write;
 
-/// How many bytes of a text are copied at once.
-const PIECE: usize = 2_048;
-
 /// A command.
 #[derive(Clone, Copy)]
 enum Command {
@@ -91,7 +88,7 @@ fn answer_command(
         (string_bytes output.old) (string_bytes output.new)) }
 {
     let Some(command) = Command::named(name) else {
-        return add_words(output, "unknown command");
+        return output.push_str("! unknown command");
     };
     if arguments.len() != command.arity() {
         return add_words(output, "wrong number of fields");
@@ -231,26 +228,7 @@ fn add_path(output: &mut String, path: &RelativePathBuf) -> Result<(), AllocErro
         (string_bytes output.new ≡ string_bytes output.old ++ path_answer path.now.text) }
 {
     output.push_str("= ")?;
-    let text = path.as_relative_path().as_str();
-    if text.len() > PIECE {
-        return add_pieces(output, text);
-    }
-    output.push_str(text)
-}
-
-/// Adds a long text, piece by piece: the C library copies a short piece by vectors, and a long one
-/// by bytes.
-#[inline(never)]
-fn add_pieces(output: &mut String, text: &str) -> Result<(), AllocError>
-    ensures { OnOk result (string_bytes output.new ≡ string_bytes output.old ++ text.now) }
-{
-    let mut left = text;
-    while left.len() > PIECE && left.is_char_boundary(PIECE) {
-        let (piece, rest) = left.split_at(PIECE);
-        output.push_str(piece)?;
-        left = rest;
-    }
-    output.push_str(left)
+    output.push_str(path.as_relative_path().as_str())
 }
 
 /// Adds the answer that refuses in words.
