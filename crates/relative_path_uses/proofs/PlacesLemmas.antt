@@ -22,7 +22,10 @@ has_place-apart cs up_text apart e some = tell apart (rw (components_up up_text 
   none : (apart : Option ℕ) → apart ≢ Some 0 → ((n : ℕ) → (apart ≡ Some n) ↔ LeadsApart cs (up ∷ []) n)
       → (found : Option (List (List ℕ))) → walk [] cs ≡ found → IsSome found → ⊥
   none apart other some None is has = true≢false (sym has)
-  none apart other some (Some place) is has = other ((some 0).1 (record { apart = differ; together = λ base l. absurd (omega arith) })) where
+  none apart other some (Some place) is has = other ((some 0).1 (record {
+    apart = differ;
+    together = λ base l. absurd (omega arith);
+  })) where
     differ : (base : List (List ℕ)) → length base ≡ 0 → walk base cs ≢ walk base (up ∷ [])
     differ [] e same = none-some place (sym same ∙ is)
     differ (n ∷ base) e same = absurd (omega arith)

@@ -13,12 +13,14 @@ push_runs-requires-clause-spelled c =
 
 pub push_runs-requires-clause-room : goal.push_runs-requires-clause-room
 push_runs-requires-clause-room c =
-    let written : components c.in_ok-path.path.text ++ (components c.next_run.result.now ++ unix_left c.next_run.new.self) ≡
-    without_curs (components c.args.text.now) =
+    let written : components c.in_ok-path.path.text
+    ++ (components c.next_run.result.now ++ unix_left c.next_run.new.self)
+    ≡ without_curs (components c.args.text.now) =
     ap₂
     (λ cs ds. cs ++ ds)
     (ap components c.in_ok-path.ensures.empty ∙ components-nil)
-    (sym c.next_run.ensures.joined ∙ c.without_curs-components.ensures ∙ ap (λ t. without_curs (components t)) c.in_ok-view.ensures.text) in
+    (sym c.next_run.ensures.joined ∙ c.without_curs-components.ensures
+    ∙ ap (λ t. without_curs (components t)) c.in_ok-view.ensures.text) in
     omega (
       arith,
       ap (λ cs. length (spell cs)) written,
@@ -28,12 +30,14 @@ push_runs-requires-clause-room c =
 
 pub returns-clause-ok : goal.returns-clause-ok
 returns-clause-ok c =
-    let written : components c.in_ok-path.path.text ++ (components c.next_run.result.now ++ unix_left c.next_run.new.self) ≡
-    without_curs (components c.args.text.now) =
+    let written : components c.in_ok-path.path.text
+    ++ (components c.next_run.result.now ++ unix_left c.next_run.new.self)
+    ≡ without_curs (components c.args.text.now) =
     ap₂
     (λ cs ds. cs ++ ds)
     (ap components c.in_ok-path.ensures.empty ∙ components-nil)
-    (sym c.next_run.ensures.joined ∙ c.without_curs-components.ensures ∙ ap (λ t. without_curs (components t)) c.in_ok-view.ensures.text) in
+    (sym c.next_run.ensures.joined ∙ c.without_curs-components.ensures
+    ∙ ap (λ t. without_curs (components t)) c.in_ok-view.ensures.text) in
     let unrooted : has_root c.args.text.now ≡ false =
     ⊎_elim (λ e. absurd (true≢false (sym (c.in_ok-view.ensures.refused.1 e)))) (λ e. e)
     (cases_Bool (has_root c.args.text.now)) in
