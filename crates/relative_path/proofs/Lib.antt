@@ -13,6 +13,7 @@ pub mod NormalizingLemmas
 pub mod CountingLemmas
 pub mod SpansLemmas
 pub mod NormalFormLemmas
+pub mod ClimbsLemmas
 pub mod RelatingLemmas
 pub mod UnixComponentsLemmas
 pub mod UnixLemmas

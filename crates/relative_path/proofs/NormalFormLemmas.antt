@@ -1,5 +1,5 @@
 -- Climbs and names: that they are normal, what one component more does to them, and the text that spells them.
-use Rattle.std.proofs.Common.{◌≡◌, ℕ, zero, suc, ◌+◌, ◌-◌, ◌<◌, ◌≤◌, true, List, [], ◌∷◌, ◌++◌, All, Option, Some, None, map, replicate, length, drop, sym, refl, ap, ◌∙◌, subst, append_assoc, append-nil, arith, length-append, get_or, fold, ◌*◌, ◌/◌, ◌%◌}
+use Rattle.std.proofs.Common.{◌≡◌, ℕ, zero, suc, ◌+◌, ◌-◌, ◌<◌, ◌≤◌, true, List, [], ◌∷◌, ◌++◌, All, Option, Some, None, map, replicate, length, drop, sym, refl, ap, ◌∙◌, subst, append_assoc, append-nil, arith, length-append, get_or, fold, ◌*◌}
 use Rattle.std.specs.List.{AllByRecursion}
 use Rattle.std.specs.Option.{is_some, option_to_list}
 use Rattle.std.proofs.lemmas.List.Elements.{recursion_from_All, All-from_recursion, All-drop}
@@ -185,63 +185,12 @@ length-with_pieces_le text [] = omega arith
 length-with_pieces_le text (p ∷ ps) =
     omega (arith, length-with_piece_le text p, length-with_pieces_le (with_piece text p) ps)
 
--- where all pieces fit, the first one does
-pub with_piece_fits : (text : List ℕ) (ps : List (List ℕ)) (p : List ℕ) (rest : List (List ℕ)) (room : ℕ)
-    → ps ≡ p ∷ rest → length (fold with_piece text ps) ≤ room → length (with_piece text p) ≤ room
-with_piece_fits text ps p rest room first fits =
-    omega (arith, length-with_pieces_le (with_piece text p) rest, ap (λ x. length (fold with_piece text x)) first)
-
-pub replicate_first : {X : Type 0} (n i : ℕ) (x : X) → i < n → replicate (n - i) x ≡ x ∷ replicate (n - (i + 1)) x
-replicate_first n i x less = ap (λ k. replicate k x) (let e : n - i ≡ suc (n - (i + 1)) = omega arith in e)
-
-with_pieces-solid : (b : ℕ) (bs : List ℕ) (c : Step) (cs : List Step)
+pub with_pieces-solid : (b : ℕ) (bs : List ℕ) (c : Step) (cs : List Step)
     → fold with_piece (b ∷ bs) (map step_text (c ∷ cs)) ≡ (b ∷ bs) ++ slash ∷ spell (c ∷ cs)
 with_pieces-solid b bs c [] = refl
 with_pieces-solid b bs c (d ∷ cs) =
     with_pieces-solid b (bs ++ slash ∷ step_text c) d cs
     ∙ append_assoc (b ∷ bs) (slash ∷ step_text c) (slash ∷ spell (d ∷ cs))
-
--- ---- writing `..` by sixteen
-
-abbrev pub sixteen_ups : List ℕ
-sixteen_ups = spell (replicate 16 up)
-
-with_piece-sixteen : (text : List ℕ)
-    → with_piece text sixteen_ups ≡ fold with_piece text (replicate 16 (step_text up))
-with_piece-sixteen [] = refl
-with_piece-sixteen (b ∷ bs) = sym (with_pieces-solid b bs up (replicate 15 up))
-
-replicate-append : {X : Type 0} (n m : ℕ) (x : X) → replicate n x ++ replicate m x ≡ replicate (n + m) x
-replicate-append zero m x = ap (λ k. replicate k x) (let e : m ≡ 0 + m = omega arith in e)
-replicate-append (suc n) m x =
-    ap (λ xs. x ∷ xs) (replicate-append n m x)
-    ∙ ap (λ k. replicate k x) (let e : suc (n + m) ≡ suc n + m = omega arith in e)
-
-with_pieces-sixteens : (text : List ℕ) (k : ℕ)
-    → fold with_piece text (replicate k sixteen_ups) ≡ fold with_piece text (replicate (k * 16) (step_text up))
-with_pieces-sixteens text zero = refl
-with_pieces-sixteens text (suc k) =
-    let ups = replicate (k * 16) (step_text up) in
-    let more : 16 + k * 16 ≡ suc k * 16 = omega arith in
-    with_pieces-sixteens (with_piece text sixteen_ups) k
-    ∙ ap (λ x. fold with_piece x ups) (with_piece-sixteen text)
-    ∙ sym (fold-append with_piece text (replicate 16 (step_text up)) ups)
-    ∙ ap (fold with_piece text) (replicate-append 16 (k * 16) (step_text up))
-    ∙ ap (λ n. fold with_piece text (replicate n (step_text up))) more
-
--- sixteen at a time, and then the others
-pub with_pieces-ups : (text : List ℕ) (climb : ℕ)
-    → fold with_piece
-    (fold with_piece text (replicate (climb / 16) sixteen_ups)) (replicate (climb % 16) (step_text up))
-    ≡ fold with_piece text (replicate climb (step_text up))
-with_pieces-ups text climb =
-    let few = replicate (climb % 16) (step_text up) in
-    let many = replicate (climb / 16 * 16) (step_text up) in
-    let whole : climb / 16 * 16 + climb % 16 ≡ climb = omega arith in
-    ap (λ x. fold with_piece x few) (with_pieces-sixteens text (climb / 16))
-    ∙ sym (fold-append with_piece text many few)
-    ∙ ap (fold with_piece text) (replicate-append (climb / 16 * 16) (climb % 16) (step_text up))
-    ∙ ap (λ n. fold with_piece text (replicate n (step_text up))) whole
 
 -- the texts of proper components one behind another spell them
 pub with_pieces-spell : (cs : List Step) → AreProper cs → fold with_piece [] (map step_text cs) ≡ spell cs

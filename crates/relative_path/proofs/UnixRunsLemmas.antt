@@ -1,10 +1,10 @@
 -- Runs: fronts of a text that stand as their components are spelled.
-use Rattle.std.proofs.Common.{◌≡◌, ◌≢◌, ◌⊎◌, ℕ, zero, suc, ◌+◌, ◌-◌, ◌*◌, ◌<◌, ◌≤◌, List, [], ◌∷◌, ◌++◌, All, length, get_or, take, replicate, sym, refl, ap, ap₂, ◌∙◌, subst, inl, inr, ⊎_elim, append_assoc, append-nil, arith, length-append, take_at, Option, Some, None, option_and_then}
+use Rattle.std.proofs.Common.{◌≡◌, ◌≢◌, ◌⊎◌, ℕ, ◌+◌, ◌-◌, ◌<◌, ◌≤◌, List, [], ◌∷◌, ◌++◌, All, length, get_or, take, sym, refl, ap, ap₂, ◌∙◌, inl, inr, ⊎_elim, append_assoc, append-nil, arith, length-append, take_at, Option, Some, None, option_and_then}
 use Rattle.std.specs.List.{slice_range}
 use Rattle.std.specs.Str.{IsCharBoundary}
 use Rattle.std.proofs.lemmas.List.{get_or_at}
-use Rattle.std.proofs.lemmas.Str.{IsCharBoundary-end, IsCharBoundary-before_ascii, IsCharBoundary-from_ascii}
-use Rattle.relative_path.specs.Steps.{Step, cur, up, name, slash, dot, classed, components, spell}
+use Rattle.std.proofs.lemmas.Str.{IsCharBoundary-end, IsCharBoundary-before_ascii}
+use Rattle.relative_path.specs.Steps.{Step, cur, up, name, slash, classed, components, spell}
 use Rattle.relative_path.specs.Editing.{with_piece}
 use Rattle.relative_path.specs.NormalForm.{padded_len}
 use Rattle.relative_path.specs.Unix.{without_curs, without_inner_curs}
@@ -14,7 +14,6 @@ use Rattle.relative_path.proofs.ComponentsLemmas.{components_piece}
 use Rattle.relative_path.proofs.NormalStepsLemmas.{spell-append, length-spell-append_le}
 use Rattle.relative_path.proofs.NormalFormLemmas.{length-spell}
 use Rattle.relative_path.proofs.UnixTextsLemmas.{Spells}
-use Rattle.relative_path.proofs.UnixWaysLemmas.{components-climb}
 use Rattle.relative_path.proofs.UnixFrontsLemmas.{inner-not_cur}
 
 -- ---- spelled texts joined
@@ -242,71 +241,6 @@ run_shorter run all left spelled some joined =
     has_component : (cs : List Step) → cs ≢ [] → 0 < length cs
     has_component [] some = absurd (some refl)
     has_component (c ∷ cs) some = omega arith
-
--- ---- climbs
-
--- a text of so many `..`, with a slash behind each
-abbrev pub climbs : ℕ → List ℕ
-climbs zero = []
-climbs (suc n) = dot ∷ dot ∷ slash ∷ climbs n
-
--- its front is spelled
-pub climbs_front : (n m : ℕ) → n < m → take (3 * (n + 1) - 1) (climbs m) ≡ spell (replicate (n + 1) up)
-climbs_front n zero less = absurd (omega (arith, less))
-climbs_front zero (suc m) less = refl
-climbs_front (suc n) (suc m) less =
-    let index : 3 * (suc n + 1) - 1 ≡ suc (suc (suc (3 * (n + 1) - 1))) = omega arith in
-    let count : suc n + 1 ≡ suc (n + 1) = omega arith in
-    let count' : n + 1 ≡ suc n = omega arith in
-    ap (λ k. take k (climbs (suc m))) index
-    ∙ ap (λ x. dot ∷ dot ∷ slash ∷ x) (climbs_front n m (omega (arith, less)))
-    ∙ ap (λ k. dot ∷ dot ∷ slash ∷ spell (replicate k up)) count'
-    ∙ sym (ap (λ k. spell (replicate k up)) (count ∙ ap suc count'))
-
--- it is cut at its every byte
-pub climbs_boundary : (m n : ℕ) → n ≤ length (climbs m) → IsCharBoundary (climbs m) n
-climbs_boundary m n fits = IsCharBoundary-from_ascii (climbs m) n (ascii m) fits
-  where
-    ascii : (k i : ℕ) → get_or (climbs k) i 0 < 128
-    ascii zero i = omega arith
-    ascii (suc k) zero = omega arith
-    ascii (suc k) (suc zero) = omega arith
-    ascii (suc k) (suc (suc zero)) = omega arith
-    ascii (suc k) (suc (suc (suc i))) = ascii k i
-
--- a cut of sixteen
-pub climbs_cut : (n : ℕ) (run : List ℕ) → 0 < n → n ≤ 16 → run ≡ slice_range (climbs 16) 0 (3 * n - 1)
-    → run ≡ spell (replicate n up)
-climbs_cut n run some few cut =
-    let index : (3 * n - 1) - 0 ≡ 3 * ((n - 1) + 1) - 1 = omega (arith, some) in
-    let count : (n - 1) + 1 ≡ n = omega (arith, some) in
-    cut ∙ ap (λ k. take k (climbs 16)) index ∙ climbs_front (n - 1) 16 (omega (arith, some, few))
-    ∙ ap (λ k. spell (replicate k up)) count
-
-replicate_split : (n k : ℕ) → k ≤ n → replicate n up ≡ replicate k up ++ replicate (n - k) up
-replicate_split n zero fits =
-    let all : n ≡ n - 0 = omega arith in
-    ap (λ m. replicate m up) all
-replicate_split zero (suc k) fits = absurd (omega (arith, fits))
-replicate_split (suc n) (suc k) fits =
-    let less : n - k ≡ suc n - suc k = omega arith in
-    ap (λ cs. up ∷ cs) (replicate_split n k (omega (arith, fits)) ∙ ap (λ m. replicate k up ++ replicate m up) less)
-
-climb_some : (n : ℕ) → 0 < n → spell (replicate n up) ≢ []
-climb_some zero some = absurd (omega (arith, some))
-climb_some (suc zero) some = λ e. absurd (cc)
-climb_some (suc (suc n)) some = λ e. absurd (cc)
-
--- as many of the `..` that are left are pushed at once
-pub Spells-climb : (all : List Step) (room : ℕ) (text run : List ℕ) (left n : ℕ)
-    → Spells all room text (replicate left up) → 0 < n → n ≤ left → run ≡ spell (replicate n up)
-    → Spells all room (with_piece text run) (replicate (left - n) up) × (length (with_piece text run) ≤ room)
-Spells-climb all room text run left n h some fits is =
-    let ups = ap components is ∙ components-climb n in
-    let parts : replicate left up ≡ components run ++ replicate (left - n) up =
-    replicate_split left n fits ∙ ap (λ cs. cs ++ replicate (left - n) up) (sym ups) in
-    Spells-run all room text run (replicate (left - n) up) (subst (Spells all room text) parts h)
-    (is ∙ sym (ap spell ups)) (λ none. climb_some n some (sym is ∙ none))
 
 -- ---- a `.` leads nowhere
 

@@ -9,6 +9,7 @@ pub use self::relative_to_error::{RelativeToError, RelativeToErrorKind};
 pub use self::unix::PathExt;
 
 mod buf;
+mod climbs;
 mod component;
 mod counting;
 mod editing;

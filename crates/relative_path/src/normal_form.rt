@@ -9,14 +9,12 @@ ghost use Rattle.relative_path.specs.Spans.{source_text, span_text, Cuts, CutsNa
 ghost use Rattle.relative_path.specs.Steps.{up, components, spell, step_text};
 
 use crate::buf::RelativePathBuf;
+use crate::climbs::push_climb;
 use crate::component::{Component, component_of};
 use crate::counting::component_room;
 use crate::path::RelativePath;
 use crate::spans::{Source, Sources, Span, past_slashes, piece_end};
 use std::alloc::{AllocError, Global};
-
-// Sixteen `..`.
-const SIXTEEN_UPS: &str = "../../../../../../../../../../../../../../../..";
 
 // A normal list of components: as many `..` as it climbs, and then the names, each a span of a source.
 #[derive(Drop)]
@@ -273,25 +271,4 @@ fn spelled_run(alloc: Global, climb: usize, run: &str) -> Result<RelativePathBuf
     push_climb(&mut buf, climb);
     buf.push_piece(run);
     Ok(buf)
-}
-
-// Adds so many `..`.
-fn push_climb(buf: &mut RelativePathBuf, climb: usize)
-    requires { length (fold with_piece buf.old.text (replicate climb (step_text up))) ≤ buf.old.room }
-    ensures text { buf.new.text ≡ fold with_piece buf.old.text (replicate climb (step_text up)) }
-    ensures room { buf.old.room ≤ buf.new.room }
-{
-    push_times(buf, SIXTEEN_UPS, climb / 16);
-    push_times(buf, "..", climb % 16);
-}
-
-// Adds a piece so many times.
-fn push_times(buf: &mut RelativePathBuf, piece: &str, times: usize)
-    requires { length (fold with_piece buf.old.text (replicate times piece.now)) ≤ buf.old.room }
-    ensures text { buf.new.text ≡ fold with_piece buf.old.text (replicate times piece.now) }
-    ensures room { buf.old.room ≤ buf.new.room }
-{
-    for _ in 0..times {
-        buf.push_piece(piece);
-    }
 }

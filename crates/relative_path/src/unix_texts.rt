@@ -6,6 +6,7 @@ ghost use Rattle.relative_path.specs.Steps.{up, components, spell};
 ghost use Rattle.relative_path.specs.UnixComponents.{unix_left};
 
 use crate::buf::RelativePathBuf;
+use crate::climbs::push_climb;
 use crate::path::RelativePath;
 use crate::unix_components::UnixComponents;
 use std::alloc::{AllocError, Global};
@@ -44,18 +45,6 @@ pub(crate) fn way_len(climb: usize, run: &str, left: UnixComponents<'_>) -> Opti
     Some(len.saturating_sub(1))
 }
 
-// A text of sixteen `..`, with a slash behind each.
-const CLIMBS: &str = "../../../../../../../../../../../../../../../../";
-
-// A spelled text of so many `..`, of which there is one at least.
-fn climbs(count: usize) -> &'static str
-    requires some { 0 < count }
-    requires few { count ≤ 16 }
-    ensures { result.now ≡ spell (replicate count up) }
-{
-    &CLIMBS[..3 * count - 1]
-}
-
 // A path of so many `..`, with room for `room` bytes.
 pub(crate) fn climbing(
     alloc: Global,
@@ -67,12 +56,7 @@ pub(crate) fn climbing(
     ensures room { IfOk result (λ path. room ≤ path.room) }
 {
     let mut path = RelativePathBuf::with_capacity(alloc, room)?;
-    let mut left = climb;
-    while left > 0 {
-        let count = left.min(16);
-        path.push_piece(climbs(count));
-        left -= count;
-    }
+    push_climb(&mut path, climb);
     Ok(path)
 }
 

@@ -1,47 +1,17 @@
-use Rattle.std.proofs.Common.{◌≡◌, ◌<◌, ◌≤◌, ◌∙◌, ◌++◌, replicate, sym, ap, arith}
-use Rattle.relative_path.specs.Steps.{up, components, spell}
-use Rattle.relative_path.proofs.StepsLemmas.{components-nil}
-use Rattle.relative_path.proofs.UnixTextsLemmas.{Spells-roomier, Spells-end}
-use Rattle.relative_path.proofs.UnixRunsLemmas.{Spells-climb}
+use Rattle.std.proofs.Common.{◌∙◌, ap, fold, length, replicate, arith}
+use Rattle.relative_path.specs.Editing.{with_piece}
+use Rattle.relative_path.specs.Steps.{up, step_text}
+use Rattle.relative_path.proofs.ClimbsLemmas.{with_pieces-climb}
 use Rattle.relative_path.proofs.unix_texts.climbing.Goals as goal
 
-pub loop-left-init : goal.loop-left-init
-loop-left-init c =
-    let empty = c.in_ok-path.ensures.empty in
-    let nothing = ap components empty ∙ components-nil in
-    let room = c.requires in (
-      record {
-        spelled = empty ∙ sym (ap spell nothing);
-        joined = ap (λ cs. cs ++ replicate c.args.climb up) nothing;
-        fits = omega (arith, room, c.in_ok-path.ensures.room);
-      },
-      omega (arith, c.in_ok-path.ensures.room),
-    )
+pub push_climb-requires : goal.push_climb-requires
+push_climb-requires c =
+    let room = c.in_ok-path.ensures.room in
+    let whole = ap length (with_pieces-climb c.args.climb) in
+    rw c.in_ok-path.ensures.empty (omega (arith, c.requires, room, whole))
 
-pub push_piece-requires : goal.push_piece-requires
-push_piece-requires c =
-    let count = c.min-count.ensures in
-    let left = c.loop-left-test.true in
-    let some : 0 < c.min-count.result = omega (arith, count, left) in
-    let fits : c.min-count.result ≤ c.loop-left.left = omega (arith, count) in
-    (Spells-climb _ _ _ _ _ _ c.loop-left.invariant.0 some fits c.climbs.ensures).1
-
-pub loop-left-preserved : goal.loop-left-preserved
-loop-left-preserved c =
-    let count = c.min-count.ensures in
-    let left = c.loop-left-test.true in
-    let some : 0 < c.min-count.result = omega (arith, count, left) in
-    let fits : c.min-count.result ≤ c.loop-left.left = omega (arith, count) in
-    let pushes = (Spells-climb _ _ _ _ _ _ c.loop-left.invariant.0 some fits c.climbs.ensures).0 in
-    let room = c.loop-left.invariant.1 in (
-      rw c.push_piece.ensures.text (Spells-roomier _ _ _ _ _ pushes c.push_piece.ensures.room),
-      omega (arith, room, c.push_piece.ensures.room),
-    )
-
-pub returns : goal.returns
-returns c =
-    let none : c.loop-left.left ≡ 0 = omega (arith, c.loop-left-test.false) in
-    record {
-      text = Spells-end _ _ _ _ c.loop-left.invariant.0 (ap (λ n. replicate n up) none);
-      room = c.loop-left.invariant.1;
-    }
+pub returns-clause-text : goal.returns-clause-text
+returns-clause-text c =
+    let climbs = replicate c.args.climb (step_text up) in
+    c.push_climb.ensures.text ∙ ap (λ text. fold with_piece text climbs) c.in_ok-path.ensures.empty
+    ∙ with_pieces-climb c.args.climb

@@ -1,0 +1,85 @@
+-- Climbs as text: some of them at once, or one behind another.
+use Rattle.std.proofs.Common.{◌≡◌, ℕ, zero, suc, ◌+◌, ◌-◌, ◌*◌, ◌<◌, ◌≤◌, List, [], ◌∷◌, length, get_or, take, map, fold, replicate, sym, refl, ap, ◌∙◌, append-nil, arith}
+use Rattle.std.specs.List.{slice_range}
+use Rattle.std.specs.Str.{IsCharBoundary}
+use Rattle.std.proofs.lemmas.List.{replicate-append-replicate}
+use Rattle.std.proofs.lemmas.List.Sums.{fold-append}
+use Rattle.std.proofs.lemmas.Str.{IsCharBoundary-from_ascii}
+use Rattle.relative_path.specs.Steps.{up, slash, dot, step_text, spell}
+use Rattle.relative_path.specs.Editing.{with_piece}
+use Rattle.relative_path.proofs.NormalFormLemmas.{length-with_pieces_le, with_pieces-solid, with_pieces-climbed}
+
+-- ---- the table that climbs are cut out of
+
+-- a text of so many `..`, with a slash behind each
+abbrev pub climbs : ℕ → List ℕ
+climbs zero = []
+climbs (suc n) = dot ∷ dot ∷ slash ∷ climbs n
+
+-- its front is spelled
+pub climbs_front : (n m : ℕ) → n < m → take (3 * (n + 1) - 1) (climbs m) ≡ spell (replicate (n + 1) up)
+climbs_front n zero less = absurd (omega (arith, less))
+climbs_front zero (suc m) less = refl
+climbs_front (suc n) (suc m) less =
+    let index : 3 * (suc n + 1) - 1 ≡ suc (suc (suc (3 * (n + 1) - 1))) = omega arith in
+    let count : suc n + 1 ≡ suc (n + 1) = omega arith in
+    let count' : n + 1 ≡ suc n = omega arith in
+    ap (λ k. take k (climbs (suc m))) index
+    ∙ ap (λ x. dot ∷ dot ∷ slash ∷ x) (climbs_front n m (omega (arith, less)))
+    ∙ ap (λ k. dot ∷ dot ∷ slash ∷ spell (replicate k up)) count'
+    ∙ sym (ap (λ k. spell (replicate k up)) (count ∙ ap suc count'))
+
+-- it is cut at its every byte
+pub climbs_boundary : (m n : ℕ) → n ≤ length (climbs m) → IsCharBoundary (climbs m) n
+climbs_boundary m n fits = IsCharBoundary-from_ascii (climbs m) n (ascii m) fits
+  where
+    ascii : (k i : ℕ) → get_or (climbs k) i 0 < 128
+    ascii zero i = omega arith
+    ascii (suc k) zero = omega arith
+    ascii (suc k) (suc zero) = omega arith
+    ascii (suc k) (suc (suc zero)) = omega arith
+    ascii (suc k) (suc (suc (suc i))) = ascii k i
+
+-- a cut of sixteen
+pub climbs_cut : (n : ℕ) (run : List ℕ) → 0 < n → n ≤ 16 → run ≡ slice_range (climbs 16) 0 (3 * n - 1)
+    → run ≡ spell (replicate n up)
+climbs_cut n run some few cut =
+    let index : (3 * n - 1) - 0 ≡ 3 * ((n - 1) + 1) - 1 = omega (arith, some) in
+    let count : (n - 1) + 1 ≡ n = omega (arith, some) in
+    cut ∙ ap (λ k. take k (climbs 16)) index ∙ climbs_front (n - 1) 16 (omega (arith, some, few))
+    ∙ ap (λ k. spell (replicate k up)) count
+
+-- ---- climbs behind a text
+
+-- one behind another they are spelled
+pub with_pieces-climb : (n : ℕ) → fold with_piece [] (replicate n (step_text up)) ≡ spell (replicate n up)
+with_pieces-climb n = with_pieces-climbed n [] tt ∙ ap spell (append-nil (replicate n up))
+
+map_step_text-ups : (n : ℕ) → map step_text (replicate n up) ≡ replicate n (step_text up)
+map_step_text-ups zero = refl
+map_step_text-ups (suc n) = ap (λ ps. step_text up ∷ ps) (map_step_text-ups n)
+
+-- at once, or one behind another
+with_piece-climb : (text : List ℕ) (n : ℕ) → 0 < n
+    → with_piece text (spell (replicate n up)) ≡ fold with_piece text (replicate n (step_text up))
+with_piece-climb text zero some = absurd (omega (arith, some))
+with_piece-climb [] (suc n) some = sym (with_pieces-climb (suc n))
+with_piece-climb (b ∷ bs) (suc n) some =
+    sym (with_pieces-solid b bs up (replicate n up)) ∙ ap (fold with_piece (b ∷ bs)) (map_step_text-ups (suc n))
+
+-- some of those that are left at once, and then the others
+module _ (text run : List ℕ) (left n : ℕ) (some : 0 < n) (few : n ≤ left) (is : run ≡ spell (replicate n up)) where
+  pub with_pieces-some_climbs : fold with_piece (with_piece text run) (replicate (left - n) (step_text up))
+      ≡ fold with_piece text (replicate left (step_text up))
+  with_pieces-some_climbs =
+      let others = replicate (left - n) (step_text up) in
+      let all : n + (left - n) ≡ left = omega (arith, few) in
+      ap (λ x. fold with_piece x others) (ap (with_piece text) is ∙ with_piece-climb text n some)
+      ∙ sym (fold-append with_piece text (replicate n (step_text up)) others)
+      ∙ ap (fold with_piece text) (replicate-append-replicate n (left - n) (step_text up))
+      ∙ ap (λ k. fold with_piece text (replicate k (step_text up))) all
+
+  pub some_climbs_fit : length (with_piece text run) ≤ length (fold with_piece text (replicate left (step_text up)))
+  some_climbs_fit =
+      let shorter = length-with_pieces_le (with_piece text run) (replicate (left - n) (step_text up)) in
+      omega (arith, shorter, ap length with_pieces-some_climbs)
