@@ -40,13 +40,13 @@ climbs_boundary m n fits = IsCharBoundary-from_ascii (climbs m) n (ascii m) fits
     ascii (suc k) (suc (suc zero)) = omega arith
     ascii (suc k) (suc (suc (suc i))) = ascii k i
 
--- a cut of sixteen
-pub climbs_cut : (n : ℕ) (run : List ℕ) → 0 < n → n ≤ 16 → run ≡ slice_range (climbs 16) 0 (3 * n - 1)
+-- a cut of so many
+pub climbs_cut : (n m : ℕ) (run : List ℕ) → 0 < n → n ≤ m → run ≡ slice_range (climbs m) 0 (3 * n - 1)
     → run ≡ spell (replicate n up)
-climbs_cut n run some few cut =
+climbs_cut n m run some few cut =
     let index : (3 * n - 1) - 0 ≡ 3 * ((n - 1) + 1) - 1 = omega (arith, some) in
     let count : (n - 1) + 1 ≡ n = omega (arith, some) in
-    cut ∙ ap (λ k. take k (climbs 16)) index ∙ climbs_front (n - 1) 16 (omega (arith, some, few))
+    cut ∙ ap (λ k. take k (climbs m)) index ∙ climbs_front (n - 1) m (omega (arith, some, few))
     ∙ ap (λ k. spell (replicate k up)) count
 
 -- ---- climbs behind a text

@@ -3,9 +3,9 @@ ghost use Rattle.std.specs.Prelude.{◌≡◌, ◌≢◌, ◌≤◌, ◌<◌, �
 ghost use Rattle.std.specs.List.{All};
 ghost use Rattle.relative_path.specs.Steps.{slash, components};
 
-// So many bytes of a piece are looked at one by one, where they stand. A longer piece is searched out of line, by
-// blocks.
-const NEAR: usize = 24;
+// So many bytes of a piece are looked at one by one, where they stand, from a text's start or from an index of it. A
+// longer piece is searched out of line, by blocks.
+pub(crate) const NEAR: usize = 24;
 
 // So many bytes are compared side by side.
 const BLOCK: usize = 16;

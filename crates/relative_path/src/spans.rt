@@ -4,10 +4,7 @@ ghost use Rattle.std.specs.Str.{IsCharBoundary};
 ghost use Rattle.relative_path.specs.Spans.{source_text, span_text, IsPiece, IsRun};
 ghost use Rattle.relative_path.specs.Steps.{slash, components};
 
-use crate::slashes::{far_first_piece_len, without_leading_slashes};
-
-// So many bytes of a piece are looked at where they stand. A longer piece is searched out of line, by blocks.
-const NEAR: usize = 16;
+use crate::slashes::{NEAR, far_first_piece_len, without_leading_slashes};
 
 // Which of two texts.
 #[derive(Clone, Copy, PartialEq, Eq)]

@@ -7,7 +7,7 @@ use Rattle.relative_path.proofs.climbs.push_climb.Goals as goal
 pub range-requires-clause-end_boundary : goal.range-requires-clause-end_boundary
 range-requires-clause-end_boundary c =
     let count = c.min-count.ensures in
-    climbs_boundary 16 _ (omega (arith, count))
+    climbs_boundary 24 _ (omega (arith, count))
 
 pub push_piece-requires : goal.push_piece-requires
 push_piece-requires c =
@@ -15,8 +15,9 @@ push_piece-requires c =
     let left = c.loop-left-test.true in
     let some : 0 < c.min-count.result = omega (arith, count, left) in
     let few : c.min-count.result ≤ c.loop-left.left = omega (arith, count) in
-    let is = climbs_cut c.min-count.result c.range.result.now some (omega (arith, count)) c.range.ensures.value in
-    let fits = some_climbs_fit c.loop-left.buf.text c.range.result.now c.loop-left.left c.min-count.result some few is in
+    let run = c.range.result.now in
+    let is = climbs_cut c.min-count.result 24 run some (omega (arith, count)) c.range.ensures.value in
+    let fits = some_climbs_fit c.loop-left.buf.text run c.loop-left.left c.min-count.result some few is in
     let whole = ap length c.loop-left.invariant.text in
     omega (arith, c.requires, fits, whole, c.loop-left.invariant.room)
 
@@ -26,12 +27,13 @@ loop-left-preserved c =
     let left = c.loop-left-test.true in
     let some : 0 < c.min-count.result = omega (arith, count, left) in
     let few : c.min-count.result ≤ c.loop-left.left = omega (arith, count) in
-    let is = climbs_cut c.min-count.result c.range.result.now some (omega (arith, count)) c.range.ensures.value in
+    let run = c.range.result.now in
+    let is = climbs_cut c.min-count.result 24 run some (omega (arith, count)) c.range.ensures.value in
     let others = replicate (c.loop-left.left - c.min-count.result) (step_text up) in
     let before = c.loop-left.invariant.room in
     record {
       text = ap (λ text. fold with_piece text others) c.push_piece.ensures.text
-          ∙ with_pieces-some_climbs c.loop-left.buf.text c.range.result.now c.loop-left.left c.min-count.result some few is
+          ∙ with_pieces-some_climbs c.loop-left.buf.text run c.loop-left.left c.min-count.result some few is
           ∙ c.loop-left.invariant.text;
       room = omega (arith, before, c.push_piece.ensures.room);
     }
