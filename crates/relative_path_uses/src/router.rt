@@ -1,9 +1,9 @@
 //! A router of static files: what a request names below a root.
-ghost use Rattle.std.specs.Prelude.{◌≡◌, ◌↔◌, ℕ, List, IfOk, IfSome, IsNone, None, Some};
+ghost use Rattle.std.specs.Prelude.{◌≡◌, ◌↔◌, IfOk, IfSome, IsNone, None};
 ghost use Rattle.relative_path.specs.RelativePath.{path_components};
 ghost use Rattle.relative_path.specs.Steps.{components};
 ghost use Rattle.relative_path_uses.specs.Places.{place_of};
-ghost use Rattle.relative_path_uses.specs.Router.{IsFileAt, answer_text};
+ghost use Rattle.relative_path_uses.specs.Router.{answer_text, IsServed};
 
 use crate::places::has_place;
 use relative_path::{RelativePath, RelativePathBuf};
@@ -24,9 +24,8 @@ pub fn routed(
     request: &str,
 ) -> Result<Option<RelativePathBuf>, AllocError>
     ensures refused { IfOk result (λ found. IsNone found ↔ (place_of (components request.now) ≡ None)) }
-    ensures below { IfOk result (λ found. IfSome found (λ file. (place : List (List ℕ))
-        × (place_of (components request.now) ≡ Some place)
-        × IsFileAt (path_components root.entry) place file.text)) }
+    ensures below { IfOk result (λ found. IfSome found
+        (IsServed (path_components root.entry) (components request.now))) }
 {
     let request = RelativePath::new(request);
     if !has_place(alloc, request)? {
@@ -48,7 +47,13 @@ pub fn routed_alike(
     request: &str,
     other: &str,
 ) -> Result<(Option<RelativePathBuf>, Option<RelativePathBuf>), AllocError>
-    ensures { IfOk result (λ found.
+    ensures refused { IfOk result (λ found.
+        (IsNone found.0 ↔ (place_of (components request.now) ≡ None))
+        × (IsNone found.1 ↔ (place_of (components other.now) ≡ None))) }
+    ensures below { IfOk result (λ found.
+        IfSome found.0 (IsServed (path_components root.entry) (components request.now))
+        × IfSome found.1 (IsServed (path_components root.entry) (components other.now))) }
+    ensures alike { IfOk result (λ found.
         place_of (components request.now) ≡ place_of (components other.now)
         → answer_text found.0 ≡ answer_text found.1) }
 {
