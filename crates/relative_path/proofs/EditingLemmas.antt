@@ -77,12 +77,6 @@ pub record LosesCurs (text left : List ℕ) : Type 0 where
   pub lost : ℕ
   pub joined : components text ≡ components left ++ replicate lost cur
 
--- only the slashes at the end were dropped
-pub LosesCurs-start : (text trimmed : List ℕ) → IsPrefix text trimmed → get_or trimmed (length trimmed - 1) 0 ≢ slash
-    → components trimmed ≡ components text → LosesCurs text trimmed
-LosesCurs-start text trimmed prefix end same =
-    record { prefix = prefix; end = end; lost = 0; joined = sym same ∙ sym (append-nil (components trimmed)) }
-
 pub LosesCurs-cur : (text left front : List ℕ) → LosesCurs text left → components left ≡ components front ++ cur ∷ []
     → IsFront left front → LosesCurs text front
 LosesCurs-cur text left front h last cut = record {

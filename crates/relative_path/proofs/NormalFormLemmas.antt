@@ -4,7 +4,7 @@ use Rattle.std.specs.List.{AllByRecursion}
 use Rattle.std.specs.Option.{is_some, option_to_list}
 use Rattle.std.proofs.lemmas.List.Elements.{recursion_from_All, All-from_recursion, All-drop}
 use Rattle.std.proofs.lemmas.List.Sums.{fold-append}
-use Rattle.std.proofs.lemmas.List.{drop_more, replicate_more, map_push}
+use Rattle.std.proofs.lemmas.List.{drop_more, map_push}
 use Rattle.relative_path.specs.Steps.{Step, cur, up, name, slash, dot, step_text, components, spell}
 use Rattle.relative_path.specs.Editing.{with_piece}
 use Rattle.relative_path.specs.Walk.{IsSame}
@@ -72,12 +72,6 @@ pub climbed-push : (climb : ℕ) (names : List (List ℕ)) (n : List ℕ)
 climbed-push climb names n =
     append_assoc (replicate climb up) (map name names) (name n ∷ [])
     ∙ ap (λ ds. replicate climb up ++ ds) (sym (map_push name names n))
-
--- without a name before it a `..` is one climb more
-pub climbed-up : (climb : ℕ) → climbed climb [] ++ up ∷ [] ≡ climbed (climb + 1) []
-climbed-up climb =
-    ap (λ cs. cs ++ up ∷ []) (append-nil (replicate climb up)) ∙ replicate_more climb up
-    ∙ sym (append-nil (replicate (climb + 1) up))
 
 -- a `..` drops the last name of a table
 pub Reduces-pop : {X : Type 0} (f : X → List ℕ) (climb : ℕ) (xs ys : List X) (r : Option X)

@@ -174,11 +174,6 @@ spell-append c (e ∷ es) d ds =
     ap (λ x. step_text c ++ slash ∷ x) (spell-append e es d ds)
     ∙ sym (append_assoc (step_text c) (slash ∷ spell (e ∷ es)) (slash ∷ spell (d ∷ ds)))
 
-pub spell-snoc : (cs : List Step) (c d : Step)
-    → spell ((cs ++ c ∷ []) ++ d ∷ []) ≡ spell (cs ++ c ∷ []) ++ slash ∷ step_text d
-spell-snoc [] c d = refl
-spell-snoc (e ∷ es) c d = spell-append e (es ++ c ∷ []) d []
-
 pub length-spell-append_le : (cs ds : List Step) → length (spell cs) ≤ length (spell (cs ++ ds))
 length-spell-append_le [] ds = omega arith
 length-spell-append_le (c ∷ cs) [] = rw (append-nil cs) (omega arith)

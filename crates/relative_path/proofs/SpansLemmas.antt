@@ -1,5 +1,5 @@
 -- Where the components of a text stand in it.
-use Rattle.std.proofs.Common.{◌≡◌, ◌≢◌, ◌<◌, ◌≤◌, ℕ, zero, suc, ◌+◌, ◌-◌, List, [], ◌∷◌, ◌++◌, All, length, get_or, take, drop, slice_range, sym, refl, ap, ap₂, ◌∙◌, subst, inl, inr, append-nil, arith, length-take, length-drop}
+use Rattle.std.proofs.Common.{◌≡◌, ◌≢◌, ◌<◌, ◌≤◌, ℕ, suc, ◌+◌, ◌-◌, List, [], ◌∷◌, ◌++◌, All, length, get_or, take, drop, slice_range, sym, refl, ap, ap₂, ◌∙◌, subst, inl, inr, append-nil, arith, length-take, length-drop}
 use Rattle.std.proofs.Math.Nat.{eq-or-lt_of_le}
 use Rattle.std.proofs.Math.Seq.{take-add}
 use Rattle.std.specs.Str.{IsUtf8, IsCharBoundary}
@@ -108,12 +108,6 @@ IsPiece-left text left start n suffix inside within before behind =
     }
 
 -- ---- past slashes
-
--- where a text is dropped until no slash comes first, something is dropped
-pub some_dropped : (n : ℕ) (left rest : List ℕ) → rest ≡ drop n left → get_or left 0 0 ≡ slash → get_or rest 0 0 ≢ slash
-    → 0 < n
-some_dropped zero left rest suffix first other = absurd (other (ap (λ x. get_or x 0 0) suffix ∙ first))
-some_dropped (suc n) left rest suffix first other = omega arith
 
 -- what is left of what is left of a text
 pub drop-left : (text rest : List ℕ) (start : ℕ) → start ≤ length text

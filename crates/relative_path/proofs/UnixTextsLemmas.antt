@@ -1,16 +1,14 @@
 -- Texts that are written a component at a time.
-use Rattle.std.proofs.Common.{◌≡◌, ℕ, zero, suc, ◌+◌, ◌*◌, ◌-◌, ◌<◌, ◌≤◌, Bool, false, not, List, [], ◌∷◌, ◌++◌, length, replicate, sym, refl, ap, ◌∙◌, ⊎_elim, append_assoc, append-nil, arith, length-append, Result, Ok, Err, OnErr, IsOk}
+use Rattle.std.proofs.Common.{◌≡◌, ℕ, zero, suc, ◌+◌, ◌*◌, ◌-◌, ◌≤◌, Bool, false, not, List, [], ◌∷◌, ◌++◌, length, replicate, sym, refl, ap, ◌∙◌, ⊎_elim, append-nil, arith}
 use Rattle.std.specs.List.{filter}
 use Rattle.std.proofs.lemmas.Bool.{cases_Bool, cond-true, cond-false}
-use Rattle.relative_path.specs.Steps.{Step, cur, up, name, slash, step_text, components, spell}
-use Rattle.relative_path.specs.Editing.{is_cur, pushed, with_piece}
+use Rattle.relative_path.specs.Steps.{Step, cur, up, name, step_text, components, spell}
+use Rattle.relative_path.specs.Editing.{is_cur}
 use Rattle.relative_path.specs.Unix.{has_root, without_curs, without_inner_curs, counted, unix_components}
 use Rattle.relative_path.proofs.StepsLemmas.{IsProper, AreProper, AreProper-components, components_whole}
-use Rattle.relative_path.proofs.NormalStepsLemmas.{length-spell-append_le}
 use Rattle.relative_path.proofs.NormalFormLemmas.{length-spell, padded_len-append}
 use Rattle.relative_path.specs.NormalForm.{padded_len}
-use Rattle.relative_path.proofs.NormalizingLemmas.{length-spell-components, spell-pushed}
-use Rattle.relative_path.proofs.EditingLemmas.{components-pushed}
+use Rattle.relative_path.proofs.NormalizingLemmas.{length-spell-components}
 
 -- ---- what stays of a text's components is proper
 
@@ -56,46 +54,13 @@ pub length-way : (n : ℕ) (cs : List Step) → length (spell (replicate n up ++
 length-way n cs =
     omega (arith, length-spell (replicate n up ++ cs), padded_len-append (replicate n up) cs, padded_len-replicate n)
 
-pub length-with_piece_le : (text piece : List ℕ) → length (with_piece text piece) ≤ length text + 1 + length piece
-length-with_piece_le [] piece = omega arith
-length-with_piece_le (b ∷ bs) piece = omega (arith, length-append (b ∷ bs) (slash ∷ piece))
-
 -- ---- components pushed onto a spelled text
-
--- a call whose errors need what does not hold is answered Ok
-pub IsOk-otherwise : {T E P : Type 0} (r : Result T E) → OnErr r P → (P → ⊥) → IsOk r
-IsOk-otherwise (Ok x) only other = refl
-IsOk-otherwise (Err e) only other = absurd (other only)
 
 -- the text is its components joined by single slashes, with what is left they are all that is to be written, and there is room for that
 pub record Spells (all : List Step) (room : ℕ) (text : List ℕ) (left : List Step) : Type 0 where
   pub spelled : text ≡ spell (components text)
   pub joined : components text ++ left ≡ all
   pub fits : length (spell all) ≤ room
-
-pub Spells-fits : (all : List Step) (room : ℕ) (text : List ℕ) (c : Step) (left : List Step)
-    → Spells all room text (c ∷ left) → IsProper c → length (pushed text (step_text c)) ≤ room
-Spells-fits all room text c left h proper =
-    let fits = h.fits in
-    let whole : length (spell ((components text ++ c ∷ []) ++ left)) ≡ length (spell all) =
-    ap (λ cs. length (spell cs)) (append_assoc (components text) (c ∷ []) left ∙ h.joined) in
-    omega (
-      arith,
-      ap length
-          (spell-pushed text c h.spelled proper),
-      length-spell-append_le (components text ++ c ∷ []) left,
-    )
-
-pub Spells-push : (all : List Step) (room : ℕ) (text : List ℕ) (c : Step) (left : List Step)
-    → Spells all room text (c ∷ left) → IsProper c → Spells all room (pushed text (step_text c)) left
-Spells-push all room text c left h proper =
-    let pushes : components (pushed text (step_text c)) ≡ components text ++ c ∷ [] =
-    components-pushed text (step_text c) ∙ ap (λ cs. components text ++ cs) proper in
-    record {
-      spelled = spell-pushed text c h.spelled proper ∙ ap spell (sym pushes);
-      joined = ap (λ cs. cs ++ left) pushes ∙ append_assoc (components text) (c ∷ []) left ∙ h.joined;
-      fits = h.fits;
-    }
 
 pub Spells-roomier : (all : List Step) (room room' : ℕ) (text : List ℕ) (left : List Step) → Spells all room text left
     → room ≤ room' → Spells all room' text left
@@ -109,11 +74,6 @@ Spells-end all room text left h none =
 
 pub IsProper-up : IsProper up
 IsProper-up = components_whole (step_text up) (omega arith) (refl, (refl, tt))
-
-pub replicate_first : (n k : ℕ) → k < n → replicate (n - k) up ≡ up ∷ replicate (n - (k + 1)) up
-replicate_first n k more =
-    let one : n - k ≡ suc (n - (k + 1)) = omega (arith, more) in
-    ap (λ m. replicate m up) one
 
 -- ---- without any `.`
 

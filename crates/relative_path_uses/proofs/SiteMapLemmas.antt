@@ -34,14 +34,6 @@ IsNormalTextOf-same cs ds text same normal = record {
 same_normal_text : (cs ds : List Step) (text : List ℕ) → IsNormalTextOf cs text → IsNormalTextOf ds text → IsSame cs ds
 same_normal_text cs ds text h k = record { everywhere = λ base. h.same.everywhere base ∙ sym (k.same.everywhere base) }
 
--- the index of no pages
-pub Indexes-none : (pages : List (List Step)) (by_text : BTreeMap (String Global) ℕ)
-    → ((text : List ℕ) → get_by_text by_text text ≡ None) → Indexes pages 0 by_text
-Indexes-none pages by_text none = record {
-  held = λ text k is. absurd (none-some k (sym (none text) ∙ is));
-  first = λ text k l. absurd (omega arith);
-}
-
 -- what the index has for a text, or else the next page's number
 abbrev number_of : BTreeMap (String Global) ℕ → List ℕ → ℕ → ℕ
 number_of by_text text n = unwrap_or (get_by_text by_text text) n

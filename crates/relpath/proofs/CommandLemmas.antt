@@ -126,8 +126,3 @@ field-map [] n none inside = absurd (omega arith)
 field-map (x ∷ xs) zero none inside = refl
 field-map (x ∷ xs) (suc n) none inside = field-map xs n none (omega arith)
 
--- a piece is moved from what is left to what was added
-pub added-piece : (n : ℕ) (whole before left piece rest after : List ℕ) → before ++ left ≡ whole
-    → piece ≡ take n left → rest ≡ drop n left → after ≡ before ++ piece → after ++ rest ≡ whole
-added-piece n whole before left piece rest after so_far is_piece is_rest grown =
-    rw (grown, append_assoc, is_piece, is_rest, take-append-drop n left) so_far

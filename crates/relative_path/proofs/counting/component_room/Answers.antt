@@ -1,4 +1,4 @@
-use Rattle.std.proofs.Common.{ap, length, arith}
+use Rattle.std.proofs.Common.{arith}
 use Rattle.relative_path.proofs.CountingLemmas.{components_le}
 use Rattle.relative_path.proofs.counting.component_room.Goals as goal
 
