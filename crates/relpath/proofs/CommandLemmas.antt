@@ -1,8 +1,8 @@
 -- The answer to a line is the answer to the fields of it that are shown.
-use Rattle.std.proofs.Common.{◌≡◌, ◌≢◌, ◌⊎◌, ℕ, ◌<◌, ◌==◌, true, false, List, [], ◌∷◌, ◌++◌, length, map, take, drop, get_or, codes, Bor, Bool, Some, None, Result, Ok, Err, OnOk, inl, inr, refl, sym, ◌∙◌, arith, lit<, zero, suc, append_assoc, Option, MatchOption, MatchBool}
+use Rattle.std.proofs.Common.{◌≡◌, ◌≢◌, ◌⊎◌, ℕ, ◌<◌, ◌==◌, true, false, List, [], ◌∷◌, ◌++◌, length, map, take, drop, get_or, codes, Bor, Bool, Some, None, Result, Ok, Err, OnOk, inl, inr, refl, sym, ◌∙◌, arith, lit<, zero, suc, Option, MatchOption, MatchBool}
 use Rattle.std.proofs.lemmas.Bool.{eq-eqb, ne_eqb}
 use Rattle.std.proofs.lemmas.Bool.Decides.{eqb_tells}
-use Rattle.std.proofs.lemmas.List.{length-map, length-take, drop-take, get_or-take, take-append-drop}
+use Rattle.std.proofs.lemmas.List.{length-map, length-take, drop-take, get_or-take}
 use Rattle.relpath.specs.Command.{Answers, AnswersFields, AnswersCommand, AnswersArguments, Adds, field, command_named, arity_of, words_answer}
 use Rattle.relpath.specs.declared.command.Command.{Command}
 use Rattle.relpath.specs.declared.command.Command.TheVariants.{Normalize, Join, Relative, TryRelative, RelativeTo, Moved}
@@ -125,4 +125,3 @@ pub field-map : (arguments : List (Bor (List ℕ))) (n : ℕ) (none : Bor (List 
 field-map [] n none inside = absurd (omega arith)
 field-map (x ∷ xs) zero none inside = refl
 field-map (x ∷ xs) (suc n) none inside = field-map xs n none (omega arith)
-
