@@ -55,7 +55,7 @@ climbs_cut n m run some few cut =
 pub with_pieces-climb : (n : ℕ) → fold with_piece [] (replicate n (step_text up)) ≡ spell (replicate n up)
 with_pieces-climb n = with_pieces-climbed n [] tt ∙ ap spell (append-nil (replicate n up))
 
-map_step_text-ups : (n : ℕ) → map step_text (replicate n up) ≡ replicate n (step_text up)
+pub map_step_text-ups : (n : ℕ) → map step_text (replicate n up) ≡ replicate n (step_text up)
 map_step_text-ups zero = refl
 map_step_text-ups (suc n) = ap (λ ps. step_text up ∷ ps) (map_step_text-ups n)
 

@@ -1,5 +1,6 @@
 -- Taking the first or the last component off a text: a trim, a cut at a slash, and a trim.
-use Rattle.std.proofs.Common.{◌≡◌, ◌≢◌, ◌⊎◌, ℕ, ◌-◌, List, [], ◌∷◌, ◌++◌, All, length, get_or, take, drop, Option, Some, None, MatchOption, sym, refl, ap, ap₂, ◌∙◌, subst, inl, inr, append_assoc, append-nil, arith, ne_eqb, false, length-append, take_at}
+use Rattle.std.proofs.Common.{◌≡◌, ◌≢◌, ◌⊎◌, ◌==◌, eqb-true, ℕ, ◌-◌, Bool, true, List, [], ◌∷◌, ◌++◌, All, length, get_or, take, drop, Option, Some, None, sym, refl, ap, ap₂, ◌∙◌, subst, inl, inr, append_assoc, append-nil, arith, ne_eqb, false, length-append, take_at}
+use Rattle.std.proofs.lemmas.Bool.{eqb-false}
 use Rattle.std.specs.Iterator.{MakesProgress, item_count}
 use Rattle.std.specs.Prelude.{⊤}
 use Rattle.std.proofs.lemmas.Iterator.{YieldsList}
@@ -28,10 +29,6 @@ pub record IsTrimmedStart (text trimmed : List ℕ) : Type 0 where
   pub start : get_or trimmed 0 0 ≢ slash
   pub same : components trimmed ≡ components text
 
--- the component that the piece is, if it has a byte
-abbrev pub IsComponentOf : List ℕ → Option Component → Type 0
-IsComponentOf piece r = MatchOption r (piece ≡ []) (λ c. (piece ≢ []) × (step_of c ≡ classed piece))
-
 HasNoSlash-from_All : (p : List ℕ) → All (λ b. b ≢ slash) p → HasNoSlash p
 HasNoSlash-from_All p h =
     recursion_from_All (λ b. is_slash b ≡ false) p
@@ -41,9 +38,6 @@ HasNoSlash-from_All p h =
 pub components_piece : (p : List ℕ) → p ≢ [] → All (λ b. b ≢ slash) p → components p ≡ classed p ∷ []
 components_piece [] nonempty h = absurd (nonempty refl)
 components_piece (b ∷ bs) nonempty h = components_whole (b ∷ bs) (omega arith) (HasNoSlash-from_All (b ∷ bs) h)
-
-nil_from_suffix : (r : List ℕ) → IsSuffix [] r → r ≡ []
-nil_from_suffix r h = nil_from_length r (let e = ap length h.joined in omega (arith, e, length-append h.front r))
 
 -- with no component, the rest and the front are empty
 IsRest-none : (text r : List ℕ) → components text ≡ [] → r ≡ [] → IsRest text r
@@ -56,16 +50,26 @@ IsRest-none text r none empty = rw empty (record {
 IsFront-none : (text p : List ℕ) → components text ≡ [] → p ≡ [] → IsFront text p
 IsFront-none text p none empty = rw (empty, none) (IsShortestPrefix-nil text)
 
+-- what a test for the empty text says
+pub nil_from_is_empty : (text : List ℕ) (b : Bool) → b ≡ (length text == 0) → b ≡ true → text ≡ []
+nil_from_is_empty text b is e = nil_from_length text (eqb-true _ _ (sym is ∙ e))
+
+pub some_from_is_empty : (text : List ℕ) (b : Bool) → b ≡ (length text == 0) → b ≡ false → text ≢ []
+some_from_is_empty text b is e empty = eqb-false _ _ (sym is ∙ e) (ap length empty)
+
+-- where a text is trimmed to nothing, it has no component
+pub TakesFirst-none : (text trimmed : List ℕ) → IsTrimmedStart text trimmed → trimmed ≡ []
+    → TakesFirst text None trimmed
+TakesFirst-none text trimmed trim empty =
+    let none = sym trim.same ∙ ap components empty ∙ components-nil in (none, IsRest-none text trimmed none empty)
+
+-- the component that stands first is the piece before the first slash, and the rest what stands behind it
 module _ (text trimmed piece rest left : List ℕ) (trim : IsTrimmedStart text trimmed)
     (whole : All (λ b. b ≢ slash) piece) (trim' : IsTrimmedStart rest left) where
-  first_none : (trimmed ≡ piece ++ slash ∷ rest) ⊎ ((trimmed ≡ piece) × (rest ≡ [])) → piece ≡ []
-      → (components text ≡ []) × (left ≡ [])
-  first_none (inl joined) empty =
-      absurd (trim.start (ap (λ x. get_or x 0 0) (joined ∙ ap (λ x. x ++ slash ∷ rest) empty)))
-  first_none (inr (joined, none)) empty = (
-    sym trim.same ∙ ap components (joined ∙ empty) ∙ components-nil,
-    nil_from_suffix left (subst (λ x. IsSuffix x left) none trim'.suffix),
-  )
+  first_nonempty : (trimmed ≡ piece ++ slash ∷ rest) ⊎ ((trimmed ≡ piece) × (rest ≡ [])) → trimmed ≢ [] → piece ≢ []
+  first_nonempty (inl joined) some empty =
+      trim.start (ap (λ x. get_or x 0 0) (joined ∙ ap (λ x. x ++ slash ∷ rest) empty))
+  first_nonempty (inr (joined, none)) some empty = some (joined ∙ empty)
 
   first_components : (trimmed ≡ piece ++ slash ∷ rest) ⊎ ((trimmed ≡ piece) × (rest ≡ [])) → piece ≢ []
       → components text ≡ classed piece ∷ components left
@@ -82,12 +86,10 @@ module _ (text trimmed piece rest left : List ℕ) (trim : IsTrimmedStart text t
   rest_suffix (inr (joined, none)) =
       record { front = trimmed; joined = sym (append-nil trimmed) ∙ ap (λ x. trimmed ++ x) (sym none) }
 
-  pub TakesFirst-from : (r : Option Component) → (trimmed ≡ piece ++ slash ∷ rest) ⊎ ((trimmed ≡ piece) × (rest ≡ []))
-      → IsComponentOf piece r → TakesFirst text r left
-  TakesFirst-from None split empty =
-      let none = first_none split empty in (none.0, IsRest-none text left none.0 none.1)
-  TakesFirst-from (Some c) split (nonempty, is) =
-      let cs = first_components split nonempty in (
+  pub TakesFirst-some : (c : Component) → (trimmed ≡ piece ++ slash ∷ rest) ⊎ ((trimmed ≡ piece) × (rest ≡ []))
+      → trimmed ≢ [] → step_of c ≡ classed piece → TakesFirst text (Some c) left
+  TakesFirst-some c split some is =
+      let cs = first_components split (first_nonempty split some) in (
         cs ∙ ap (λ d. d ∷ components left) (sym is),
         record {
           suffix = IsSuffix-drop (IsSuffix-trans trim.suffix (IsSuffix-trans (rest_suffix split) trim'.suffix));
@@ -102,27 +104,25 @@ pub record IsTrimmedEnd (text trimmed : List ℕ) : Type 0 where
   pub end : get_or trimmed (length trimmed - 1) 0 ≢ slash
   pub same : components trimmed ≡ components text
 
-nil_from_prefix : (p : List ℕ) → IsPrefix [] p → p ≡ []
-nil_from_prefix [] h = refl
-nil_from_prefix (b ∷ bs) h = h.front
-
 -- a slash put behind a text ends it
 pub ends_in_slash : (xs : List ℕ) → get_or (xs ++ slash ∷ []) (length (xs ++ slash ∷ []) - 1) 0 ≡ slash
 ends_in_slash xs =
     let index : length (xs ++ slash ∷ []) - 1 ≡ length xs = omega (arith, length-append xs (slash ∷ [])) in
     ap (λ i. get_or (xs ++ slash ∷ []) i 0) index ∙ get_or_at xs slash [] 0 (length xs) refl
 
+-- where a text is trimmed to nothing, it has no component
+pub TakesLast-none : (text trimmed : List ℕ) → IsTrimmedEnd text trimmed → trimmed ≡ [] → TakesLast text None trimmed
+TakesLast-none text trimmed trim empty =
+    let none = sym trim.same ∙ ap components empty ∙ components-nil in (none, IsFront-none text trimmed none empty)
+
+-- the component that stands last is the piece behind the last slash, and the front what stands before it
 module _ (text trimmed piece front left : List ℕ) (trim : IsTrimmedEnd text trimmed)
     (whole : All (λ b. b ≢ slash) piece) (trim' : IsTrimmedEnd front left) where
-  last_none : (trimmed ≡ front ++ slash ∷ piece) ⊎ ((trimmed ≡ piece) × (front ≡ [])) → piece ≡ []
-      → (components text ≡ []) × (left ≡ [])
-  last_none (inl joined) empty =
+  last_nonempty : (trimmed ≡ front ++ slash ∷ piece) ⊎ ((trimmed ≡ piece) × (front ≡ [])) → trimmed ≢ [] → piece ≢ []
+  last_nonempty (inl joined) some empty =
       let ended = joined ∙ ap (λ x. front ++ slash ∷ x) empty in
-      absurd (trim.end (ap (λ x. get_or x (length x - 1) 0) ended ∙ ends_in_slash front))
-  last_none (inr (joined, none)) empty = (
-    sym trim.same ∙ ap components (joined ∙ empty) ∙ components-nil,
-    nil_from_prefix left (subst (λ x. IsPrefix x left) none trim'.prefix),
-  )
+      trim.end (ap (λ x. get_or x (length x - 1) 0) ended ∙ ends_in_slash front)
+  last_nonempty (inr (joined, none)) some empty = some (joined ∙ empty)
 
   last_components : (trimmed ≡ front ++ slash ∷ piece) ⊎ ((trimmed ≡ piece) × (front ≡ [])) → piece ≢ []
       → components text ≡ components left ++ classed piece ∷ []
@@ -137,13 +137,10 @@ module _ (text trimmed piece front left : List ℕ) (trim : IsTrimmedEnd text tr
   front_prefix (inl joined) = subst (λ x. IsPrefix x front) (sym joined) (IsPrefix-append front (slash ∷ piece))
   front_prefix (inr (joined, none)) = rw none (record { front = refl })
 
-  pub TakesLast-from : (r : Option Component)
-      → (trimmed ≡ front ++ slash ∷ piece) ⊎ ((trimmed ≡ piece) × (front ≡ [])) → IsComponentOf piece r
-      → TakesLast text r left
-  TakesLast-from None split empty =
-      let none = last_none split empty in (none.0, IsFront-none text left none.0 none.1)
-  TakesLast-from (Some c) split (nonempty, is) =
-      let cs = last_components split nonempty in
+  pub TakesLast-some : (c : Component) → (trimmed ≡ front ++ slash ∷ piece) ⊎ ((trimmed ≡ piece) × (front ≡ []))
+      → trimmed ≢ [] → step_of c ≡ classed piece → TakesLast text (Some c) left
+  TakesLast-some c split some is =
+      let cs = last_components split (last_nonempty split some) in
       let counted : length (components left) ≡ length (components text) - 1 =
       omega (arith, ap length cs, length-append (components left) (classed piece ∷ [])) in
       let firsts =

@@ -19,5 +19,3 @@ pub mod UnixComponentsLemmas
 pub mod UnixLemmas
 pub mod UnixTextsLemmas
 pub mod UnixWaysLemmas
-pub mod UnixFrontsLemmas
-pub mod UnixRunsLemmas

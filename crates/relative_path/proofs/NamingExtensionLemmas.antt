@@ -12,9 +12,9 @@ use Rattle.std.specs.Prelude.{slice_get, IsSome, IsTrue}
 use Rattle.relative_path.specs.Steps.{slash, dot, is_not_empty, Step, cur, up, name, step_text, classed, components}
 use Rattle.relative_path.specs.Editing.{is_cur, kept_len}
 use Rattle.relative_path.specs.Naming.{name_of, last_name, file_name_of, is_dot, has_stem, stem_of, extension_of, is_plain_byte, is_plain_extension, dotted, IsExtended}
-use Rattle.relative_path.proofs.StepsLemmas.{HasNoSlash, IsProper, AreProper, components-nil, components-append, components-trailing_slash, components_whole, step_text-classed, AreProper-components, HasNoSlash-proper, nonempty_proper}
+use Rattle.relative_path.proofs.StepsLemmas.{HasNoSlash, HasNoSlash-append, IsProper, AreProper, components-nil, components-append, components-trailing_slash, components_whole, step_text-classed, AreProper-components, HasNoSlash-proper, nonempty_proper}
 use Rattle.relative_path.proofs.EditingLemmas.{kept_len-curs, kept_len-push}
-use Rattle.relative_path.proofs.NamingLemmas.{IsExtendedAt, IsSplit-dot, last_slash, last_same, slice_get-at, others-curs, last_other-at}
+use Rattle.relative_path.proofs.NamingLemmas.{IsExtendedAt, IsSplit-dot, last_slash, last_same, slice_get-at, without_curs-curs, last_other-at}
 
 -- ---- where the file name stands
 
@@ -53,7 +53,7 @@ pub slice_get-last_name : (cs : List Step) (n : List ℕ) → last_name cs ≡ S
 slice_get-last_name cs n named = elim (ends_in cs) [
   | inl (k, alone) ↦
       let none = ap last_name alone
-      ∙ ap (λ ds. option_and_then name_of (slice_get ds (length ds - 1))) (others-curs k) in
+      ∙ ap (λ ds. option_and_then name_of (slice_get ds (length ds - 1))) (without_curs-curs k) in
       absurd (cc)
   | inr e ↦
       let last = ap last_name e.joined ∙ ap (option_and_then name_of) (last_other-at e.front e.last e.curs e.other) in
@@ -100,10 +100,6 @@ parts_at_dot n stem =
 HasNoSlash-append_left : (xs ys : List ℕ) → HasNoSlash (xs ++ ys) → HasNoSlash xs
 HasNoSlash-append_left [] ys none = tt
 HasNoSlash-append_left (b ∷ bs) ys none = (none.0, HasNoSlash-append_left bs ys none.1)
-
-HasNoSlash-append : (xs ys : List ℕ) → HasNoSlash xs → HasNoSlash ys → HasNoSlash (xs ++ ys)
-HasNoSlash-append [] ys none none' = none'
-HasNoSlash-append (b ∷ bs) ys none none' = (none.0, HasNoSlash-append bs ys none.1 none')
 
 -- the bytes of a plain extension
 HasNoSlash-plain : (e : List ℕ) → list_all is_plain_byte e ≡ true → HasNoSlash e

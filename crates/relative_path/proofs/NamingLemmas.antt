@@ -11,8 +11,8 @@ use Rattle.std.specs.Option.{option_and_then, option_copied}
 use Rattle.std.proofs.lemmas.Bool.{cases_Bool, cond_both, cond-true}
 use Rattle.relative_path.specs.Steps.{slash, dot, is_slash, is_not_empty, Step, cur, up, name, step_text, classed, components}
 use Rattle.relative_path.specs.Slices.{IsCut, IsFront}
-use Rattle.relative_path.specs.Editing.{is_cur, kept_len, pushed, IsPopped}
-use Rattle.relative_path.specs.Naming.{name_of, others, last_other, last_name, file_name_of, is_dot, has_stem, stem_of, extension_of, dotted, IsBase, IsNamed, IsExtended}
+use Rattle.relative_path.specs.Editing.{is_cur, kept_len, pushed, without_curs, IsPopped}
+use Rattle.relative_path.specs.Naming.{name_of, last_other, last_name, file_name_of, is_dot, has_stem, stem_of, extension_of, dotted, IsBase, IsNamed, IsExtended}
 use Rattle.relative_path.specs.RelativePathBuf.{ExceedsRoom}
 use Rattle.relative_path.proofs.StepsLemmas.{HasNoSlash, components-nil, components-append, components_whole, step_text-classed}
 use Rattle.relative_path.proofs.ComponentsLemmas.{ends_in_slash}
@@ -152,28 +152,28 @@ pub slice_get-at : (cs : List Step) (c : Step) (ds : List Step) → slice_get (c
 slice_get-at [] c ds = refl
 slice_get-at (b ∷ cs) c ds = slice_get-at cs c ds
 
-pub others-curs : (n : ℕ) → others (replicate n cur) ≡ []
-others-curs zero = refl
-others-curs (suc n) = others-curs n
+pub without_curs-curs : (n : ℕ) → without_curs (replicate n cur) ≡ []
+without_curs-curs zero = refl
+without_curs-curs (suc n) = without_curs-curs n
 
-others-at : (cs : List Step) (c : Step) (n : ℕ) → is_cur c ≡ false
-    → others (cs ++ c ∷ replicate n cur) ≡ others cs ++ c ∷ []
-others-at cs c n other =
+without_curs-at : (cs : List Step) (c : Step) (n : ℕ) → is_cur c ≡ false
+    → without_curs (cs ++ c ∷ replicate n cur) ≡ without_curs cs ++ c ∷ []
+without_curs-at cs c n other =
     filter-append (λ d. not (is_cur d)) cs (c ∷ replicate n cur)
-    ∙ ap (λ ds. others cs ++ ds) (cond-true _ _ _ (ap not other) ∙ ap (λ ds. c ∷ ds) (others-curs n))
+    ∙ ap (λ ds. without_curs cs ++ ds) (cond-true _ _ _ (ap not other) ∙ ap (λ ds. c ∷ ds) (without_curs-curs n))
 
 pub last_other-at : (cs : List Step) (c : Step) (n : ℕ) → is_cur c ≡ false
     → last_other (cs ++ c ∷ replicate n cur) ≡ Some c
 last_other-at cs c n other =
-    let index : length (others cs ++ c ∷ []) - 1 ≡ length (others cs) =
-    omega (arith, length-append (others cs) (c ∷ [])) in
-    ap (λ ds. slice_get ds (length ds - 1)) (others-at cs c n other)
-    ∙ ap (slice_get (others cs ++ c ∷ [])) index ∙ slice_get-at (others cs) c []
+    let index : length (without_curs cs ++ c ∷ []) - 1 ≡ length (without_curs cs) =
+    omega (arith, length-append (without_curs cs) (c ∷ [])) in
+    ap (λ ds. slice_get ds (length ds - 1)) (without_curs-at cs c n other)
+    ∙ ap (slice_get (without_curs cs ++ c ∷ [])) index ∙ slice_get-at (without_curs cs) c []
 
 last_name-none : (text left : List ℕ) → LosesCurs text left → components left ≡ [] → file_name_of text ≡ None
 last_name-none text left h none =
     ap last_name (h.joined ∙ ap (λ cs. cs ++ replicate h.lost cur) none)
-    ∙ ap (λ cs. option_and_then name_of (slice_get cs (length cs - 1))) (others-curs h.lost)
+    ∙ ap (λ cs. option_and_then name_of (slice_get cs (length cs - 1))) (without_curs-curs h.lost)
 
 last_name-at : (text left front : List ℕ) (c : Step) → LosesCurs text left → is_cur c ≡ false
     → components left ≡ components front ++ c ∷ [] → file_name_of text ≡ name_of c

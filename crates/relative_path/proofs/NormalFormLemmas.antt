@@ -1,22 +1,22 @@
 -- Climbs and names: that they are normal, what one component more does to them, and the text that spells them.
-use Rattle.std.proofs.Common.{◌≡◌, ℕ, zero, suc, ◌+◌, ◌-◌, ◌<◌, ◌≤◌, true, List, [], ◌∷◌, ◌++◌, All, Option, Some, None, map, replicate, length, drop, sym, refl, ap, ◌∙◌, subst, append_assoc, append-nil, arith, length-append, get_or, fold, ◌*◌}
+use Rattle.std.proofs.Common.{◌≡◌, ℕ, zero, suc, ◌+◌, ◌-◌, ◌<◌, ◌≤◌, true, List, [], ◌∷◌, ◌++◌, All, Option, Some, None, Bor, MatchOption, IfSome, map, replicate, length, drop, sym, refl, ap, ◌∙◌, subst, append_assoc, append-nil, arith, length-append, fold, ◌*◌}
 use Rattle.std.specs.List.{AllByRecursion}
 use Rattle.std.specs.Option.{is_some, option_to_list}
-use Rattle.std.proofs.lemmas.List.Elements.{recursion_from_All, All-from_recursion, All-drop}
+use Rattle.std.proofs.lemmas.List.Elements.{recursion_from_All, All-from_recursion, All-drop, All-head, All-tail, All-weaker}
 use Rattle.std.proofs.lemmas.List.Sums.{fold-append}
-use Rattle.std.proofs.lemmas.List.{drop_more, map_push}
-use Rattle.relative_path.specs.Steps.{Step, cur, up, name, slash, dot, step_text, components, spell}
+use Rattle.std.proofs.lemmas.List.{map_push}
+use Rattle.relative_path.specs.Steps.{Step, cur, up, name, slash, step_text, components, spell}
 use Rattle.relative_path.specs.Editing.{with_piece}
 use Rattle.relative_path.specs.Walk.{IsSame}
 use Rattle.relative_path.specs.Normalizing.{AreNames, IsNormal, IsNormalTextOf}
 use Rattle.relative_path.specs.declared.normal_form.NormalForm.{NormalForm}
 use Rattle.relative_path.specs.declared.spans.Sources.{Sources}
 use Rattle.relative_path.specs.declared.spans.Span.{Span}
-use Rattle.relative_path.specs.Spans.{span_text, IsRun, CutsName}
+use Rattle.relative_path.specs.Spans.{span_text, spans_len, rest_len, IsOrdered, IsRun, CutsName, IsFirstRun}
 use Rattle.relative_path.specs.NormalForm.{climbed, form_names, form_steps, padded_len, Reduces, IsNormalFormOf}
-use Rattle.relative_path.proofs.StepsLemmas.{IsProper, components_whole, AreProper, components-spell, nonempty_proper}
+use Rattle.relative_path.proofs.StepsLemmas.{IsProper, IsProper-up, AreProper, components-spell, nonempty_proper}
 use Rattle.relative_path.proofs.NormalStepsLemmas.{normal_unique}
-use Rattle.relative_path.proofs.SpansLemmas.{through, span_text-through, length-run}
+use Rattle.relative_path.proofs.SpansLemmas.{through, span_text-through, IsRun-through, length-run}
 use Rattle.relative_path.proofs.WalkLemmas.{IsSame-refl, IsSame-sym, IsSame-trans, IsSame-append_right, IsSame-cur, IsSame-name_up}
 
 -- ---- reducing a list of components
@@ -104,9 +104,6 @@ pub AreProper-climbed : (climb : ℕ) (names : List (List ℕ)) → AllByRecursi
     → AreProper (climbed climb names)
 AreProper-climbed zero names proper = AreProper-names names proper
 AreProper-climbed (suc climb) names proper = (IsProper-up, AreProper-climbed climb names proper)
-  where
-    IsProper-up : IsProper up
-    IsProper-up = components_whole (dot ∷ dot ∷ []) (omega arith) (refl, (refl, tt))
 
 length-spell-padded : (c : Step) (cs : List Step) → length (spell (c ∷ cs)) + 1 ≡ padded_len (c ∷ cs)
 length-spell-padded c [] = omega arith
@@ -116,6 +113,10 @@ length-spell-padded c (d ∷ cs) =
 pub length-spell : (cs : List Step) → length (spell cs) ≡ padded_len cs - 1
 length-spell [] = omega arith
 length-spell (c ∷ cs) = omega (arith, length-spell-padded c cs)
+
+pub length-spell-append : (cs ds : List Step) → length (spell (cs ++ ds)) ≤ length (spell cs) + 1 + length (spell ds)
+length-spell-append cs ds =
+    omega (arith, length-spell (cs ++ ds), length-spell cs, length-spell ds, padded_len-append cs ds)
 
 -- what reduces a list to climbs and proper names gives its normal form
 pub IsNormalFormOf-Reduces : (cs : List Step) (climb : ℕ) (names : List (List ℕ))
@@ -170,6 +171,98 @@ with_piece-through sources text run span first second same beside =
     ap (with_piece text) (span_text-through sources run span first second same beside)
     ∙ with_piece-joined text (span_text sources run) (span_text sources span) (omega (arith, length-run first))
 
+-- ---- the run that names in front make
+
+module _ (sources : Sources) where
+  pub IsFirstRun-one : (first : Span) (behind : List Span) → All (CutsName sources) (first ∷ behind)
+      → IsFirstRun sources (first ∷ behind) first behind
+  IsFirstRun-one first behind cut =
+      record {
+        is_run = (All-head (CutsName sources) first behind cut).run;
+        cut = All-tail (CutsName sources) first behind cut;
+        fewer = omega arith;
+        len = omega arith;
+        text = λ text. refl;
+      }
+
+  -- a name that stands beside the run
+  pub IsFirstRun-through : (names : List Span) (run next : Span) (behind : List Span)
+      → IsFirstRun sources names run (next ∷ behind) → next.source ≡ run.source → next.start ≡ run.end + 1
+      → IsFirstRun sources names (through run next) behind
+  IsFirstRun-through names run next behind first same beside =
+      let f = span_text sources in
+      let here = (All-head (CutsName sources) next behind first.cut).run in
+      record {
+        is_run = IsRun-through sources run next first.is_run here same beside;
+        cut = All-tail (CutsName sources) next behind first.cut;
+        fewer = omega (arith, first.fewer);
+        len = omega (arith, first.len, first.is_run.not_empty, here.not_empty, beside);
+        text = λ text. first.text text
+            ∙ ap (λ x. fold with_piece x (map f behind))
+            (sym (with_piece-through sources text run next first.is_run here same beside));
+      }
+
+-- what is left to write: a run and the names behind it, if there are any
+abbrev pub Left : Type 0
+Left = Option (Span × Bor (List Span))
+
+-- how many pieces are left at most
+abbrev pub left_count : Left → ℕ
+left_count None = 0
+left_count (Some (run, behind)) = suc (length behind.now)
+
+module _ (sources : Sources) where
+  -- the text with all that is left
+  abbrev pub with_left : List ℕ → Left → List ℕ
+  with_left text None = text
+  with_left text (Some (run, behind)) =
+      fold with_piece (with_piece text (span_text sources run)) (map (span_text sources) behind.now)
+
+  -- the run and the names are cut out of their sources
+  abbrev pub IsCutLeft : Left → Type 0
+  IsCutLeft left = IfSome left (λ found. IsRun sources found.0 × All (CutsName sources) found.1.now)
+
+  module _ (names : List Span) where
+    -- the names as a run and those behind it
+    abbrev pub AreLeft : Left → Type 0
+    AreLeft left = MatchOption left (names ≡ []) (λ found. IsFirstRun sources names found.0 found.1.now)
+
+    pub with_left-names : (left : Left) (text : List ℕ) → AreLeft left
+        → with_left text left ≡ fold with_piece text (map (span_text sources) names)
+    with_left-names None text none = ap (λ xs. fold with_piece text (map (span_text sources) xs)) (sym none)
+    with_left-names (Some (run, behind)) text first = sym (first.text text)
+
+    pub IsCutLeft-names : (left : Left) → AreLeft left → IsCutLeft left
+    IsCutLeft-names None none = tt
+    IsCutLeft-names (Some (run, behind)) first = (first.is_run, first.cut)
+
+    pub left_count-names : (left : Left) → AreLeft left → left_count left ≤ length names
+    left_count-names None none = omega arith
+    left_count-names (Some (run, behind)) first = omega (arith, first.fewer)
+
+    pub rest_len-names : (left : Left) → AreLeft left → rest_len left ≡ spans_len names
+    rest_len-names None none = ap spans_len (sym none)
+    rest_len-names (Some (run, behind)) first = sym first.len
+
+  -- the spans of names end no earlier than they start
+  AreOrdered-cut : (spans : List Span) → All (CutsName sources) spans → All IsOrdered spans
+  AreOrdered-cut spans cut = All-weaker (CutsName sources) IsOrdered
+      (λ span c. let some = c.run.not_empty in omega (arith, some)) spans cut
+
+  pub AreOrdered-left : (left : Left) → IsCutLeft left
+      → IfSome left (λ found. (found.0.start ≤ found.0.end) × All IsOrdered found.1.now)
+  AreOrdered-left None cut = tt
+  AreOrdered-left (Some (run, behind)) cut =
+      (let some = cut.0.not_empty in omega (arith, some), AreOrdered-cut behind.now cut.1)
+
+  -- the names of a table, counted by their spans
+  pub spans_len-padded : (spans : List Span) → All (CutsName sources) spans
+      → spans_len spans ≡ padded_len (map name (map (span_text sources) spans))
+  spans_len-padded [] cut = refl
+  spans_len-padded (span ∷ spans) cut =
+      let rest = spans_len-padded spans (All-tail (CutsName sources) span spans cut) in
+      omega (arith, rest, length-run (All-head (CutsName sources) span spans cut).run)
+
 length-with_piece_le : (text p : List ℕ) → length text ≤ length (with_piece text p)
 length-with_piece_le [] p = omega arith
 length-with_piece_le (b ∷ bs) p = omega (arith, length-append bs (slash ∷ p))
@@ -220,33 +313,26 @@ pub padded_len-climbed : (climb : ℕ) (names : List (List ℕ))
 padded_len-climbed zero names = omega arith
 padded_len-climbed (suc climb) names = omega (arith, padded_len-climbed climb names)
 
-pub length-padded_le : (names : List (List ℕ)) → length names ≤ padded_len (map name names)
-length-padded_le [] = omega arith
-length-padded_le (n ∷ ns) = omega (arith, length-padded_le ns)
+-- some of the names have no more bytes than all
+pub padded_len-drop_le : (n : ℕ) (names : List (List ℕ))
+    → padded_len (map name (drop n names)) ≤ padded_len (map name names)
+padded_len-drop_le zero names = omega arith
+padded_len-drop_le (suc n) [] = omega arith
+padded_len-drop_le (suc n) (x ∷ names) = omega (arith, padded_len-drop_le n names)
 
--- `..` and a piece behind them
-pub length-ups_piece : (climb : ℕ) (p : List ℕ)
-    → length (with_piece (fold with_piece [] (replicate climb (step_text up))) p) ≤ 3 * climb + length p
-length-ups_piece zero p = omega arith
-length-ups_piece (suc climb) p =
-    let ups = fold with_piece [] (replicate (suc climb) (step_text up)) in
-    let spelled = ap length (with_pieces-climbed (suc climb) [] tt) in
-    let len = length-spell (climbed (suc climb) []) in
-    omega (arith, length-with_piece-le ups p, padded_len-climbed (suc climb) [])
-  where
-    length-with_piece-le : (text q : List ℕ) → length (with_piece text q) ≤ length text + 1 + length q
-    length-with_piece-le [] q = omega arith
-    length-with_piece-le (b ∷ bs) q = omega (arith, length-append bs (slash ∷ q))
-
--- the names from an index on, counted with the span at that index
-pub padded_len-span : (sources : Sources) (spans : List Span) (i : ℕ) (d : Span) → i < length spans
-    → All (CutsName sources) spans
-    → padded_len (map name (map (span_text sources) (drop i spans)))
-    ≡ ((get_or spans i d).end - (get_or spans i d).start) + 1
-    + padded_len (map name (map (span_text sources) (drop (i + 1) spans)))
-padded_len-span sources spans i d less cut =
-    let more = ap (λ xs. padded_len (map name (map (span_text sources) xs))) (drop_more spans i d less) in
-    omega (arith, length-run (cut i d less).run)
+-- how many bytes the climbs and the names have that are left, with single slashes between
+pub length-spell-left : (form : NormalForm) (climb skipped : ℕ) (names : List Span) (left : Left)
+    → All (CutsName form.sources) names → map (span_text form.sources) names ≡ drop skipped (form_names form)
+    → AreLeft form.sources names left
+    → (length (spell (climbed climb (drop skipped (form_names form)))) ≡ 3 * climb + rest_len left - 1)
+    × (rest_len left ≤ padded_len (form_steps form))
+length-spell-left form climb skipped names left cut is first =
+    let counted = rest_len-names form.sources names left first ∙ spans_len-padded form.sources names cut
+    ∙ ap (λ ns. padded_len (map name ns)) is in
+    let past = drop skipped (form_names form) in (
+      omega (arith, counted, length-spell (climbed climb past), padded_len-climbed climb past),
+      omega (arith, counted, padded_len-climbed form.climb (form_names form), padded_len-drop_le skipped (form_names form)),
+    )
 
 -- the text that spells a normal form is the only normal text that leads where the components lead
 pub IsNormalTextOf-spell : (cs ds : List Step) (text : List ℕ) → IsNormalFormOf cs ds → text ≡ spell ds

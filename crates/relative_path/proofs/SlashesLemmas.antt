@@ -1,12 +1,18 @@
 -- A text trimmed of the slashes at an end, and cut at its first or its last slash.
-use Rattle.std.proofs.Common.{◌≡◌, ◌≢◌, ◌<◌, ℕ, suc, zero, List, [], ◌∷◌, ◌++◌, All, take, drop, replicate, Option, Some, None, MatchOption, Bor, refl, sym, subst, ap, ap₂, ◌∙◌, lit<, take-append-drop, append-nil, ◌+◌, ◌-◌, length, get_or, get_or-drop, length-take, length-drop, arith, take_all, ◌≤◌}
+use Rattle.std.proofs.Common.{◌≡◌, ◌≢◌, ◌<◌, ℕ, suc, zero, cond, List, [], ◌∷◌, ◌++◌, All, take, drop, replicate, Option, Some, None, MatchOption, Bor, refl, sym, subst, ap, ap₂, ◌∙◌, lit<, take-append-drop, append-nil, ◌+◌, ◌-◌, ◌*◌, ◌^◌, length, get_or, get_or-drop, length-take, length-drop, arith, take_all, ◌≤◌, ⊎_elim, eqb-true, ◌⊎◌, inl, inr, min, w64}
+use Rattle.std.proofs.Math.Nat.{pow-suc, eq-or-lt_of_le}
+use Rattle.std.specs.Int.{bit_at, trailing_zeros}
+use Rattle.std.specs.Int.Count.{count_leading_zeros}
+use Rattle.std.proofs.lemmas.Bool.{cases_Bool, cases_lt, cond-false}
+use Rattle.std.proofs.lemmas.Nat.{leading_top}
+use Rattle.std.proofs.lemmas.Nat.Bits.{bit_at-trailing_zeros, bit_at-zero, bit_at_above, bit_at_cat_high}
 use Rattle.std.specs.Str.{IsUtf8, IsCharBoundary}
 use Rattle.std.specs.Str.Pattern.{RFindsChar, FindsTextPrefix, FindsTextSuffix, SplitsAroundMatch, StripsPrefix, StripsSuffix, FindsCharPrefix, FindsCharSuffix, IsTrimStartMatches, IsTrimEndMatches, CutsPrefixes, CutsSuffixes}
 use Rattle.std.proofs.lemmas.List.Elements.{All-from_get_or}
 use Rattle.std.proofs.lemmas.Str.Pattern.{NoCharPasses-char, drop_at_char}
-use Rattle.relative_path.specs.Steps.{slash, components}
-use Rattle.std.proofs.lemmas.List.{drop_all, take_more, get_or-take}
-use Rattle.std.proofs.lemmas.Str.{encode_ascii, IsCharBoundary-after_ascii}
+use Rattle.relative_path.specs.Steps.{slash, is_slash, components}
+use Rattle.std.proofs.lemmas.List.{drop_all, drop_more, take_more, get_or-take}
+use Rattle.std.proofs.lemmas.Str.{encode_ascii, IsCharBoundary-after_ascii, IsCharBoundary-before_ascii, IsCharBoundary-start, IsCharBoundary-end}
 use Rattle.relative_path.proofs.StepsLemmas.{components-nil, components-append, components-slash, components-trailing_slash}
 use Rattle.relative_path.proofs.SlicesLemmas.{IsSuffix-from, IsSuffix-drop, IsSuffix-trans, IsPrefix-trans}
 
@@ -99,7 +105,84 @@ pub prefix-strip_suffix : (n : ℕ) (text left : List ℕ)
 prefix-strip_suffix n text left (m, _, is, counted) =
     let len : length text - m ≡ length left = omega arith in is ∙ ap (λ k. take k text) len
 
+-- ---- searched by blocks: a mask has a bit for each of sixteen bytes, set where that is a slash
+
+-- the highest power of two in a number is a bit of it
+top_bit : (n j : ℕ) → 2 ^ j ≤ n → n < 2 ^ suc j → bit_at n j ≡ 1
+top_bit n j least most =
+    let whole : n ≡ 1 * 2 ^ j + (n - 2 ^ j) = omega (arith, least) in
+    let less : n - 2 ^ j < 2 ^ j = omega (arith, least, most, pow-suc 2 j) in
+    let none : j - j ≡ 0 = omega arith in
+    ap (λ m. bit_at m j) whole ∙ bit_at_cat_high 1 j (n - 2 ^ j) j less (omega arith) ∙ ap (bit_at 1) none
+
+module _ (bytes : List ℕ) (start mask : ℕ)
+    (bits : (k : ℕ) → k < 16 → bit_at mask k ≡ cond (is_slash (get_or bytes (start + k) 0)) 1 0) where
+  slash_at : (k : ℕ) → k < 16 → bit_at mask k ≡ 1 → get_or bytes (start + k) 0 ≡ slash
+  slash_at k inside set =
+      let bit = sym (bits k inside) ∙ set in
+      ⊎_elim (λ e. eqb-true _ _ e) (λ e. absurd (omega (arith, bit, cond-false {A = ℕ} (is_slash (get_or bytes (start + k) 0)) 1 0 e)))
+      (cases_Bool (is_slash (get_or bytes (start + k) 0)))
+
+  no_slash_at : (k : ℕ) → start ≤ k → k < start + 16 → bit_at mask (k - start) ≡ 0 → get_or bytes k 0 ≢ slash
+  no_slash_at k from to clear e =
+      let at : start + (k - start) ≡ k = omega (arith, from) in
+      let bit = sym (bits (k - start) (omega (arith, from, to))) ∙ clear in
+      let slashed = ap is_slash (ap (λ i. get_or bytes i 0) at ∙ e) in
+      omega (arith, bit, ap {B = ℕ} (λ b. cond b 1 0) slashed)
+
+  pub no_slash_in : mask ≡ 0 → (k : ℕ) → start ≤ k → k < start + 16 → get_or bytes k 0 ≢ slash
+  no_slash_in none k from to =
+      no_slash_at k from to (ap (λ n. bit_at n (k - start)) none ∙ bit_at-zero (k - start))
+
+  pub first_slash_in : mask < 2 ^ 16 → mask ≢ 0 → (trailing_zeros w64 mask < 16)
+      × (get_or bytes (start + trailing_zeros w64 mask) 0 ≡ slash)
+      × ((k : ℕ) → start ≤ k → k < start + trailing_zeros w64 mask → get_or bytes k 0 ≢ slash)
+  first_slash_in bound some =
+      let lowest = bit_at-trailing_zeros w64 mask (omega (arith, some)) (omega (arith, bound)) in
+      let within : trailing_zeros w64 mask < 16 =
+      ⊎_elim (λ h. h) (λ h. absurd (omega (arith, lowest.1, bit_at_above mask 16 (trailing_zeros w64 mask) bound h))) (cases_lt (trailing_zeros w64 mask) 16) in (
+        within,
+        slash_at (trailing_zeros w64 mask) within lowest.1,
+        λ k from to. no_slash_at k from (omega (arith, to, within)) (lowest.2 (k - start) (omega (arith, from, to))),
+      )
+
+  pub last_slash_in : mask < 2 ^ 16 → mask ≢ 0 → (0 < 64 - count_leading_zeros 64 mask)
+      × (64 - count_leading_zeros 64 mask ≤ 16)
+      × (get_or bytes (start + (64 - count_leading_zeros 64 mask) - 1) 0 ≡ slash)
+      × ((k : ℕ) → start + (64 - count_leading_zeros 64 mask) ≤ k → k < start + 16 → get_or bytes k 0 ≢ slash)
+  last_slash_in bound some =
+      let (j, counted, least, most) = leading_top 64 mask (omega (arith, some)) (omega (arith, bound)) in
+      let len : 64 - count_leading_zeros 64 mask ≡ j + 1 = omega (arith, counted) in
+      let set = top_bit mask j least most in
+      let within : j < 16 =
+      ⊎_elim (λ h. h) (λ h. absurd (omega (arith, set, bit_at_above mask 16 j bound h))) (cases_lt j 16) in
+      let at : start + (64 - count_leading_zeros 64 mask) - 1 ≡ start + j = omega (arith, len) in (
+        omega (arith, len),
+        omega (arith, len, within),
+        ap (λ i. get_or bytes i 0) at ∙ slash_at j within set,
+        λ k from to. no_slash_at k (omega (arith, len, from)) to
+            (bit_at_above mask (suc j) (k - start) most (omega (arith, len, from))),
+      )
+
 -- ---- cut
+
+-- a text may be cut before its first slash, or at its end, and behind that slash
+pub IsCharBoundary-piece : (text : List ℕ) (n : ℕ) → n ≤ length text → (n < length text → get_or text n 0 ≡ slash)
+    → IsCharBoundary text n
+IsCharBoundary-piece text n inside at = elim (eq-or-lt_of_le inside) [
+  | inl whole ↦ subst (IsCharBoundary text) (sym whole) (IsCharBoundary-end text)
+  | inr more ↦ IsCharBoundary-before_ascii text n more (omega (arith, at more))
+]
+
+pub IsCharBoundary-past : (text : List ℕ) (n m : ℕ) → IsUtf8 text → n ≤ length text
+    → (n < length text → get_or text n 0 ≡ slash) → m ≡ min (n + 1) (length text) → IsCharBoundary text m
+IsCharBoundary-past text n m utf8 inside at is = elim (eq-or-lt_of_le inside) [
+  | inl whole ↦
+      let end : length text ≡ m = omega (arith, is, whole) in subst (IsCharBoundary text) end (IsCharBoundary-end text)
+  | inr more ↦
+      let next : n + 1 ≡ m = omega (arith, is, more) in
+      subst (IsCharBoundary text) next (IsCharBoundary-after_ascii text n utf8 more (omega (arith, at more)))
+]
 
 -- a text may be cut behind a slash
 pub IsCharBoundary-behind : (text : List ℕ) (n : ℕ) → IsUtf8 text → 0 < n → n ≤ length text
@@ -107,6 +190,43 @@ pub IsCharBoundary-behind : (text : List ℕ) (n : ℕ) → IsUtf8 text → 0 < 
 IsCharBoundary-behind text n utf8 some inside at =
     let same : n - 1 + 1 ≡ n = omega arith in
     subst (IsCharBoundary text) same (IsCharBoundary-after_ascii text (n - 1) utf8 (omega arith) (omega (arith, at)))
+
+pub IsCharBoundary-before : (text : List ℕ) (n m : ℕ) → IsUtf8 text → n ≤ length text
+    → (0 < n → get_or text (n - 1) 0 ≡ slash) → m ≡ n - 1 → IsCharBoundary text m
+IsCharBoundary-before text n m utf8 inside at is =
+    ⊎_elim
+    (λ some. IsCharBoundary-piece text m (omega (arith, is, inside)) (λ _. ap (λ i. get_or text i 0) is ∙ at some))
+    (λ none. let front : 0 ≡ m = omega (arith, is, none) in
+    subst (IsCharBoundary text) front (IsCharBoundary-start text utf8))
+    (cases_lt 0 n)
+
+-- the text is what stands before its first slash, that slash and what stands behind it
+pub joined_first : (text : List ℕ) (n m : ℕ) → n ≤ length text → (n < length text → get_or text n 0 ≡ slash)
+    → m ≡ min (n + 1) (length text)
+    → (text ≡ take n text ++ slash ∷ drop m text) ⊎ ((text ≡ take n text) × (drop m text ≡ []))
+joined_first text n m inside at is = elim (eq-or-lt_of_le inside) [
+  | inl whole ↦ inr (sym (take_all n text (omega (arith, whole))), drop_all m text (omega (arith, is, whole)))
+  | inr more ↦
+      let next : m ≡ n + 1 = omega (arith, is, more) in
+      let behind = drop_more text n 0 more ∙ ap₂ (λ b k. b ∷ drop k text) (at more) (sym next) in
+      inl (sym (take-append-drop n text) ∙ ap (λ x. take n text ++ x) behind)
+]
+
+-- the same of the last slash
+pub joined_last : (text : List ℕ) (n m : ℕ) → n ≤ length text → (0 < n → get_or text (n - 1) 0 ≡ slash) → m ≡ n - 1
+    → (text ≡ take m text ++ slash ∷ drop n text) ⊎ ((text ≡ drop n text) × (take m text ≡ []))
+joined_last text n m inside at is =
+    ⊎_elim
+    (λ some.
+    let next : m + 1 ≡ n = omega (arith, is, some) in
+    let before = ap (λ i. get_or text i 0) is ∙ at some in
+    let behind = drop_more text m 0 (omega (arith, is, some, inside)) ∙ ap₂ (λ b k. b ∷ drop k text) before next in
+    inl (sym (take-append-drop m text) ∙ ap (λ x. take m text ++ x) behind))
+    (λ none.
+    let first : n ≡ 0 = omega (arith, none) in
+    let front : m ≡ 0 = omega (arith, is, none) in
+    inr (sym (ap (λ k. drop k text) first), ap (λ k. take k text) front))
+    (cases_lt 0 n)
 
 -- a stretch without a slash before n, and from n on
 pub All-take : (text : List ℕ) (n : ℕ) → ((k : ℕ) → k < n → get_or text k 0 ≢ slash)

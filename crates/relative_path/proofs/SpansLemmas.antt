@@ -1,122 +1,92 @@
 -- Where the components of a text stand in it.
-use Rattle.std.proofs.Common.{◌≡◌, ◌≢◌, ◌<◌, ◌≤◌, ℕ, suc, ◌+◌, ◌-◌, List, [], ◌∷◌, ◌++◌, All, length, get_or, take, drop, slice_range, sym, refl, ap, ap₂, ◌∙◌, subst, inl, inr, append-nil, arith, length-take, length-drop}
-use Rattle.std.proofs.Math.Nat.{eq-or-lt_of_le}
+use Rattle.std.proofs.Common.{◌≡◌, ◌≢◌, ◌⊎◌, ◌<◌, ◌≤◌, ℕ, suc, ◌+◌, ◌-◌, List, [], ◌∷◌, ◌++◌, length, get_or, take, drop, slice_range, sym, refl, ap, ap₂, ◌∙◌, subst, inl, inr, ⊎_elim, append-nil, arith, eqb-true, length-append, length-take, length-drop, get_or-drop, take_at}
 use Rattle.std.proofs.Math.Seq.{take-add}
 use Rattle.std.specs.Str.{IsUtf8, IsCharBoundary}
-use Rattle.std.proofs.lemmas.List.{drop-drop, drop_all, drop_more, get_or-drop, get_or-take}
-use Rattle.std.proofs.lemmas.List.Elements.{All-from_get_or}
-use Rattle.std.proofs.lemmas.List.Folds.{drop_split}
-use Rattle.std.proofs.lemmas.Str.{IsCharBoundary-after_ascii, IsCharBoundary-before_ascii, IsCharBoundary-end}
-use Rattle.relative_path.specs.Steps.{slash, Step, classed, step_text, components}
+use Rattle.std.proofs.lemmas.Bool.{cases_Bool}
+use Rattle.std.proofs.lemmas.List.{drop-drop, drop_more, get_or_at}
+use Rattle.std.proofs.lemmas.Str.{IsCharBoundary-from_drop}
+use Rattle.relative_path.specs.Steps.{slash, is_slash, Step, cur, classed, step_text, components}
+use Rattle.relative_path.specs.declared.spans.Source.{Source}
 use Rattle.relative_path.specs.declared.spans.Sources.{Sources}
 use Rattle.relative_path.specs.declared.spans.Span.{Span}
-use Rattle.relative_path.specs.Spans.{source_text, span_text, IsPiece, IsRun, Cuts}
-use Rattle.relative_path.proofs.StepsLemmas.{components-append, components-nil, step_text-classed}
-use Rattle.relative_path.proofs.ComponentsLemmas.{components_piece}
+use Rattle.relative_path.specs.Spans.{source_text, span_text, IsRun, Cuts}
+use Rattle.relative_path.proofs.StepsLemmas.{HasNoSlash, IsProper, AreProper, AreProper-components, components-append, components-nil, components_whole, nonempty_proper, step_text-classed}
+use Rattle.relative_path.proofs.SlashesLemmas.{IsCharBoundary-piece}
 
--- ---- the piece at an index
+-- ---- the first component
 
-piece_text : (text : List ℕ) (start end : ℕ) → IsPiece text start end
-    → All (λ b. b ≢ slash) (slice_range text start end)
-piece_text text start end piece =
-    All-from_get_or (λ b. b ≢ slash) (slice_range text start end) 0
-    (λ k h.
-    let inside : k < end - start = omega (arith, length-take (end - start) (drop start text)) in
-    rw (get_or-take (end - start) (drop start text) k 0 inside, get_or-drop start text k 0)
-    (piece.no_slash (start + k) (omega arith) (omega arith)))
+-- the text is what stands before its first slash, and that slash and what stands behind it, or nothing
+cut_first : (text : List ℕ) → (p : List ℕ) × (rest : List ℕ) × (text ≡ p ++ rest) × HasNoSlash p
+    × ((rest ≡ []) ⊎ ((more : List ℕ) × (rest ≡ slash ∷ more)))
+cut_first [] = ([], [], refl, tt, inl refl)
+cut_first (b ∷ bs) =
+    ⊎_elim
+    (λ e. ([], b ∷ bs, refl, tt, inr (bs, ap (λ x. x ∷ bs) (eqb-true b slash e))))
+    (λ e. let (p, rest, joined, whole, behind) = cut_first bs in
+    (b ∷ p, rest, ap (λ x. b ∷ x) joined, (e, whole), behind))
+    (cases_Bool (is_slash b))
 
--- it is the first component of what is left there, and what stands behind the slash has the others
-components-piece : (text : List ℕ) (start end : ℕ) → IsPiece text start end → slice_range text start end ≢ []
-    → components (drop start text) ≡ classed (slice_range text start end) ∷ components (drop (end + 1) text)
-components-piece text start end piece some =
-    let p = slice_range text start end in
-    let cut = drop_split text start end piece.in_order in
-    let alone = components_piece p some (piece_text text start end piece) in
-    elim (eq-or-lt_of_le piece.inside) [
-      | inl whole ↦
-          let none = drop_all end text (omega (arith, whole)) in
-          let nothing = drop_all (end + 1) text (omega (arith, whole)) in
-          ap components (cut ∙ ap (λ x. p ++ x) none ∙ append-nil p) ∙ alone
-          ∙ ap (λ cs. classed p ∷ cs) (sym (ap components nothing ∙ components-nil))
-      | inr inside ↦
-          let more = drop_more text end 0 inside ∙ ap (λ b. b ∷ drop (end + 1) text) (piece.behind inside) in
-          ap components (cut ∙ ap (λ x. p ++ x) more) ∙ components-append p (drop (end + 1) text)
-          ∙ ap (λ cs. cs ++ components (drop (end + 1) text)) alone
-    ]
+-- a text that begins with no slash begins with the text of its first component, and behind it stands a slash, or nothing
+begins : (text : List ℕ) (c : Step) (cs : List Step) → components text ≡ c ∷ cs → get_or text 0 0 ≢ slash
+    → (rest : List ℕ) × (text ≡ step_text c ++ rest) × ((rest ≡ []) ⊎ ((more : List ℕ) × (rest ≡ slash ∷ more)))
+begins text c cs first start = let (p, rest, joined, whole, behind) = cut_first text in cut p rest joined whole behind
+  where
+    is : (p : List ℕ) (ds : List Step) → components text ≡ classed p ∷ ds → p ≡ step_text c
+    is p ds found = sym (step_text-classed p) ∙ ap step_text (ap (λ es. get_or es 0 cur) (sym found ∙ first))
 
-pub components-taken : (text p : List ℕ) (start end : ℕ) (c : Step) → IsPiece text start end
-    → p ≡ slice_range text start end → p ≢ [] → c ≡ classed p
-    → components (drop start text) ≡ c ∷ components (drop (end + 1) text)
-components-taken text p start end c piece cut some is =
-    components-piece text start end piece (λ none. some (cut ∙ none))
-    ∙ ap (λ d. d ∷ components (drop (end + 1) text)) (ap classed (sym cut) ∙ sym is)
+    cut : (p rest : List ℕ) → text ≡ p ++ rest → HasNoSlash p → (rest ≡ []) ⊎ ((more : List ℕ) × (rest ≡ slash ∷ more))
+        → (rest : List ℕ) × (text ≡ step_text c ++ rest) × ((rest ≡ []) ⊎ ((more : List ℕ) × (rest ≡ slash ∷ more)))
+    cut [] rest joined whole (inl none) =
+        let empty = sym components-nil ∙ ap components (sym (joined ∙ none)) ∙ first in absurd (cc)
+    cut [] rest joined whole (inr (more, slashed)) = absurd (start (ap (λ x. get_or x 0 0) (joined ∙ slashed)))
+    cut (b ∷ bs) rest joined whole (inl none) =
+        let alone = ap components (joined ∙ ap (λ x. (b ∷ bs) ++ x) none ∙ append-nil (b ∷ bs))
+        ∙ components_whole (b ∷ bs) (omega arith) whole in
+        (rest, joined ∙ ap (λ x. x ++ rest) (is (b ∷ bs) [] alone), inl none)
+    cut (b ∷ bs) rest joined whole (inr (more, slashed)) =
+        let two = ap components (joined ∙ ap (λ x. (b ∷ bs) ++ x) slashed) ∙ components-append (b ∷ bs) more
+        ∙ ap (λ ds. ds ++ components more) (components_whole (b ∷ bs) (omega arith) whole) in
+        (rest, joined ∙ ap (λ x. x ++ rest) (is (b ∷ bs) (components more) two), inr (more, slashed))
 
-IsCharBoundary-piece : (text : List ℕ) (start end : ℕ) → IsPiece text start end → IsCharBoundary text end
-IsCharBoundary-piece text start end piece = elim (eq-or-lt_of_le piece.inside) [
-  | inl whole ↦ subst (IsCharBoundary text) (sym whole) (IsCharBoundary-end text)
-  | inr inside ↦ IsCharBoundary-before_ascii text end inside (omega (arith, piece.behind inside))
-]
-
--- a text may be cut behind the slash
-pub IsCharBoundary-next : (text : List ℕ) (start end : ℕ) → IsUtf8 text → IsPiece text start end → end + 1 < length text
-    → IsCharBoundary text (end + 1)
-IsCharBoundary-next text start end utf8 piece inside =
-    let within : end < length text = omega arith in
-    IsCharBoundary-after_ascii text end utf8 within (omega (arith, piece.behind within))
-
--- a piece that has a byte is the component that its span cuts
-pub Cuts-piece : (sources : Sources) (span : Span) (text : List ℕ) (c : Step) → text ≡ source_text sources span.source
-    → IsPiece text span.start span.end → IsCharBoundary text span.start → slice_range text span.start span.end ≢ []
-    → c ≡ classed (slice_range text span.start span.end)
-    → Cuts sources span c
-Cuts-piece sources span text c same piece boundary some is =
-    let p = slice_range text span.start span.end in
-    let shown : step_text c ≡ p = ap step_text is ∙ step_text-classed p in
-    let behind = piece.behind in
+-- a text that is left of a whole one and begins with no slash cuts its first component out of it, where it begins
+pub Cuts-first : (sources : Sources) (source : Source) (text left : List ℕ) (c : Step) (cs : List Step)
+    → text ≡ source_text sources source → left ≡ drop (length text - length left) text → IsUtf8 left
+    → get_or left 0 0 ≢ slash → components left ≡ c ∷ cs
+    → Cuts sources (record {
+      source = source;
+      start = length text - length left;
+      end = length text - length left + length (step_text c);
+    }) c
+Cuts-first sources source text left c cs same suffix utf8 start first =
+    let (rest, joined, behind) = begins left c cs first start in
+    let n = length text - length left in
+    let len = length (step_text c) in
+    let inside : length left ≤ length text = omega (arith, ap length suffix, length-drop n text) in
+    let proper : IsProper c = (subst AreProper first (AreProper-components left)).0 in
+    let at : (k : ℕ) → get_or text (n + k) 0 ≡ get_or left k 0 =
+    λ k. sym (get_or-drop n text k 0) ∙ ap (λ x. get_or x k 0) (sym suffix) in
+    let whole = ap length joined ∙ length-append (step_text c) rest in
+    let slashed : n + len < length text → get_or text (n + len) 0 ≡ slash = λ more.
+    ⊎_elim
+    (λ none. absurd (omega (arith, whole, ap length none, more, inside)))
+    (λ found. at len ∙ ap (λ x. get_or x len 0) joined ∙ ap (λ x. get_or (step_text c ++ x) len 0) found.1
+    ∙ get_or_at (step_text c) slash found.0 0 len refl)
+    behind in
+    let end : n + len ≤ length text = omega (arith, whole, inside) in
+    let cut : n + len - n ≡ len = omega arith in
+    let boundary = IsCharBoundary-from_drop text n (omega arith) (subst IsUtf8 suffix utf8) in
     record {
       run = record {
-        not_empty = longer p refl some;
-        start = subst (λ x. IsCharBoundary x span.start) same boundary;
-        end = subst (λ x. IsCharBoundary x span.end) same (IsCharBoundary-piece text span.start span.end piece);
-        behind = subst (λ x. span.end < length x → get_or x span.end 0 ≡ slash) same behind;
+        not_empty = let some = nonempty_proper c proper in omega (arith, some);
+        start = subst (λ x. IsCharBoundary x n) same boundary;
+        end = subst (λ x. IsCharBoundary x (n + len)) same (IsCharBoundary-piece text (n + len) end slashed);
+        behind = subst (λ x. n + len < length x → get_or x (n + len) 0 ≡ slash) same slashed;
       };
-      text = ap (λ x. slice_range x span.start span.end) (sym same) ∙ sym shown;
-      whole = ap components shown ∙ components_piece p some (piece_text text span.start span.end piece)
-          ∙ ap (λ x. x ∷ []) (sym is);
+      text =
+          ap (λ x. slice_range x n (n + len)) (sym same) ∙ ap (λ k. take k (drop n text)) cut
+          ∙ ap (take len) (sym suffix ∙ joined) ∙ take_at (step_text c) rest len refl;
+      whole = proper;
     }
-  where
-    longer : (p : List ℕ) → p ≡ slice_range text span.start span.end → p ≢ [] → span.start < span.end
-    longer [] is nonempty = absurd (nonempty refl)
-    longer (b ∷ bs) is nonempty =
-        omega (arith, ap length is, length-take (span.end - span.start) (drop span.start text))
-
--- a piece that was searched in what is left of a text
-pub IsPiece-left : (text left : List ℕ) (start n : ℕ) → left ≡ drop start text → start ≤ length text → n ≤ length left
-    → ((k : ℕ) → k < n → get_or left k 0 ≢ slash) → (n < length left → get_or left n 0 ≡ slash)
-    → IsPiece text start (start + n)
-IsPiece-left text left start n suffix inside within before behind =
-    let len = ap length suffix ∙ length-drop start text in
-    let at : (k : ℕ) → get_or left k 0 ≡ get_or text (start + k) 0 =
-    λ k. ap (λ x. get_or x k 0) suffix ∙ get_or-drop start text k 0 in
-    record {
-      in_order = omega arith;
-      inside = omega (arith, len);
-      no_slash = λ k from below e.
-          let same : start + (k - start) ≡ k = omega arith in
-          before (k - start) (omega arith) (at (k - start) ∙ ap (λ i. get_or text i 0) same ∙ e);
-      behind = λ more. sym (at n) ∙ behind (omega (arith, len));
-    }
-
--- ---- past slashes
-
--- what is left of what is left of a text
-pub drop-left : (text rest : List ℕ) (start : ℕ) → start ≤ length text
-    → rest ≡ drop (length (drop start text) - length rest) (drop start text) → length rest ≤ length (drop start text)
-    → drop (length text - length rest) text ≡ rest
-drop-left text rest start inside suffix shorter =
-    let left = length-drop start text in
-    let at : start + (length (drop start text) - length rest) ≡ length text - length rest = omega arith in
-    sym (suffix ∙ drop-drop (length (drop start text) - length rest) start text ∙ ap (λ n. drop n text) at)
 
 -- ---- runs that stand beside each other
 

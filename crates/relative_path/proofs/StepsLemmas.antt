@@ -12,6 +12,10 @@ use Rattle.relative_path.specs.Steps.{slash, dot, is_slash, is_not_empty, pieces
 abbrev pub HasNoSlash : List ℕ → Type 0
 HasNoSlash bs = AllByRecursion (λ b. is_slash b ≡ false) bs
 
+pub HasNoSlash-append : (xs ys : List ℕ) → HasNoSlash xs → HasNoSlash ys → HasNoSlash (xs ++ ys)
+HasNoSlash-append [] ys none none' = none'
+HasNoSlash-append (b ∷ bs) ys none none' = (none.0, HasNoSlash-append bs ys none.1 none')
+
 -- ---- cutting
 
 onto_first-append : (b : ℕ) (ps qs : List (List ℕ)) → 0 < length ps → onto_first b (ps ++ qs) ≡ onto_first b ps ++ qs
@@ -83,6 +87,9 @@ IsProper c = components (step_text c) ≡ c ∷ []
 -- each component is so
 abbrev pub AreProper : List Step → Type 0
 AreProper cs = AllByRecursion IsProper cs
+
+pub IsProper-up : IsProper up
+IsProper-up = components_whole (step_text up) (omega arith) (refl, (refl, tt))
 
 -- ---- counting bytes
 

@@ -3,11 +3,11 @@ use Rattle.std.proofs.Common.{◌≡◌, ◌≢◌, ◌⊎◌, ℕ, ◌-◌, ◌
 use Rattle.std.proofs.lemmas.Bool.{cases_Bool, cases_lt}
 use Rattle.std.proofs.lemmas.List.{append_cancel_left}
 use Rattle.relative_path.specs.Steps.{Step, cur, up, name, slash, is_slash, step_text, classed, components}
-use Rattle.relative_path.specs.Editing.{is_cur}
+use Rattle.relative_path.specs.Editing.{is_cur, without_curs}
 use Rattle.relative_path.specs.declared.component.Component.{Component}
 use Rattle.relative_path.specs.Components.{step_of, TakesLast}
-use Rattle.relative_path.specs.Unix.{has_root, without_curs, counted, unix_components, but_last, IsAbove}
-use Rattle.relative_path.proofs.StepsLemmas.{HasNoSlash, components-nil, components-append, components-slash, components_whole, step_text-classed}
+use Rattle.relative_path.specs.Unix.{has_root, counted, unix_components, but_last, IsAbove}
+use Rattle.relative_path.proofs.StepsLemmas.{HasNoSlash, HasNoSlash-append, components-nil, components-append, components-slash, components_whole, step_text-classed}
 use Rattle.relative_path.proofs.SlicesLemmas.{IsPrefix, IsPrefix-append, IsPrefix-trans, IsPrefix-shortest, IsShortestPrefix-from, take-IsPrefix}
 use Rattle.relative_path.proofs.NamingLemmas.{last_slash}
 use Rattle.relative_path.proofs.NormalizingLemmas.{last_view}
@@ -56,10 +56,6 @@ components-behind rest = elim (first_slash rest) [
         ∙ components-append (front ++ xs) ys,
   )
 ]
-
-HasNoSlash-append : (x y : List ℕ) → HasNoSlash x → HasNoSlash y → HasNoSlash (x ++ y)
-HasNoSlash-append [] y none none' = none'
-HasNoSlash-append (b ∷ bs) y none none' = (none.0, HasNoSlash-append bs y none.1 none')
 
 -- what stands behind the front adds components, or makes its last one longer
 abbrev Continues : List ℕ → List ℕ → Type 0

@@ -1,12 +1,15 @@
 -- Texts that are written a component at a time.
-use Rattle.std.proofs.Common.{◌≡◌, ℕ, zero, suc, ◌+◌, ◌*◌, ◌-◌, ◌≤◌, Bool, false, not, List, [], ◌∷◌, ◌++◌, length, replicate, sym, refl, ap, ◌∙◌, ⊎_elim, append-nil, arith}
+use Rattle.std.proofs.Common.{◌≡◌, ℕ, zero, suc, ◌+◌, ◌*◌, ◌-◌, ◌≤◌, Bool, true, false, not, List, [], ◌∷◌, ◌++◌, fold, map, length, replicate, sym, refl, ap, ap₂, ◌∙◌, ⊎_elim, arith}
 use Rattle.std.specs.List.{filter}
 use Rattle.std.proofs.lemmas.Bool.{cases_Bool, cond-true, cond-false}
+use Rattle.std.proofs.lemmas.List.{map-append}
+use Rattle.std.proofs.lemmas.List.Sums.{fold-append}
 use Rattle.relative_path.specs.Steps.{Step, cur, up, name, step_text, components, spell}
-use Rattle.relative_path.specs.Editing.{is_cur}
-use Rattle.relative_path.specs.Unix.{has_root, without_curs, without_inner_curs, counted, unix_components}
-use Rattle.relative_path.proofs.StepsLemmas.{IsProper, AreProper, AreProper-components, components_whole}
-use Rattle.relative_path.proofs.NormalFormLemmas.{length-spell, padded_len-append}
+use Rattle.relative_path.specs.Editing.{is_cur, with_piece, without_curs}
+use Rattle.relative_path.specs.Unix.{has_root, without_inner_curs, counted, onto, unix_components}
+use Rattle.relative_path.proofs.StepsLemmas.{AreProper, AreProper-append, AreProper-components, IsProper-up}
+use Rattle.relative_path.proofs.ClimbsLemmas.{map_step_text-ups}
+use Rattle.relative_path.proofs.NormalFormLemmas.{length-spell, length-with_pieces_le, padded_len-append, with_pieces-spell}
 use Rattle.relative_path.specs.NormalForm.{padded_len}
 use Rattle.relative_path.proofs.NormalizingLemmas.{length-spell-components}
 
@@ -19,12 +22,13 @@ AreProper-filter p (c ∷ cs) proper = ⊎_elim
     (λ e. rw (cond-false (p c) (c ∷ filter p cs) (filter p cs) e) (AreProper-filter p cs proper.1))
     (cases_Bool (p c))
 
-pub AreProper-inner : (text : List ℕ) → AreProper (without_inner_curs (components text))
-AreProper-inner text = inner (components text) (AreProper-components text)
+pub AreProper-counted : (rooted : Bool) (text : List ℕ) → AreProper (counted rooted (components text))
+AreProper-counted rooted text = those rooted (components text) (AreProper-components text)
   where
-    inner : (cs : List Step) → AreProper cs → AreProper (without_inner_curs cs)
-    inner [] proper = tt
-    inner (c ∷ cs) proper = (proper.0, AreProper-filter (λ d. not (is_cur d)) cs proper.1)
+    those : (rooted : Bool) (cs : List Step) → AreProper cs → AreProper (counted rooted cs)
+    those true cs proper = AreProper-filter (λ d. not (is_cur d)) cs proper
+    those false [] proper = tt
+    those false (c ∷ cs) proper = (proper.0, AreProper-filter (λ d. not (is_cur d)) cs proper.1)
 
 -- ---- how long a spelled text is
 
@@ -42,9 +46,20 @@ padded_len-filter p (c ∷ cs) = ⊎_elim
     (λ e. rw (cond-false (p c) (c ∷ filter p cs) (filter p cs) e) (omega (arith, padded_len-filter p cs)))
     (cases_Bool (p c))
 
--- a text has at most one component more than it has bytes
-pub length-components_le : (text : List ℕ) → length (components text) ≤ length text + 1
-length-components_le text = omega (arith, length_padded (components text), padded_len-components text)
+padded_len-counted : (rooted : Bool) (cs : List Step) → padded_len (counted rooted cs) ≤ padded_len cs
+padded_len-counted true cs = padded_len-filter (λ c. not (is_cur c)) cs
+padded_len-counted false [] = omega arith
+padded_len-counted false (c ∷ cs) = omega (arith, padded_len-filter (λ d. not (is_cur d)) cs)
+
+-- a text has at most one component that counts more than it has bytes
+pub length-counted_le : (rooted : Bool) (text : List ℕ) → length (counted rooted (components text)) ≤ length text + 1
+length-counted_le rooted text =
+    omega (
+      arith,
+      length_padded (counted rooted (components text)),
+      padded_len-counted rooted (components text),
+      padded_len-components text,
+    )
 
 padded_len-replicate : (n : ℕ) → padded_len (replicate n up) ≡ 3 * n
 padded_len-replicate zero = refl
@@ -54,28 +69,36 @@ pub length-way : (n : ℕ) (cs : List Step) → length (spell (replicate n up ++
 length-way n cs =
     omega (arith, length-spell (replicate n up ++ cs), padded_len-append (replicate n up) cs, padded_len-replicate n)
 
--- ---- components pushed onto a spelled text
+-- ---- components added one after another
 
--- the text is its components joined by single slashes, with what is left they are all that is to be written, and there is room for that
-pub record Spells (all : List Step) (room : ℕ) (text : List ℕ) (left : List Step) : Type 0 where
-  pub spelled : text ≡ spell (components text)
-  pub joined : components text ++ left ≡ all
-  pub fits : length (spell all) ≤ room
+onto-with_pieces : (base : List ℕ) (cs : List Step) → onto base cs ≡ fold with_piece base (map step_text cs)
+onto-with_pieces base [] = refl
+onto-with_pieces base (c ∷ cs) = onto-with_pieces (with_piece base (step_text c)) cs
 
-pub Spells-roomier : (all : List Step) (room room' : ℕ) (text : List ℕ) (left : List Step) → Spells all room text left
-    → room ≤ room' → Spells all room' text left
-Spells-roomier all room room' text left h more =
-    record { spelled = h.spelled; joined = h.joined; fits = let fits = h.fits in omega arith }
+pub length-onto_le : (base : List ℕ) (cs : List Step) → length base ≤ length (onto base cs)
+length-onto_le base cs = omega (arith, length-with_pieces_le base (map step_text cs), ap length (onto-with_pieces base cs))
 
-pub Spells-end : (all : List Step) (room : ℕ) (text : List ℕ) (left : List Step) → Spells all room text left
-    → left ≡ [] → text ≡ spell all
-Spells-end all room text left h none =
-    h.spelled ∙ ap spell (sym (append-nil (components text)) ∙ ap (λ cs. components text ++ cs) (sym none) ∙ h.joined)
+pub AreProper-ups : (n : ℕ) → AreProper (replicate n up)
+AreProper-ups zero = tt
+AreProper-ups (suc n) = (IsProper-up, AreProper-ups n)
 
-pub IsProper-up : IsProper up
-IsProper-up = components_whole (step_text up) (omega arith) (refl, (refl, tt))
+-- behind climbs they are spelled
+pub onto-ups : (n : ℕ) (cs : List Step) → AreProper cs
+    → onto (fold with_piece [] (replicate n (step_text up))) cs ≡ spell (replicate n up ++ cs)
+onto-ups n cs proper =
+    let climbs = replicate n (step_text up) in
+    onto-with_pieces (fold with_piece [] climbs) cs ∙ sym (fold-append with_piece [] climbs (map step_text cs))
+    ∙ ap (λ ps. fold with_piece [] (ps ++ map step_text cs)) (sym (map_step_text-ups n))
+    ∙ ap (fold with_piece []) (sym (map-append step_text (replicate n up) cs))
+    ∙ with_pieces-spell (replicate n up ++ cs) (AreProper-append (replicate n up) cs (AreProper-ups n) proper)
 
 -- ---- without any `.`
+
+-- the components without any `.`, written from the start
+pub onto-without_curs : (base : List ℕ) (left : List Step) (text : List ℕ) → base ≡ []
+    → left ≡ without_curs (components text) → onto base left ≡ spell (without_curs (components text))
+onto-without_curs base left text empty is =
+    ap₂ onto empty is ∙ onto-ups 0 (without_curs (components text)) (AreProper-counted true text)
 
 without_curs-twice : (cs : List Step) → without_curs (without_curs cs) ≡ without_curs cs
 without_curs-twice [] = refl

@@ -1,37 +1,16 @@
 -- Where platform paths lead from one another.
-use Rattle.std.proofs.Common.{◌≡◌, ℕ, zero, suc, ◌+◌, not, List, [], ◌∷◌, ◌++◌, length, take, drop, replicate, sym, refl, ap, ap₂, ◌∙◌, subst, ⊎_elim, append_assoc, append-nil, arith, length-append, length-take-le, take-append-drop, Option, Some, None, option_and_then, option_map}
-use Rattle.std.proofs.Math.Seq.{take-append-add}
-use Rattle.std.proofs.lemmas.Bool.{cases_Bool, cond-true, cond-false, cond_both}
-use Rattle.relative_path.specs.Steps.{Step, cur, up, name, components, spell}
-use Rattle.relative_path.specs.Walk.{above, walk, IsSame}
-use Rattle.relative_path.specs.Editing.{is_cur}
+use Rattle.std.proofs.Common.{◌≡◌, ℕ, zero, suc, ◌+◌, List, [], ◌∷◌, ◌++◌, length, take, drop, replicate, sym, refl, ap, ap₂, ◌∙◌, subst, ⊎_elim, append_assoc, append-nil, arith, length-take-le, take-append-drop, Option, Some, None, option_and_then, option_map}
+use Rattle.std.proofs.lemmas.Bool.{cases_Bool, cond-true, cond-false}
+use Rattle.relative_path.specs.Steps.{Step, up, components, spell}
+use Rattle.relative_path.specs.Walk.{walk, IsSame}
 use Rattle.relative_path.specs.Comparing.{step_eq}
 use Rattle.relative_path.specs.ComparingLaws.{step_eq-Decides}
-use Rattle.relative_path.specs.Unix.{has_root, without_curs, without_inner_curs, unix_components, shared_len, way_back, way_to}
-use Rattle.relative_path.proofs.StepsLemmas.{AreProper, AreProper-append, AreProper-components, components-spell}
-use Rattle.relative_path.proofs.WalkLemmas.{walk-append, IsSame-append_left}
-use Rattle.relative_path.proofs.UnixTextsLemmas.{AreProper-filter, AreProper-inner, IsProper-up}
+use Rattle.relative_path.specs.Unix.{has_root, unix_components, shared_len, way_back, way_to}
+use Rattle.relative_path.proofs.StepsLemmas.{AreProper, AreProper-append, components-spell}
+use Rattle.relative_path.proofs.WalkLemmas.{walk-append, walk-below, IsSame-append_left}
+use Rattle.relative_path.proofs.UnixTextsLemmas.{AreProper-counted, AreProper-ups}
 
 -- ---- where lists lead from the top
-
--- from below a base the same steps lead to the same place below it
-walk-below : (base place : List (List ℕ)) (cs : List Step) (end : List (List ℕ)) → walk place cs ≡ Some end
-    → walk (base ++ place) cs ≡ Some (base ++ end)
-walk-below base place [] end leads = ap (option_map (λ ns. base ++ ns)) leads
-walk-below base place (cur ∷ cs) end leads = walk-below base place cs end leads
-walk-below base [] (up ∷ cs) end leads = absurd (cc)
-walk-below base (n ∷ ns) (up ∷ cs) end leads =
-    ap (option_and_then (λ p. walk p cs)) (above-below base n ns)
-    ∙ walk-below base (take (length ns) (n ∷ ns)) cs end leads
-  where
-    above-below : (base : List (List ℕ)) (n : List ℕ) (ns : List (List ℕ))
-        → above (base ++ n ∷ ns) ≡ Some (base ++ take (length ns) (n ∷ ns))
-    above-below [] n ns = refl
-    above-below (b ∷ bs) n ns =
-        let count : length (bs ++ n ∷ ns) ≡ length (b ∷ bs) + length ns = omega (arith, length-append bs (n ∷ ns)) in
-        ap (λ k. Some (take k (b ∷ (bs ++ n ∷ ns)))) count ∙ ap Some (take-append-add (b ∷ bs) (n ∷ ns) (length ns))
-walk-below base place (name n ∷ cs) end leads =
-    ap (λ p. walk p cs) (append_assoc base place (n ∷ [])) ∙ walk-below base (place ++ n ∷ []) cs end leads
 
 -- as many `..` as a place has names lead from it to the top
 walk-replicate : (base : List (List ℕ)) (n : ℕ) (place : List (List ℕ)) → length place ≡ n
@@ -71,23 +50,10 @@ take-shared (c ∷ cs) (d ∷ ds) = ⊎_elim
     (λ e. rw (cond-false (step_eq c d) (1 + shared_len cs ds) 0 e) refl)
     (cases_Bool (step_eq c d))
 
-AreProper-replicate : (n : ℕ) → AreProper (replicate n up)
-AreProper-replicate zero = tt
-AreProper-replicate (suc n) = (IsProper-up, AreProper-replicate n)
-
 AreProper-drop : (n : ℕ) (cs : List Step) → AreProper cs → AreProper (drop n cs)
 AreProper-drop zero cs proper = proper
 AreProper-drop (suc n) [] proper = tt
 AreProper-drop (suc n) (c ∷ cs) proper = AreProper-drop n cs proper.1
-
-AreProper-unix : (text : List ℕ) → AreProper (unix_components text)
-AreProper-unix text =
-    cond_both (has_root text) (without_curs (components text)) (without_inner_curs (components text)) AreProper
-    (λ _. AreProper-filter (λ c. not (is_cur c)) (components text) (AreProper-components text))
-    (λ _. AreProper-inner text)
-
-pub components-climb : (n : ℕ) → components (spell (replicate n up)) ≡ replicate n up
-components-climb n = components-spell (replicate n up) (AreProper-replicate n)
 
 -- what is left of both lists, and where the root's part leads from the top
 pub way_to-from : (path root : List ℕ) (own_path own_root : List Step) (place : List (List ℕ))
@@ -118,8 +84,8 @@ IsSame-way path root way is = leads (walk [] from) refl is
     leads (Some place) at e =
         let written : way ≡ replicate (length place) up ++ to = cc in
         let proper : AreProper (replicate (length place) up ++ to) =
-        AreProper-append (replicate (length place) up) to (AreProper-replicate (length place))
-        (AreProper-drop shared (unix_components path) (AreProper-unix path)) in
+        AreProper-append (replicate (length place) up) to (AreProper-ups (length place))
+        (AreProper-drop shared (unix_components path) (AreProper-counted (has_root path) path)) in
         let spelled : components (spell way) ≡ replicate (length place) up ++ to =
         ap (λ cs. components (spell cs)) written ∙ components-spell (replicate (length place) up ++ to) proper in
         let front = take shared (unix_components root) in

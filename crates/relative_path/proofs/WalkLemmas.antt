@@ -67,7 +67,7 @@ above-below (m ∷ ms) n ns =
     ap (λ k. Some (take k ((m ∷ ms) ++ n ∷ ns))) len ∙ ap Some (take-append-add (m ∷ ms) (n ∷ ns) (length ns))
 
 -- what leads to a place leads to the same place below any other
-walk-below : (top base : List (List ℕ)) (cs : List Step) (place : List (List ℕ)) → walk base cs ≡ Some place
+pub walk-below : (top base : List (List ℕ)) (cs : List Step) (place : List (List ℕ)) → walk base cs ≡ Some place
     → walk (top ++ base) cs ≡ Some (top ++ place)
 walk-below top base [] place e = ap (option_map (λ names. top ++ names)) e
 walk-below top base (cur ∷ cs) place e = walk-below top base cs place e

@@ -1,6 +1,6 @@
 -- The texts that edits leave.
-use Rattle.std.specs.Prelude.{ℕ, Bool, true, false, ◌-◌, ◌==◌, List, [], ◌∷◌, ◌++◌, length, slice_index, if◌then◌else◌}
-use Rattle.std.specs.List.{suffix_len}
+use Rattle.std.specs.Prelude.{ℕ, Bool, true, false, not, ◌-◌, ◌==◌, List, [], ◌∷◌, ◌++◌, length, slice_index, if◌then◌else◌}
+use Rattle.std.specs.List.{filter, suffix_len}
 use Rattle.relative_path.specs.Steps.{Step, cur, up, name, slash, components}
 use Rattle.relative_path.specs.Slices.{IsCut}
 
@@ -23,6 +23,10 @@ abbrev pub is_cur : Step → Bool
 is_cur cur = true
 is_cur up = false
 is_cur (name n) = false
+
+-- the components without each `.`
+abbrev pub without_curs : List Step → List Step
+without_curs cs = filter (λ c. not (is_cur c)) cs
 
 -- how many components a parent keeps: all but each `.` at the end, and one less if any are left
 abbrev pub kept_len : List Step → ℕ

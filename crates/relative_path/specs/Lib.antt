@@ -2,11 +2,11 @@ pub mod Steps
 pub mod Walk
 pub mod Normalizing
 pub mod Counting
-pub mod Spans
-pub mod NormalForm
 pub mod Relating
 pub mod Slices
 pub mod Editing
+pub mod Spans
+pub mod NormalForm
 pub mod Prefixing
 pub mod Naming
 pub mod RelativePath

@@ -1,10 +1,10 @@
 -- File names, their stems and extensions, and the texts that setting them leaves.
 use Rattle.std.specs.Prelude.{◌≡◌, ℕ, ◌+◌, ◌-◌, Bool, not, ◌&&◌, ◌==◌, List, [], ◌∷◌, ◌++◌, Option, Some, None, MatchOption, length, slice_get, if◌then◌else◌}
 use Rattle.std.specs.Option.{option_and_then}
-use Rattle.std.specs.List.{filter, list_all, before_last, after_last}
+use Rattle.std.specs.List.{list_all, before_last, after_last}
 use Rattle.relative_path.specs.Steps.{Step, cur, up, name, dot, is_slash, is_not_empty, components}
 use Rattle.relative_path.specs.Slices.{IsCut}
-use Rattle.relative_path.specs.Editing.{is_cur, kept_len, pushed, IsPopped}
+use Rattle.relative_path.specs.Editing.{kept_len, pushed, without_curs, IsPopped}
 
 -- the name that a component is, if it is one
 abbrev pub name_of : Step → Option (List ℕ)
@@ -12,13 +12,9 @@ name_of cur = None
 name_of up = None
 name_of (name n) = Some n
 
--- the components that are no `.`
-abbrev pub others : List Step → List Step
-others cs = filter (λ c. not (is_cur c)) cs
-
 -- the last component that is no `.`, if there is one
 abbrev pub last_other : List Step → Option Step
-last_other cs = slice_get (others cs) (length (others cs) - 1)
+last_other cs = slice_get (without_curs cs) (length (without_curs cs) - 1)
 
 -- the file name of a list of components: the last one that is no `.`, if it is a name
 abbrev pub last_name : List Step → Option (List ℕ)

@@ -1,18 +1,14 @@
 -- Components as spans of a text, or of one of two texts.
-use Rattle.std.specs.Prelude.{◌≡◌, ◌≢◌, ℕ, ◌<◌, ◌≤◌, List, [], ◌∷◌, length, slice_index, slice_range}
+use Rattle.std.specs.Borrow.{Bor}
+use Rattle.std.specs.Prelude.{◌≡◌, ℕ, ◌+◌, ◌-◌, ◌<◌, ◌≤◌, Option, Some, None, List, [], ◌∷◌, fold, map, length, slice_index, slice_range}
+use Rattle.std.specs.List.{All}
 use Rattle.std.specs.Str.{IsCharBoundary}
 use Rattle.relative_path.specs.declared.spans.Source.{Source}
 use Rattle.relative_path.specs.declared.spans.Source.TheVariants.{First, Second}
 use Rattle.relative_path.specs.declared.spans.Sources.{Sources}
 use Rattle.relative_path.specs.declared.spans.Span.{Span}
+use Rattle.relative_path.specs.Editing.{with_piece}
 use Rattle.relative_path.specs.Steps.{Step, name, slash, step_text, components}
-
--- between two indices stands a piece of the text: it has no slash, and behind it stands one, or nothing
-pub record IsPiece (text : List ℕ) (start end : ℕ) : Type 0 where
-  pub in_order : start ≤ end
-  pub inside : end ≤ length text
-  pub no_slash : (k : ℕ) → start ≤ k → k < end → slice_index text k ≢ slash
-  pub behind : end < length text → slice_index text end ≡ slash
 
 -- the text of a source
 abbrev pub source_text : Sources → Source → List ℕ
@@ -41,3 +37,26 @@ pub record Cuts (sources : Sources) (span : Span) (c : Step) : Type 0 where
 -- the component is a name
 abbrev pub CutsName : Sources → Span → Type 0
 CutsName sources span = Cuts sources span (name (span_text sources span))
+
+-- the span ends no earlier than it starts
+abbrev pub IsOrdered : Span → Type 0
+IsOrdered span = span.start ≤ span.end
+
+-- how many bytes the spans have, with a slash behind each
+abbrev pub spans_len : List Span → ℕ
+spans_len [] = 0
+spans_len (span ∷ spans) = span.end - span.start + 1 + spans_len spans
+
+-- the same of a run and the spans behind it, if there is one
+abbrev pub rest_len : Option (Span × Bor (List Span)) → ℕ
+rest_len None = 0
+rest_len (Some (run, behind)) = run.end - run.start + 1 + spans_len behind.now
+
+-- the names are a run, which some of them in front make that stand beside each other, and those behind it
+pub record IsFirstRun (sources : Sources) (names : List Span) (run : Span) (behind : List Span) : Type 0 where
+  pub is_run : IsRun sources run
+  pub cut : All (CutsName sources) behind
+  pub fewer : length behind < length names
+  pub len : spans_len names ≡ run.end - run.start + 1 + spans_len behind
+  pub text : (text : List ℕ) → fold with_piece text (map (span_text sources) names)
+      ≡ fold with_piece (with_piece text (span_text sources run)) (map (span_text sources) behind)

@@ -1,22 +1,18 @@
 -- Platform paths under the Unix rules, which the documentation of Rust's `std::path` gives for the components of a
 -- path: a slash at the start is the root, other slashes only separate, and a `.` counts only at the start of a path
 -- without a root.
-use Rattle.std.specs.Prelude.{◌≡◌, ◌≢◌, ℕ, ◌-◌, ◌≤◌, Bool, false, not, List, [], ◌∷◌, ◌++◌, length, take, drop, replicate, Option, if◌then◌else◌}
-use Rattle.std.specs.List.{filter, common_prefix_len}
+use Rattle.std.specs.Prelude.{◌≡◌, ◌≢◌, ℕ, ◌-◌, ◌≤◌, Bool, false, List, [], ◌∷◌, ◌++◌, length, take, drop, replicate, Option, if◌then◌else◌}
+use Rattle.std.specs.List.{common_prefix_len}
 use Rattle.std.specs.Option.{option_map}
 use Rattle.relative_path.specs.Steps.{Step, cur, up, name, is_slash, step_text, components}
 use Rattle.relative_path.specs.Walk.{walk}
-use Rattle.relative_path.specs.Editing.{is_cur, with_piece}
+use Rattle.relative_path.specs.Editing.{with_piece, without_curs}
 use Rattle.relative_path.specs.Comparing.{step_eq}
 
 -- the text begins with a slash
 abbrev pub has_root : List ℕ → Bool
 has_root [] = false
 has_root (b ∷ bs) = is_slash b
-
--- the components without each `.`
-abbrev pub without_curs : List Step → List Step
-without_curs cs = filter (λ c. not (is_cur c)) cs
 
 -- the components without each `.` but a first one
 abbrev pub without_inner_curs : List Step → List Step

@@ -1,11 +1,14 @@
 //! The owned relative path.
 ghost use Rattle.std.specs.Prelude.{◌≡◌, ◌≢◌, ◌≤◌, ◌<◌, ◌+◌, ◌↔◌, ◌++◌, [], ◌∷◌, if◌then◌else◌, ℕ, List, length, take, None, Some, false, IsSome, IfErr, IfOk, IsOk, OnOk, OnErr, MatchResult, IsTrue, string_bytes};
 ghost use Rattle.relative_path.specs.FromPathError.{from_path_kind};
-ghost use Rattle.relative_path.specs.Steps.{slash, components, spell};
-ghost use Rattle.relative_path.specs.Unix.{has_root, without_curs, unix_components};
+ghost use Rattle.relative_path.specs.Steps.{Step, name, slash, step_text, components, spell};
+ghost use Rattle.relative_path.specs.Components.{step_of};
+ghost use Rattle.relative_path.specs.Normalizing.{IsNormalText};
+ghost use Rattle.relative_path.specs.Walk.{IsSame};
+ghost use Rattle.relative_path.specs.Unix.{has_root, unix_components};
 ghost use Rattle.relative_path.specs.declared.from_path_error.FromPathErrorKind.TheVariants.{NonRelative, OutOfMemory};
 ghost use Rattle.std.specs.Path.{path_bytes};
-ghost use Rattle.relative_path.specs.Editing.{pushed, with_piece, with_separator, IsPopped};
+ghost use Rattle.relative_path.specs.Editing.{pushed, with_separator, without_curs, IsPopped};
 ghost use Rattle.relative_path.specs.Naming.{file_name_of, extension_of, is_plain_extension, dotted, IsNamed, IsExtended};
 ghost use Rattle.relative_path.specs.Comparing.{steps_eq, steps_cmp, fed_by};
 ghost use Rattle.relative_path.specs.ComparingLaws.{partial_eq_law, partial_ord_law, by_components, fed_alike};
@@ -20,9 +23,10 @@ ghost use Rattle.std.specs.Ordering.{on, as_partial_cmp};
 ghost use Rattle.std.specs.String.{string_capacity};
 ghost use Rattle.std.proofs.Common.{refl};
 
-use crate::editing::{add_piece, dotted_len, needs_separator, pushed_len, strip_slash};
+use crate::component::Component;
+use crate::editing::{dotted_len, needs_separator, pushed_len, strip_slash};
 use crate::from_path_error::FromPathError;
-use crate::naming::{base_of, last_component, without_extension};
+use crate::naming::{base_of, parent_of, without_extension};
 use crate::path::RelativePath;
 use crate::unix;
 use std::alloc::{AllocError, Global};
@@ -243,15 +247,6 @@ impl RelativePathBuf {
         self.text.push_str(strip_slash(path.as_str())).unwrap();
     }
 
-    // Adds a piece: behind a slash, or alone to the empty text.
-    pub(crate) fn push_piece(&mut self, piece: &str)
-        requires { length (with_piece self.old.text piece.now) ≤ self.old.room }
-        ensures text { self.new.text ≡ with_piece self.old.text piece.now }
-        ensures room { self.old.room ≤ self.new.room }
-    {
-        add_piece(&mut self.text, piece);
-    }
-
     /// Replaces the file name, or pushes one if the path has none.
     ///
     /// It asks for memory only where the result is longer than the text and its spare room
@@ -270,7 +265,7 @@ impl RelativePathBuf {
         ensures room { self.old.room ≤ self.new.room }
         ensures refused_room { OnErr result (self.new.room ≡ self.old.room) }
     {
-        let base = base_of(self.as_relative_path()).as_str();
+        let base = base_of(self.text.as_str());
         let base_len = base.len();
         let len = pushed_len(base, file_name);
         self.reserve_to(len)?;
@@ -304,10 +299,10 @@ impl RelativePathBuf {
         ensures room { self.old.room ≤ self.new.room }
         ensures refused_room { OnErr result (self.new.room ≡ self.old.room) }
     {
-        let Some(front) = without_extension(self.as_relative_path()) else {
+        let Some(front) = without_extension(self.text.as_str()) else {
             return Ok(false);
         };
-        let front_len = front.as_str().len();
+        let front_len = front.len();
         self.reserve_to(front_len + dotted_len(extension))?;
         self.cut_to(front_len);
         self.push_extension(extension);
@@ -362,13 +357,41 @@ impl RelativePathBuf {
         ensures text { IsPopped self.old.text self.new.text }
         ensures room { self.new.room ≡ self.old.room }
     {
-        let len = last_component(self.as_relative_path())
-            .before
-            .as_str()
-            .len();
+        let len = parent_of(self.text.as_str()).len();
         let popped = !self.text.is_empty();
         self.cut_to(len);
         popped
+    }
+
+    // Goes one component further from a normal text with room for it.
+    pub(crate) fn follow(&mut self, component: Component<'_>)
+        requires normal { IsNormalText self.old.text }
+        requires alone { components (step_text (step_of component)) ≡ step_of component ∷ [] }
+        requires fits { length (pushed self.old.text (step_text (step_of component))) ≤ self.old.room }
+        ensures normal { IsNormalText self.new.text }
+        ensures same { IsSame (components self.old.text ++ step_of component.entry ∷ [])
+            (components self.new.text) }
+        ensures no_longer { (left : List Step) → length (spell (components self.new.text ++ left))
+            ≤ length (spell (components self.old.text ++ step_of component.entry ∷ left)) }
+        ensures room { self.old.room ≤ self.new.room }
+    {
+        match component {
+            Component::CurDir => {}
+            Component::ParentDir if self.ends_in_name() => {
+                self.pop();
+            }
+            Component::ParentDir => self.push_reserved(RelativePath::new("..")),
+            Component::Normal(name) => self.push_reserved(RelativePath::new(name)),
+        }
+    }
+
+    // Whether the last component is a name.
+    fn ends_in_name(&self) -> bool
+        ensures { IsTrue result
+            ↔ ((cs : List Step) × (n : List ℕ) × (components self.now.text ≡ cs ++ name n ∷ [])) }
+    {
+        let last = self.as_relative_path().components().next_back();
+        matches!(last, Some(Component::Normal(_)))
     }
 
     /// Pushes each path that the iterator gives, in order. The iterator has to end.

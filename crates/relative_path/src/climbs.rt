@@ -1,24 +1,30 @@
 //! Climbs as text: so many `..`, written up to twenty-four at a time.
-ghost use Rattle.std.specs.Prelude.{◌≡◌, ◌≤◌, fold, length, replicate};
+ghost use Rattle.std.specs.Prelude.{◌≡◌, ◌≤◌, fold, length, replicate, string_bytes};
+ghost use Rattle.std.specs.String.{string_capacity};
 ghost use Rattle.relative_path.specs.Editing.{with_piece};
 ghost use Rattle.relative_path.specs.Steps.{up, step_text};
 
-use crate::buf::RelativePathBuf;
+use crate::editing::add_piece;
 
-// Twenty-four `..`, with a slash behind each.
+// So many climbs are written at once.
+const MOST: usize = 24;
+
+// As many `..`, with a slash behind each.
 const CLIMBS: &str = "../../../../../../../../../../../../../../../../../../../../../../../../";
 
 // Adds so many `..`.
 #[inline]
-pub(crate) fn push_climb(buf: &mut RelativePathBuf, climb: usize)
-    requires { length (fold with_piece buf.old.text (replicate climb (step_text up))) ≤ buf.old.room }
-    ensures text { buf.new.text ≡ fold with_piece buf.old.text (replicate climb (step_text up)) }
-    ensures room { buf.old.room ≤ buf.new.room }
+pub(crate) fn push_climb(text: &mut String, climb: usize)
+    requires { length (fold with_piece (string_bytes text.old) (replicate climb (step_text up)))
+        ≤ string_capacity text.old }
+    ensures text { string_bytes text.new
+        ≡ fold with_piece (string_bytes text.old) (replicate climb (step_text up)) }
+    ensures room { string_capacity text.old ≤ string_capacity text.new }
 {
     let mut left = climb;
     while left > 0 {
-        let count = left.min(24);
-        buf.push_piece(&CLIMBS[..3 * count - 1]);
+        let count = left.min(MOST);
+        add_piece(text, &CLIMBS[..3 * count - 1]);
         left -= count;
     }
 }

@@ -1,16 +1,13 @@
 //! The components of a relative path, and the walk over them.
-ghost use Rattle.std.specs.Prelude.{◌≡◌, ◌≢◌, ◌-◌, ◌⊎◌, ◌↔◌, [], ◌∷◌, ◌++◌, ⊤, IsTrue, MatchOption, length, drop, take, slice_index};
-ghost use Rattle.std.specs.List.{All};
+ghost use Rattle.std.specs.Prelude.{◌≡◌, ◌↔◌, [], ◌∷◌, ⊤, IsTrue};
 ghost use Rattle.std.specs.Iterator.{item_count};
-ghost use Rattle.relative_path.specs.Steps.{slash, classed, components, step_text};
+ghost use Rattle.relative_path.specs.Steps.{classed, components, step_text};
 ghost use Rattle.relative_path.specs.Components.{step_of, text_left, components_left, iter_text_left, texts_left, TakesFirst, TakesFirstText, TakesLast, TakesLastText};
-ghost use Rattle.relative_path.specs.RelativePath.{path_text};
-ghost use Rattle.relative_path.specs.Comparing.{step_rank, step_eq, step_cmp, steps_eq, fed};
+ghost use Rattle.relative_path.specs.Comparing.{step_rank, step_eq, step_cmp, steps_eq, steps_cmp, fed};
 ghost use Rattle.relative_path.specs.ComparingLaws.{partial_eq_law, partial_ord_law, by_component, by_components, component_fed_alike};
 ghost use Rattle.std.specs.Ordering.{on, as_partial_cmp};
 ghost use Rattle.std.proofs.Common.{refl};
 
-use crate::path::RelativePath;
 use crate::slashes::{split_first, split_last, without_leading_slashes, without_trailing_slashes};
 use std::alloc::AllocError;
 use std::cmp::Ordering;
@@ -48,17 +45,6 @@ impl<'a> Component<'a> {
             Component::ParentDir => "..",
             Component::Normal(name) => name,
         }
-    }
-
-    /// The component alone, as a path.
-    ///
-    /// ```
-    /// assert_eq!(rt; Component::Normal("foo").as_relative_path(), RelativePath::new("foo"));
-    /// ```
-    pub fn as_relative_path(self) -> RelativePath<'a>
-        ensures { path_text result ≡ step_text (step_of self.entry) }
-    {
-        RelativePath::new(self.as_str())
     }
 
     // The place of `.`, `..` and names in the order.
@@ -154,17 +140,11 @@ impl<'a> Components<'a> {
         Components { text }
     }
 
-    /// The text that is left to walk, as a path. Before any call it is the whole text.
-    ///
-    /// ```
-    /// let mut components = RelativePath::new("/a//b/").components();
-    /// components.next();
-    /// assert_eq!(rt; components.as_relative_path().as_str(), "b/");
-    /// ```
-    pub fn as_relative_path(&self) -> RelativePath<'a>
-        ensures { path_text result ≡ text_left self.now }
+    // The text that is left to walk.
+    pub(crate) fn as_str(&self) -> &'a str
+        ensures { result.now ≡ text_left self.now }
     {
-        RelativePath::new(self.text)
+        self.text
     }
 }
 
@@ -187,9 +167,7 @@ impl PartialEq for Components<'_> {
         ensures value { result ≡ steps_eq (components_left self.now) (components_left other.now) }
         ensures same { IsTrue result ↔ (components_left self.now ≡ components_left other.now) }
     {
-        self.as_relative_path()
-            .cmp(&other.as_relative_path())
-            .is_eq()
+        compare(self.text, other.text).is_eq()
     }
 }
 
@@ -201,11 +179,16 @@ impl<'a> Iterator for Components<'a> {
     ghost remaining = { item_count components_left };
 
     /// The first component of the text that is left.
-    #[inline]
+    #[inline(always)]
     fn next(&mut self) -> Option<Component<'a>> {
-        let (piece, rest) = split_first(without_leading_slashes(self.text));
+        let text = without_leading_slashes(self.text);
+        if text.is_empty() {
+            self.text = text;
+            return None;
+        }
+        let (piece, rest) = split_first(text);
         self.text = without_leading_slashes(rest);
-        component_of(piece)
+        Some(component_of(piece))
     }
 }
 
@@ -213,11 +196,16 @@ impl<'a> DoubleEndedIterator for Components<'a> {
     ghost next_back_gives = { λ s taken t. TakesLast (text_left s) taken (text_left t) };
 
     /// The last component of the text that is left.
-    #[inline]
+    #[inline(always)]
     fn next_back(&mut self) -> Option<Component<'a>> {
-        let (front, piece) = split_last(without_trailing_slashes(self.text));
+        let text = without_trailing_slashes(self.text);
+        if text.is_empty() {
+            self.text = text;
+            return None;
+        }
+        let (front, piece) = split_last(text);
         self.text = without_trailing_slashes(front);
-        component_of(piece)
+        Some(component_of(piece))
     }
 }
 
@@ -278,16 +266,24 @@ impl<'a> DoubleEndedIterator for Iter<'a> {
     }
 }
 
-// The component that a piece of a text is; an empty piece is none.
+// The component that a piece of a text is.
 #[inline(always)]
-pub(crate) fn component_of(piece: &str) -> Option<Component<'_>>
-    ensures { MatchOption result (piece.now ≡ [])
-        (λ c. (piece.now ≢ []) × (step_of c ≡ classed piece.now)) }
+fn component_of(piece: &str) -> Component<'_>
+    ensures { step_of result ≡ classed piece.now }
 {
     match piece.as_bytes() {
-        [] => None,
-        [b'.'] => Some(Component::CurDir),
-        [b'.', b'.'] => Some(Component::ParentDir),
-        _ => Some(Component::Normal(piece)),
+        [b'.'] => Component::CurDir,
+        [b'.', b'.'] => Component::ParentDir,
+        _ => Component::Normal(piece),
     }
+}
+
+// The order of two texts by their components.
+pub(crate) fn compare(text: &str, other: &str) -> Ordering
+    ensures { result ≡ steps_cmp (components text.now) (components other.now) }
+{
+    if text == other {
+        return Ordering::Equal;
+    }
+    Components::new(text).cmp(Components::new(other))
 }

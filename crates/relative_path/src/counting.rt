@@ -6,23 +6,8 @@ ghost use Rattle.relative_path.specs.Steps.{components, is_slash};
 // No more components begin in a stretch of so many bytes than a `u8` counts.
 const STRETCH: usize = 192;
 
-// So many bytes are too few to be worth a count.
-const SHORT: usize = 64;
-
-// No fewer than the components of a text: as many, or for a short text half its bytes.
-pub(crate) fn component_room(text: &str) -> usize
-    ensures room { length (components text.now) ≤ result }
-    ensures bound { result ≤ length text.now }
-{
-    let bytes = text.as_bytes();
-    if bytes.len() > SHORT || bytes.first() == Some(&b'/') {
-        return component_count(text);
-    }
-    bytes.len().div_ceil(2)
-}
-
 // How many components a text has. It counts where they begin, in stretches whose sums add up side by side.
-fn component_count(text: &str) -> usize
+pub(crate) fn component_count(text: &str) -> usize
     ensures count { result ≡ length (components text.now) }
     ensures bound { result ≤ length text.now }
 {

@@ -16,7 +16,6 @@ mod editing;
 mod from_path_error;
 mod naming;
 mod normal_form;
-mod normalizing;
 mod path;
 mod prefixing;
 mod relating;

@@ -1,19 +1,18 @@
 //! Normal forms as a count of climbs and a table of names, each a span of a text, for `normalize` and what stands on it.
-ghost use Rattle.std.specs.Prelude.{◌≡◌, ◌+◌, ◌≤◌, ◌<◌, ◌^◌, ◌++◌, [], ◌∷◌, drop, fold, length, map, replicate, slice_index_or, IfOk, IfSome, List, MatchOption, ℕ};
+ghost use Rattle.std.specs.Prelude.{◌≡◌, ◌+◌, ◌-◌, ◌*◌, ◌≤◌, ◌<◌, ◌^◌, ◌++◌, [], ◌∷◌, drop, length, map, slice_index_or, string_bytes, IfOk, IfSome, MatchOption};
 ghost use Rattle.std.specs.List.{All, common_prefix_len};
 ghost use Rattle.std.specs.Str.{bytes_eq};
 ghost use Rattle.relative_path.specs.Components.{step_of};
-ghost use Rattle.relative_path.specs.Editing.{with_piece};
-ghost use Rattle.relative_path.specs.RelativePath.{path_components};
-ghost use Rattle.relative_path.specs.Spans.{source_text, span_text, Cuts, CutsName, IsRun};
-ghost use Rattle.relative_path.specs.Steps.{up, components, spell, step_text};
+ghost use Rattle.relative_path.specs.Spans.{source_text, span_text, spans_len, rest_len, Cuts, CutsName, IsFirstRun, IsOrdered};
+ghost use Rattle.relative_path.specs.Steps.{components, spell};
+ghost use Rattle.relative_path.specs.declared.spans.Sources.{Sources};
 
-use crate::buf::RelativePathBuf;
 use crate::climbs::push_climb;
-use crate::component::{Component, component_of};
-use crate::counting::component_room;
-use crate::path::RelativePath;
-use crate::spans::{Source, Sources, Span, past_slashes, piece_end};
+use crate::component::{Component, Components};
+use crate::counting::component_count;
+use crate::editing::add_piece;
+use crate::slashes::without_leading_slashes;
+use crate::spans::{Source, Sources, Span};
 use std::alloc::{AllocError, Global};
 
 // A normal list of components: as many `..` as it climbs, and then the names, each a span of a source.
@@ -28,35 +27,37 @@ pub(crate) struct NormalForm<'a> {
 impl<'a> NormalForm<'a> {
     ghost use Rattle.relative_path.specs.NormalForm.{climbed, padded_len, form_sources, form_climb, form_names, form_steps, form_len, form_room, Reduces, IsNormalFormOf};
 
-    // The normal form of a path. It asks for memory once, for a table with a place for each of the
-    // path's components.
-    pub(crate) fn of(alloc: Global, path: RelativePath<'a>) -> Result<NormalForm<'a>, AllocError>
+    // The normal form of a text. It asks for memory once, for a table with a place for each of its
+    // components.
+    pub(crate) fn of(alloc: Global, text: &'a str) -> Result<NormalForm<'a>, AllocError>
         ensures normal_form { IfOk result
-            (λ form. IsNormalFormOf (path_components path.entry) (form_steps form)) }
+            (λ form. IsNormalFormOf (components text.now) (form_steps form)) }
         ensures few { IfOk result (λ form. form_len form < 2 ^ 63) }
+        ensures short { IfOk result (λ form. length (spell (form_steps form)) < 2 ^ 64) }
     {
         let sources = Sources {
-            first: path.as_str(),
+            first: text,
             second: "",
         };
-        let form = NormalForm::with_room(alloc, sources, component_room(path.as_str()))?;
+        let form = NormalForm::with_room(alloc, sources, component_count(text))?;
         Ok(form.follow(Source::First))
     }
 
-    // The normal form of a path followed by another one, over one table for the components of both.
+    // The normal form of a text followed by another one, over one table for the components of both.
     pub(crate) fn of_both(
         alloc: Global,
-        path: RelativePath<'a>,
-        other: RelativePath<'a>,
+        text: &'a str,
+        other: &'a str,
     ) -> Result<NormalForm<'a>, AllocError>
-        ensures { IfOk result (λ form. IsNormalFormOf
-            (path_components path.entry ++ path_components other.entry) (form_steps form)) }
+        ensures normal_form { IfOk result (λ form. IsNormalFormOf
+            (components text.now ++ components other.now) (form_steps form)) }
+        ensures short { IfOk result (λ form. length (spell (form_steps form)) < 2 ^ 64) }
     {
         let sources = Sources {
-            first: path.as_str(),
-            second: other.as_str(),
+            first: text,
+            second: other,
         };
-        let room = component_room(path.as_str()) + component_room(other.as_str());
+        let room = component_count(text) + component_count(other);
         let form = NormalForm::with_room(alloc, sources, room)?;
         Ok(form.follow(Source::First).follow(Source::Second))
     }
@@ -97,8 +98,9 @@ impl<'a> NormalForm<'a> {
     }
 
     // The text that spells the form. It asks for memory once, for just this text.
-    pub(crate) fn spelled(&self, alloc: Global) -> Result<RelativePathBuf, AllocError>
-        ensures { IfOk result (λ buf. buf.text ≡ spell (form_steps self.now)) }
+    pub(crate) fn spelled(&self, alloc: Global) -> Result<String, AllocError>
+        requires { length (spell (form_steps self.now)) < 2 ^ 64 }
+        ensures { IfOk result (λ text. string_bytes text ≡ spell (form_steps self.now)) }
     {
         self.spelled_past(alloc, self.climb, 0)
     }
@@ -110,54 +112,23 @@ impl<'a> NormalForm<'a> {
         alloc: Global,
         climb: usize,
         skipped: usize,
-    ) -> Result<RelativePathBuf, AllocError>
-        requires { skipped ≤ length (form_names self.now) }
+    ) -> Result<String, AllocError>
+        requires skipped { skipped ≤ length (form_names self.now) }
+        requires short { length (spell (form_steps self.now)) < 2 ^ 64 }
         ensures text { IfOk result
-            (λ buf. buf.text ≡ spell (climbed climb (drop skipped (form_names self.now)))) }
-        ensures components { IfOk result
-            (λ buf. components buf.text ≡ climbed climb (drop skipped (form_names self.now))) }
+            (λ text. string_bytes text ≡ spell (climbed climb (drop skipped (form_names self.now)))) }
+        ensures components { IfOk result (λ text. components (string_bytes text)
+            ≡ climbed climb (drop skipped (form_names self.now))) }
     {
-        if let Some(run) = self.one_run(skipped) {
-            return spelled_run(alloc, climb, self.sources.cut(run));
+        let mut next = first_run(self.names_past(skipped));
+        let len = spelled_len(climb, next).ok_or(AllocError)?;
+        let mut text = String::with_capacity(alloc, len)?;
+        push_climb(&mut text, climb);
+        while let Some((run, behind)) = next {
+            add_piece(&mut text, self.sources.cut(run));
+            next = first_run(behind);
         }
-        let len = self.spelled_len(climb, skipped).ok_or(AllocError)?;
-        let mut buf = RelativePathBuf::with_capacity(alloc, len)?;
-        push_climb(&mut buf, climb);
-        self.push_names(&mut buf, skipped);
-        Ok(buf)
-    }
-
-    // The run that the names without the first so many are, if they stand beside each other.
-    fn one_run(&self, skipped: usize) -> Option<Span>
-        requires { skipped ≤ length (form_names self.now) }
-        ensures run { IfSome result (λ run. IsRun (form_sources self.now) run) }
-        ensures names { IfSome result
-            (λ run. (text : List ℕ) → with_piece text (span_text (form_sources self.now) run)
-            ≡ fold with_piece text (drop skipped (form_names self.now))) }
-    {
-        let names = self.names_past(skipped);
-        let mut run = *names.first()?;
-        for span in &names[1..] {
-            if !run.is_beside(*span) {
-                return None;
-            }
-            run.end = span.end;
-        }
-        Some(run)
-    }
-
-    // How many bytes that text has, if with a slash behind it they are no more than a `usize` holds.
-    fn spelled_len(&self, climb: usize, skipped: usize) -> Option<usize>
-        requires { skipped ≤ length (form_names self.now) }
-        ensures { let steps = climbed climb (drop skipped (form_names self.now)) in
-            MatchOption result (2 ^ 64 ≤ padded_len steps) (λ len. len ≡ length (spell steps)) }
-    {
-        let names = self.names_past(skipped);
-        let mut len = climb.checked_mul(3)?.checked_add(names.len())?;
-        for span in names {
-            len = len.checked_add(span.end - span.start)?;
-        }
-        Some(len.saturating_sub(1))
+        Ok(text)
     }
 
     // The spans of the names without the first so many.
@@ -168,29 +139,6 @@ impl<'a> NormalForm<'a> {
         ensures cut { All (CutsName (form_sources self.now)) result.now }
     {
         &self.names[skipped..]
-    }
-
-    // Adds the names without the first so many.
-    fn push_names(&self, buf: &mut RelativePathBuf, skipped: usize)
-        requires skipped { skipped ≤ length (form_names self.now) }
-        requires room { length (fold with_piece buf.old.text (drop skipped (form_names self.now)))
-            ≤ buf.old.room }
-        ensures { buf.new.text ≡ fold with_piece buf.old.text (drop skipped (form_names self.now)) }
-    {
-        let names = self.names_past(skipped);
-        let Some(first) = names.first() else {
-            return;
-        };
-        let mut run = *first;
-        for span in &names[1..] {
-            if run.is_beside(*span) {
-                run.end = span.end;
-            } else {
-                buf.push_piece(self.sources.cut(run));
-                run = *span;
-            }
-        }
-        buf.push_piece(self.sources.cut(run));
     }
 
     // The normal form of nothing, with room for so many names.
@@ -245,30 +193,59 @@ impl<'a> NormalForm<'a> {
         ensures sources { form_sources result ≡ form_sources self.entry }
     {
         let text = self.sources.text(source);
-        let mut start = 0;
-        while start < text.len() {
-            let end = piece_end(text, start);
-            match component_of(&text[start..end]) {
-                Some(component) => {
-                    self.take(component, Span { source, start, end });
-                    start = end + 1;
-                }
-                None => start = past_slashes(text, start),
-            }
+        let mut left = Components::new(without_leading_slashes(text));
+        loop {
+            let start = text.len() - left.as_str().len();
+            let Some(component) = left.next() else {
+                return self;
+            };
+            let end = start + component.as_str().len();
+            self.take(component, Span { source, start, end });
         }
-        self
     }
 }
 
-// The text of so many `..` and a run behind them. It asks for memory once, for just this text.
-fn spelled_run(alloc: Global, climb: usize, run: &str) -> Result<RelativePathBuf, AllocError>
-    ensures { IfOk result (λ buf. buf.text
-        ≡ with_piece (fold with_piece [] (replicate climb (step_text up))) run.now) }
+// The run that the names in front make as far as they stand beside each other, and the names behind
+// it.
+fn first_run(names: &[Span]) -> Option<(Span, &[Span])>
+    ensures { (sources : Sources) → All (CutsName sources) names.now → MatchOption result (names.now ≡ [])
+        (λ found. IsFirstRun sources names.now found.0 found.1.now) }
 {
-    let climbed = climb.checked_mul(3).ok_or(AllocError)?;
-    let len = climbed.checked_add(run.len()).ok_or(AllocError)?;
-    let mut buf = RelativePathBuf::with_capacity(alloc, len)?;
-    push_climb(&mut buf, climb);
-    buf.push_piece(run);
-    Ok(buf)
+    let (first, behind) = names.split_first()?;
+    let mut run = *first;
+    let mut left = behind;
+    while let Some((name, behind)) = left.split_first()
+        && run.is_beside(*name)
+    {
+        run.end = name.end;
+        left = behind;
+    }
+    Some((run, left))
+}
+
+// How many bytes so many `..`, a run and the names behind it have, with single slashes between.
+fn spelled_len(climb: usize, names: Option<(Span, &[Span])>) -> Option<usize>
+    requires ordered { IfSome names (λ found. (found.0.start ≤ found.0.end) × All IsOrdered found.1.now) }
+    requires bound { rest_len names ≤ 2 ^ 64 }
+    ensures { MatchOption result (2 ^ 64 < 3 * climb + rest_len names.entry)
+        (λ len. len ≡ 3 * climb + rest_len names.entry - 1) }
+{
+    let climb_len = climb.checked_mul(3)?;
+    match names {
+        Some((run, behind)) => climb_len.checked_add(run.end - run.start + padded_len(behind)),
+        None => Some(climb_len.saturating_sub(1)),
+    }
+}
+
+// How many bytes the names have, with a slash behind each.
+fn padded_len(names: &[Span]) -> usize
+    requires ordered { All IsOrdered names.now }
+    requires bound { spans_len names.now < 2 ^ 64 }
+    ensures { result ≡ spans_len names.now }
+{
+    let mut len = 0;
+    for name in names {
+        len += name.end - name.start + 1;
+    }
+    len
 }

@@ -1,8 +1,8 @@
 //! The borrowed relative path.
 ghost use Rattle.std.specs.Prelude.{◌≡◌, ◌≢◌, ◌≤◌, ◌↔◌, ◌++◌, [], ◌∷◌, IfErr, IfOk, IsErr, IsOk, IfSome, IsSome, IsNone, IsTrue, Some, List, ℕ, length, slice_get};
-ghost use Rattle.relative_path.specs.Steps.{Step, name, components};
+ghost use Rattle.relative_path.specs.Steps.{Step, name, components, step_text};
 ghost use Rattle.relative_path.specs.Editing.{kept_len, pushed, IsPopped};
-ghost use Rattle.relative_path.specs.Components.{GivesComponents, GivesTextsOfComponents, text_left, iter_text_left};
+ghost use Rattle.relative_path.specs.Components.{GivesComponents, GivesTextsOfComponents, step_of, text_left, iter_text_left};
 ghost use Rattle.relative_path.specs.Naming.{file_name_of, stem_of, extension_of, IsStemAndExtension, IsNamed, IsExtended};
 ghost use Rattle.relative_path.specs.Comparing.{steps_eq, steps_cmp, fed_by};
 ghost use Rattle.relative_path.specs.ComparingLaws.{partial_eq_law, partial_ord_law, by_components, fed_alike};
@@ -21,13 +21,12 @@ ghost use Rattle.relative_path.specs.declared.from_path_error.FromPathErrorKind.
 ghost use Rattle.std.specs.Path.{path_bytes, path_buf_bytes};
 
 use crate::buf::RelativePathBuf;
-use crate::component::{Component, Components, Iter};
+use crate::component::{Component, Components, Iter, compare};
 use crate::editing::{dotted_len, pushed_len};
 use crate::from_path_error::FromPathError;
-use crate::naming::{base_of, last_component, split_name, without_extension};
+use crate::naming::{base_of, last_component, parent_of, split_name, without_extension};
 use crate::normal_form::NormalForm;
-use crate::normalizing::follow;
-use crate::prefixing::path_after;
+use crate::prefixing::text_after;
 use crate::relating::{Way, parting};
 use crate::unix;
 use std::alloc::{AllocError, Global};
@@ -226,7 +225,7 @@ impl<'a> RelativePath<'a> {
         if self.text.is_empty() {
             None
         } else {
-            Some(last_component(self).before)
+            Some(RelativePath::new(parent_of(self.text)))
         }
     }
 
@@ -243,7 +242,7 @@ impl<'a> RelativePath<'a> {
         ensures placed { IfSome result (λ file_name. slice_get (path_components self.entry)
             (kept_len (path_components self.entry)) ≡ Some (name file_name.now)) }
     {
-        last_component(self).name
+        last_component(self.text).name
     }
 
     /// The path that follows `base`, if this path starts with it.
@@ -265,7 +264,9 @@ impl<'a> RelativePath<'a> {
         ensures components { IfOk result (λ rest. path_components self.entry
             ≡ path_components base.entry ++ path_components rest) }
     {
-        path_after(self, base).ok_or(StripPrefixError(()))
+        text_after(self.text, base.text)
+            .map(RelativePath::new)
+            .ok_or(StripPrefixError(()))
     }
 
     /// Whether the components of this path begin with those of `base`.
@@ -281,7 +282,7 @@ impl<'a> RelativePath<'a> {
         ensures { IsTrue result
             ↔ StartsWith (path_components self.entry) (path_components base.entry) }
     {
-        path_after(self, base).is_some()
+        text_after(self.text, base.text).is_some()
     }
 
     /// Whether the components of this path end with those of `child`.
@@ -339,7 +340,7 @@ impl<'a> RelativePath<'a> {
         ensures { IfOk result
             (λ named. IsNamed (path_text self.entry) file_name.now named.text) }
     {
-        base_of(self).join(alloc, RelativePath::new(file_name))
+        RelativePath::new(base_of(self.text)).join(alloc, RelativePath::new(file_name))
     }
 
     /// The file name up to its last dot. It is the whole file name if that has no dot, or nothing
@@ -393,11 +394,11 @@ impl<'a> RelativePath<'a> {
         ensures { IfOk result
             (λ extended. IsExtended (path_text self.entry) extension.now extended.text) }
     {
-        let Some(front) = without_extension(self) else {
+        let Some(front) = without_extension(self.text) else {
             return self.to_relative_path_buf(alloc);
         };
-        let len = front.text.len() + dotted_len(extension);
-        let mut extended = RelativePathBuf::with_room(alloc, front.text, len)?;
+        let len = front.len() + dotted_len(extension);
+        let mut extended = RelativePathBuf::with_room(alloc, front, len)?;
         extended.push_extension(extension);
         Ok(extended)
     }
@@ -427,7 +428,8 @@ impl<'a> RelativePath<'a> {
             → walk [] (path_components path.entry) ≡ Some place
             → LeadsBelow (path_components self.entry) place (components normal.text)) }
     {
-        NormalForm::of_both(alloc, self, path)?.spelled(alloc)
+        let form = NormalForm::of_both(alloc, self.text, path.text)?;
+        Ok(form.spelled(alloc)?.into())
     }
 
     /// The only normal path that leads where this one leads: `..` first, then names, with single
@@ -449,7 +451,8 @@ impl<'a> RelativePath<'a> {
         ensures normal_stays { IfOk result (λ normal. IsNormal (path_components self.entry)
             → components normal.text ≡ path_components self.entry) }
     {
-        NormalForm::of(alloc, self)?.spelled(alloc)
+        let form = NormalForm::of(alloc, self.text)?;
+        Ok(form.spelled(alloc)?.into())
     }
 
     /// Writes the text of `normalize` into an empty buffer with room for this path. It takes no
@@ -469,7 +472,7 @@ impl<'a> RelativePath<'a> {
         ensures room { out.old.room ≤ out.new.room }
     {
         for component in self.components() {
-            follow(out, component);
+            out.follow(component);
         }
     }
 
@@ -536,12 +539,13 @@ impl<'a> RelativePath<'a> {
             (λ found. IfSome found
             (λ way. IsShortestText (path_components self.entry) (path_components to.entry) way.text)) }
     {
-        let from = NormalForm::of(alloc, self)?;
-        let to = NormalForm::of(alloc, to)?;
+        let from = NormalForm::of(alloc, self.text)?;
+        let to = NormalForm::of(alloc, to.text)?;
         let Some(way) = Way::between(&from, &to) else {
             return Ok(None);
         };
-        Ok(Some(to.spelled_past(alloc, way.climb, way.skipped)?))
+        let text = to.spelled_past(alloc, way.climb, way.skipped)?;
+        Ok(Some(text.into()))
     }
 
     /// The fewest names a base can have from which this path and `path` lead to different places,
@@ -567,9 +571,37 @@ impl<'a> RelativePath<'a> {
             (λ apart. (n : ℕ) → (apart ≡ Some n)
             ↔ LeadsApart (path_components self.entry) (path_components path.entry) n) }
     {
-        let form = NormalForm::of(alloc, self)?;
-        let other = NormalForm::of(alloc, path)?;
+        let form = NormalForm::of(alloc, self.text)?;
+        let other = NormalForm::of(alloc, path.text)?;
         Ok(parting(&form, &other))
+    }
+}
+
+impl<'a> Component<'a> {
+    /// The component alone, as a path.
+    ///
+    /// ```
+    /// assert_eq!(rt; Component::Normal("foo").as_relative_path(), RelativePath::new("foo"));
+    /// ```
+    pub fn as_relative_path(self) -> RelativePath<'a>
+        ensures { path_text result ≡ step_text (step_of self.entry) }
+    {
+        RelativePath::new(self.as_str())
+    }
+}
+
+impl<'a> Components<'a> {
+    /// The text that is left to walk, as a path. Before any call it is the whole text.
+    ///
+    /// ```
+    /// let mut components = RelativePath::new("/a//b/").components();
+    /// components.next();
+    /// assert_eq!(rt; components.as_relative_path().as_str(), "b/");
+    /// ```
+    pub fn as_relative_path(&self) -> RelativePath<'a>
+        ensures { path_text result ≡ text_left self.now }
+    {
+        RelativePath::new(self.as_str())
     }
 }
 
@@ -630,10 +662,7 @@ impl Ord for RelativePath<'_> {
     ghost matches_eq = { (by_components path_components).agree };
 
     fn cmp(&self, other: &Self) -> Ordering {
-        if self.text == other.text {
-            return Ordering::Equal;
-        }
-        self.components().cmp(other.components())
+        compare(self.text, other.text)
     }
 }
 

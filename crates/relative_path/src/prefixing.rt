@@ -1,27 +1,24 @@
 //! What a path has beyond the components of another.
 ghost use Rattle.std.specs.Prelude.{◌≡◌, ◌↔◌, ◌++◌, IfSome, IsSome, length};
 ghost use Rattle.relative_path.specs.Prefixing.{StartsWith, IsDropped};
-ghost use Rattle.relative_path.specs.RelativePath.{path_text, path_components};
+ghost use Rattle.relative_path.specs.Steps.{components};
 
-use crate::path::RelativePath;
+use crate::component::Components;
 
-// What follows the components of `base`, if the path starts with them.
-pub(crate) fn path_after<'a>(
-    path: RelativePath<'a>,
-    base: RelativePath<'_>,
-) -> Option<RelativePath<'a>>
+// What follows the components of `base`, if the text starts with them.
+pub(crate) fn text_after<'a>(text: &'a str, base: &str) -> Option<&'a str>
     ensures found { IsSome result
-        ↔ StartsWith (path_components path.entry) (path_components base.entry) }
-    ensures text { IfSome result (λ rest. IsDropped (path_text path.entry)
-        (length (path_components base.entry)) (path_text rest)) }
-    ensures components { IfSome result (λ rest. path_components path.entry
-        ≡ path_components base.entry ++ path_components rest) }
+        ↔ StartsWith (components text.now) (components base.now) }
+    ensures text { IfSome result (λ rest. IsDropped text.now
+        (length (components base.now)) rest.now) }
+    ensures components { IfSome result (λ rest. components text.now
+        ≡ components base.now ++ components rest.now) }
 {
-    let mut left = path.components();
-    for component in base.components() {
+    let mut left = Components::new(text);
+    for component in Components::new(base) {
         if left.next() != Some(component) {
             return None;
         }
     }
-    Some(left.as_relative_path())
+    Some(left.as_str())
 }

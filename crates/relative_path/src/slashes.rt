@@ -1,14 +1,13 @@
 //! A text cut at its slashes.
-ghost use Rattle.std.specs.Prelude.{◌≡◌, ◌≢◌, ◌≤◌, ◌<◌, ◌+◌, ◌-◌, false, ◌⊎◌, ℕ, [], ◌∷◌, ◌++◌, length, drop, take, slice_index};
+ghost use Rattle.std.specs.Prelude.{◌≡◌, ◌≢◌, ◌≤◌, ◌<◌, ◌+◌, ◌-◌, ◌^◌, ◌⊎◌, ℕ, [], ◌∷◌, ◌++◌, MatchOption, drop, if◌then◌else◌, length, slice_index, take};
 ghost use Rattle.std.specs.List.{All};
-ghost use Rattle.relative_path.specs.Steps.{slash, components};
+ghost use Rattle.std.specs.Int.{bit_at};
+ghost use Rattle.relative_path.specs.Steps.{slash, is_slash, components};
 
-// So many bytes of a piece are looked at one by one, where they stand, from a text's start or from an index of it. A
-// longer piece is searched out of line, by blocks.
-pub(crate) const NEAR: usize = 24;
+use std::simd::prelude::*;
 
 // So many bytes are compared side by side.
-const BLOCK: usize = 16;
+pub(crate) const BLOCK: usize = 16;
 
 // A run of slashes is taken off by so many, and then one by one.
 const SLASHES: &str = "////////////////";
@@ -77,11 +76,7 @@ pub(crate) fn split_first(text: &str) -> (&str, &str)
         ⊎ ((text.now ≡ result.0.now) × (result.1.now ≡ [])) }
 {
     let len = first_piece_len(text);
-    if len < text.len() {
-        (&text[..len], &text[len + 1..])
-    } else {
-        (text, "")
-    }
+    (&text[..len], &text[(len + 1).min(text.len())..])
 }
 
 // How many bytes stand before the first slash.
@@ -92,58 +87,57 @@ fn first_piece_len(text: &str) -> usize
     ensures slash { result < length text.now → slice_index text.now result ≡ slash }
 {
     let bytes = text.as_bytes();
-    let near = bytes.len().min(NEAR);
-    for len in 0..near {
-        if bytes[len] == b'/' {
-            return len;
-        }
+    if bytes.len() >= BLOCK {
+        return match first_in_block(bytes, 0) {
+            Some(len) => len,
+            None => far_first_piece_len(bytes),
+        };
     }
-    if near < NEAR {
-        near
-    } else {
-        far_first_piece_len(text)
-    }
-}
-
-// How many bytes stand before the first slash, where they are many.
-#[inline(never)]
-pub(crate) fn far_first_piece_len(text: &str) -> usize
-    ensures bound { result ≤ length text.now }
-    ensures before { (k : ℕ) → k < result → slice_index text.now k ≢ slash }
-    ensures slash { result < length text.now → slice_index text.now result ≡ slash }
-{
-    let bytes = text.as_bytes();
-    let mut len = whole_blocks_len(bytes);
+    let mut len = 0;
     while len < bytes.len() && bytes[len] != b'/' {
         len += 1;
     }
     len
 }
 
-// How many bytes the blocks have that stand before the first with a slash.
-#[inline(always)]
-fn whole_blocks_len(bytes: &[u8]) -> usize
+// The same, where no slash is in the first block. The last block may begin within the one before it.
+#[inline(never)]
+fn far_first_piece_len(bytes: &[u8]) -> usize
+    requires block { BLOCK ≤ length bytes.now }
+    requires near { (k : ℕ) → k < BLOCK → slice_index bytes.now k ≢ slash }
     ensures bound { result ≤ length bytes.now }
     ensures before { (k : ℕ) → k < result → slice_index bytes.now k ≢ slash }
+    ensures slash { result < length bytes.now → slice_index bytes.now result ≡ slash }
 {
-    let mut len = 0;
-    while bytes.len() - len >= BLOCK && !has_slash(bytes, len) {
-        len += BLOCK;
+    let last = bytes.len() - BLOCK;
+    let mut start = BLOCK;
+    while start < last {
+        if let Some(len) = first_in_block(bytes, start) {
+            return start + len;
+        }
+        start += BLOCK;
     }
-    len
+    match first_in_block(bytes, last) {
+        Some(len) => last + len,
+        None => bytes.len(),
+    }
 }
 
-// Whether the block that starts there has a slash.
+// How many bytes of a block stand before its first slash.
 #[inline(always)]
-fn has_slash(bytes: &[u8], start: usize) -> bool
-    requires { start + 16 ≤ length bytes.now }
-    ensures { (k : ℕ) → (result ≡ false) → start ≤ k → k < start + 16 → slice_index bytes.now k ≢ slash }
+fn first_in_block(bytes: &[u8], start: usize) -> Option<usize>
+    requires { start + BLOCK ≤ length bytes.now }
+    ensures { MatchOption result
+        ((k : ℕ) → start ≤ k → k < start + BLOCK → slice_index bytes.now k ≢ slash)
+        (λ len. (len < BLOCK) × (slice_index bytes.now (start + len) ≡ slash)
+        × ((k : ℕ) → start ≤ k → k < start + len → slice_index bytes.now k ≢ slash)) }
 {
-    let mut found = false;
-    for i in 0..BLOCK {
-        found |= bytes[start + i] == b'/';
+    let slashes = slashes_in(bytes, start);
+    if slashes == 0 {
+        None
+    } else {
+        Some(slashes.trailing_zeros() as usize)
     }
-    found
 }
 
 // What stands before the last slash, and what stands after it.
@@ -154,11 +148,7 @@ pub(crate) fn split_last(text: &str) -> (&str, &str)
         ⊎ ((text.now ≡ result.1.now) × (result.0.now ≡ [])) }
 {
     let start = last_piece_start(text);
-    if start > 0 {
-        (&text[..start - 1], &text[start..])
-    } else {
-        ("", text)
-    }
+    (&text[..start.saturating_sub(1)], &text[start..])
 }
 
 // Where the piece behind the last slash begins.
@@ -169,45 +159,67 @@ fn last_piece_start(text: &str) -> usize
     ensures slash { 0 < result → slice_index text.now (result - 1) ≡ slash }
 {
     let bytes = text.as_bytes();
-    let near = bytes.len().saturating_sub(NEAR);
+    if bytes.len() >= BLOCK {
+        let start = bytes.len() - BLOCK;
+        return match last_in_block(bytes, start) {
+            Some(behind) => start + behind,
+            None => far_last_piece_start(bytes),
+        };
+    }
     let mut start = bytes.len();
-    while start > near {
-        if bytes[start - 1] == b'/' {
-            return start;
-        }
-        start -= 1;
-    }
-    if near == 0 {
-        0
-    } else {
-        far_last_piece_start(text)
-    }
-}
-
-// Where the piece behind the last slash begins, where it is long.
-#[inline(never)]
-fn far_last_piece_start(text: &str) -> usize
-    ensures bound { result ≤ length text.now }
-    ensures behind { (k : ℕ) → result ≤ k → k < length text.now → slice_index text.now k ≢ slash }
-    ensures slash { 0 < result → slice_index text.now (result - 1) ≡ slash }
-{
-    let bytes = text.as_bytes();
-    let mut start = whole_blocks_start(bytes);
     while start > 0 && bytes[start - 1] != b'/' {
         start -= 1;
     }
     start
 }
 
-// Where the blocks begin that stand behind the last with a slash.
-#[inline(always)]
-fn whole_blocks_start(bytes: &[u8]) -> usize
+// The same, where no slash is in the last block. The first block may end within the one behind it.
+#[inline(never)]
+fn far_last_piece_start(bytes: &[u8]) -> usize
+    requires block { BLOCK ≤ length bytes.now }
+    requires near { (k : ℕ) → length bytes.now - BLOCK ≤ k → k < length bytes.now
+        → slice_index bytes.now k ≢ slash }
     ensures bound { result ≤ length bytes.now }
     ensures behind { (k : ℕ) → result ≤ k → k < length bytes.now → slice_index bytes.now k ≢ slash }
+    ensures slash { 0 < result → slice_index bytes.now (result - 1) ≡ slash }
 {
-    let mut start = bytes.len();
-    while start >= BLOCK && !has_slash(bytes, start - BLOCK) {
-        start -= BLOCK;
+    let mut end = bytes.len() - BLOCK;
+    while end > BLOCK {
+        let start = end - BLOCK;
+        if let Some(behind) = last_in_block(bytes, start) {
+            return start + behind;
+        }
+        end = start;
     }
-    start
+    last_in_block(bytes, 0).unwrap_or(0)
+}
+
+// How many bytes of a block reach to the end of its last slash.
+#[inline(always)]
+fn last_in_block(bytes: &[u8], start: usize) -> Option<usize>
+    requires { start + BLOCK ≤ length bytes.now }
+    ensures { MatchOption result
+        ((k : ℕ) → start ≤ k → k < start + BLOCK → slice_index bytes.now k ≢ slash)
+        (λ len. (0 < len) × (len ≤ BLOCK) × (slice_index bytes.now (start + len - 1) ≡ slash)
+        × ((k : ℕ) → start + len ≤ k → k < start + BLOCK → slice_index bytes.now k ≢ slash)) }
+{
+    let slashes = slashes_in(bytes, start);
+    if slashes == 0 {
+        None
+    } else {
+        Some(64 - slashes.leading_zeros() as usize)
+    }
+}
+
+// The slashes of a block, a bit for each byte.
+#[inline(always)]
+fn slashes_in(bytes: &[u8], start: usize) -> u64
+    requires { start + BLOCK ≤ length bytes.now }
+    ensures bits { (k : ℕ) → k < BLOCK
+        → bit_at result k ≡ (if is_slash (slice_index bytes.now (start + k)) then 1 else 0) }
+    ensures bound { result < 2 ^ BLOCK }
+{
+    u8x16::from_slice(&bytes[start..])
+        .simd_eq(u8x16::splat(b'/'))
+        .to_bitmask()
 }

@@ -4,23 +4,24 @@
 //! start of a path without a root. Nothing here asks the file system.
 ghost use Rattle.std.specs.Prelude.{◌≡◌, ◌≢◌, ◌↔◌, ◌++◌, List, ℕ, IfOk, IfErr, IsErr, IsErrAnd, IsTrue, Some, None, false, if◌then◌else◌, string_bytes};
 ghost use Rattle.std.specs.Path.{path_bytes, path_buf_bytes};
+ghost use Rattle.relative_path.specs.Editing.{without_curs};
 ghost use Rattle.relative_path.specs.FromPathError.{from_path_kind};
 ghost use Rattle.relative_path.specs.RelativePath.{path_text, path_components};
 ghost use Rattle.relative_path.specs.RelativeToError.{relative_to_kind};
 ghost use Rattle.relative_path.specs.Steps.{Step, components, spell};
-ghost use Rattle.relative_path.specs.Unix.{has_root, without_curs, unix_components, onto, way_to, IsAbove, IsLogical};
+ghost use Rattle.relative_path.specs.Unix.{has_root, unix_components, onto, way_to, IsAbove, IsLogical};
 ghost use Rattle.relative_path.specs.Walk.{IsSame};
 ghost use Rattle.relative_path.specs.declared.from_path_error.FromPathErrorKind.TheVariants as from_path_kinds;
 ghost use Rattle.relative_path.specs.declared.relative_to_error.RelativeToErrorKind.TheVariants as relative_to_kinds;
 
 use crate::buf::RelativePathBuf;
-use crate::component::Component;
+use crate::component::{Component, Components};
 use crate::editing::add_piece;
 use crate::from_path_error::{FromPathError, FromPathErrorKind};
 use crate::path::RelativePath;
 use crate::relative_to_error::{RelativeToError, RelativeToErrorKind};
 use crate::unix_components::{UnixComponents, depth, has_root, without_idle_end, without_shared};
-use crate::unix_texts::{base_with_room, climbing, push_runs, way_len};
+use crate::unix_texts::{base_with_room, climbed, push_components};
 use std::alloc::{AllocError, Global};
 use std::path::{Path, PathBuf};
 
@@ -36,11 +37,11 @@ pub fn parent_text(text: &str) -> &str
     ensures { IsAbove text.now result.now }
 {
     let rooted = has_root(text);
-    let mut components = without_idle_end(RelativePath::new(text), rooted).components();
+    let mut components = Components::new(without_idle_end(text, rooted));
     if components.next_back().is_none() {
         return text;
     }
-    let parent = without_idle_end(components.as_relative_path(), rooted).as_str();
+    let parent = without_idle_end(components.as_str(), rooted);
     if rooted && parent.is_empty() {
         "/"
     } else {
@@ -82,10 +83,10 @@ pub fn from_path(alloc: Global, text: &str) -> Result<RelativePathBuf, FromPathE
     ensures kind { IfErr result (λ error. from_path_kind error
         ≡ (if has_root text.now then from_path_kinds.NonRelative else from_path_kinds.OutOfMemory)) }
 {
-    let mut components = UnixComponents::without_curs(view(text)?);
-    let mut path = RelativePathBuf::with_capacity(alloc, text.len())?;
-    push_runs(&mut path, components.next_run(), components);
-    Ok(path)
+    let components = UnixComponents::without_curs(view(text)?.as_str());
+    let mut path = String::with_capacity(alloc, text.len())?;
+    push_components(&mut path, components);
+    Ok(path.into())
 }
 
 /// The platform path with the components of a relative path behind it, each as its text, with a
@@ -101,7 +102,7 @@ pub fn from_path(alloc: Global, text: &str) -> Result<RelativePathBuf, FromPathE
 pub fn to_path(alloc: Global, path: RelativePath<'_>, base: &str) -> Result<String, AllocError>
     ensures { IfOk result (λ text. string_bytes text ≡ onto base.now (path_components path.entry)) }
 {
-    let mut text = base_with_room(alloc, base, path)?;
+    let mut text = base_with_room(alloc, base, path.as_str())?;
     for component in path.components() {
         add_piece(&mut text, component.as_str());
     }
@@ -126,7 +127,7 @@ pub fn to_logical_path(
     ensures { IfOk result
         (λ text. IsLogical base.now (path_components path.entry) (string_bytes text)) }
 {
-    let mut text = base_with_room(alloc, base, path)?;
+    let mut text = base_with_room(alloc, base, path.as_str())?;
     for component in path.components() {
         match component {
             Component::CurDir => {}
@@ -173,13 +174,10 @@ pub fn relative_to(
     if has_root(path) != has_root(root) {
         return Err(RelativeToErrorKind::PrefixMismatch.into());
     }
-    let (mut path, root) = without_shared(path, root);
+    let (path, root) = without_shared(path, root);
     let climb = depth(root).ok_or(RelativeToErrorKind::AmbiguousTraversal)?;
-    let run = path.next_run();
-    let len = way_len(climb, run, path).ok_or(RelativeToErrorKind::OutOfMemory)?;
-    let mut answer = climbing(alloc, climb, len)?;
-    push_runs(&mut answer, run, path);
-    Ok(answer)
+    let way = climbed(alloc, climb, path)?;
+    Ok(way.into())
 }
 
 /// The call on platform paths that the standard library lacks.

@@ -1,22 +1,23 @@
 //! The components of a platform path under the Unix rules.
-ghost use Rattle.std.specs.Prelude.{◌≡◌, ◌≢◌, ◌<◌, ◌≤◌, ◌-◌, [], ◌∷◌, ◌++◌, ℕ, List, length, take, drop, slice_index, IsTrue, MatchOption, Some, None};
+ghost use Rattle.std.specs.Prelude.{◌≡◌, ◌≢◌, ◌<◌, ◌-◌, [], ℕ, List, length, take, drop, slice_index, MatchOption, Some, None};
 ghost use Rattle.std.specs.Iterator.{YieldsFirstBy, item_count};
 ghost use Rattle.relative_path.specs.Components.{step_of};
-ghost use Rattle.relative_path.specs.RelativePath.{path_text, path_components};
-ghost use Rattle.relative_path.specs.Steps.{Step, cur, slash, components, spell};
-ghost use Rattle.relative_path.specs.Unix.{has_root, without_curs, without_inner_curs, counted, unix_components, but_last, shared_len};
+ghost use Rattle.relative_path.specs.Editing.{without_curs};
+ghost use Rattle.relative_path.specs.Steps.{slash, components};
+ghost use Rattle.relative_path.specs.Unix.{has_root, counted, unix_components, but_last, shared_len};
 ghost use Rattle.relative_path.specs.UnixComponents.{unix_left};
 ghost use Rattle.relative_path.specs.Walk.{walk};
 
-use crate::component::Component;
-use crate::path::RelativePath;
-use crate::slashes::{split_first, without_leading_slashes, without_trailing_slashes};
+use crate::component::{Component, Components};
+use crate::slashes::without_trailing_slashes;
 
 // The walk over the components of a platform path that count, from the front.
 #[derive(Clone, Copy)]
 pub(crate) struct UnixComponents<'a> {
-    // What is left of the path. Of its components each counts but a `.` behind the first.
-    left: RelativePath<'a>,
+    // What is left of the path.
+    left: &'a str,
+    // Whether a `.` counts no more: behind a root, and behind the first component.
+    drops_cur: bool,
 }
 
 impl<'a> UnixComponents<'a> {
@@ -24,49 +25,20 @@ impl<'a> UnixComponents<'a> {
     pub(crate) fn new(text: &'a str) -> UnixComponents<'a>
         ensures { unix_left result ≡ unix_components text.now }
     {
-        let path = RelativePath::new(text);
-        if has_root(text) {
-            UnixComponents::without_curs(path)
-        } else {
-            UnixComponents { left: path }
+        UnixComponents {
+            left: text,
+            drops_cur: has_root(text),
         }
-    }
-
-    // The text that is left to walk.
-    pub(crate) fn as_str(self) -> &'a str
-        ensures { unix_left self.entry ≡ without_inner_curs (components result.now) }
-    {
-        self.left.as_str()
     }
 
     // The walk over the components that are no `.`.
-    #[inline]
-    pub(crate) fn without_curs(path: RelativePath<'a>) -> UnixComponents<'a>
-        ensures { unix_left result ≡ without_curs (path_components path.entry) }
+    pub(crate) fn without_curs(text: &'a str) -> UnixComponents<'a>
+        ensures { unix_left result ≡ without_curs (components text.now) }
     {
-        let mut left = without_leading_slashes(path.as_str());
-        while let Some(behind) = behind_cur(left) {
-            left = without_leading_slashes(behind);
-        }
         UnixComponents {
-            left: RelativePath::new(left),
+            left: text,
+            drops_cur: true,
         }
-    }
-
-    // Takes the components that stand in the text as they are spelled, and gives that text: empty
-    // only where none is left.
-    pub(crate) fn next_run(&mut self) -> &'a str
-        ensures joined { unix_left self.old ≡ components result.now ++ unix_left self.new }
-        ensures spelled { result.now ≡ spell (components result.now) }
-        ensures none { result.now ≡ [] → unix_left self.new ≡ [] }
-    {
-        let text = without_leading_slashes(self.left.as_str());
-        if text.is_empty() {
-            return text;
-        }
-        let (run, behind) = split_run(text);
-        *self = UnixComponents::without_curs(RelativePath::new(behind));
-        run
     }
 }
 
@@ -77,103 +49,19 @@ impl<'a> Iterator for UnixComponents<'a> {
 
     ghost remaining = { item_count unix_left };
 
+    #[inline(always)]
     fn next(&mut self) -> Option<Component<'a>> {
-        let mut components = self.left.components();
-        let first = components.next();
-        *self = UnixComponents::without_curs(components.as_relative_path());
-        first
-    }
-}
-
-// What stands behind the first component, where that is a `.`.
-#[inline(always)]
-fn behind_cur(text: &str) -> Option<&str>
-    ensures { MatchOption result
-        (slice_index text.now 0 ≢ slash → (cs : List Step) → components text.now ≢ cur ∷ cs)
-        (λ behind. (components text.now ≡ cur ∷ components behind.now)
-        × (length behind.now < length text.now)) }
-{
-    let behind = text.strip_prefix('.')?;
-    if behind.is_empty() || has_root(behind) {
-        Some(behind)
-    } else {
-        None
-    }
-}
-
-// Whether a component begins the text, and is no `.`.
-#[inline(always)]
-fn begins_counted(text: &str) -> bool
-    ensures { IsTrue result → (text.now ≢ []) × (slice_index text.now 0 ≢ slash)
-        × ((cs : List Step) → components text.now ≢ cur ∷ cs) }
-{
-    !text.is_empty() && !has_root(text) && behind_cur(text).is_none()
-}
-
-// The front of the text up to the first slash that no component that counts stands right behind,
-// and what stands behind that slash.
-fn split_run(text: &str) -> (&str, &str)
-    requires nonempty { text.now ≢ [] }
-    requires start { slice_index text.now 0 ≢ slash }
-    ensures joined { without_inner_curs (components text.now)
-        ≡ components result.0.now ++ without_curs (components result.1.now) }
-    ensures spelled { result.0.now ≡ spell (components result.0.now) }
-    ensures nonempty { result.0.now ≢ [] }
-{
-    let mut left = text;
-    loop {
-        let (piece, behind) = split_first(left);
-        if !begins_counted(behind) {
-            let len = text.len() - left.len() + piece.len();
-            return (&text[..len], behind);
-        }
-        left = behind;
-    }
-}
-
-// How many bytes both texts begin with, up to the last slash among those.
-fn shared_front_len(path: &[u8], root: &[u8]) -> usize
-    ensures path { result ≤ length path.now }
-    ensures root { result ≤ length root.now }
-    ensures same { take result path.now ≡ take result root.now }
-    ensures slash { 0 < result → slice_index path.now (result - 1) ≡ slash }
-{
-    let mut front = 0;
-    for at in 0..path.len().min(root.len()) {
-        if path[at] != root[at] {
-            return front;
-        }
-        if path[at] == b'/' {
-            front = at + 1;
+        let mut components = Components::new(self.left);
+        loop {
+            match components.next() {
+                Some(Component::CurDir) if self.drops_cur => {}
+                first => {
+                    *self = UnixComponents::without_curs(components.as_str());
+                    return first;
+                }
+            }
         }
     }
-    front
-}
-
-// What is left of two texts behind the front that both begin with, up to a slash.
-fn behind_shared_front<'a, 'b>(
-    path: &'a str,
-    root: &'b str,
-) -> (UnixComponents<'a>, UnixComponents<'b>)
-    ensures { (front : List Step) × (unix_components path.now ≡ front ++ unix_left result.0)
-        × (unix_components root.now ≡ front ++ unix_left result.1) }
-{
-    let front = shared_front_len(path.as_bytes(), root.as_bytes());
-    if front == 0 {
-        return (UnixComponents::new(path), UnixComponents::new(root));
-    }
-    (
-        UnixComponents::without_curs(RelativePath::new(&path[front..])),
-        UnixComponents::without_curs(RelativePath::new(&root[front..])),
-    )
-}
-
-// Whether the texts begin with two bytes, neither of them a slash.
-fn begin_apart(path: &[u8], root: &[u8]) -> bool
-    ensures { IsTrue result → (c : Step) → (cs ds : List Step) → components path.now ≡ c ∷ cs
-        → components root.now ≢ c ∷ ds }
-{
-    !path.is_empty() && !root.is_empty() && path[0] != root[0] && path[0] != b'/' && root[0] != b'/'
 }
 
 // What is left of two walks behind the components that both begin with.
@@ -186,10 +74,7 @@ pub(crate) fn without_shared<'a, 'b>(
     ensures root { unix_left result.1
         ≡ drop (shared_len (unix_components path.now) (unix_components root.now)) (unix_components root.now) }
 {
-    let mut left = behind_shared_front(path, root);
-    if begin_apart(left.0.as_str().as_bytes(), left.1.as_str().as_bytes()) {
-        return left;
-    }
+    let mut left = (UnixComponents::new(path), UnixComponents::new(root));
     loop {
         let (mut path, mut root) = left;
         match (path.next(), root.next()) {
@@ -206,11 +91,10 @@ pub(crate) fn depth(left: UnixComponents<'_>) -> Option<usize>
         (λ depth. (place : List (List ℕ)) × (walk [] (unix_left left.entry) ≡ Some place)
         × (depth ≡ length place)) }
 {
-    let left = left.left;
     // A text has fewer components than a number can count.
-    prove!(left.as_str().len() < usize::MAX);
+    prove!(left.left.len() < usize::MAX);
     let mut depth: usize = 0;
-    for component in left.components() {
+    for component in left {
         match component {
             Component::CurDir => {}
             Component::ParentDir => depth = depth.checked_sub(1)?,
@@ -227,20 +111,20 @@ pub(crate) fn has_root(text: &str) -> bool
     text.starts_with('/')
 }
 
-// The path without the slashes at its end, and without each `.` there that doesn't count.
-pub(crate) fn without_idle_end(path: RelativePath<'_>, rooted: bool) -> RelativePath<'_>
-    ensures prefix { path_text result ≡ take (length (path_text result)) (path_text path.entry) }
-    ensures end { slice_index (path_text result) (length (path_text result) - 1) ≢ slash }
-    ensures same { counted rooted (path_components result) ≡ counted rooted (path_components path.entry) }
-    ensures last { path_components result ≢ []
-        → length (counted rooted (but_last (path_components result)))
-        < length (counted rooted (path_components result)) }
+// The text without the slashes at its end, and without each `.` there that doesn't count.
+pub(crate) fn without_idle_end(text: &str, rooted: bool) -> &str
+    ensures prefix { result.now ≡ take (length result.now) text.now }
+    ensures end { slice_index result.now (length result.now - 1) ≢ slash }
+    ensures same { counted rooted (components result.now) ≡ counted rooted (components text.now) }
+    ensures last { components result.now ≢ []
+        → length (counted rooted (but_last (components result.now)))
+        < length (counted rooted (components result.now)) }
 {
-    let mut components = RelativePath::new(without_trailing_slashes(path.as_str())).components();
+    let mut components = Components::new(without_trailing_slashes(text));
     loop {
-        let left = components.as_relative_path();
+        let left = components.as_str();
         let last = components.next_back();
-        let is_first = components.as_relative_path().as_str().is_empty();
+        let is_first = components.as_str().is_empty();
         if last != Some(Component::CurDir) || is_first && !rooted {
             return left;
         }

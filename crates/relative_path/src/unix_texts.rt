@@ -1,78 +1,62 @@
 //! Texts that are written into room made for them at once.
-ghost use Rattle.std.specs.Prelude.{◌≡◌, ◌≤◌, ◌<◌, ◌+◌, ◌^◌, ◌++◌, [], length, replicate, IfOk, MatchOption, string_bytes};
+ghost use Rattle.std.specs.Prelude.{◌≡◌, ◌≤◌, ◌+◌, ◌^◌, ◌++◌, length, replicate, IfOk, MatchOption, string_bytes};
 ghost use Rattle.std.specs.String.{string_capacity};
-ghost use Rattle.relative_path.specs.RelativePath.{path_text};
-ghost use Rattle.relative_path.specs.Steps.{up, components, spell};
+ghost use Rattle.relative_path.specs.Steps.{up, spell};
+ghost use Rattle.relative_path.specs.Unix.{onto};
 ghost use Rattle.relative_path.specs.UnixComponents.{unix_left};
 
-use crate::buf::RelativePathBuf;
 use crate::climbs::push_climb;
-use crate::path::RelativePath;
+use crate::editing::add_piece;
 use crate::unix_components::UnixComponents;
 use std::alloc::{AllocError, Global};
 
-// The text, with room for the path behind it.
-pub(crate) fn base_with_room(
-    alloc: Global,
-    base: &str,
-    path: RelativePath<'_>,
-) -> Result<String, AllocError>
+// The text, with room for a path behind it.
+pub(crate) fn base_with_room(alloc: Global, base: &str, path: &str) -> Result<String, AllocError>
     ensures text { IfOk result (λ text. string_bytes text ≡ base.now) }
     ensures room { IfOk result
-        (λ text. length base.now + length (path_text path.entry) + 1 ≤ string_capacity text) }
+        (λ text. length base.now + length path.now + 1 ≤ string_capacity text) }
 {
-    let mut text = String::with_capacity(alloc, base.len() + path.as_str().len() + 1)?;
+    let mut text = String::with_capacity(alloc, base.len() + path.len() + 1)?;
     text.push_str(base).unwrap();
     Ok(text)
 }
 
-// How many bytes so many `..`, the components of a spelled text and the others have, with single
-// slashes between; none where no text can have as many.
-pub(crate) fn way_len(climb: usize, run: &str, left: UnixComponents<'_>) -> Option<usize>
-    requires spelled { run.now ≡ spell (components run.now) }
-    requires none { run.now ≡ [] → unix_left left ≡ [] }
+// How many bytes so many `..` and the components behind them have, with single slashes between; none
+// where no text can have as many.
+pub(crate) fn climbed_len(climb: usize, components: UnixComponents<'_>) -> Option<usize>
     ensures { MatchOption result
-        (2 ^ 63 ≤ length (spell (replicate climb up ++ (components run.now ++ unix_left left.entry))))
-        (λ len. len ≡ length (spell (replicate climb up ++ (components run.now ++ unix_left left.entry)))) }
+        (2 ^ 63 ≤ length (spell (replicate climb up ++ unix_left components.entry)))
+        (λ len. len ≡ length (spell (replicate climb up ++ unix_left components.entry))) }
 {
     let mut len = climb.checked_mul(3)?;
-    let mut run = run;
-    let mut left = left;
-    while !run.is_empty() {
-        len = len.checked_add(run.len() + 1)?;
-        run = left.next_run();
+    for component in components {
+        len = len.checked_add(component.as_str().len() + 1)?;
     }
     Some(len.saturating_sub(1))
 }
 
-// A path of so many `..`, with room for `room` bytes.
-pub(crate) fn climbing(
+// The text of so many `..` and the components behind them. It asks for memory once, for just this text.
+pub(crate) fn climbed(
     alloc: Global,
     climb: usize,
-    room: usize,
-) -> Result<RelativePathBuf, AllocError>
-    requires { length (spell (replicate climb up)) ≤ room }
-    ensures text { IfOk result (λ path. path.text ≡ spell (replicate climb up)) }
-    ensures room { IfOk result (λ path. room ≤ path.room) }
+    components: UnixComponents<'_>,
+) -> Result<String, AllocError>
+    ensures { IfOk result
+        (λ text. string_bytes text ≡ spell (replicate climb up ++ unix_left components.entry)) }
 {
-    let mut path = RelativePathBuf::with_capacity(alloc, room)?;
-    push_climb(&mut path, climb);
-    Ok(path)
+    let len = climbed_len(climb, components).ok_or(AllocError)?;
+    let mut text = String::with_capacity(alloc, len)?;
+    push_climb(&mut text, climb);
+    push_components(&mut text, components);
+    Ok(text)
 }
 
-// Adds a spelled text and the components to a spelled path with room for all.
-pub(crate) fn push_runs(path: &mut RelativePathBuf, run: &str, left: UnixComponents<'_>)
-    requires spelled { path.old.text ≡ spell (components path.old.text) }
-    requires run { run.now ≡ spell (components run.now) }
-    requires none { run.now ≡ [] → unix_left left ≡ [] }
-    requires room { length (spell (components path.old.text ++ (components run.now ++ unix_left left)))
-        ≤ path.old.room }
-    ensures { path.new.text ≡ spell (components path.old.text ++ (components run.now ++ unix_left left.entry)) }
+// Adds the components to a text with room for them.
+pub(crate) fn push_components(text: &mut String, components: UnixComponents<'_>)
+    requires { length (onto (string_bytes text.old) (unix_left components)) ≤ string_capacity text.old }
+    ensures { string_bytes text.new ≡ onto (string_bytes text.old) (unix_left components.entry) }
 {
-    let mut run = run;
-    let mut left = left;
-    while !run.is_empty() {
-        path.push_piece(run);
-        run = left.next_run();
+    for component in components {
+        add_piece(text, component.as_str());
     }
 }

@@ -1,4 +1,4 @@
-use Rattle.std.proofs.Common.{◌≡◌, ◌<◌, ◌≤◌, ◌∙◌, ap, sym, ◌-◌, fold, length, replicate, arith}
+use Rattle.std.proofs.Common.{string_bytes, ◌≡◌, ◌<◌, ◌≤◌, ◌∙◌, ap, sym, ◌-◌, fold, length, replicate, arith}
 use Rattle.relative_path.specs.Editing.{with_piece}
 use Rattle.relative_path.specs.Steps.{up, step_text}
 use Rattle.relative_path.proofs.ClimbsLemmas.{climbs_boundary, climbs_cut, with_pieces-some_climbs, some_climbs_fit}
@@ -9,15 +9,15 @@ range-requires-clause-end_boundary c =
     let count = c.min-count.ensures in
     climbs_boundary 24 _ (omega (arith, count))
 
-pub push_piece-requires : goal.push_piece-requires
-push_piece-requires c =
+pub add_piece-requires : goal.add_piece-requires
+add_piece-requires c =
     let count = c.min-count.ensures in
     let left = c.loop-left-test.true in
     let some : 0 < c.min-count.result = omega (arith, count, left) in
     let few : c.min-count.result ≤ c.loop-left.left = omega (arith, count) in
     let run = c.range.result.now in
     let is = climbs_cut c.min-count.result 24 run some (omega (arith, count)) c.range.ensures.value in
-    let fits = some_climbs_fit c.loop-left.buf.text run c.loop-left.left c.min-count.result some few is in
+    let fits = some_climbs_fit (string_bytes c.loop-left.text) run c.loop-left.left c.min-count.result some few is in
     let whole = ap length c.loop-left.invariant.text in
     omega (arith, c.requires, fits, whole, c.loop-left.invariant.room)
 
@@ -32,13 +32,13 @@ loop-left-preserved c =
     let others = replicate (c.loop-left.left - c.min-count.result) (step_text up) in
     let before = c.loop-left.invariant.room in
     record {
-      text = ap (λ text. fold with_piece text others) c.push_piece.ensures.text
-          ∙ with_pieces-some_climbs c.loop-left.buf.text run c.loop-left.left c.min-count.result some few is
+      text = ap (λ text. fold with_piece text others) c.add_piece.ensures.text
+          ∙ with_pieces-some_climbs (string_bytes c.loop-left.text) run c.loop-left.left c.min-count.result some few is
           ∙ c.loop-left.invariant.text;
-      room = omega (arith, before, c.push_piece.ensures.room);
+      room = omega (arith, before, c.add_piece.ensures.room);
     }
 
 pub returns-clause-text : goal.returns-clause-text
 returns-clause-text c =
     let none : c.loop-left.left ≡ 0 = omega (arith, c.loop-left-test.false) in
-    ap (λ n. fold with_piece c.loop-left.buf.text (replicate n (step_text up))) (sym none) ∙ c.loop-left.invariant.text
+    ap (λ n. fold with_piece (string_bytes c.loop-left.text) (replicate n (step_text up))) (sym none) ∙ c.loop-left.invariant.text

@@ -1,13 +1,14 @@
-use Rattle.std.proofs.Common.{◌≡◌, ◌≤◌, fold, replicate}
+use Rattle.std.proofs.Common.{◌≡◌, ◌≤◌, fold, replicate, string_bytes}
+use Rattle.std.specs.String.{string_capacity}
 use Rattle.relative_path.specs.Editing.{with_piece}
 use Rattle.relative_path.specs.Steps.{up, step_text}
 use Rattle.relative_path.proofs.climbs.push_climb.Given as goal
 
 abbrev pub invariant-loop-left : goal.invariant-loop-left
 invariant-loop-left l = record {
-  text : fold with_piece l.buf.text (replicate l.left (step_text up))
-      ≡ fold with_piece l.fn.buf.text (replicate l.fn.climb (step_text up));
-  room : l.fn.buf.room ≤ l.buf.room;
+  text : fold with_piece (string_bytes l.text) (replicate l.left (step_text up))
+      ≡ fold with_piece (string_bytes l.fn.text) (replicate l.fn.climb (step_text up));
+  room : string_capacity l.fn.text ≤ string_capacity l.text;
 }
 
 abbrev pub decreases-loop-left : goal.decreases-loop-left

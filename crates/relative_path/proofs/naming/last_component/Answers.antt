@@ -1,6 +1,4 @@
-use Rattle.std.proofs.Common.{◌∙◌}
 use Rattle.relative_path.specs.Components.{text_left}
-use Rattle.relative_path.specs.RelativePath.{path_text}
 use Rattle.relative_path.proofs.EditingLemmas.{LosesCurs-cur}
 use Rattle.relative_path.proofs.NamingLemmas.{IsEnd, IsEnd-none, IsEnd-up, IsEnd-name}
 use Rattle.relative_path.proofs.naming.last_component.Goals as goal
@@ -14,7 +12,7 @@ loop-name-preserved c =
 pub returns-in-loop-name : goal.returns-in-loop-name
 returns-in-loop-name c =
     let left = c.loop-name.invariant in
-    let end : IsEnd (path_text c.args.path) (text_left c.next_back.new.self) c.match-next_back.name
+    let end : IsEnd c.args.text.now (text_left c.next_back.new.self) c.match-next_back.name
     (text_left c.loop-name.components) = elim c.match-next_back.branch [
       | in-Some-Normal w ↦
           rw w.name-is (IsEnd-name _ _ _ _ left (rw w.in-Some-Normal.field-0-is at w.in-Some-Normal.ensures.steps))
@@ -23,7 +21,7 @@ returns-in-loop-name c =
       | in-None w ↦ rw w.name-is (IsEnd-none _ _ _ left w.in-None.ensures.steps)
     ] in
     record {
-      before = rw c.as_relative_path-in-loop-name.ensures end.popped;
+      before = rw c.as_str.ensures end.popped;
       name = end.named;
-      up_to_end = rw (c.as_str-up_to_end.ensures ∙ c.as_relative_path.ensures) end.placed;
+      up_to_end = rw c.as_str-up_to_end.ensures end.placed;
     }

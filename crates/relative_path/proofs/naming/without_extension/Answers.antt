@@ -4,7 +4,6 @@ use Rattle.relative_path.specs.Steps.{components}
 use Rattle.relative_path.specs.Slices.{IsCut}
 use Rattle.relative_path.specs.Editing.{kept_len}
 use Rattle.relative_path.specs.Naming.{file_name_of}
-use Rattle.relative_path.specs.RelativePath.{path_text}
 use Rattle.relative_path.proofs.NamingLemmas.{IsCharBoundary-stem, slice_range-stem, IsExtended-stem}
 use Rattle.relative_path.proofs.naming.without_extension.Goals as goal
 
@@ -16,13 +15,13 @@ range-requires-clause-end_boundary c =
 
 pub returns-clause-text : goal.returns-clause-text
 returns-clause-text c =
-    let text = path_text c.args.path in
+    let text = c.args.text.now in
     let n = c.in_ok-name.name.now in
     let placed = rw c.in_ok-name.was at c.last_component-end.ensures.up_to_end in
     let named : file_name_of text ≡ Some n =
     sym c.last_component-end.ensures.name ∙ ap option_copied c.in_ok-name.was in
-    let front : path_text c.new.result ≡ placed.0 ++ c.split_name.result.0.now =
-    c.new.ensures ∙ c.range.ensures.value
+    let front : c.range.result.now ≡ placed.0 ++ c.split_name.result.0.now =
+    c.range.ensures.value
     ∙ slice_range-stem _ placed.0 n c.split_name.result.0.now c.split_name.result.1 placed.1 c.split_name.ensures.joined in
     rw (front, c.split_name.ensures.stem)
     (IsExtended-stem text placed.0 n named (subst (IsCut text (kept_len (components text) + 1)) placed.1 placed.2))

@@ -1,4 +1,4 @@
-use Rattle.std.proofs.Common.{◌≢◌, ◌-◌, ℕ, ◌<◌, ◌≤◌, length, slice_index}
+use Rattle.std.proofs.Common.{◌≢◌, ℕ, ◌<◌, ◌≤◌, length, slice_index}
 use Rattle.relative_path.specs.Steps.{slash}
 use Rattle.relative_path.proofs.slashes.last_piece_start.Given as goal
 
@@ -9,4 +9,4 @@ invariant-loop-start l = record {
 }
 
 abbrev pub decreases-loop-start : goal.decreases-loop-start
-decreases-loop-start l = l.start - l.near
+decreases-loop-start l = l.start

@@ -1,23 +1,28 @@
-use Rattle.std.proofs.Common.{◌≡◌, ◌≢◌, ◌-◌, arith}
-use Rattle.std.proofs.lemmas.List.Elements.{All-from_get_or}
-use Rattle.std.proofs.lemmas.Str.{IsCharBoundary-after_ascii}
-use Rattle.relative_path.specs.Steps.{slash}
-use Rattle.relative_path.proofs.SlashesLemmas.{All-take}
+use Rattle.std.proofs.Common.{◌≡◌, ◌-◌, arith}
+use Rattle.relative_path.proofs.SlashesLemmas.{All-take, IsCharBoundary-piece, IsCharBoundary-past, joined_first}
 use Rattle.relative_path.proofs.slashes.split_first.Goals as goal
+
+pub range-requires-clause-end_boundary : goal.range-requires-clause-end_boundary
+range-requires-clause-end_boundary c =
+    let piece = c.first_piece_len-len.ensures in
+    IsCharBoundary-piece c.args.text.now c.first_piece_len-len.result piece.bound piece.slash
 
 pub range_from-requires : goal.range_from-requires
 range_from-requires c _ =
-    let at = c.first_piece_len-len.ensures.slash c.if-len-text.true in
-    IsCharBoundary-after_ascii c.args.text.now c.first_piece_len-len.result c.utf8.text c.if-len-text.true
-    (omega (arith, at))
+    let piece = c.first_piece_len-len.ensures in
+    IsCharBoundary-past c.args.text.now c.first_piece_len-len.result c.min.result c.utf8.text piece.bound piece.slash
+    c.min.ensures
 
-pub returns-then-len-text-clause-piece : goal.returns-then-len-text-clause-piece
-returns-then-len-text-clause-piece c =
+pub returns-clause-piece : goal.returns-clause-piece
+returns-clause-piece c =
     let n = c.first_piece_len-len.result in
     let len : n - 0 ≡ n = omega arith in
     rw (c.range.ensures.value, len) (All-take c.args.text.now n c.first_piece_len-len.ensures.before)
 
-pub returns-else-len-text-clause-piece : goal.returns-else-len-text-clause-piece
-returns-else-len-text-clause-piece c =
-    All-from_get_or (λ b. b ≢ slash) c.args.text.now 0
-    (λ k h. c.first_piece_len-len.ensures.before k (omega arith))
+pub returns-clause-joined : goal.returns-clause-joined
+returns-clause-joined c =
+    let piece = c.first_piece_len-len.ensures in
+    let n = c.first_piece_len-len.result in
+    let len : n - 0 ≡ n = omega arith in
+    rw (c.range.ensures.value, len, c.range_from.ensures.value)
+    (joined_first c.args.text.now n c.min.result piece.bound piece.slash c.min.ensures)

@@ -7,12 +7,12 @@ use Rattle.relative_path.proofs.unix_components.without_idle_end.Goals.{then-ne-
 
 pub returns-then-ne-clause-last : goal.returns-then-ne-clause-last
 returns-then-ne-clause-last c =
-    rw c.as_relative_path-left.ensures
+    rw c.as_str-left.ensures
     (LastCounts-taken _ _ _ c.next_back-last.result c.next_back-last.ensures.steps (elim c.then-ne.branch [
       | then-ne-via-then-ne w ↦ inl (not-true _ (sym w.if-ne.ensures))
       | then-ne-via-else-ne+then-not-rooted w ↦
           inr (
-            sym c.as_relative_path.ensures ∙ sym c.as_str-in-loop-components.ensures
+            sym c.as_str.ensures
                 ∙ nil_from_length _ (eqb-true _ 0 (sym c.is_empty-is_first.ensures ∙ w.if-not-rooted.true.0)),
             w.if-not-rooted.true.1,
           )
@@ -23,6 +23,6 @@ loop-components-preserved c =
     let counts =
     ⊎_elim (λ h. inr h.1)
     (λ e. inl (λ none. eqb-false _ 0 (sym c.is_empty-is_first.ensures ∙ e)
-    (ap length (c.as_str-in-loop-components.ensures ∙ c.as_relative_path.ensures ∙ none)))) c.if-not-rooted.either in
+    (ap length (c.as_str.ensures ∙ none)))) c.if-not-rooted.either in
     LosesIdle-cur _ _ _ _ c.next_back-last.result
     (not-false _ (sym c.if-ne.ensures)) c.loop-components.invariant c.next_back-last.ensures.steps counts

@@ -1,17 +1,26 @@
+use Rattle.std.proofs.Common.{None, Some}
 use Rattle.relative_path.specs.Components.{TakesLast}
-use Rattle.relative_path.proofs.ComponentsLemmas.{TakesLast-from, MakesProgress-TakesLast}
+use Rattle.relative_path.proofs.ComponentsLemmas.{nil_from_is_empty, some_from_is_empty, TakesLast-none, TakesLast-some, MakesProgress-TakesLast}
 use Rattle.relative_path.proofs.component.ComponentsDoubleEndedIterator.next_back.Goals as goal
+
+pub returns-then-is_empty : goal.returns-then-is_empty
+returns-then-is_empty c =
+    let trim = c.without_trailing_slashes-text.ensures in
+    let trimmed = c.without_trailing_slashes-text.result in
+    let empty = nil_from_is_empty trimmed.now _ c.is_empty.ensures c.if-is_empty.true in
+    let none = TakesLast-none c.args.self.now.text.now trimmed.now
+    (record { prefix = record { front = trim.prefix }; end = trim.end; same = trim.same }) empty in
+    record { steps = none; goes = MakesProgress-TakesLast c.args.self.now (record { text = trimmed }) None none }
 
 pub returns : goal.returns
 returns c =
-    let trim = c.without_trailing_slashes.ensures in
+    let trim = c.without_trailing_slashes-text.ensures in
     let trim' = c.without_trailing_slashes-self.ensures in
-    let last : TakesLast c.args.self.now.text.now c.component_of.result c.without_trailing_slashes-self.result.now =
-    TakesLast-from _ _ _ _ _
+    let left = c.without_trailing_slashes-self.result in
+    let some = some_from_is_empty _ _ c.is_empty.ensures c.if-is_empty.false in
+    let taken : TakesLast c.args.self.now.text.now (Some c.component_of.result) left.now =
+    TakesLast-some _ _ _ _ _
     (record { prefix = record { front = trim.prefix }; end = trim.end; same = trim.same }) c.split_last.ensures.piece
     (record { prefix = record { front = trim'.prefix }; end = trim'.end; same = trim'.same })
-    c.component_of.result c.split_last.ensures.joined c.component_of.ensures in
-    record {
-      steps = last;
-      goes = MakesProgress-TakesLast c.args.self.now (record { text = c.without_trailing_slashes-self.result }) _ last;
-    }
+    c.component_of.result c.split_last.ensures.joined some c.component_of.ensures in
+    record { steps = taken; goes = MakesProgress-TakesLast c.args.self.now (record { text = left }) _ taken }

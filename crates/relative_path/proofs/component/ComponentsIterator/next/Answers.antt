@@ -1,18 +1,27 @@
+use Rattle.std.proofs.Common.{None, Some}
 use Rattle.relative_path.specs.Components.{TakesFirst}
 use Rattle.relative_path.proofs.SlicesLemmas.{IsSuffix-from}
-use Rattle.relative_path.proofs.ComponentsLemmas.{TakesFirst-from, MakesProgress-TakesFirst}
+use Rattle.relative_path.proofs.ComponentsLemmas.{nil_from_is_empty, some_from_is_empty, TakesFirst-none, TakesFirst-some, MakesProgress-TakesFirst}
 use Rattle.relative_path.proofs.component.ComponentsIterator.next.Goals as goal
+
+pub returns-then-is_empty : goal.returns-then-is_empty
+returns-then-is_empty c =
+    let trim = c.without_leading_slashes-text.ensures in
+    let trimmed = c.without_leading_slashes-text.result in
+    let empty = nil_from_is_empty trimmed.now _ c.is_empty.ensures c.if-is_empty.true in
+    let none = TakesFirst-none c.args.self.now.text.now trimmed.now
+    (record { suffix = IsSuffix-from trim.suffix; start = trim.start; same = trim.same }) empty in
+    record { steps = none; goes = MakesProgress-TakesFirst c.args.self.now (record { text = trimmed }) None none }
 
 pub returns : goal.returns
 returns c =
-    let trim = c.without_leading_slashes.ensures in
+    let trim = c.without_leading_slashes-text.ensures in
     let trim' = c.without_leading_slashes-self.ensures in
-    let first : TakesFirst c.args.self.now.text.now c.component_of.result c.without_leading_slashes-self.result.now =
-    TakesFirst-from _ _ _ _ _
+    let left = c.without_leading_slashes-self.result in
+    let some = some_from_is_empty _ _ c.is_empty.ensures c.if-is_empty.false in
+    let taken : TakesFirst c.args.self.now.text.now (Some c.component_of.result) left.now =
+    TakesFirst-some _ _ _ _ _
     (record { suffix = IsSuffix-from trim.suffix; start = trim.start; same = trim.same }) c.split_first.ensures.piece
     (record { suffix = IsSuffix-from trim'.suffix; start = trim'.start; same = trim'.same })
-    c.component_of.result c.split_first.ensures.joined c.component_of.ensures in
-    record {
-      steps = first;
-      goes = MakesProgress-TakesFirst c.args.self.now (record { text = c.without_leading_slashes-self.result }) _ first;
-    }
+    c.component_of.result c.split_first.ensures.joined some c.component_of.ensures in
+    record { steps = taken; goes = MakesProgress-TakesFirst c.args.self.now (record { text = left }) _ taken }

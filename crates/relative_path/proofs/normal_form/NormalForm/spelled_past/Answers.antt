@@ -1,65 +1,97 @@
-use Rattle.std.proofs.Common.{◌≡◌, [], ap, ◌∙◌, drop, fold, length, replicate, arith}
-use Rattle.std.proofs.lemmas.Result.{IfOk-weaker}
+use Rattle.std.proofs.Common.{[], ap, ◌∙◌, arith, drop, fold, length, map, replicate, string_bytes}
 use Rattle.relative_path.specs.Editing.{with_piece}
-use Rattle.relative_path.specs.Steps.{up, step_text, components, spell}
-use Rattle.relative_path.specs.NormalForm.{climbed, form_names}
+use Rattle.relative_path.specs.NormalForm.{form_names, form_steps}
+use Rattle.relative_path.specs.Spans.{span_text}
+use Rattle.relative_path.specs.Steps.{up, step_text, components}
 use Rattle.relative_path.proofs.StepsLemmas.{components-spell}
-use Rattle.relative_path.proofs.NormalFormLemmas.{AreProper-climbed, AreProper-names_past, length-with_pieces_le, with_pieces-climbed}
+use Rattle.relative_path.proofs.NormalFormLemmas.{AreProper-climbed, AreProper-names_past, AreOrdered-left, IsCutLeft-names, left_count, left_count-names, length-spell, length-spell-left, length-with_pieces_le, with_left-names, with_pieces-climbed}
 use Rattle.relative_path.proofs.normal_form.NormalForm.spelled_past.Goals as goal
+
+pub spelled_len-requires : goal.spelled_len-requires
+spelled_len-requires c =
+    let form = c.args.self.now in
+    let cut = c.names_past.ensures.cut in
+    let names = c.names_past.result.now in
+    let first = c.first_run-next.ensures form.sources cut in
+    let lens = length-spell-left form c.args.climb c.args.skipped names c.first_run-next.result cut
+    c.names_past.ensures.names first in
+    record {
+      ordered = AreOrdered-left form.sources c.first_run-next.result (IsCutLeft-names form.sources names _ first);
+      bound = omega (arith, lens.1, c.requires.short, length-spell (form_steps form));
+    }
 
 pub push_climb-requires : goal.push_climb-requires
 push_climb-requires c =
-    let names = drop c.args.skipped (form_names c.args.self.now) in
+    let form = c.args.self.now in
+    let past = drop c.args.skipped (form_names form) in
     let climbs = replicate c.args.climb (step_text up) in
-    let whole = with_pieces-climbed c.args.climb names (AreProper-names_past c.args.self.now c.args.skipped) in
-    let shorter = length-with_pieces_le (fold with_piece [] climbs) names in
+    let cut = c.names_past.ensures.cut in
+    let lens = length-spell-left form c.args.climb c.args.skipped c.names_past.result.now c.first_run-next.result cut
+    c.names_past.ensures.names (c.first_run-next.ensures form.sources cut) in
+    let whole = with_pieces-climbed c.args.climb past (AreProper-names_past form c.args.skipped) in
+    let shorter = length-with_pieces_le (fold with_piece [] climbs) past in
     let len = rw c.in_ok-len.ensures.ok_part at c.spelled_len.ensures in
-    let room = c.in_ok-buf.ensures.room in
-    rw c.in_ok-buf.ensures.empty (omega (arith, ap length whole))
+    rw c.in_ok-text.ensures.bytes (omega (arith, lens.0, ap length whole, shorter, len, c.in_ok-text.ensures.capacity))
 
-pub push_names-requires-clause-room : goal.push_names-requires-clause-room
-push_names-requires-clause-room c =
-    let names = drop c.args.skipped (form_names c.args.self.now) in
+pub loop-next-init : goal.loop-next-init
+loop-next-init c =
+    let form = c.args.self.now in
+    let names = c.names_past.result.now in
+    let past = drop c.args.skipped (form_names form) in
     let climbs = replicate c.args.climb (step_text up) in
-    let first = c.push_climb.ensures.text ∙ ap (λ text. fold with_piece text climbs) c.in_ok-buf.ensures.empty in
-    let whole = with_pieces-climbed c.args.climb names (AreProper-names_past c.args.self.now c.args.skipped) in
+    let cut = c.names_past.ensures.cut in
+    let first = c.first_run-next.ensures form.sources cut in
+    let lens = length-spell-left form c.args.climb c.args.skipped names c.first_run-next.result cut
+    c.names_past.ensures.names first in
+    let written = c.push_climb.ensures.text ∙ ap (λ text. fold with_piece text climbs) c.in_ok-text.ensures.bytes in
     let len = rw c.in_ok-len.ensures.ok_part at c.spelled_len.ensures in
-    let room = c.in_ok-buf.ensures.room in
-    let kept = c.push_climb.ensures.room in
-    omega (arith, ap (λ text. length (fold with_piece text names)) first, ap length whole)
+    record {
+      text =
+          with_left-names form.sources names c.first_run-next.result (string_bytes c.push_climb.new.text) first
+          ∙ ap (fold with_piece (string_bytes c.push_climb.new.text)) c.names_past.ensures.names
+          ∙ ap (λ text. fold with_piece text past) written
+          ∙ with_pieces-climbed c.args.climb past (AreProper-names_past form c.args.skipped);
+      cut = IsCutLeft-names form.sources names _ first;
+      room = omega (arith, lens.0, len, c.in_ok-text.ensures.capacity, c.push_climb.ensures.room);
+    }
 
--- what was written spells the climbs and the names
-spelled : (c : goal.After-push_names)
-    → c.push_names.new.buf.text ≡ spell (climbed c.args.climb (drop c.args.skipped (form_names c.args.self.now)))
-spelled c =
-    let names = drop c.args.skipped (form_names c.args.self.now) in
-    let climbs = replicate c.args.climb (step_text up) in
-    let first = c.push_climb.ensures.text ∙ ap (λ text. fold with_piece text climbs) c.in_ok-buf.ensures.empty in
-    c.push_names.ensures ∙ ap (λ text. fold with_piece text names) first
-    ∙ with_pieces-climbed c.args.climb names (AreProper-names_past c.args.self.now c.args.skipped)
+pub add_piece-requires : goal.add_piece-requires
+add_piece-requires c =
+    let f = span_text c.args.self.now.sources in
+    let text = string_bytes c.loop-next.text in
+    let left = rw c.in-Some.is at c.loop-next.invariant.text in
+    let shorter = length-with_pieces_le (with_piece text (f c.in-Some.run')) (map f c.in-Some.behind.now) in
+    let piece = ap (λ p. length (with_piece text p)) c.cut.ensures in
+    omega (arith, ap length left, shorter, piece, c.loop-next.invariant.room)
 
-pub returns-clause-text : goal.returns-clause-text
-returns-clause-text c = spelled c
+pub loop-next-preserved : goal.loop-next-preserved
+loop-next-preserved c =
+    let sources = c.args.self.now.sources in
+    let f = span_text sources in
+    let behind = c.in-Some.behind.now in
+    let before = c.loop-next.invariant in
+    let cut = rw c.in-Some.is at before.cut in
+    let first = c.first_run-next-in-Some.ensures sources cut.1 in
+    let written = c.add_piece.ensures.text ∙ ap (with_piece (string_bytes c.loop-next.text)) c.cut.ensures in
+    record {
+      text =
+          with_left-names sources behind c.first_run-next-in-Some.result (string_bytes c.add_piece.new.text) first
+          ∙ ap (λ text. fold with_piece text (map f behind)) written ∙ (rw c.in-Some.is at before.text);
+      cut = IsCutLeft-names sources behind _ first;
+      room = omega (arith, before.room, c.add_piece.ensures.room);
+    }
 
-pub returns-clause-components : goal.returns-clause-components
-returns-clause-components c =
+pub loop-next-smaller : goal.loop-next-smaller
+loop-next-smaller c =
+    let sources = c.args.self.now.sources in
+    let behind = c.in-Some.behind.now in
+    let cut = rw c.in-Some.is at c.loop-next.invariant.cut in
+    let first = c.first_run-next-in-Some.ensures sources cut.1 in
+    let fewer = left_count-names sources behind c.first_run-next-in-Some.result first in
+    omega (arith, fewer, ap left_count c.in-Some.is)
+
+pub returns : goal.returns
+returns c =
+    let text = rw c.in_default.is at c.loop-next.invariant.text in
     let proper = AreProper-climbed c.args.climb _ (AreProper-names_past c.args.self.now c.args.skipped) in
-    ap components (spelled c) ∙ components-spell _ proper
-
--- where the names are one run, it stands behind the climbs
-pub returns-in-Some-clause-text : goal.returns-in-Some-clause-text
-returns-in-Some-clause-text c =
-    let names = drop c.args.skipped (form_names c.args.self.now) in
-    let climbs = fold with_piece [] (replicate c.args.climb (step_text up)) in
-    let whole = ap (with_piece climbs) c.cut.ensures ∙ c.in-Some.ensures.names climbs
-    ∙ with_pieces-climbed c.args.climb names (AreProper-names_past c.args.self.now c.args.skipped) in
-    IfOk-weaker c.spelled_run.result _ (λ buf. buf.text ≡ spell (climbed c.args.climb names))
-    (λ buf written. written ∙ whole) c.spelled_run.ensures
-
-pub returns-in-Some-clause-components : goal.returns-in-Some-clause-components
-returns-in-Some-clause-components c =
-    let names = drop c.args.skipped (form_names c.args.self.now) in
-    let proper = AreProper-climbed c.args.climb names (AreProper-names_past c.args.self.now c.args.skipped) in
-    IfOk-weaker c.spelled_run.result _ (λ buf. components buf.text ≡ climbed c.args.climb names)
-    (λ buf spelled. ap components spelled ∙ components-spell (climbed c.args.climb names) proper)
-    (returns-in-Some-clause-text c)
+    record { text = text; components = ap components text ∙ components-spell _ proper }

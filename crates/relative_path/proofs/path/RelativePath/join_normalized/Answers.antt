@@ -1,25 +1,14 @@
-use Rattle.std.proofs.lemmas.Result.{IfOk-weaker}
+use Rattle.std.proofs.Common.{◌∙◌}
 use Rattle.relative_path.proofs.NormalFormLemmas.{IsNormalTextOf-spell}
 use Rattle.relative_path.proofs.WalkLemmas.{LeadsBelow-in_turn, LeadsInTurn-same}
 use Rattle.relative_path.proofs.path.RelativePath.join_normalized.Goals as goal
 
 pub returns-clause-normal_form : goal.returns-clause-normal_form
 returns-clause-normal_form c =
-    let form = c.in_ok-of_both.ensures in
-    IfOk-weaker c.spelled.result _ _
-    (λ normal spelled. IsNormalTextOf-spell _ _ normal.text form spelled) c.spelled.ensures
+    IsNormalTextOf-spell _ _ c.into.result.text c.in_ok-form.ensures.normal_form (c.into.ensures.0 ∙ c.in_ok-spelled.ensures)
 
 pub returns-clause-in_turn : goal.returns-clause-in_turn
-returns-clause-in_turn c =
-    let form = c.in_ok-of_both.ensures in
-    IfOk-weaker c.spelled.result _ _
-    (λ normal spelled. LeadsInTurn-same _ _ _ (IsNormalTextOf-spell _ _ normal.text form spelled).same)
-    c.spelled.ensures
+returns-clause-in_turn c = LeadsInTurn-same _ _ _ (returns-clause-normal_form c).same
 
 pub returns-clause-below : goal.returns-clause-below
-returns-clause-below c =
-    let form = c.in_ok-of_both.ensures in
-    IfOk-weaker c.spelled.result _ _
-    (λ normal spelled. λ place is. LeadsBelow-in_turn _ _ _ place
-    (LeadsInTurn-same _ _ _ (IsNormalTextOf-spell _ _ normal.text form spelled).same) is)
-    c.spelled.ensures
+returns-clause-below c = λ place is. LeadsBelow-in_turn _ _ _ place (returns-clause-in_turn c) is

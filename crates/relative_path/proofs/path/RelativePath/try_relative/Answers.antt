@@ -1,4 +1,5 @@
-use Rattle.std.proofs.Common.{refl, true≢false}
+use Rattle.std.proofs.Common.{ap, ◌∙◌, refl, true≢false}
+use Rattle.relative_path.specs.Steps.{components}
 use Rattle.relative_path.proofs.WalkLemmas.{IsSame-sym}
 use Rattle.relative_path.proofs.RelatingLemmas.{IsReachable-same, IsShortest-same, IsShortestText-spelled}
 use Rattle.relative_path.proofs.path.RelativePath.try_relative.Goals as goal
@@ -23,5 +24,6 @@ returns-clause-shortest c =
     let from = IsSame-sym _ _ c.in_ok-from.ensures.normal_form.same in
     let to = IsSame-sym _ _ c.in_ok-to.ensures.normal_form.same in
     let shortest = IsShortest-same _ _ _ _ _ from to c.in-Some.ensures.shortest in
-    let spelled = c.in_ok-spelled_past.ensures in
-    IsShortestText-spelled _ _ _ _ spelled.components spelled.text shortest
+    let text = c.into.ensures.0 in
+    let spelled = c.in_ok-text.ensures in
+    IsShortestText-spelled _ _ _ _ (ap components text ∙ spelled.components) (text ∙ spelled.text) shortest

@@ -1,6 +1,0 @@
-use Rattle.std.proofs.Common.{◌≢◌, ◌+◌, ℕ, ◌≤◌, ◌<◌, slice_index}
-use Rattle.relative_path.specs.Steps.{slash}
-use Rattle.relative_path.proofs.spans.piece_end.Given as goal
-
-abbrev pub invariant-loop-len : goal.invariant-loop-len
-invariant-loop-len l = (k : ℕ) → l.start ≤ k → k < l.start + l.len → slice_index l.bytes k ≢ slash
