@@ -1,5 +1,5 @@
 -- Where the components of a text begin.
-use Rattle.std.proofs.Common.{◌≡◌, ℕ, ◌+◌, ◌≤◌, true, false, List, [], ◌∷◌, filter, length, refl, sym, ap, ◌∙◌, ⊎_elim, arith}
+use Rattle.std.proofs.Common.{◌≡◌, ℕ, ◌+◌, true, false, List, [], ◌∷◌, filter, length, refl, sym, ap, ◌∙◌, ⊎_elim, arith}
 use Rattle.std.specs.List.{slice_split, onto_first}
 use Rattle.std.proofs.lemmas.Bool.{cond-true, cond-false, cases_Bool}
 use Rattle.std.proofs.lemmas.List.{length-map}
@@ -46,22 +46,3 @@ begun-split (b ∷ bs) =
 pub begun-components : (bs : List ℕ) → begun true bs ≡ length (components bs)
 unfolding components pieces
 begun-components bs = (begun-split bs).0 ∙ sym (length-map (pieces bs) classed)
-
--- behind each component stands a slash, or nothing
-begun_le : (bs : List ℕ) → (begun true bs + begun true bs ≤ length bs + 1) × (begun false bs + begun false bs ≤ length bs)
-begun_le [] = (omega arith, omega arith)
-begun_le (b ∷ bs) =
-    let more = begun_le bs in
-    ⊎_elim
-    (λ e.
-    let slashed = cond-true (is_slash b) (begun true bs) (1 + begun false bs) e in
-    let behind = cond-true (is_slash b) (begun true bs) (begun false bs) e in
-    (omega (arith, slashed, more.0), omega (arith, behind, more.0)))
-    (λ e.
-    let solid = cond-false (is_slash b) (begun true bs) (1 + begun false bs) e in
-    let behind = cond-false (is_slash b) (begun true bs) (begun false bs) e in
-    (omega (arith, solid, more.1), omega (arith, behind, more.1)))
-    (cases_Bool (is_slash b))
-
-pub components_le : (text : List ℕ) → length (components text) + length (components text) ≤ length text + 1
-components_le text = omega (arith, begun-components text, (begun_le text).0)

@@ -8,7 +8,7 @@ use Rattle.std.proofs.lemmas.Bool.{cond-true}
 use Rattle.relative_path.specs.Steps.{Step, cur, up, name, slash, components}
 use Rattle.relative_path.specs.Comparing.{step_eq}
 use Rattle.relative_path.specs.ComparingLaws.{step_eq-Decides}
-use Rattle.relative_path.specs.Editing.{is_cur, without_curs}
+use Rattle.relative_path.specs.Editing.{is_cur}
 use Rattle.relative_path.specs.Components.{step_of, TakesLast}
 use Rattle.relative_path.specs.Slices.{IsShortestPrefix}
 use Rattle.relative_path.specs.declared.component.Component.{Component}
@@ -52,12 +52,6 @@ counted-append false (c ∷ cs) ds = ap (λ x. c ∷ x) (filter-append (λ c. no
 counted_one : (rooted : Bool) (c : Step) → is_cur c ≡ false → counted rooted (c ∷ []) ≡ c ∷ []
 counted_one true c other = cond-true (not (is_cur c)) (c ∷ []) [] (ap not other)
 counted_one false c other = refl
-
--- what counts behind the first component, if that counts
-pub counted-first : (rooted : Bool) (c : Step) (cs : List Step) → (rooted ≡ true → is_cur c ≡ false)
-    → counted rooted (c ∷ cs) ≡ c ∷ without_curs cs
-counted-first true c cs other = cond-true (not (is_cur c)) (c ∷ without_curs cs) (without_curs cs) (ap not (other refl))
-counted-first false c cs other = refl
 
 -- ---- the end of a text
 
