@@ -2,13 +2,23 @@
 
 import pathlib
 import re
+import signal
 import subprocess
+import sys
 
 ROOT = pathlib.Path(__file__).resolve().parent.parent
 CRATES = ROOT / "crates"
 
 COMMENT_OR_STRING = re.compile(r"//[^\n]*|\"(?:\\.|[^\"\\])*\"")
 QUOTED = re.compile(r"\"(?:\\.|[^\"\\])*\"|'(?:\\.|[^'\\])'")
+
+
+def end(number, _frame):
+    """Ends the script as an error would, so that its temporary folders go too."""
+    sys.exit(128 + number)
+
+
+signal.signal(signal.SIGTERM, end)
 
 
 class Tally:
