@@ -43,11 +43,16 @@ class Tally:
 
 
 def ran(words, folder=ROOT):
-    """A command that was run in a folder, without input, and all that it printed in `stdout`."""
-    return subprocess.run(
-        words, cwd=folder, stdin=subprocess.DEVNULL, stdout=subprocess.PIPE, stderr=subprocess.STDOUT,
-        text=True, errors="replace", check=False,
-    )
+    """A command that was run in a folder, without input, and all that it printed in `stdout`. Where the
+    script has to end, the command is told so, and waited for."""
+    streams = {"stdin": subprocess.DEVNULL, "stdout": subprocess.PIPE, "stderr": subprocess.STDOUT}
+    with subprocess.Popen(words, cwd=folder, text=True, errors="replace", **streams) as process:
+        try:
+            said, _ = process.communicate()
+        except BaseException:
+            process.terminate()
+            raise
+    return subprocess.CompletedProcess(words, process.returncode, said)
 
 
 def crates():
