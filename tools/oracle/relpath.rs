@@ -1,0 +1,78 @@
+//! The program `relpath` as ordinary Rust over the crate. The commands that the crate has no call for
+//! are unknown to it, and it never answers that memory was refused: Rust ends it there.
+
+use relative_path::{PathExt, RelativePath, RelativePathBuf};
+use std::borrow::Cow;
+use std::io::{self, Read, Write};
+use std::path::Path;
+
+const MAX_INPUT: usize = 65_536;
+
+/// Why a run ends without an answer.
+#[derive(Debug)]
+pub enum Fault {
+    Read,
+    InputTooLong,
+    NotText,
+    Write,
+}
+
+/// Answers standard input, line by line, once all of it was read.
+pub fn run() -> Result<(), Fault> {
+    let input = read_input(io::stdin().lock())?;
+    let text = std::str::from_utf8(&input).map_err(|_| Fault::NotText)?;
+    let mut answers = String::new();
+    for line in text.split_terminator('\n') {
+        add_answer(line, &mut answers);
+    }
+    let mut output = io::stdout().lock();
+    output
+        .write_all(answers.as_bytes())
+        .and_then(|()| output.flush())
+        .map_err(|_| Fault::Write)
+}
+
+fn read_input(input: impl Read) -> Result<Vec<u8>, Fault> {
+    let mut bytes = Vec::with_capacity(MAX_INPUT + 1);
+    input
+        .take(MAX_INPUT as u64 + 1)
+        .read_to_end(&mut bytes)
+        .map_err(|_| Fault::Read)?;
+    if bytes.len() > MAX_INPUT {
+        Err(Fault::InputTooLong)
+    } else {
+        Ok(bytes)
+    }
+}
+
+fn add_answer(line: &str, answers: &mut String) {
+    match answer(line) {
+        Ok(path) => {
+            answers.push_str("= ");
+            answers.push_str(path.as_str());
+        }
+        Err(words) => {
+            answers.push_str("! ");
+            answers.push_str(&words);
+        }
+    }
+    answers.push('\n');
+}
+
+fn answer(line: &str) -> Result<RelativePathBuf, Cow<'static, str>> {
+    let mut fields = line.split('\t');
+    let command = fields.next().unwrap_or("");
+    let arguments = [fields.next(), fields.next(), fields.next()];
+    match (command, arguments) {
+        ("normalize", [Some(p), None, _]) => Ok(RelativePath::new(p).normalize()),
+        ("join", [Some(p), Some(q), None]) => Ok(RelativePath::new(p).join(q)),
+        ("relative", [Some(p), Some(q), None]) => Ok(RelativePath::new(p).relative(q)),
+        ("relative_to", [Some(p), Some(root), None]) => Path::new(p)
+            .relative_to(root)
+            .map_err(|error| error.to_string().into()),
+        ("normalize" | "join" | "relative" | "relative_to", _) => {
+            Err("wrong number of fields".into())
+        }
+        _ => Err("unknown command".into()),
+    }
+}
