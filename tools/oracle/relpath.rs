@@ -32,17 +32,20 @@ pub fn run() -> Result<(), Fault> {
         .map_err(|_| Fault::Write)
 }
 
-fn read_input(input: impl Read) -> Result<Vec<u8>, Fault> {
-    let mut bytes = Vec::with_capacity(MAX_INPUT + 1);
-    input
-        .take(MAX_INPUT as u64 + 1)
-        .read_to_end(&mut bytes)
-        .map_err(|_| Fault::Read)?;
-    if bytes.len() > MAX_INPUT {
-        Err(Fault::InputTooLong)
-    } else {
-        Ok(bytes)
+fn read_input(mut input: impl Read) -> Result<Vec<u8>, Fault> {
+    let mut bytes = vec![0; MAX_INPUT + 1];
+    let mut len = 0;
+    while len <= MAX_INPUT {
+        match input.read(&mut bytes[len..]) {
+            Ok(0) => {
+                bytes.truncate(len);
+                return Ok(bytes);
+            }
+            Ok(taken) => len += taken,
+            Err(_) => return Err(Fault::Read),
+        }
     }
+    Err(Fault::InputTooLong)
 }
 
 fn add_answer(line: &str, answers: &mut String) {
