@@ -49,33 +49,29 @@ fn read_input(mut input: impl Read) -> Result<Vec<u8>, Fault> {
 }
 
 fn add_answer(line: &str, answers: &mut String) {
-    match answer(line) {
-        Ok(path) => {
-            answers.push_str("= ");
-            answers.push_str(path.as_str());
-        }
-        Err(words) => {
-            answers.push_str("! ");
-            answers.push_str(&words);
-        }
+    let (mark, text) = match answer(line) {
+        Ok(path) => ("= ", Cow::Owned(path.into_string())),
+        Err(words) => ("! ", words),
+    };
+    for part in [mark, &text, "\n"] {
+        answers.push_str(part);
     }
-    answers.push('\n');
 }
 
 fn answer(line: &str) -> Result<RelativePathBuf, Cow<'static, str>> {
     let mut fields = line.split('\t');
-    let command = fields.next().unwrap_or("");
-    let arguments = [fields.next(), fields.next(), fields.next()];
-    match (command, arguments) {
-        ("normalize", [Some(p), None, _]) => Ok(RelativePath::new(p).normalize()),
-        ("join", [Some(p), Some(q), None]) => Ok(RelativePath::new(p).join(q)),
-        ("relative", [Some(p), Some(q), None]) => Ok(RelativePath::new(p).relative(q)),
-        ("relative_to", [Some(p), Some(root), None]) => Path::new(p)
-            .relative_to(root)
-            .map_err(|error| error.to_string().into()),
-        ("normalize" | "join" | "relative" | "relative_to", _) => {
-            Err("wrong number of fields".into())
+    let command = fields.next().unwrap_or_default();
+    match (command, fields.next(), fields.next(), fields.next()) {
+        ("normalize", Some(path), None, _) => Ok(RelativePath::new(path).normalize()),
+        ("join", Some(path), Some(other), None) => Ok(RelativePath::new(path).join(other)),
+        ("relative", Some(from), Some(to), None) => Ok(RelativePath::new(from).relative(to)),
+        ("relative_to", Some(path), Some(root), None) => {
+            let way = Path::new(path).relative_to(root);
+            way.map_err(|error| Cow::Owned(error.to_string()))
         }
-        _ => Err("unknown command".into()),
+        ("normalize" | "join" | "relative" | "relative_to", ..) => {
+            Err(Cow::Borrowed("wrong number of fields"))
+        }
+        _ => Err(Cow::Borrowed("unknown command")),
     }
 }
