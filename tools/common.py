@@ -13,12 +13,12 @@ COMMENT_OR_STRING = re.compile(r"//[^\n]*|\"(?:\\.|[^\"\\])*\"")
 QUOTED = re.compile(r"\"(?:\\.|[^\"\\])*\"|'(?:\\.|[^'\\])'")
 
 
-def end(number, _frame):
+def leave(number, _frame):
     """Ends the script as an error would, so that its temporary folders go too."""
     sys.exit(128 + number)
 
 
-signal.signal(signal.SIGTERM, end)
+signal.signal(signal.SIGTERM, leave)
 
 
 class Tally:
