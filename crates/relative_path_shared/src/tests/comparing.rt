@@ -50,7 +50,7 @@ fn compares_by_components(rt: HostRuntime) -> Result<(), Fail> {
     Ok(())
 }
 
-// A hasher that shows its last writes, up to eight bytes: a `|` ends each.
+// A hasher that shows its last writes, in eight bytes: a `|`, which is 124, ends each.
 #[derive(Drop)]
 struct Writes(u64);
 
