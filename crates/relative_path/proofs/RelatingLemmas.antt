@@ -370,6 +370,13 @@ reachable_climbed ups more ms ns = (
       (onward, subst (λ k. Leads (climbed ups ms) onward (climbed k ns)) climbs leads),
 )
 
+pub IsShortestText-same : (f g t u : List Step) (text : List ℕ) → IsSame g f → IsSame u t → IsShortestText f t text
+    → IsShortestText g u text
+IsShortestText-same f g t u text from to h = record {
+  spelled = h.spelled;
+  shortest = IsShortest-same f g (components text) t u (IsSame-sym g f from) (IsSame-sym u t to) h.shortest;
+}
+
 pub IsReachable-climb : (f t fs ts : List Step) → IsNormalForm f fs → IsNormalForm t ts
     → IsReachable f t ↔ (climb fs ≤ climb ts)
 IsReachable-climb f t fs ts from to =

@@ -477,7 +477,8 @@ impl<'a> RelativePath<'a> {
     }
 
     /// The shortest path that leads from where this path leads to where `to` leads, whatever base
-    /// both start from.
+    /// both start from. From or to a normal text it is the
+    /// shortest from or to the path too.
     ///
     /// The answer is empty where both lead to the same, and also where no path leads from here to
     /// there, as from `..` to `a`: [`RelativePath::try_relative`] tells these apart.
@@ -499,6 +500,12 @@ impl<'a> RelativePath<'a> {
         ensures shortest { IfOk result
             (λ way. IsReachable (path_components self.entry) (path_components to.entry)
             → IsShortestText (path_components self.entry) (path_components to.entry) way.text) }
+        ensures shortest_from { IfOk result (λ way. (from : List Step)
+            → IsNormalTextOf from (path_text self.entry) → IsReachable from (path_components to.entry)
+            → IsShortestText from (path_components to.entry) way.text) }
+        ensures shortest_to { IfOk result (λ way. (target : List Step)
+            → IsNormalTextOf target (path_text to.entry) → IsReachable (path_components self.entry) target
+            → IsShortestText (path_components self.entry) target way.text) }
         ensures unreachable { IfOk result
             (λ way. ¬ IsReachable (path_components self.entry) (path_components to.entry)
             → way.text ≡ []) }
@@ -538,6 +545,12 @@ impl<'a> RelativePath<'a> {
         ensures shortest { IfOk result
             (λ found. IfSome found
             (λ way. IsShortestText (path_components self.entry) (path_components to.entry) way.text)) }
+        ensures shortest_from { IfOk result (λ found. IfSome found (λ way. (from : List Step)
+            → IsNormalTextOf from (path_text self.entry)
+            → IsShortestText from (path_components to.entry) way.text)) }
+        ensures shortest_to { IfOk result (λ found. IfSome found (λ way. (target : List Step)
+            → IsNormalTextOf target (path_text to.entry)
+            → IsShortestText (path_components self.entry) target way.text)) }
     {
         let from = NormalForm::of(alloc, self.text)?;
         let to = NormalForm::of(alloc, to.text)?;

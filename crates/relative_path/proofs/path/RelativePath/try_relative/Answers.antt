@@ -1,7 +1,8 @@
 use Rattle.std.proofs.Common.{ap, ◌∙◌, refl, true≢false}
+use Rattle.relative_path.specs.RelativePath.{path_components}
 use Rattle.relative_path.specs.Steps.{components}
-use Rattle.relative_path.proofs.WalkLemmas.{IsSame-sym}
-use Rattle.relative_path.proofs.RelatingLemmas.{IsReachable-same, IsShortest-same, IsShortestText-spelled}
+use Rattle.relative_path.proofs.WalkLemmas.{IsSame-refl, IsSame-sym}
+use Rattle.relative_path.proofs.RelatingLemmas.{IsReachable-same, IsShortest-same, IsShortestText-same, IsShortestText-spelled}
 use Rattle.relative_path.proofs.path.RelativePath.try_relative.Goals as goal
 
 pub returns-in_default-clause-none : goal.returns-in_default-clause-none
@@ -27,3 +28,13 @@ returns-clause-shortest c =
     let text = c.into.ensures.0 in
     let spelled = c.in_ok-text.ensures in
     IsShortestText-spelled _ _ _ _ (ap components text ∙ spelled.components) (text ∙ spelled.text) shortest
+
+pub returns-clause-shortest_from : goal.returns-clause-shortest_from
+returns-clause-shortest_from c = λ from normal.
+    let to = path_components c.args.to in
+    IsShortestText-same (path_components c.args.self) from to to _ normal.same (IsSame-refl to) (returns-clause-shortest c)
+
+pub returns-clause-shortest_to : goal.returns-clause-shortest_to
+returns-clause-shortest_to c = λ target normal.
+    let from = path_components c.args.self in
+    IsShortestText-same from from (path_components c.args.to) target _ (IsSame-refl from) normal.same (returns-clause-shortest c)
