@@ -4,7 +4,7 @@ use Rattle.std.specs.List.{AllByRecursion}
 use Rattle.std.specs.Option.{is_some, option_to_list}
 use Rattle.std.proofs.lemmas.List.Elements.{recursion_from_All, All-from_recursion, All-drop, All-head, All-tail, All-weaker}
 use Rattle.std.proofs.lemmas.List.Sums.{fold-append}
-use Rattle.std.proofs.lemmas.List.{map_push}
+use Rattle.std.proofs.lemmas.List.{nil_from_length, map_push}
 use Rattle.relative_path.specs.Steps.{Step, cur, up, name, slash, step_text, components, spell}
 use Rattle.relative_path.specs.Editing.{with_piece}
 use Rattle.relative_path.specs.Walk.{IsSame}
@@ -14,7 +14,7 @@ use Rattle.relative_path.specs.declared.spans.Sources.{Sources}
 use Rattle.relative_path.specs.declared.spans.Span.{Span}
 use Rattle.relative_path.specs.Spans.{span_text, spans_len, rest_len, IsOrdered, IsRun, CutsName, IsFirstRun}
 use Rattle.relative_path.specs.NormalForm.{climbed, form_names, form_steps, padded_len, Reduces, IsNormalFormOf}
-use Rattle.relative_path.proofs.StepsLemmas.{IsProper, IsProper-up, AreProper, components-spell, nonempty_proper}
+use Rattle.relative_path.proofs.StepsLemmas.{IsProper, IsProper-up, AreProper, components-spell, nonempty_proper, components-nil}
 use Rattle.relative_path.proofs.NormalStepsLemmas.{normal_unique}
 use Rattle.relative_path.proofs.SpansLemmas.{through, span_text-through, IsRun-through, length-run}
 use Rattle.relative_path.proofs.WalkLemmas.{IsSame-refl, IsSame-sym, IsSame-trans, IsSame-append_right, IsSame-cur, IsSame-name_up}
@@ -128,6 +128,13 @@ IsNormalFormOf-Reduces cs climb names reduces proper = record {
   of_text = components-spell (climbed climb names) (AreProper-climbed climb names proper);
   no_longer = let shorter = reduces.no_longer in omega (arith, length-spell cs, length-spell (climbed climb names));
 }
+
+-- the normal form of no component has none
+pub IsNormalFormOf-nil : (cs ds : List Step) → cs ≡ [] → IsNormalFormOf cs ds → ds ≡ []
+IsNormalFormOf-nil cs ds none form =
+    let shorter = form.no_longer in
+    let empty = nil_from_length (spell ds) (omega (arith, shorter, ap (λ es. length (spell es)) none)) in
+    sym form.of_text ∙ ap components empty ∙ components-nil
 
 -- the names of a table are proper
 AreProper-cut : (sources : Sources) (spans : List Span) → AllByRecursion (CutsName sources) spans

@@ -1,5 +1,5 @@
 //! Normal forms as a count of climbs and a table of names, each a span of a text, for `normalize` and what stands on it.
-ghost use Rattle.std.specs.Prelude.{◌≡◌, ◌+◌, ◌-◌, ◌*◌, ◌≤◌, ◌<◌, ◌^◌, ◌++◌, [], ◌∷◌, drop, length, map, slice_index_or, string_bytes, IfOk, IfSome, MatchOption};
+ghost use Rattle.std.specs.Prelude.{◌≡◌, ◌+◌, ◌-◌, ◌*◌, ◌≤◌, ◌<◌, ◌^◌, ◌++◌, [], ◌∷◌, drop, length, map, slice_index_or, string_bytes, IfOk, IfSome, IsOk, MatchOption};
 ghost use Rattle.std.specs.List.{All, common_prefix_len};
 ghost use Rattle.std.specs.Str.{bytes_eq};
 ghost use Rattle.relative_path.specs.Components.{step_of};
@@ -34,6 +34,7 @@ impl<'a> NormalForm<'a> {
             (λ form. IsNormalFormOf (components text.now) (form_steps form)) }
         ensures few { IfOk result (λ form. form_len form < 2 ^ 63) }
         ensures short { IfOk result (λ form. length (spell (form_steps form)) < 2 ^ 64) }
+        ensures succeeds { components text.now ≡ [] → IsOk result }
     {
         let sources = Sources {
             first: text,
@@ -52,6 +53,7 @@ impl<'a> NormalForm<'a> {
         ensures normal_form { IfOk result (λ form. IsNormalFormOf
             (components text.now ++ components other.now) (form_steps form)) }
         ensures short { IfOk result (λ form. length (spell (form_steps form)) < 2 ^ 64) }
+        ensures succeeds { components text.now ++ components other.now ≡ [] → IsOk result }
     {
         let sources = Sources {
             first: text,
@@ -100,7 +102,8 @@ impl<'a> NormalForm<'a> {
     // The text that spells the form. It asks for memory once, for just this text.
     pub(crate) fn spelled(&self, alloc: Global) -> Result<String, AllocError>
         requires { length (spell (form_steps self.now)) < 2 ^ 64 }
-        ensures { IfOk result (λ text. string_bytes text ≡ spell (form_steps self.now)) }
+        ensures text { IfOk result (λ text. string_bytes text ≡ spell (form_steps self.now)) }
+        ensures succeeds { form_steps self.now ≡ [] → IsOk result }
     {
         self.spelled_past(alloc, self.climb, 0)
     }
@@ -119,6 +122,7 @@ impl<'a> NormalForm<'a> {
             (λ text. string_bytes text ≡ spell (climbed climb (drop skipped (form_names self.now)))) }
         ensures components { IfOk result (λ text. components (string_bytes text)
             ≡ climbed climb (drop skipped (form_names self.now))) }
+        ensures succeeds { climbed climb (drop skipped (form_names self.now)) ≡ [] → IsOk result }
     {
         let mut next = first_run(self.names_past(skipped));
         let len = spelled_len(climb, next).ok_or(AllocError)?;
@@ -151,6 +155,7 @@ impl<'a> NormalForm<'a> {
         ensures len { IfOk result (λ form. form_len form ≡ 0) }
         ensures room { IfOk result (λ form. room ≤ form_room form) }
         ensures sources { IfOk result (λ form. form_sources form ≡ sources.entry) }
+        ensures succeeds { room ≡ 0 → IsOk result }
     {
         Ok(NormalForm {
             sources,

@@ -427,6 +427,8 @@ impl<'a> RelativePath<'a> {
         ensures below { IfOk result (λ normal. (place : List (List ℕ))
             → walk [] (path_components path.entry) ≡ Some place
             → LeadsBelow (path_components self.entry) place (components normal.text)) }
+        ensures succeeds { path_components self.entry ++ path_components path.entry ≡ []
+            → IsOk result }
     {
         let form = NormalForm::of_both(alloc, self.text, path.text)?;
         Ok(form.spelled(alloc)?.into())
@@ -450,6 +452,7 @@ impl<'a> RelativePath<'a> {
             (λ normal. length normal.text ≤ length (path_text self.entry)) }
         ensures normal_stays { IfOk result (λ normal. IsNormal (path_components self.entry)
             → components normal.text ≡ path_components self.entry) }
+        ensures succeeds { path_components self.entry ≡ [] → IsOk result }
     {
         let form = NormalForm::of(alloc, self.text)?;
         Ok(form.spelled(alloc)?.into())

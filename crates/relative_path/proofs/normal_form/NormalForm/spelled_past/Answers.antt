@@ -1,8 +1,8 @@
-use Rattle.std.proofs.Common.{[], ap, ◌∙◌, arith, drop, fold, length, map, replicate, string_bytes}
+use Rattle.std.proofs.Common.{rules, [], ap, ◌∙◌, arith, drop, fold, length, map, replicate, string_bytes}
 use Rattle.relative_path.specs.Editing.{with_piece}
 use Rattle.relative_path.specs.NormalForm.{form_names, form_steps}
 use Rattle.relative_path.specs.Spans.{span_text}
-use Rattle.relative_path.specs.Steps.{up, step_text, components}
+use Rattle.relative_path.specs.Steps.{up, step_text, components, spell}
 use Rattle.relative_path.proofs.StepsLemmas.{components-spell}
 use Rattle.relative_path.proofs.NormalFormLemmas.{AreProper-climbed, AreProper-names_past, AreOrdered-left, IsCutLeft-names, left_count, left_count-names, length-spell, length-spell-left, length-with_pieces_le, with_left-names, with_pieces-climbed}
 use Rattle.relative_path.proofs.normal_form.NormalForm.spelled_past.Goals as goal
@@ -90,8 +90,30 @@ loop-next-smaller c =
     let fewer = left_count-names sources behind c.first_run-next-in-Some.result first in
     omega (arith, fewer, ap left_count c.in-Some.is)
 
-pub returns : goal.returns
-returns c =
-    let text = rw c.in_default.is at c.loop-next.invariant.text in
+pub returns-clause-text : goal.returns-clause-text
+returns-clause-text c = rw c.in_default.is at c.loop-next.invariant.text
+
+pub returns-clause-components : goal.returns-clause-components
+returns-clause-components c =
     let proper = AreProper-climbed c.args.climb _ (AreProper-names_past c.args.self.now c.args.skipped) in
-    record { text = text; components = ap components text ∙ components-spell _ proper }
+    ap components (returns-clause-text c) ∙ components-spell _ proper
+
+-- a text of nothing has no byte
+pub returns-in_err-len-clause-succeeds : goal.returns-in_err-len-clause-succeeds
+returns-in_err-len-clause-succeeds c = λ none.
+    let form = c.args.self.now in
+    let cut = c.names_past.ensures.cut in
+    let lens = length-spell-left form c.args.climb c.args.skipped c.names_past.result.now c.first_run-next.result cut
+    c.names_past.ensures.names (c.first_run-next.ensures form.sources cut) in
+    let large = rw c.in_err-len.ensures.ok_part at c.spelled_len.ensures in
+    absurd (omega (arith, lens.0, ap (λ cs. length (spell cs)) none, large))
+
+pub returns-in_err-text-clause-succeeds : goal.returns-in_err-text-clause-succeeds
+returns-in_err-text-clause-succeeds c = λ none.
+    let form = c.args.self.now in
+    let cut = c.names_past.ensures.cut in
+    let lens = length-spell-left form c.args.climb c.args.skipped c.names_past.result.now c.first_run-next.result cut
+    c.names_past.ensures.names (c.first_run-next.ensures form.sources cut) in
+    let len = rw c.in_ok-len.ensures.ok_part at c.spelled_len.ensures in
+    let ok = c.in_err-text.ensures.succeeds (omega (arith, lens.0, ap (λ cs. length (spell cs)) none, len)) in
+    search rules

@@ -1,14 +1,19 @@
-use Rattle.std.proofs.Common.{◌∙◌}
-use Rattle.relative_path.proofs.NormalFormLemmas.{IsNormalTextOf-spell}
+use Rattle.std.proofs.Common.{rules, ◌∙◌}
+use Rattle.relative_path.proofs.NormalFormLemmas.{IsNormalFormOf-nil, IsNormalTextOf-spell}
 use Rattle.relative_path.proofs.WalkLemmas.{LeadsBelow-in_turn, LeadsInTurn-same}
 use Rattle.relative_path.proofs.path.RelativePath.join_normalized.Goals as goal
 
 pub returns-clause-normal_form : goal.returns-clause-normal_form
 returns-clause-normal_form c =
-    IsNormalTextOf-spell _ _ c.into.result.text c.in_ok-form.ensures.normal_form (c.into.ensures.0 ∙ c.in_ok-spelled.ensures)
+    IsNormalTextOf-spell _ _ c.into.result.text c.in_ok-form.ensures.normal_form (c.into.ensures.0 ∙ c.in_ok-spelled.ensures.text)
 
 pub returns-clause-in_turn : goal.returns-clause-in_turn
 returns-clause-in_turn c = LeadsInTurn-same _ _ _ (returns-clause-normal_form c).same
 
 pub returns-clause-below : goal.returns-clause-below
 returns-clause-below c = λ place is. LeadsBelow-in_turn _ _ _ place (returns-clause-in_turn c) is
+
+pub returns-in_err-spelled-clause-succeeds : goal.returns-in_err-spelled-clause-succeeds
+returns-in_err-spelled-clause-succeeds c = λ none.
+    let ok = c.in_err-spelled.ensures.succeeds (IsNormalFormOf-nil _ _ none c.in_ok-form.ensures.normal_form) in
+    search rules
