@@ -1,4 +1,14 @@
 //! Portable relative paths: a text cut at `/` on every platform, which names a place only beside a base.
+//!
+//! Each module uses those below it, and of its own layer those that stand before it; `path`, `buf`
+//! and `unix` know each other.
+//!
+//! ```text
+//! what callers see      from_path_error  relative_to_error    path  buf  unix
+//! computed from them    naming  prefixing  normal_form  relating  unix_components  unix_texts
+//! components            component
+//! texts                 slashes  counting  editing  climbs  spans
+//! ```
 #![tactic(auto)]
 
 pub use self::buf::RelativePathBuf;

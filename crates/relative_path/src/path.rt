@@ -79,9 +79,9 @@ impl<'a> RelativePath<'a> {
     /// assert_eq!(rt; path.as_str(), "./foo//bar");
     /// ```
     pub fn from_path(path: Path<'a>) -> Result<RelativePath<'a>, FromPathError>
-        ensures refused { IsErr result ↔ IsTrue (has_root (path_bytes path.entry)) }
+        ensures relative { IsErr result ↔ IsTrue (has_root (path_bytes path.entry)) }
+        ensures ok { IfOk result (λ view. path_text view ≡ path_bytes path.entry) }
         ensures kind { IfErr result (λ error. from_path_kind error ≡ NonRelative) }
-        ensures text { IfOk result (λ view. path_text view ≡ path_bytes path.entry) }
     {
         unix::view(path.as_str())
     }

@@ -57,9 +57,9 @@ pub fn parent_text(text: &str) -> &str
 /// assert_eq!(rt; unix::view("./foo//bar")?.as_str(), "./foo//bar");
 /// ```
 pub fn view(text: &str) -> Result<RelativePath<'_>, FromPathError>
-    ensures refused { IsErr result ↔ IsTrue (has_root text.now) }
+    ensures relative { IsErr result ↔ IsTrue (has_root text.now) }
+    ensures ok { IfOk result (λ path. path_text path ≡ text.now) }
     ensures kind { IfErr result (λ error. from_path_kind error ≡ from_path_kinds.NonRelative) }
-    ensures text { IfOk result (λ path. path_text path ≡ text.now) }
 {
     if has_root(text) {
         return Err(FromPathErrorKind::NonRelative.into());
