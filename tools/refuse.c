@@ -2,8 +2,11 @@
  *
  * REFUSE is N, for request number N alone, or N.., for that and all behind it. REFUSE_MARKED is
  * set for a test: then the requests between its marks are counted, else those of the whole program.
- * For each one a character goes to the file descriptor REFUSE_TELLS: `.` if it was granted and `x` if
- * it was refused; for the mark behind a call `!` if that was refused memory, and `=` if it was not.
+ *
+ * To the file descriptor REFUSE_TELLS it writes a character and the number of bytes for each
+ * request: `.24` if 24 bytes were granted, `x24` if they were refused. For the mark behind a call,
+ * and at the end of a whole program, it writes `!` if the call was refused memory and else `=`, and
+ * how many blocks more are held than at the beginning: `=1` of a call that answers a text.
  *
  * It includes no header, so that the toolchain's compiler builds it on a machine without any. */
 
@@ -11,6 +14,7 @@ typedef unsigned long size;
 
 extern void *__libc_malloc(size);
 extern void *__libc_realloc(void *, size);
+extern void __libc_free(void *);
 extern char *getenv(const char *);
 extern long write(int, const void *, size);
 
@@ -22,8 +26,18 @@ static unsigned long refused; /* the number of the first request that is refused
 static int and_on;            /* whether those behind it are refused too */
 static int counts;            /* whether requests are counted now */
 static unsigned long seen;    /* how many were counted */
+static long held;             /* how many blocks more are held than at the beginning */
 
-static void tell(char what) { (void)!write(to, &what, 1); }
+static void tell(char what, long number) {
+  char text[24], *at = text + sizeof text;
+  int is_negative = number < 0;
+  size left = (size)(is_negative ? -number : number);
+  do *--at = (char)('0' + left % 10);
+  while (left /= 10);
+  if (is_negative) *--at = '-';
+  *--at = what;
+  (void)!write(to, at, (size)(text + sizeof text - at));
+}
 
 /* Reads a number, and leaves the text at what stands behind it. */
 static unsigned long number(const char **at) {
@@ -41,10 +55,15 @@ __attribute__((constructor)) static void start(void) {
   counts = !getenv("REFUSE_MARKED");
 }
 
+__attribute__((destructor)) static void end(void) {
+  if (counts) tell('=', held);
+}
+
 static int is_mark(size bytes) {
   if (bytes != BEGIN && bytes != END_REFUSED && bytes != END_ANSWERED) return 0;
-  if (bytes != BEGIN) tell(bytes == END_REFUSED ? '!' : '=');
+  if (bytes != BEGIN) tell(bytes == END_REFUSED ? '!' : '=', held);
   counts = bytes == BEGIN;
+  held = 0;
   return 1;
 }
 
@@ -52,10 +71,24 @@ static int is_granted(size bytes) {
   if (is_mark(bytes) || !counts) return 1;
   seen++;
   int is_refused = refused && (seen == refused || (and_on && seen > refused));
-  tell(is_refused ? 'x' : '.');
+  tell(is_refused ? 'x' : '.', (long)bytes);
   return !is_refused;
 }
 
-void *malloc(size bytes) { return is_granted(bytes) ? __libc_malloc(bytes) : 0; }
+/* The mark that begins a call is a block too, given back behind it. */
+void *malloc(size bytes) {
+  if (!is_granted(bytes)) return 0;
+  held += counts;
+  return __libc_malloc(bytes);
+}
 
-void *realloc(void *old, size bytes) { return is_granted(bytes) ? __libc_realloc(old, bytes) : 0; }
+void *realloc(void *old, size bytes) {
+  if (!is_granted(bytes)) return 0;
+  held += counts && !old;
+  return __libc_realloc(old, bytes);
+}
+
+void free(void *old) {
+  held -= counts && old;
+  __libc_free(old);
+}

@@ -1,8 +1,13 @@
 -- Where the components of a text begin.
-use Rattle.std.proofs.Common.{◌≡◌, ℕ, ◌+◌, true, false, List, [], ◌∷◌, filter, length, refl, sym, ap, ◌∙◌, ⊎_elim, arith}
+use Rattle.std.proofs.Common.{◌≡◌, ℕ, zero, suc, ◌+◌, ◌-◌, ◌*◌, ◌/◌, ◌%◌, ◌^◌, ◌<◌, ◌≤◌, Bool, true, false, not, ◌&&◌, cond, List, [], ◌∷◌, filter, get_or, drop, length, refl, sym, ap, ap₂, ◌∙◌, subst, ⊎_elim, arith, min, w64}
+use Rattle.std.specs.Int.{bit_at, bit_not}
+use Rattle.std.specs.Int.Bits.{bit_and}
+use Rattle.std.specs.Int.RustNames.{count_ones}
 use Rattle.std.specs.List.{slice_split, onto_first}
 use Rattle.std.proofs.lemmas.Bool.{cond-true, cond-false, cases_Bool}
-use Rattle.std.proofs.lemmas.List.{length-map}
+use Rattle.std.proofs.lemmas.List.{drop_more, length-map}
+use Rattle.std.proofs.lemmas.Nat.{and_le_l, ones_cat, ones-le, shr-shr, shr_below, shr_split}
+use Rattle.std.proofs.lemmas.Nat.Bits.{bit_at_lowest, bit_at-suc, bit_at_and, bit_at_not}
 use Rattle.relative_path.specs.Steps.{is_slash, is_not_empty, pieces, classed, components}
 use Rattle.relative_path.specs.Counting.{begun}
 
@@ -46,3 +51,122 @@ begun-split (b ∷ bs) =
 pub begun-components : (bs : List ℕ) → begun true bs ≡ length (components bs)
 unfolding components pieces
 begun-components bs = (begun-split bs).0 ∙ sym (length-map (pieces bs) classed)
+
+-- the first byte, and those behind it
+pub begun-start : (bytes : List ℕ) → 0 < length bytes
+    → begun true bytes ≡ cond (not (is_slash (get_or bytes 0 0))) 1 0 + begun (is_slash (get_or bytes 0 0)) (drop 1 bytes)
+begun-start [] some = absurd (omega arith)
+begun-start (b ∷ bs) some = first (is_slash b) refl
+  where
+    first : (here : Bool) → is_slash b ≡ here → begun true (b ∷ bs) ≡ cond (not here) 1 0 + begun here bs
+    first true is = omega (arith, cond-true (is_slash b) (begun true bs) (1 + begun false bs) is)
+    first false is = cond-false (is_slash b) _ _ is
+
+-- ---- counted by the bits of a block
+
+-- a component begins there: there is no slash, and one stands before
+abbrev begins_at : List ℕ → ℕ → Bool
+begins_at bytes i = not (is_slash (get_or bytes i 0)) && is_slash (get_or bytes (i - 1) 0)
+
+-- one byte more
+begun-next : (behind here : Bool) (b : ℕ) (bs : List ℕ) → is_slash b ≡ here
+    → begun behind (b ∷ bs) ≡ cond (not here && behind) 1 0 + begun here bs
+begun-next true true b bs is = omega (arith, cond-true (is_slash b) (begun true bs) (1 + begun false bs) is)
+begun-next false true b bs is = omega (arith, cond-true (is_slash b) (begun true bs) (begun false bs) is)
+begun-next true false b bs is = omega (arith, cond-false (is_slash b) (begun true bs) (1 + begun false bs) is)
+begun-next false false b bs is = omega (arith, cond-false (is_slash b) (begun true bs) (begun false bs) is)
+
+pub begun-at : (bytes : List ℕ) (i : ℕ) → i < length bytes
+    → begun (is_slash (get_or bytes (i - 1) 0)) (drop i bytes)
+    ≡ cond (begins_at bytes i) 1 0 + begun (is_slash (get_or bytes i 0)) (drop (i + 1) bytes)
+begun-at bytes i inside =
+    ap (begun (is_slash (get_or bytes (i - 1) 0))) (drop_more bytes i 0 inside)
+    ∙ begun-next (is_slash (get_or bytes (i - 1) 0)) (is_slash (get_or bytes i 0)) (get_or bytes i 0) (drop (i + 1) bytes) refl
+
+-- the bits of a number are its lowest and those of its half
+ones-halved : (n : ℕ) → count_ones n ≡ n % 2 + count_ones (n / 2)
+unfolding count_ones
+ones-halved n =
+    let whole : count_ones (n / 2 * 2 + n % 2) ≡ count_ones (n / 2) + count_ones (n % 2) =
+    ones_cat 1 (n / 2) (n % 2) (omega arith) in
+    let split : n / 2 * 2 + n % 2 ≡ n = shr_split n 1 in
+    omega (arith, ap count_ones split, whole, single (n % 2) (omega arith))
+  where
+    single : (r : ℕ) → r < 2 → count_ones r ≡ r
+    single zero small = refl
+    single (suc zero) small = refl
+    single (suc (suc r)) small = absurd (omega (arith, small))
+
+-- a number with a bit for each of some bytes, set where a component begins, counts those
+ones-begun : (bytes : List ℕ) (n mask i : ℕ) → i + n ≤ length bytes → mask < 2 ^ n
+    → ((k : ℕ) → k < n → bit_at mask k ≡ cond (begins_at bytes (i + k)) 1 0)
+    → count_ones mask + begun (is_slash (get_or bytes (i + n - 1) 0)) (drop (i + n) bytes)
+    ≡ begun (is_slash (get_or bytes (i - 1) 0)) (drop i bytes)
+unfolding count_ones
+ones-begun bytes zero mask i inside bound bits =
+    let empty : mask ≡ 0 = omega (arith, bound) in
+    let none : count_ones 0 ≡ 0 = refl in
+    let here : i + 0 ≡ i = omega arith in
+    let same = ap (λ j. begun (is_slash (get_or bytes (j - 1) 0)) (drop j bytes)) here in
+    omega (arith, ap count_ones empty, none, same)
+ones-begun bytes (suc n) mask i inside bound bits =
+    let count : suc n ≡ n + 1 = omega arith in
+    let half : mask / 2 < 2 ^ n = shr_below mask n 1 (subst (λ k. mask < 2 ^ k) count bound) in
+    let bits' : (k : ℕ) → k < n → bit_at (mask / 2) k ≡ cond (begins_at bytes (i + 1 + k)) 1 0 = λ k h.
+    let at : i + suc k ≡ i + 1 + k = omega arith in
+    sym (bit_at-suc mask k) ∙ bits (suc k) (omega (arith, h)) ∙ ap (λ j. cond (begins_at bytes j) 1 0) at in
+    let rest = ones-begun bytes n (mask / 2) (i + 1) (omega (arith, inside)) half bits' in
+    let start : i + 0 ≡ i = omega arith in
+    let first : mask % 2 ≡ cond (begins_at bytes i) 1 0 =
+    sym (bit_at_lowest mask) ∙ bits 0 (omega arith) ∙ ap (λ j. cond (begins_at bytes j) 1 0) start in
+    let end : i + 1 + n ≡ i + suc n = omega arith in
+    let ends = ap (λ j. begun (is_slash (get_or bytes (j - 1) 0)) (drop j bytes)) end in
+    let next : i + 1 - 1 ≡ i = omega arith in
+    let behind = ap (λ j. begun (is_slash (get_or bytes j 0)) (drop (i + 1) bytes)) next in
+    omega (arith, ones-halved mask, first, rest, ends, behind, begun-at bytes i (omega (arith, inside)))
+
+-- no slash here, and one before, as bits
+min_bits : (before here : Bool) → min (cond before 1 0) (1 - cond here 1 0) ≡ cond (not here && before) 1 0
+min_bits true true = refl
+min_bits true false = refl
+min_bits false true = refl
+min_bits false false = refl
+
+-- the slashes of a block, and those of the block a byte before it
+module _ (bytes : List ℕ) (start skipped before here : ℕ) (some : 0 < start) (inside : start + 16 ≤ length bytes)
+    (few : skipped < 16) (small : before < 2 ^ 16) (small' : here < 2 ^ 16)
+    (bits : (k : ℕ) → k < 16 → bit_at before k ≡ cond (is_slash (get_or bytes (start - 1 + k) 0)) 1 0)
+    (bits' : (k : ℕ) → k < 16 → bit_at here k ≡ cond (is_slash (get_or bytes (start + k) 0)) 1 0) where
+  abbrev both : ℕ
+  both = bit_and before (bit_not w64 here)
+
+  both_bits : (k : ℕ) → k < 16 - skipped
+      → bit_at (both / 2 ^ skipped) k ≡ cond (begins_at bytes (start + skipped + k)) 1 0
+  both_bits k h =
+      let j : skipped + k < 16 = omega (arith, h, few) in
+      let here_at : start + (skipped + k) ≡ start + skipped + k = omega arith in
+      let before_at : start - 1 + (skipped + k) ≡ start + skipped + k - 1 = omega (arith, some) in
+      ap (λ n. n % 2) (shr-shr both skipped k) ∙ bit_at_and before (bit_not w64 here) (skipped + k)
+      ∙ ap₂ min (bits (skipped + k) j)
+      (bit_at_not w64 here (skipped + k) (omega (arith, small')) (omega (arith, j)) ∙ ap (λ b. 1 - b) (bits' (skipped + k) j))
+      ∙ min_bits (is_slash (get_or bytes (start - 1 + (skipped + k)) 0)) (is_slash (get_or bytes (start + (skipped + k)) 0))
+      ∙ ap₂ (λ p q. cond (not (is_slash (get_or bytes q 0)) && is_slash (get_or bytes p 0)) 1 0) before_at here_at
+
+  both_small : both / 2 ^ skipped < 2 ^ (16 - skipped)
+  both_small =
+      let width : 16 ≡ 16 - skipped + skipped = omega (arith, few) in
+      let less : both < 2 ^ 16 = omega (arith, and_le_l before (bit_not w64 here), small) in
+      shr_below both (16 - skipped) skipped (subst (λ k. both < 2 ^ k) width less)
+
+  -- where components begin in the block, but for its first bytes
+  pub begun-block : count_ones (both / 2 ^ skipped)
+      + begun (is_slash (get_or bytes (start + 16 - 1) 0)) (drop (start + 16) bytes)
+      ≡ begun (is_slash (get_or bytes (start + skipped - 1) 0)) (drop (start + skipped) bytes)
+  begun-block =
+      let end : start + skipped + (16 - skipped) ≡ start + 16 = omega (arith, few) in
+      let counted =
+      ones-begun bytes (16 - skipped) (both / 2 ^ skipped) (start + skipped) (omega (arith, end, inside)) both_small both_bits in
+      omega (arith, counted, ap (λ j. begun (is_slash (get_or bytes (j - 1) 0)) (drop j bytes)) end)
+
+  pub ones-block : count_ones (both / 2 ^ skipped) ≤ 16 - skipped
+  ones-block = ones-le (16 - skipped) (both / 2 ^ skipped) both_small

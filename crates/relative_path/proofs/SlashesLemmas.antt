@@ -1,5 +1,5 @@
 -- A text trimmed of the slashes at an end, and cut at its first or its last slash.
-use Rattle.std.proofs.Common.{◌≡◌, ◌≢◌, ◌<◌, ℕ, suc, zero, cond, List, [], ◌∷◌, ◌++◌, All, take, drop, replicate, Option, Some, None, MatchOption, Bor, refl, sym, subst, ap, ap₂, ◌∙◌, lit<, take-append-drop, append-nil, ◌+◌, ◌-◌, ◌*◌, ◌^◌, length, get_or, get_or-drop, length-take, length-drop, arith, take_all, ◌≤◌, ⊎_elim, eqb-true, ◌⊎◌, inl, inr, min, w64}
+use Rattle.std.proofs.Common.{◌≡◌, ◌≢◌, ◌<◌, ℕ, suc, zero, cond, List, [], ◌∷◌, ◌++◌, All, take, drop, replicate, Option, Some, None, MatchOption, Bor, refl, sym, subst, ap, ap₂, ◌∙◌, lit<, take-append-drop, append-nil, ◌+◌, ◌-◌, ◌*◌, ◌^◌, length, get_or, get_or-drop, length-take, length-drop, arith, take_all, ◌≤◌, ⊎_elim, eqb-true, ◌⊎◌, inl, inr, w64}
 use Rattle.std.proofs.Math.Nat.{pow-suc, eq-or-lt_of_le}
 use Rattle.std.specs.Int.{bit_at, trailing_zeros}
 use Rattle.std.specs.Int.Count.{count_leading_zeros}
@@ -174,16 +174,6 @@ IsCharBoundary-piece text n inside at = elim (eq-or-lt_of_le inside) [
   | inr more ↦ IsCharBoundary-before_ascii text n more (omega (arith, at more))
 ]
 
-pub IsCharBoundary-past : (text : List ℕ) (n m : ℕ) → IsUtf8 text → n ≤ length text
-    → (n < length text → get_or text n 0 ≡ slash) → m ≡ min (n + 1) (length text) → IsCharBoundary text m
-IsCharBoundary-past text n m utf8 inside at is = elim (eq-or-lt_of_le inside) [
-  | inl whole ↦
-      let end : length text ≡ m = omega (arith, is, whole) in subst (IsCharBoundary text) end (IsCharBoundary-end text)
-  | inr more ↦
-      let next : n + 1 ≡ m = omega (arith, is, more) in
-      subst (IsCharBoundary text) next (IsCharBoundary-after_ascii text n utf8 more (omega (arith, at more)))
-]
-
 -- a text may be cut behind a slash
 pub IsCharBoundary-behind : (text : List ℕ) (n : ℕ) → IsUtf8 text → 0 < n → n ≤ length text
     → get_or text (n - 1) 0 ≡ slash → IsCharBoundary text n
@@ -200,19 +190,7 @@ IsCharBoundary-before text n m utf8 inside at is =
     subst (IsCharBoundary text) front (IsCharBoundary-start text utf8))
     (cases_lt 0 n)
 
--- the text is what stands before its first slash, that slash and what stands behind it
-pub joined_first : (text : List ℕ) (n m : ℕ) → n ≤ length text → (n < length text → get_or text n 0 ≡ slash)
-    → m ≡ min (n + 1) (length text)
-    → (text ≡ take n text ++ slash ∷ drop m text) ⊎ ((text ≡ take n text) × (drop m text ≡ []))
-joined_first text n m inside at is = elim (eq-or-lt_of_le inside) [
-  | inl whole ↦ inr (sym (take_all n text (omega (arith, whole))), drop_all m text (omega (arith, is, whole)))
-  | inr more ↦
-      let next : m ≡ n + 1 = omega (arith, is, more) in
-      let behind = drop_more text n 0 more ∙ ap₂ (λ b k. b ∷ drop k text) (at more) (sym next) in
-      inl (sym (take-append-drop n text) ∙ ap (λ x. take n text ++ x) behind)
-]
-
--- the same of the last slash
+-- the text is what stands before its last slash, that slash and what stands behind it
 pub joined_last : (text : List ℕ) (n m : ℕ) → n ≤ length text → (0 < n → get_or text (n - 1) 0 ≡ slash) → m ≡ n - 1
     → (text ≡ take m text ++ slash ∷ drop n text) ⊎ ((text ≡ drop n text) × (take m text ≡ []))
 joined_last text n m inside at is =

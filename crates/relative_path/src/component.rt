@@ -1,5 +1,5 @@
 //! The components of a relative path, and the walk over them.
-ghost use Rattle.std.specs.Prelude.{◌≡◌, ◌↔◌, [], ◌∷◌, ⊤, IsTrue};
+ghost use Rattle.std.specs.Prelude.{◌≡◌, ◌≢◌, ◌↔◌, [], ◌∷◌, ⊤, IsTrue};
 ghost use Rattle.std.specs.Iterator.{item_count};
 ghost use Rattle.relative_path.specs.Steps.{classed, components, step_text};
 ghost use Rattle.relative_path.specs.Components.{step_of, text_left, components_left, iter_text_left, texts_left, TakesFirst, TakesFirstText, TakesLast, TakesLastText};
@@ -269,9 +269,14 @@ impl<'a> DoubleEndedIterator for Iter<'a> {
 // The component that a piece of a text is.
 #[inline(always)]
 fn component_of(piece: &str) -> Component<'_>
+    requires { piece.now ≢ [] }
     ensures { step_of result ≡ classed piece.now }
 {
-    match piece.as_bytes() {
+    let bytes = piece.as_bytes();
+    if bytes[0] != b'.' {
+        return Component::Normal(piece);
+    }
+    match bytes {
         [b'.'] => Component::CurDir,
         [b'.', b'.'] => Component::ParentDir,
         _ => Component::Normal(piece),

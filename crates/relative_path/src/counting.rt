@@ -3,10 +3,10 @@ ghost use Rattle.std.specs.Prelude.{◌≡◌, ◌≤◌, ◌<◌, ◌+◌, ◌-
 ghost use Rattle.relative_path.specs.Counting.{begun};
 ghost use Rattle.relative_path.specs.Steps.{components, is_slash};
 
-// No more components begin in a stretch of so many bytes than a `u8` counts.
-const STRETCH: usize = 192;
+use crate::slashes::{BLOCK, slashes_in};
 
-// How many components a text has. It counts where they begin, in stretches whose sums add up side by side.
+// How many components a text has. It counts where they begin: at a first byte that is no slash, and at each byte that
+// is none and stands behind one.
 pub(crate) fn component_count(text: &str) -> usize
     ensures count { result ≡ length (components text.now) }
     ensures bound { result ≤ length text.now }
@@ -15,29 +15,53 @@ pub(crate) fn component_count(text: &str) -> usize
     let Some(first) = bytes.first() else {
         return 0;
     };
-    let mut count = usize::from(*first != b'/');
-    let mut start = 1;
-    while start < bytes.len() {
-        let end = bytes.len().min(start + STRETCH);
-        count += usize::from(begun_in(bytes, start, end));
-        start = end;
-    }
-    count
+    let begun = if bytes.len() > BLOCK {
+        begun_by_blocks(bytes)
+    } else {
+        begun_by_one(bytes)
+    };
+    begun + usize::from(*first != b'/')
 }
 
-// How many components begin in a stretch: one at each byte that is no slash and stands behind one.
-fn begun_in(bytes: &[u8], start: usize, end: usize) -> u8
+// How many components begin behind the first byte, block by block. The last block may begin within the one before it.
+fn begun_by_blocks(bytes: &[u8]) -> usize
+    requires { BLOCK < length bytes.now }
+    ensures count { result ≡ begun (is_slash (slice_index bytes.now 0)) (drop 1 bytes.now) }
+    ensures bound { result < length bytes.now }
+{
+    let last = bytes.len() - BLOCK;
+    let mut count = 0;
+    let mut at = 1;
+    while at < last {
+        count += begun_in(bytes, at, 0);
+        at += BLOCK;
+    }
+    count + begun_in(bytes, last, at - last)
+}
+
+// How many components begin in a block, without its first so many bytes.
+#[inline(always)]
+fn begun_in(bytes: &[u8], start: usize, skipped: usize) -> usize
     requires start { 0 < start }
-    requires end { end ≤ length bytes.now }
-    requires stretch { end ≤ start + 192 }
-    requires in_order { start ≤ end }
-    ensures count { result + begun (is_slash (slice_index bytes.now (end - 1))) (drop end bytes.now)
-        ≡ begun (is_slash (slice_index bytes.now (start - 1))) (drop start bytes.now) }
-    ensures bound { result ≤ end - start }
+    requires block { start + BLOCK ≤ length bytes.now }
+    requires skipped { skipped < BLOCK }
+    ensures count { result + begun (is_slash (slice_index bytes.now (start + BLOCK - 1))) (drop (start + BLOCK) bytes.now)
+        ≡ begun (is_slash (slice_index bytes.now (start + skipped - 1))) (drop (start + skipped) bytes.now) }
+    ensures bound { result ≤ BLOCK - skipped }
+{
+    let begun = slashes_in(bytes, start - 1) & !slashes_in(bytes, start);
+    (begun >> skipped).count_ones() as usize
+}
+
+// How many components begin behind the first byte, byte by byte.
+fn begun_by_one(bytes: &[u8]) -> usize
+    requires { 0 < length bytes.now }
+    ensures count { result ≡ begun (is_slash (slice_index bytes.now 0)) (drop 1 bytes.now) }
+    ensures bound { result < length bytes.now }
 {
     let mut count = 0;
-    for i in start..end {
-        count += u8::from((bytes[i] != b'/') & (bytes[i - 1] == b'/'));
+    for at in 1..bytes.len() {
+        count += usize::from((bytes[at] != b'/') & (bytes[at - 1] == b'/'));
     }
     count
 }

@@ -76,7 +76,12 @@ pub(crate) fn split_first(text: &str) -> (&str, &str)
         ⊎ ((text.now ≡ result.0.now) × (result.1.now ≡ [])) }
 {
     let len = first_piece_len(text);
-    (&text[..len], &text[(len + 1).min(text.len())..])
+    let behind = len + 1;
+    if behind < text.len() {
+        (&text[..len], &text[behind..])
+    } else {
+        (&text[..len], &text[text.len()..])
+    }
 }
 
 // How many bytes stand before the first slash.
@@ -213,7 +218,7 @@ fn last_in_block(bytes: &[u8], start: usize) -> Option<usize>
 
 // The slashes of a block, a bit for each byte.
 #[inline(always)]
-fn slashes_in(bytes: &[u8], start: usize) -> u64
+pub(crate) fn slashes_in(bytes: &[u8], start: usize) -> u64
     requires { start + BLOCK ≤ length bytes.now }
     ensures bits { (k : ℕ) → k < BLOCK
         → bit_at result k ≡ (if is_slash (slice_index bytes.now (start + k)) then 1 else 0) }

@@ -55,29 +55,6 @@ fn compares_by_components(rt: HostRuntime) -> Result<(), Fail> {
 }
 
 #[test]
-fn feeds_each_component_and_a_slash(rt: HostRuntime) {
-    for text in ["a//b", "a/b"] {
-        let mut state = DefaultHasher::new();
-        for write in ["a", "/", "b", "/"] {
-            state.write(write.as_bytes());
-        }
-        assert_eq!(rt;
-            hash_of(&RelativePath::new(text)),
-            state.finish(),
-            "{text:?}"
-        );
-    }
-    let mut state = DefaultHasher::new();
-    state.write(b"..");
-    state.write(b"/");
-    assert_eq!(rt;
-        hash_of(&Component::ParentDir),
-        state.finish(),
-        "a component alone"
-    );
-}
-
-#[test]
 fn orders_components(rt: HostRuntime) {
     let sorted = [
         Component::CurDir,

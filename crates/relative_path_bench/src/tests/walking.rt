@@ -4,11 +4,26 @@ use crate::{End, take_in_turn};
 use relative_path::{Component, RelativePath};
 use std::test::Fail;
 
+fn component(text: &str) -> Component<'_> {
+    match text {
+        "." => Component::CurDir,
+        ".." => Component::ParentDir,
+        name => Component::Normal(name),
+    }
+}
+
+// Whether the path has the components with these texts.
+fn has_components(path: RelativePath<'_>, texts: &[&str]) -> bool {
+    path.components()
+        .eq(texts.iter().map(|text| component(text)))
+}
+
 #[test]
-fn gives_the_texts_of_the_components(rt: HostRuntime) -> Result<(), Fail> {
+fn gives_the_components_and_their_texts(rt: HostRuntime) -> Result<(), Fail> {
     for rows in DECOMPOSITIONS {
         for (text, expected, _, _) in rows {
             let path = RelativePath::new(text);
+            assert!(rt; has_components(path, expected), "components of {text:?}");
             let texts: Vec<&str> = path.iter().collect(rt.alloc())?;
             assert_eq!(rt; texts.as_slice(), *expected, "iter of {text:?}");
             let texts: Vec<&str> = path.into_iter().collect(rt.alloc())?;

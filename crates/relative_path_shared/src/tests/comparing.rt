@@ -1,6 +1,8 @@
 //! Equality, order and hash across the forms.
+ghost use Rattle.std.specs.Prelude.{◌+◌, ◌*◌, ◌%◌, ◌^◌, fold};
+
 use crate::{BoxedRelativePath, CowRelativePath, RcRelativePath};
-use relative_path::{RelativePath, RelativePathBuf};
+use relative_path::{Component, RelativePath, RelativePathBuf};
 use std::cmp::Ordering;
 use std::collections::HashMap;
 use std::hash::{DefaultHasher, Hash, Hasher};
@@ -45,6 +47,60 @@ fn compares_by_components(rt: HostRuntime) -> Result<(), Fail> {
             "{left:?} borrowed and {right:?} owned"
         );
     }
+    Ok(())
+}
+
+// A hasher that shows its last writes, in eight bytes: a `|`, which is 124, ends each.
+#[derive(Drop)]
+struct Writes(u64);
+
+impl Hasher for Writes {
+    ghost write = { λ state bytes. record {
+      0 =
+          ((fold (λ shown byte. ((shown * 256) % 2 ^ 64 + byte) % 2 ^ 64) state.0 bytes * 256) % 2 ^ 64
+          + 124) % 2 ^ 64;
+    } };
+
+    ghost finish = { λ state. state.0 };
+
+    fn finish(&self) -> u64 {
+        self.0
+    }
+
+    fn write(&mut self, bytes: &[u8]) {
+        for byte in bytes {
+            self.0 = self.0.wrapping_mul(256).wrapping_add(u64::from(*byte));
+        }
+        self.0 = self.0.wrapping_mul(256).wrapping_add(124);
+    }
+}
+
+fn writes_of<T: Hash>(value: &T) -> [u8; 8] {
+    let mut state = Writes(0);
+    value.hash(&mut state);
+    state.finish().to_be_bytes()
+}
+
+#[test]
+fn each_component_is_a_write_and_a_slash_another(rt: HostRuntime) -> Result<(), Fail> {
+    let alloc = rt.alloc();
+    let path = RelativePath::new("a//b");
+    let buf = path.to_relative_path_buf(alloc)?;
+    let boxed = BoxedRelativePath::from_text(alloc, "a//b")?;
+    let shared = RcRelativePath::from_path_text(alloc, path)?;
+    assert_eq!(rt; writes_of(&path), *b"a|/|b|/|", "view");
+    assert_eq!(rt; writes_of(&buf), *b"a|/|b|/|", "buffer");
+    assert_eq!(rt; writes_of(&boxed), *b"a|/|b|/|", "box");
+    assert_eq!(rt; writes_of(&shared), *b"a|/|b|/|", "owner");
+    let borrowed = CowRelativePath::from(path);
+    let owned = CowRelativePath::from(buf);
+    assert_eq!(rt; writes_of(&borrowed), *b"a|/|b|/|", "borrowed");
+    assert_eq!(rt; writes_of(&owned), *b"a|/|b|/|", "owned");
+    assert_eq!(rt;
+        writes_of(&Component::ParentDir),
+        *b"\0\0\0..|/|",
+        "`..` alone"
+    );
     Ok(())
 }
 

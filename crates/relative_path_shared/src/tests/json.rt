@@ -69,11 +69,20 @@ fn a_path_becomes_its_text(rt: HostRuntime) -> Result<(), Fail> {
 #[test]
 fn errors_print_their_text(rt: HostRuntime) -> Result<(), Fail> {
     let alloc = rt.alloc();
-    for (error, text) in [
-        (FromValueError::NotAString, "expected a relative path"),
-        (FromValueError::OutOfMemory, "out of memory"),
+    for (error, text, padded) in [
+        (
+            FromValueError::NotAString,
+            "expected a relative path",
+            "  expected a relative path|",
+        ),
+        (
+            FromValueError::OutOfMemory,
+            "out of memory",
+            "             out of memory|",
+        ),
     ] {
         assert_eq!(rt; format!(in alloc; "{error}")?.as_str(), text);
+        assert_eq!(rt; format!(in alloc; "{error:>26}|")?.as_str(), padded);
     }
     Ok(())
 }

@@ -1,5 +1,13 @@
-//! Each call that takes memory, between two marks. tools/refusals runs each of these tests with each
-//! request between its marks refused in turn, so each takes a refusal as well as an answer.
+//! Each call that takes memory, between two marks, on a short text and on one of 10,000 bytes.
+//! tools/refusals runs each of these tests with each request between its marks refused in turn, so
+//! each takes a refusal as well as an answer.
+use std::alloc::{AllocError, Global};
+
 mod json;
 mod marks;
 mod shared;
+
+// A text of 10,000 bytes.
+fn long_text(alloc: Global) -> Result<String, AllocError> {
+    "a/".repeat(alloc, 5_000)
+}

@@ -35,6 +35,11 @@ fn owners_share_the_text(rt: HostRuntime) -> Result<(), Fail> {
     let text = "a//b";
     let first = RcRelativePath::from_path_text(alloc, RelativePath::new(text))?;
     assert_eq!(rt; first.as_relative_path().as_str(), text, "from_path_text");
+    let taken = RcRelativePath::from_buf(alloc, RelativePathBuf::from_text(alloc, text)?).ok();
+    assert!(rt;
+        taken.is_some_and(|path| path.as_relative_path().as_str() == text),
+        "from_buf"
+    );
     let second = first.share()?;
     drop(first);
     assert_eq!(rt;

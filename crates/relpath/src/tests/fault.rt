@@ -69,3 +69,9 @@ fn ends_with_the_same_status_where_nothing_can_be_printed(rt: HostRuntime) {
         assert!(rt; errors.into_inner().taken.is_empty(), "line where {what}");
     }
 }
+
+#[test]
+fn tells_faults_apart(rt: HostRuntime) {
+    assert_ne!(rt; Fault::Read, Fault::Write);
+    assert_ne!(rt; Fault::InputTooLong, Fault::NotText);
+}

@@ -34,6 +34,12 @@ const ROOTS_ANSWERS: &[u8] =
 const MOVES: &[u8] =
     b"move\tdocs/a.md\tdocs/sub/b.md\t../img/x.png\nmove\tdocs/a.md\tdocs/sub/b.md\t../docs/./a.md\nmove\ta.md\tb.md\t.\nmove\t..\tb.md\tx\nmove\ta.md\t..\tx\nmove\ta.md\t../b.md\tx.md\nmove\ta.md\tsub/a.md\t../x\nmove\ta.md\tb.md\n";
 
+const MOVES_OF_THE_PAGE: &[u8] =
+    b"move\tdocs/a.md\tdocs/sub/b.md\ta.md\nmove\tdocs/a.md\tdocs/sub/b.md\t\nmove\ta.md\t../b.md\t../x\nmove\ta.md\t../b.md\ta.md\n";
+
+const MOVES_OF_THE_PAGE_ANSWERS: &[u8] =
+    b"= b.md\n= ..\n! reference climbs above the root\n! reference climbs above the root\n";
+
 const MOVES_ANSWERS: &[u8] =
     b"= ../../img/x.png\n= b.md\n= \n! move 0 lacks a file name\n! move 0 lacks a file name\n! no path\n! reference climbs above the root\n! wrong number of fields\n";
 
@@ -80,6 +86,12 @@ fn answers_the_lines_of_an_input(rt: HostRuntime) -> Result<(), Fail> {
         ),
         ("roots", Source::new(ROOTS), 2, ROOTS_ANSWERS),
         ("moves", Source::new(MOVES), 2, MOVES_ANSWERS),
+        (
+            "moves of the page",
+            Source::new(MOVES_OF_THE_PAGE),
+            2,
+            MOVES_OF_THE_PAGE_ANSWERS,
+        ),
         ("two paths", Source::new(TWO_PATHS), 2, TWO_PATHS_ANSWERS),
         ("the longest path", longest, 5, answer.as_bytes()),
     ] {
@@ -168,4 +180,19 @@ fn tells_each_failed_write(rt: HostRuntime) {
         assert_eq!(rt; writer.failures(), 1, "failures at write {number}");
         assert_eq!(rt; writer.flushes(), 0, "flushes at write {number}");
     }
+}
+
+// 4,000 empty lines have answers of 18 bytes each.
+#[test]
+fn flushes_behind_a_long_output(rt: HostRuntime) -> Result<(), Fail> {
+    let lines = "\n".repeat(rt.alloc(), 4_000)?;
+    let answers = "! unknown command\n".repeat(rt.alloc(), 4_000)?;
+    let mut reader = Meter::new(lines.as_bytes());
+    let mut writer = Meter::new(Sink::new(rt.alloc()));
+    assert_eq!(rt; run(rt.alloc(), &mut reader, &mut writer), Ok(()));
+    let sink = writer.into_inner();
+    assert!(rt; sink.taken.as_slice() == answers.as_bytes(), "output");
+    assert_eq!(rt; (sink.writes, sink.flushes), (1, 1));
+    assert_eq!(rt; (sink.offered, sink.flushed), (72_000, 72_000));
+    Ok(())
 }

@@ -69,6 +69,8 @@ pub struct Sink {
     pub offered: usize,
     /// How many flushes were made of it.
     pub flushes: u64,
+    /// How many bytes it had taken at the last flush.
+    pub flushed: usize,
 }
 
 impl Sink {
@@ -82,6 +84,7 @@ impl Sink {
             writes: 0,
             offered: 0,
             flushes: 0,
+            flushed: 0,
         }
     }
 
@@ -128,6 +131,7 @@ impl Write for Sink {
 
     fn flush(&mut self) -> io::Result<()> {
         self.flushes = self.flushes.saturating_add(1);
+        self.flushed = self.taken.len();
         match self.flush_failure {
             Some(kind) => Err(kind.into()),
             None => Ok(()),

@@ -1,10 +1,12 @@
-use Rattle.std.proofs.Common.{◌≡◌, ◌-◌, sym, ◌∙◌, ap, length, slice_index, arith}
-use Rattle.std.proofs.lemmas.List.{at_drop_all, nil_from_length}
+use Rattle.std.proofs.Common.{◌≡◌, ℕ, Bool, true, false, not, cond, refl, sym, ◌∙◌, ap, length, drop, slice_index, arith}
+use Rattle.std.proofs.lemmas.List.{nil_from_length}
+use mir.Val.{bool_byte}
 use Rattle.relative_path.specs.Counting.{begun}
 use Rattle.relative_path.specs.Steps.{is_slash, components}
 use Rattle.relative_path.proofs.StepsLemmas.{components-nil}
-use Rattle.relative_path.proofs.CountingLemmas.{begun-components}
+use Rattle.relative_path.proofs.CountingLemmas.{begun-components, begun-start}
 use Rattle.relative_path.proofs.counting.component_count.Goals as goal
+use Rattle.relative_path.proofs.counting.component_count.Goals.{then-bytes-gt-BLOCK, else-bytes-gt-BLOCK}
 
 pub returns-in_default-clause-count : goal.returns-in_default-clause-count
 returns-in_default-clause-count c =
@@ -13,8 +15,20 @@ returns-in_default-clause-count c =
     let empty = nil_from_length c.args.text.now none in
     sym (ap (λ text. length (components text)) empty ∙ ap length components-nil)
 
+as_number : (b : Bool) → bool_byte b ≡ cond b 1 0
+as_number true = refl
+as_number false = refl
+
 pub returns-clause-count : goal.returns-clause-count
 returns-clause-count c =
-    let behind = is_slash (slice_index c.as_bytes-bytes.result.now (c.loop-start.start - 1)) in
-    let none = at_drop_all (begun behind) c.as_bytes-bytes.result.now c.loop-start.start c.loop-start-test.false in
-    omega (arith, c.loop-start.invariant.count, begun-components c.args.text.now)
+    let bytes = c.as_bytes-bytes.result.now in
+    let behind : c.if-bytes-gt-BLOCK.begun ≡ begun (is_slash (slice_index bytes 0)) (drop 1 bytes) =
+    elim c.if-bytes-gt-BLOCK.branch [
+      | then-bytes-gt-BLOCK w ↦ w.begun-is ∙ w.begun_by_blocks-begun.ensures.count
+      | else-bytes-gt-BLOCK w ↦ w.begun-is ∙ w.begun_by_one-begun.ensures.count
+    ] in
+    let item = c.in-Some.ensures.item.3 in
+    let first : c.from.result ≡ cond (not (is_slash (slice_index bytes 0))) 1 0 =
+    c.from.ensures ∙ as_number (not (is_slash c.in-Some.first.now)) ∙ ap {B = ℕ} (λ b. cond (not (is_slash b)) 1 0) (item.1 0) in
+    let text = ap (begun true) c.as_bytes-bytes.ensures.value in
+    omega (arith, behind, first, text, begun-start bytes item.0, begun-components c.args.text.now)

@@ -1,73 +1,105 @@
 //! Copies, joins and pushes.
 use super::marks::{begin, end};
-use super::{is_refused_or, text_of};
+use super::{is_refused_or, long_text, text_of};
 use relative_path::{RelativePath, RelativePathBuf};
 use std::alloc::{AllocError, Global};
+use std::fmt::InlineText;
+use std::hash::{DefaultHasher, Hash, Hasher};
 use std::test::Fail;
 
 #[test]
-fn from_text(rt: HostRuntime) {
-    begin(rt.alloc());
-    let answer = RelativePathBuf::from_text(rt.alloc(), "//a/");
-    end(rt.alloc(), answer.is_err());
-    assert!(rt; is_refused_or(&answer, "//a/"));
+fn from_text(rt: HostRuntime) -> Result<(), Fail> {
+    let long = long_text(rt.alloc())?;
+    for text in ["//a/", long.as_str()] {
+        begin(rt.alloc());
+        let answer = RelativePathBuf::from_text(rt.alloc(), text);
+        end(rt.alloc(), answer.is_err());
+        assert!(rt; is_refused_or(&answer, text), "{} bytes", text.len());
+    }
+    Ok(())
 }
 
 #[test]
 fn with_capacity(rt: HostRuntime) {
-    begin(rt.alloc());
-    let answer = RelativePathBuf::with_capacity(rt.alloc(), 15);
-    end(rt.alloc(), answer.is_err());
-    assert!(rt; is_refused_or(&answer, ""));
-    assert!(rt; answer.map_or(true, |buf| buf.spare() >= 15));
+    for capacity in [15, 10_000] {
+        begin(rt.alloc());
+        let answer = RelativePathBuf::with_capacity(rt.alloc(), capacity);
+        end(rt.alloc(), answer.is_err());
+        if let Ok(buf) = answer {
+            assert_eq!(rt; (buf.len(), buf.spare()), (0, capacity));
+        }
+    }
 }
 
 #[test]
 fn clone(rt: HostRuntime) -> Result<(), Fail> {
-    let buf = RelativePathBuf::from_text(rt.alloc(), "//a/")?;
-    begin(rt.alloc());
-    let answer = buf.clone();
-    end(rt.alloc(), answer.is_err());
-    assert!(rt; is_refused_or(&answer, "//a/"));
+    let long = long_text(rt.alloc())?;
+    for text in ["//a/", long.as_str()] {
+        let buf = RelativePathBuf::from_text(rt.alloc(), text)?;
+        begin(rt.alloc());
+        let answer = buf.clone();
+        end(rt.alloc(), answer.is_err());
+        assert!(rt; is_refused_or(&answer, text), "{} bytes", text.len());
+    }
     Ok(())
 }
 
 #[test]
-fn to_relative_path_buf(rt: HostRuntime) {
-    begin(rt.alloc());
-    let answer = RelativePath::new("//a/").to_relative_path_buf(rt.alloc());
-    end(rt.alloc(), answer.is_err());
-    assert!(rt; is_refused_or(&answer, "//a/"));
+fn to_relative_path_buf(rt: HostRuntime) -> Result<(), Fail> {
+    let long = long_text(rt.alloc())?;
+    for text in ["//a/", long.as_str()] {
+        begin(rt.alloc());
+        let answer = RelativePath::new(text).to_relative_path_buf(rt.alloc());
+        end(rt.alloc(), answer.is_err());
+        assert!(rt; is_refused_or(&answer, text), "{} bytes", text.len());
+    }
+    Ok(())
 }
 
 #[test]
-fn join(rt: HostRuntime) {
-    let foo = RelativePath::new("foo");
-    begin(rt.alloc());
-    let answer = foo.join(rt.alloc(), RelativePath::new("/bar"));
-    end(rt.alloc(), answer.is_err());
-    assert!(rt; is_refused_or(&answer, "foo/bar"));
+fn join(rt: HostRuntime) -> Result<(), Fail> {
+    let long = long_text(rt.alloc())?;
+    for (text, more, joined) in [
+        ("foo", "/bar", "foo/bar"),
+        ("", long.as_str(), long.as_str()),
+    ] {
+        begin(rt.alloc());
+        let answer = RelativePath::new(text).join(rt.alloc(), RelativePath::new(more));
+        end(rt.alloc(), answer.is_err());
+        assert!(rt; is_refused_or(&answer, joined), "{} bytes", joined.len());
+    }
+    Ok(())
 }
 
 #[test]
 fn push(rt: HostRuntime) -> Result<(), Fail> {
-    let mut buf = RelativePathBuf::from_text(rt.alloc(), "foo")?;
-    begin(rt.alloc());
-    let answer = buf.push(RelativePath::new("bar"));
-    end(rt.alloc(), answer.is_err());
-    let left = if answer.is_ok() { "foo/bar" } else { "foo" };
-    assert_eq!(rt; text_of(&buf), left);
+    let long = long_text(rt.alloc())?;
+    for more in ["bar", long.as_str()] {
+        let mut buf = RelativePathBuf::from_text(rt.alloc(), "foo")?;
+        begin(rt.alloc());
+        let answer = buf.push(RelativePath::new(more));
+        end(rt.alloc(), answer.is_err());
+        match answer {
+            Ok(()) => assert_eq!(rt; text_of(&buf).strip_prefix("foo/"), Some(more)),
+            Err(_) => assert_eq!(rt; text_of(&buf), "foo"),
+        }
+    }
     Ok(())
 }
 
+// A push and an `extend` of a buffer that has room for them.
 #[test]
-fn push_that_fits(rt: HostRuntime) -> Result<(), Fail> {
-    let mut buf = RelativePathBuf::with_capacity(rt.alloc(), 7)?;
+fn fits(rt: HostRuntime) -> Result<(), Fail> {
+    let mut buf = RelativePathBuf::with_capacity(rt.alloc(), 15)?;
     begin(rt.alloc());
-    let foo = buf.push(RelativePath::new("foo"));
-    let bar = buf.push(RelativePath::new("bar"));
-    end(rt.alloc(), foo.is_err() || bar.is_err());
-    assert_eq!(rt; text_of(&buf), "foo/bar");
+    let pushed = buf.push(RelativePath::new("foo"));
+    end(rt.alloc(), pushed.is_err());
+    assert_eq!(rt; text_of(&buf), "foo", "push");
+    let paths = ["bar", "baz", "qux"].map(RelativePath::new);
+    begin(rt.alloc());
+    let extended = buf.extend(paths);
+    end(rt.alloc(), extended.is_err());
+    assert_eq!(rt; text_of(&buf), "foo/bar/baz/qux", "extend");
     Ok(())
 }
 
@@ -82,29 +114,66 @@ fn pop(rt: HostRuntime) -> Result<(), Fail> {
 }
 
 #[test]
-fn from_paths(rt: HostRuntime) {
-    let paths = ["a", "/b", "", "c"].map(RelativePath::new);
+fn asks_for_nothing(rt: HostRuntime) -> Result<(), Fail> {
+    let mut buf = RelativePathBuf::from_text(rt.alloc(), "foo/bar")?;
+    let other = RelativePathBuf::from_text(rt.alloc(), "foo//baz")?;
+    let mut state = DefaultHasher::new();
     begin(rt.alloc());
-    let answer = RelativePathBuf::from_paths(rt.alloc(), paths);
-    end(rt.alloc(), answer.is_err());
-    assert!(rt; is_refused_or(&answer, "a/b/c"));
+    let sizes = (
+        buf.len(),
+        buf.spare(),
+        buf.as_relative_path().as_str().len(),
+    );
+    let compared = (buf == other, buf < other);
+    buf.hash(&mut state);
+    let printed = InlineText::<32>::of(&buf);
+    let shown = InlineText::<32>::of(&format_args!("{other:?}"));
+    buf = RelativePathBuf::from(buf.into_string());
+    let text = String::from(buf);
+    end(rt.alloc(), false);
+    assert_eq!(rt; sizes, (7, 0, 7));
+    assert_eq!(rt; compared, (false, true));
+    assert_eq!(rt; printed.as_str(), "foo/bar");
+    assert_eq!(rt; shown.as_str(), "\"foo//baz\"");
+    assert_eq!(rt; text.as_str(), "foo/bar");
+    Ok(())
 }
 
-/// A slash and 4,096 letters.
+#[test]
+fn from_paths(rt: HostRuntime) -> Result<(), Fail> {
+    let long = long_text(rt.alloc())?;
+    for (texts, text) in [
+        (["a", "/b", "", "c"], "a/b/c"),
+        (["", "", "", long.as_str()], long.as_str()),
+    ] {
+        let paths = texts.map(RelativePath::new);
+        begin(rt.alloc());
+        let answer = RelativePathBuf::from_paths(rt.alloc(), paths);
+        end(rt.alloc(), answer.is_err());
+        assert!(rt;
+            answer.map_or(true, |buf| text_of(&buf) == text),
+            "{} bytes",
+            text.len()
+        );
+    }
+    Ok(())
+}
+
+/// A slash and 9,999 letters.
 pub fn long_name(alloc: Global) -> Result<String, AllocError> {
     let mut name = "/".to_string(alloc)?;
-    name.push_str("b".repeat(alloc, 4_096)?.as_str())?;
+    name.push_str("b".repeat(alloc, 9_999)?.as_str())?;
     Ok(name)
 }
 
-/// Whether an `extend` of nothing by `a`, the long name and `c` may leave this text, and this path to
+/// Whether an `extend` of `x` by `a`, the long name and `c` may leave this text, and this path to
 /// take: the pushes before the refused one are done, and the paths behind it are still there.
 pub fn is_left(answer: Result<(), AllocError>, text: &str, name: &str, left: Option<&str>) -> bool {
     match (answer, text) {
-        (Err(_), "") => left == Some(name),
-        (Err(_), "a") => left == Some("c"),
-        (Err(_), text) => left.is_none() && text.strip_prefix("a") == Some(name),
-        (Ok(()), text) => left.is_none() && text.len() == name.len() + 3,
+        (Err(_), "x") => left == Some(name),
+        (Err(_), "x/a") => left == Some("c"),
+        (Err(_), text) => left.is_none() && text.strip_prefix("x/a") == Some(name),
+        (Ok(()), text) => left.is_none() && text.len() == name.len() + 5,
     }
 }
 
@@ -113,7 +182,7 @@ fn extend(rt: HostRuntime) -> Result<(), Fail> {
     let name = long_name(rt.alloc())?;
     let paths = ["a", name.as_str(), "c"].map(RelativePath::new);
     let mut lent = paths.iter().copied();
-    let mut buf = RelativePathBuf::new(rt.alloc());
+    let mut buf = RelativePathBuf::from_text(rt.alloc(), "x")?;
     begin(rt.alloc());
     let answer = buf.extend(&mut lent);
     end(rt.alloc(), answer.is_err());

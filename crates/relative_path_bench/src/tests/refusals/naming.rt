@@ -1,28 +1,46 @@
 //! File names and extensions.
 use super::marks::{begin, end};
-use super::{is_refused_or, text_of};
+use super::{is_refused_or, long_text, text_of};
 use relative_path::{RelativePath, RelativePathBuf};
 use std::test::Fail;
 
 #[test]
-fn with_file_name(rt: HostRuntime) {
-    begin(rt.alloc());
-    let answer = RelativePath::new("tmp/foo.txt").with_file_name(rt.alloc(), "bar.txt");
-    end(rt.alloc(), answer.is_err());
-    assert!(rt; is_refused_or(&answer, "tmp/bar.txt"));
+fn with_file_name(rt: HostRuntime) -> Result<(), Fail> {
+    let long = long_text(rt.alloc())?;
+    for (text, file_name, named) in [
+        ("tmp/foo.txt", "bar.txt", "tmp/bar.txt"),
+        (long.as_str(), "aa", long.as_str()),
+    ] {
+        begin(rt.alloc());
+        let answer = RelativePath::new(text).with_file_name(rt.alloc(), file_name);
+        end(rt.alloc(), answer.is_err());
+        assert!(rt; is_refused_or(&answer, named), "{} bytes", named.len());
+    }
+    Ok(())
 }
 
 #[test]
-fn with_extension(rt: HostRuntime) {
-    begin(rt.alloc());
-    let answer = RelativePath::new("foo.rs").with_extension(rt.alloc(), "txt");
-    end(rt.alloc(), answer.is_err());
-    assert!(rt; is_refused_or(&answer, "foo.txt"));
+fn with_extension(rt: HostRuntime) -> Result<(), Fail> {
+    let long = long_text(rt.alloc())?;
+    for (text, extension, extended) in [
+        ("foo.rs", "txt", "foo.txt"),
+        (long.as_str(), "", long.as_str()),
+    ] {
+        begin(rt.alloc());
+        let answer = RelativePath::new(text).with_extension(rt.alloc(), extension);
+        end(rt.alloc(), answer.is_err());
+        assert!(rt;
+            is_refused_or(&answer, extended),
+            "{} bytes",
+            extended.len()
+        );
+    }
+    Ok(())
 }
 
 #[test]
 fn set_file_name(rt: HostRuntime) -> Result<(), Fail> {
-    let letters = "b".repeat(rt.alloc(), 4096)?;
+    let letters = "b".repeat(rt.alloc(), 9_996)?;
     let mut buf = RelativePathBuf::from_text(rt.alloc(), "foo/bar")?;
     begin(rt.alloc());
     let answer = buf.set_file_name(letters.as_str());
@@ -48,34 +66,37 @@ fn set_file_name_that_fits(rt: HostRuntime) -> Result<(), Fail> {
 
 #[test]
 fn set_extension(rt: HostRuntime) -> Result<(), Fail> {
-    let mut buf = RelativePathBuf::from_text(rt.alloc(), "foo/.")?;
-    begin(rt.alloc());
-    let answer = buf.set_extension("bar");
-    end(rt.alloc(), answer.is_err());
-    let left = if answer.is_ok() { "foo.bar" } else { "foo/." };
-    assert_eq!(rt; text_of(&buf), left);
-    assert!(rt; answer.unwrap_or(true));
+    let long = long_text(rt.alloc())?;
+    for (text, front) in [("foo/.", "foo"), (long.as_str(), long.as_str())] {
+        let mut buf = RelativePathBuf::from_text(rt.alloc(), text)?;
+        begin(rt.alloc());
+        let answer = buf.set_extension("bar");
+        end(rt.alloc(), answer.is_err());
+        match answer {
+            Ok(is_set) => assert!(rt; is_set && text_of(&buf).strip_prefix(front) == Some(".bar")),
+            Err(_) => assert!(rt; text_of(&buf) == text),
+        }
+    }
     Ok(())
 }
 
-#[test]
-fn set_extension_to_nothing(rt: HostRuntime) -> Result<(), Fail> {
-    let mut buf = RelativePathBuf::from_text(rt.alloc(), "foo.bar")?;
-    begin(rt.alloc());
-    let answer = buf.set_extension("");
-    end(rt.alloc(), answer.is_err());
-    assert!(rt; answer.unwrap_or(false));
-    assert_eq!(rt; text_of(&buf), "foo");
-    Ok(())
-}
+// A text, the room that it is given, an extension, the text that setting that leaves, and the answer.
+const FITTING: [(&str, usize, &str, &str, bool); 3] = [
+    ("foo", 7, "bar", "foo.bar", true),
+    ("foo.bar", 7, "", "foo", true),
+    ("foo/..", 6, "bar", "foo/..", false),
+];
 
 #[test]
-fn set_extension_without_a_file_name(rt: HostRuntime) -> Result<(), Fail> {
-    let mut buf = RelativePathBuf::from_text(rt.alloc(), "foo/..")?;
-    begin(rt.alloc());
-    let answer = buf.set_extension("bar");
-    end(rt.alloc(), answer.is_err());
-    assert!(rt; !answer.unwrap_or(true));
-    assert_eq!(rt; text_of(&buf), "foo/..");
+fn set_extension_that_fits(rt: HostRuntime) -> Result<(), Fail> {
+    for (text, room, extension, left, is_set) in FITTING {
+        let mut buf = RelativePathBuf::with_capacity(rt.alloc(), room)?;
+        buf.push(RelativePath::new(text))?;
+        begin(rt.alloc());
+        let answer = buf.set_extension(extension);
+        end(rt.alloc(), answer.is_err());
+        assert_eq!(rt; answer.unwrap_or(!is_set), is_set, "{text:?}");
+        assert_eq!(rt; text_of(&buf), left, "{text:?}");
+    }
     Ok(())
 }

@@ -1,6 +1,6 @@
 //! Platform paths, by their texts and as `Path` and `PathBuf`.
 use super::marks::{begin, end};
-use super::text_of;
+use super::{long_text, text_of};
 use relative_path::{
     FromPathError, FromPathErrorKind, PathExt, RelativePath, RelativePathBuf, RelativeToError,
     RelativeToErrorKind, unix,
@@ -32,23 +32,31 @@ fn is_way_found(
     let kind = answer.as_ref().err().map(RelativeToError::kind);
     end(alloc, kind == Some(RelativeToErrorKind::OutOfMemory));
     match answer {
-        Ok(way) => text_of(way) == text,
+        Ok(way) => text_of(way) == text && way.spare() == 0,
         Err(_) => kind == Some(RelativeToErrorKind::OutOfMemory),
     }
 }
 
 #[test]
-fn from_path(rt: HostRuntime) {
-    begin(rt.alloc());
-    let answer = RelativePathBuf::from_path(rt.alloc(), Path::new("./a/./b//c/"));
-    assert!(rt; is_path_made(rt.alloc(), &answer, "a/b/c"));
-}
-
-#[test]
-fn from_path_of_a_text(rt: HostRuntime) {
-    begin(rt.alloc());
-    let answer = unix::from_path(rt.alloc(), "./a/./b//c/");
-    assert!(rt; is_path_made(rt.alloc(), &answer, "a/b/c"));
+fn from_path(rt: HostRuntime) -> Result<(), Fail> {
+    let long = long_text(rt.alloc())?;
+    for (text, left) in [("./a/./b//c/", "a/b/c"), (long.as_str(), long.as_str())] {
+        begin(rt.alloc());
+        let answer = RelativePathBuf::from_path(rt.alloc(), Path::new(text));
+        assert!(rt;
+            is_path_made(rt.alloc(), &answer, left),
+            "a path of {} bytes",
+            text.len()
+        );
+        begin(rt.alloc());
+        let answer = unix::from_path(rt.alloc(), text);
+        assert!(rt;
+            is_path_made(rt.alloc(), &answer, left),
+            "a text of {} bytes",
+            text.len()
+        );
+    }
+    Ok(())
 }
 
 #[test]
@@ -64,64 +72,86 @@ fn from_path_of_a_root(rt: HostRuntime) {
 }
 
 #[test]
-fn to_path(rt: HostRuntime) {
-    let path = RelativePath::new("/hello///world//");
-    begin(rt.alloc());
-    let answer = path.to_path(rt.alloc(), Path::new("."));
-    end(rt.alloc(), answer.is_err());
-    assert!(rt; answer.map_or(true, |path| path.as_path().as_str() == "./hello/world"));
-}
-
-#[test]
-fn to_path_of_texts(rt: HostRuntime) {
-    let path = RelativePath::new("/hello///world//");
-    begin(rt.alloc());
-    let answer = unix::to_path(rt.alloc(), path, ".");
-    end(rt.alloc(), answer.is_err());
-    assert!(rt; answer.map_or(true, |text| text.as_str() == "./hello/world"));
-}
-
-#[test]
-fn to_logical_path(rt: HostRuntime) {
-    let path = RelativePath::new("../../x");
-    begin(rt.alloc());
-    let answer = path.to_logical_path(rt.alloc(), Path::new("/a/./b"));
-    end(rt.alloc(), answer.is_err());
-    assert!(rt; answer.map_or(true, |path| path.as_path().as_str() == "//x"));
-}
-
-#[test]
-fn to_logical_path_of_texts(rt: HostRuntime) {
-    let path = RelativePath::new("../../x");
-    begin(rt.alloc());
-    let answer = unix::to_logical_path(rt.alloc(), path, "/a/./b");
-    end(rt.alloc(), answer.is_err());
-    assert!(rt; answer.map_or(true, |text| text.as_str() == "//x"));
-}
-
-// From one platform path to another.
-#[test]
-fn relative_to(rt: HostRuntime) {
-    let path = Path::new("some/path");
-    begin(rt.alloc());
-    let answer = path.relative_to(rt.alloc(), Path::new("some/foo/bar/../baz/path"));
-    assert!(rt; is_way_found(rt.alloc(), &answer, "../../../path"));
-}
-
-#[test]
-fn relative_to_from_a_path_buf(rt: HostRuntime) -> Result<(), Fail> {
-    let path = PathBuf::from(String::from_str(rt.alloc(), "some/path")?);
-    begin(rt.alloc());
-    let answer = path.relative_to(rt.alloc(), Path::new("some/foo/bar/../baz/path"));
-    assert!(rt; is_way_found(rt.alloc(), &answer, "../../../path"));
+fn to_path(rt: HostRuntime) -> Result<(), Fail> {
+    let long = long_text(rt.alloc())?;
+    for (text, base, joined) in [
+        ("/hello///world//", ".", "./hello/world"),
+        (long.as_str(), "", long.as_str()),
+    ] {
+        let path = RelativePath::new(text);
+        begin(rt.alloc());
+        let answer = path.to_path(rt.alloc(), Path::new(base));
+        end(rt.alloc(), answer.is_err());
+        assert!(rt;
+            answer.map_or(true, |path| path.as_path().as_str() == joined),
+            "{base:?}"
+        );
+        begin(rt.alloc());
+        let answer = unix::to_path(rt.alloc(), path, base);
+        end(rt.alloc(), answer.is_err());
+        assert!(rt;
+            answer.map_or(true, |text| text.as_str() == joined),
+            "text {base:?}"
+        );
+    }
     Ok(())
 }
 
 #[test]
-fn relative_to_of_texts(rt: HostRuntime) {
-    begin(rt.alloc());
-    let answer = unix::relative_to(rt.alloc(), "some/path", "some/foo/bar/../baz/path");
-    assert!(rt; is_way_found(rt.alloc(), &answer, "../../../path"));
+fn to_logical_path(rt: HostRuntime) -> Result<(), Fail> {
+    let long = long_text(rt.alloc())?;
+    for (text, base, reached) in [
+        ("../../x", "/a/./b", "//x"),
+        (long.as_str(), "", long.as_str()),
+    ] {
+        let path = RelativePath::new(text);
+        begin(rt.alloc());
+        let answer = path.to_logical_path(rt.alloc(), Path::new(base));
+        end(rt.alloc(), answer.is_err());
+        assert!(rt;
+            answer.map_or(true, |path| path.as_path().as_str() == reached),
+            "{base:?}"
+        );
+        begin(rt.alloc());
+        let answer = unix::to_logical_path(rt.alloc(), path, base);
+        end(rt.alloc(), answer.is_err());
+        assert!(rt;
+            answer.map_or(true, |text| text.as_str() == reached),
+            "text {base:?}"
+        );
+    }
+    Ok(())
+}
+
+// From a text, a `Path` and a `PathBuf`.
+#[test]
+fn relative_to(rt: HostRuntime) -> Result<(), Fail> {
+    let long = long_text(rt.alloc())?;
+    for (text, root, way) in [
+        ("some/path", "some/foo/bar/../baz/path", "../../../path"),
+        (long.as_str(), "", long.as_str()),
+    ] {
+        let buf = PathBuf::from(String::from_str(rt.alloc(), text)?);
+        begin(rt.alloc());
+        let answer = unix::relative_to(rt.alloc(), text, root);
+        assert!(rt;
+            is_way_found(rt.alloc(), &answer, way),
+            "a text from {root:?}"
+        );
+        begin(rt.alloc());
+        let answer = Path::new(text).relative_to(rt.alloc(), Path::new(root));
+        assert!(rt;
+            is_way_found(rt.alloc(), &answer, way),
+            "a path from {root:?}"
+        );
+        begin(rt.alloc());
+        let answer = buf.relative_to(rt.alloc(), Path::new(root));
+        assert!(rt;
+            is_way_found(rt.alloc(), &answer, way),
+            "a buffer from {root:?}"
+        );
+    }
+    Ok(())
 }
 
 #[test]

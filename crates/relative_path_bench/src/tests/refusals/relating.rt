@@ -1,44 +1,71 @@
 //! The way from one path to another, and where paths lead apart.
-use super::is_refused_or;
 use super::marks::{begin, end};
+use super::{is_refused_or, long_text};
 use relative_path::RelativePath;
 use std::test::Fail;
 
 #[test]
-fn relative(rt: HostRuntime) {
-    let from = RelativePath::new("a/b/c/d");
-    begin(rt.alloc());
-    let answer = from.relative(rt.alloc(), RelativePath::new("a/b/e/f"));
-    end(rt.alloc(), answer.is_err());
-    assert!(rt; is_refused_or(&answer, "../../e/f"));
-}
-
-#[test]
-fn try_relative(rt: HostRuntime) -> Result<(), Fail> {
-    let from = RelativePath::new("a/b");
-    begin(rt.alloc());
-    let answer = from.try_relative(rt.alloc(), RelativePath::new("a/c"));
-    end(rt.alloc(), answer.is_err());
-    if let Ok(found) = answer {
-        assert_eq!(rt; found.ok_or("a way")?.as_relative_path().as_str(), "../c");
+fn relative(rt: HostRuntime) -> Result<(), Fail> {
+    let long = long_text(rt.alloc())?;
+    for (from, to, way) in [
+        ("a/b/c/d", "a/b/e/f", "../../e/f"),
+        ("", "a", "a"),
+        ("", "", ""),
+        ("", long.as_str(), long.as_str()),
+    ] {
+        begin(rt.alloc());
+        let answer = RelativePath::new(from).relative(rt.alloc(), RelativePath::new(to));
+        end(rt.alloc(), answer.is_err());
+        assert!(rt;
+            is_refused_or(&answer, way),
+            "from {from:?} to {} bytes",
+            to.len()
+        );
     }
     Ok(())
 }
 
 #[test]
-fn try_relative_without_a_way(rt: HostRuntime) {
-    let from = RelativePath::new("..");
-    begin(rt.alloc());
-    let answer = from.try_relative(rt.alloc(), RelativePath::new("a"));
-    end(rt.alloc(), answer.is_err());
-    assert!(rt; answer.ok().flatten().is_none());
+fn try_relative(rt: HostRuntime) -> Result<(), Fail> {
+    let long = long_text(rt.alloc())?;
+    for (from, to, way) in [
+        ("a/b", "a/c", Some("../c")),
+        ("..", "a", None),
+        ("a", "", Some("..")),
+        ("", "", Some("")),
+        ("", long.as_str(), Some(long.as_str())),
+    ] {
+        begin(rt.alloc());
+        let answer = RelativePath::new(from).try_relative(rt.alloc(), RelativePath::new(to));
+        end(rt.alloc(), answer.is_err());
+        if let Ok(found) = answer {
+            let text = found
+                .as_ref()
+                .map(|found| found.as_relative_path().as_str());
+            assert!(rt; text == way, "from {from:?} to {} bytes", to.len());
+            assert!(rt;
+                found.map_or(true, |found| found.spare() == 0),
+                "{} bytes",
+                to.len()
+            );
+        }
+    }
+    Ok(())
 }
 
 #[test]
-fn leads_apart(rt: HostRuntime) {
-    let path = RelativePath::new("../a");
-    begin(rt.alloc());
-    let answer = path.leads_apart(rt.alloc(), RelativePath::new("../b"));
-    end(rt.alloc(), answer.is_err());
-    assert_eq!(rt; answer.unwrap_or(Some(1)), Some(1));
+fn leads_apart(rt: HostRuntime) -> Result<(), Fail> {
+    let long = long_text(rt.alloc())?;
+    for (text, other, apart) in [
+        ("../a", "../b", Some(1)),
+        ("", "a", Some(0)),
+        ("", "", None),
+        (long.as_str(), long.as_str(), None),
+    ] {
+        begin(rt.alloc());
+        let answer = RelativePath::new(text).leads_apart(rt.alloc(), RelativePath::new(other));
+        end(rt.alloc(), answer.is_err());
+        assert_eq!(rt; answer.unwrap_or(apart), apart, "{} bytes", text.len());
+    }
+    Ok(())
 }

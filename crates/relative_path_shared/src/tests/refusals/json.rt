@@ -1,4 +1,5 @@
 //! Paths from JSON strings, and JSON strings of paths.
+use super::long_text;
 use super::marks::{begin, end};
 use crate::{FromValueError, boxed_from_value, from_value, to_value};
 use relative_path::RelativePath;
@@ -6,35 +7,45 @@ use serde_json::Value;
 use std::test::Fail;
 
 #[test]
-fn to_value_of_a_path(rt: HostRuntime) {
-    begin(rt.alloc());
-    let answer = to_value(rt.alloc(), RelativePath::new("a//b"));
-    end(rt.alloc(), answer.is_err());
-    assert!(rt; answer.map_or(true, |value| value.as_str() == Some("a//b")));
+fn to_value_of_a_path(rt: HostRuntime) -> Result<(), Fail> {
+    let long = long_text(rt.alloc())?;
+    for text in ["a//b", long.as_str()] {
+        begin(rt.alloc());
+        let answer = to_value(rt.alloc(), RelativePath::new(text));
+        end(rt.alloc(), answer.is_err());
+        assert!(rt; answer.map_or(true, |value| value.as_str() == Some(text)));
+    }
+    Ok(())
 }
 
 #[test]
 fn from_value_of_a_string(rt: HostRuntime) -> Result<(), Fail> {
-    let value = Value::from_str(rt.alloc(), "\"a/b\"")?;
-    begin(rt.alloc());
-    let answer = from_value(rt.alloc(), &value);
-    end(rt.alloc(), answer.is_err());
-    match answer {
-        Ok(buf) => assert_eq!(rt; buf.as_relative_path().as_str(), "a/b"),
-        Err(error) => assert_eq!(rt; error, FromValueError::OutOfMemory),
+    let long = long_text(rt.alloc())?;
+    for text in ["a//b", long.as_str()] {
+        let value = Value::try_from_str(rt.alloc(), text)?;
+        begin(rt.alloc());
+        let answer = from_value(rt.alloc(), &value);
+        end(rt.alloc(), answer.is_err());
+        match answer {
+            Ok(buf) => assert!(rt; buf.as_relative_path().as_str() == text && buf.spare() == 0),
+            Err(error) => assert_eq!(rt; error, FromValueError::OutOfMemory),
+        }
     }
     Ok(())
 }
 
 #[test]
 fn boxed_from_value_of_a_string(rt: HostRuntime) -> Result<(), Fail> {
-    let value = Value::from_str(rt.alloc(), "\"a/b\"")?;
-    begin(rt.alloc());
-    let answer = boxed_from_value(rt.alloc(), &value);
-    end(rt.alloc(), answer.is_err());
-    match answer {
-        Ok(boxed) => assert_eq!(rt; boxed.as_relative_path().as_str(), "a/b"),
-        Err(error) => assert_eq!(rt; error, FromValueError::OutOfMemory),
+    let long = long_text(rt.alloc())?;
+    for text in ["a//b", long.as_str()] {
+        let value = Value::try_from_str(rt.alloc(), text)?;
+        begin(rt.alloc());
+        let answer = boxed_from_value(rt.alloc(), &value);
+        end(rt.alloc(), answer.is_err());
+        match answer {
+            Ok(boxed) => assert!(rt; boxed.as_relative_path().as_str() == text),
+            Err(error) => assert_eq!(rt; error, FromValueError::OutOfMemory),
+        }
     }
     Ok(())
 }

@@ -4,21 +4,42 @@ use crate::fault::Fault;
 use crate::meter::Meter;
 use crate::run::run;
 use crate::tests::run::{SIX_ANSWERS, SIX_LINES};
+use std::alloc::{AllocError, Global};
 use std::test::Fail;
 
+// A text, a path of 10,000 bytes and 5,000 components behind it, and an end.
+fn with_long_path(alloc: Global, text: &str, end: &str) -> Result<String, AllocError> {
+    let mut line = text.to_string(alloc)?;
+    line.push_str("a/".repeat(alloc, 4_999)?.as_str())?;
+    line.push_str("aa")?;
+    line.push_str(end)?;
+    Ok(line)
+}
+
 #[test]
-fn six_lines(rt: HostRuntime) -> Result<(), Fail> {
-    let mut reader = Meter::new(SIX_LINES);
-    let mut writer = Meter::new(Vec::with_capacity(rt.alloc(), SIX_ANSWERS.len())?);
-    begin(rt.alloc());
-    let answer = run(rt.alloc(), &mut reader, &mut writer);
-    end(rt.alloc(), answer == Err(Fault::OutOfMemory));
-    let written = writer.into_inner();
-    if answer == Err(Fault::OutOfMemory) {
-        assert!(rt; written.is_empty());
-    } else {
-        assert_eq!(rt; answer, Ok(()));
-        assert_eq!(rt; written.as_slice(), SIX_ANSWERS);
+fn lines(rt: HostRuntime) -> Result<(), Fail> {
+    let long = with_long_path(rt.alloc(), "normalize\t", "")?;
+    let answers = with_long_path(rt.alloc(), "= ", "\n")?;
+    for (input, output) in [
+        (SIX_LINES, SIX_ANSWERS),
+        (long.as_bytes(), answers.as_bytes()),
+    ] {
+        let mut reader = Meter::new(input);
+        let mut writer = Meter::new(Vec::with_capacity(rt.alloc(), output.len())?);
+        begin(rt.alloc());
+        let answer = run(rt.alloc(), &mut reader, &mut writer);
+        end(rt.alloc(), answer == Err(Fault::OutOfMemory));
+        let written = writer.into_inner();
+        if answer == Err(Fault::OutOfMemory) {
+            assert!(rt; written.is_empty());
+        } else {
+            assert_eq!(rt; answer, Ok(()));
+            assert!(rt;
+                written.as_slice() == output,
+                "output of {} bytes",
+                input.len()
+            );
+        }
     }
     Ok(())
 }
