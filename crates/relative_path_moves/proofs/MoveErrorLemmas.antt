@@ -27,7 +27,8 @@ Refuses-other result refusal case other none = record {
 -- want of memory comes in every case
 pub Refuses-memory : {T : Type 0} (refusal : MoveError) (case : Type 0)
     → 5 ≢ number_of {T = T} (Err refusal) → Refuses {T = T} (Err OutOfMemory) refusal case
-Refuses-memory refusal case other = record { only = λ is. absurd (other (ap number_of is)); always = λ holds. inr refl }
+Refuses-memory refusal case other =
+    record { only = λ is. absurd (other (ap number_of is)); always = λ holds. inr refl }
 
 -- a result that is the error e
 pub is_err_of : {T : Type 0} (r : Result T MoveError) (e : MoveError) → IsErrAnd r (λ f. f ≡ e) → r ≡ Err e

@@ -43,7 +43,8 @@ LeadToTarget-kept moves place cs apart none same =
     LeadToTarget-is moves place place cs apart (inr (stays, refl)) same where
       stays : (j : ℕ) → ¬ MovesFrom moves place j
       stays j from =
-          none j (omega (arith, from.within, length-map moves (λ move. move.old))) (rw (old_at moves j from.within) from.same)
+          none j (omega (arith, from.within, length-map moves (λ move. move.old)))
+          (rw (old_at moves j from.within) from.same)
 
 -- nothing above the top leads where the target has a place
 place_kept : (target cs : List Step) → IsSame target cs → place_of cs ≢ None → place_of target ≢ None
@@ -66,7 +67,8 @@ IsReachable-to_same : (f t u : List Step) → IsSame u t → IsReachable f u →
 IsReachable-to_same f t u same (r, leads) =
     (r, record { everywhere = λ base. leads.everywhere base ∙ same.everywhere base })
 
-module _ (moves : List Move) (i : ℕ) (reference cs : List Step) (lead : LeadToTarget moves (meant moves i reference) cs)
+module _ (moves : List Move) (i : ℕ) (reference cs : List Step)
+    (lead : LeadToTarget moves (meant moves i reference) cs)
   where
     -- what holds of all that leads where the components do holds of the target
     OfTarget-all : (P : List Step → Type 0) → ((target : List Step) → IsSame target cs → P target)

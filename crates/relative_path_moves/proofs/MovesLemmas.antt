@@ -35,7 +35,8 @@ take_more-olds_of : (paths : List (RelativePath × RelativePath)) (none : Relati
 take_more-olds_of paths none k l =
     take_more (olds_of (moves_of paths)) k [] (rw (length-olds_of paths) l)
     ∙ ap (λ path. take k (olds_of (moves_of paths)) ++ path ∷ [])
-    (old_at (moves_of paths) k (rw (length-moves_of paths) l) ∙ ap (λ move. move.old) (move_at-moves_of paths k none l))
+    (old_at (moves_of paths) k (rw (length-moves_of paths) l)
+    ∙ ap (λ move. move.old) (move_at-moves_of paths k none l))
 
 -- what is known of the old paths before the next and that, as of those up to it
 pub olds_of-next : (P : List (List Step) → List Step → Type 0) (paths : List (RelativePath × RelativePath))

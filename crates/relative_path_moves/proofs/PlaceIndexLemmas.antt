@@ -102,7 +102,8 @@ Indexes-insert paths path old new text number normal inserted index next =
         tell true (same, _) is =
             let has_text = rw (sym (same refl)) at has in
             rw (is, sym next)
-            (IsFirstAt-or paths path cs _ (same_normal_text cs path text has_text normal) (index.found cs text has_text))
+            (IsFirstAt-or paths path cs _ (same_normal_text cs path text has_text normal)
+            (index.found cs text has_text))
         tell false (_, differs) is =
             rw is
             (IsFoundAt-kept paths path cs _

@@ -46,7 +46,10 @@ has_place-apart cs up_text apart e some = tell apart (rw (components_up up_text 
 
   tell : (apart : Option ℕ) → ((n : ℕ) → (apart ≡ Some n) ↔ LeadsApart cs (up ∷ []) n)
       → IsTrue (option_eq eqb apart (Some 0)) ↔ IsSome (place_of cs)
-  tell None some = (λ no. absurd (true≢false (sym no)), λ is. absurd (none None (none-some 0) some (walk [] cs) refl is))
+  tell None some = (
+    λ no. absurd (true≢false (sym no)),
+    λ is. absurd (none None (none-some 0) some (walk [] cs) refl is),
+  )
   tell (Some zero) some = (λ _. has (walk [] cs) refl (λ is. ((some 0).0 refl).apart [] refl is), λ _. refl)
   tell (Some (suc n)) some = (
     λ yes. absurd (true≢false (sym yes ∙ ne_eqb (suc n) 0 (λ e. omega (arith, e)))),

@@ -24,8 +24,8 @@ IsNoneAt paths cs = (k : ℕ) → k < length paths → ¬ IsSame cs (path_at pat
 abbrev pub IsFoundAt : List (List Step) → List Step → Option ℕ → Type 0
 IsFoundAt paths cs found = MatchOption found (IsNoneAt paths cs) (IsFirstAt paths cs)
 
--- these are the paths of the index: each of its numbers is one of theirs, and for a normal text it has that of the first
--- that leads where the text leads
+-- these are the paths of the index: each of its numbers is one of theirs, and for a normal text it has that of the
+-- first that leads where the text leads
 pub record Indexes (paths : List (List Step)) (index : PlaceIndex) : Type 0 where
   pub within : (text : List ℕ) (k : ℕ) → get_by_text index.by_text text ≡ Some k → k < length paths
   pub found : (cs : List Step) (text : List ℕ) → IsNormalTextOf cs text

@@ -13,7 +13,8 @@ loop-k-preserved c =
 pub returns-then-is_none : goal.returns-then-is_none
 returns-then-is_none c = IsFirstNameless-here c.args.moves.now _ c.loop-k.k c.loop-k-test.true c.loop-k.invariant
     (elim c.then-is_none.branch [
-      | then-is_none-via-then-is_none w ↦ inl (nameless _ _ _ c.file_name.ensures.text c.is_none.ensures w.if-is_none.true)
+      | then-is_none-via-then-is_none w ↦
+          inl (nameless _ _ _ c.file_name.ensures.text c.is_none.ensures w.if-is_none.true)
       | then-is_none-via-else-is_none+then-is_none-2 w ↦
           inr (nameless _ _ _ w.file_name-else-is_none.ensures.text w.is_none-else-is_none.ensures w.if-is_none-2.true)
     ])
