@@ -2,7 +2,7 @@
 #![tactic(auto)]
 
 pub use self::manifest::{ManifestError, manifest_files};
-pub use self::router::{routed, routed_alike};
+pub use self::router::served;
 pub use self::site_map::SiteMap;
 
 mod manifest;
