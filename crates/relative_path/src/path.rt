@@ -1,5 +1,5 @@
 //! The borrowed relative path.
-ghost use Rattle.std.specs.Prelude.{◌≡◌, ◌≢◌, ◌≤◌, ◌↔◌, ◌++◌, [], ◌∷◌, IfErr, IfOk, IsErr, IsOk, IfSome, IsSome, IsNone, IsTrue, Some, List, ℕ, length, slice_get};
+ghost use Rattle.std.specs.Prelude.{◌≡◌, ◌≢◌, ◌≤◌, ◌↔◌, ◌++◌, [], ◌∷◌, IfErr, IfOk, IsErr, IsOk, IfSome, IfNone, IsSome, IsNone, IsTrue, Some, List, ℕ, length, slice_get};
 ghost use Rattle.relative_path.specs.Steps.{Step, name, components};
 ghost use Rattle.relative_path.specs.Editing.{kept_len, pushed, IsPopped};
 ghost use Rattle.relative_path.specs.Components.{GivesComponents, GivesTextsOfComponents, text_left, iter_text_left};
@@ -220,6 +220,7 @@ impl<'a> RelativePath<'a> {
     /// ```
     pub fn parent(self) -> Option<RelativePath<'a>>
         ensures some { IsSome result ↔ (path_text self.entry ≢ []) }
+        ensures none { IfNone result (path_components self.entry ≡ []) }
         ensures text { IfSome result
             (λ parent. IsPopped (path_text self.entry) (path_text parent)) }
     {

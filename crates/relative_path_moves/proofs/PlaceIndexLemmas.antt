@@ -1,0 +1,99 @@
+-- An index with one path more.
+use Rattle.std.proofs.Common.{◌≡◌, ◌≢◌, ℕ, ◌<◌, ◌≤◌, ◌⊎◌, true, false, List, [], ◌∷◌, ◌++◌, length, get_or, Option, Some, None, MatchOption, unwrap_or, Bool, cond, inl, inr, refl, sym, ap, ◌∙◌, arith, true≢false}
+use Rattle.std.proofs.lemmas.Bool.{cases_lt}
+use Rattle.std.proofs.lemmas.List.{get_or_append_left, get_or_push, length_push}
+use Rattle.std.proofs.lemmas.Slice.Eq.{bytes_eq-Decides}
+use Rattle.std.specs.BTreeMap.{get_by_text}
+use Rattle.std.specs.Map.{update}
+use Rattle.std.specs.Str.{bytes_eq}
+use Rattle.relative_path.specs.Steps.{Step}
+use Rattle.relative_path.specs.Walk.{IsSame}
+use Rattle.relative_path.specs.Normalizing.{IsNormalTextOf}
+use Rattle.relative_path_moves.specs.declared.place_index.PlaceIndex.{PlaceIndex}
+use Rattle.relative_path_moves.specs.PlaceIndex.{path_at, IsFirstAt, IsNoneAt, IsFoundAt, Indexes}
+
+-- what has the same normal text leads to the same
+same_normal_text : (cs ds : List Step) (text : List ℕ) → IsNormalTextOf cs text → IsNormalTextOf ds text → IsSame cs ds
+same_normal_text cs ds text h k = record { everywhere = λ base. h.same.everywhere base ∙ sym (k.same.everywhere base) }
+
+-- what leads to the same has the same normal text
+normal_text_same : (cs ds : List Step) (one other : List ℕ) → IsSame cs ds → IsNormalTextOf cs one
+    → IsNormalTextOf ds other → other ≡ one
+normal_text_same cs ds one other same h k =
+    h.only other k.normal_text (record { everywhere = λ base. same.everywhere base ∙ k.same.everywhere base })
+
+-- a path that was found is found among one more
+IsFirstAt-kept : (paths : List (List Step)) (path cs : List Step) (k : ℕ) → IsFirstAt paths cs k
+    → IsFirstAt (paths ++ path ∷ []) cs k
+IsFirstAt-kept paths path cs k is = record {
+  within = omega (arith, is.within, length_push paths path);
+  same = rw (get_or_append_left paths (path ∷ []) [] k is.within) is.same;
+  first = λ j before same.
+      is.first j before (rw (get_or_append_left paths (path ∷ []) [] j (omega (arith, is.within, before))) at same);
+}
+
+-- where none was found, none is found among one more that leads elsewhere
+IsNoneAt-kept : (paths : List (List Step)) (path cs : List Step) → (¬ IsSame cs path) → IsNoneAt paths cs
+    → IsNoneAt (paths ++ path ∷ []) cs
+IsNoneAt-kept paths path cs elsewhere none = λ k within same. elim (cases_lt k (length paths)) [
+  | inl before ↦ none k before (rw (get_or_append_left paths (path ∷ []) [] k before) at same)
+  | inr last ↦
+      let next : length paths ≡ k = omega (arith, within, length_push paths path) in
+      elsewhere (rw (get_or_push paths path [] k next) at same)
+]
+
+-- where none was found, one more that leads there is the first
+IsFirstAt-next : (paths : List (List Step)) (path cs : List Step) → IsSame cs path → IsNoneAt paths cs
+    → IsFirstAt (paths ++ path ∷ []) cs (length paths)
+IsFirstAt-next paths path cs same none = record {
+  within = omega (arith, length_push paths path);
+  same = rw (get_or_push paths path [] (length paths) refl) same;
+  first = λ j before leads. none j before (rw (get_or_append_left paths (path ∷ []) [] j before) at leads);
+}
+
+-- what was found for where one more leads, or else its own number, is the first
+IsFirstAt-or : (paths : List (List Step)) (path cs : List Step) (found : Option ℕ) → IsSame cs path
+    → IsFoundAt paths cs found → IsFirstAt (paths ++ path ∷ []) cs (unwrap_or found (length paths))
+IsFirstAt-or paths path cs None same none = IsFirstAt-next paths path cs same none
+IsFirstAt-or paths path cs (Some k) same is = IsFirstAt-kept paths path cs k is
+
+-- what was found for where one more doesn't lead
+IsFoundAt-kept : (paths : List (List Step)) (path cs : List Step) (found : Option ℕ) → (¬ IsSame cs path)
+    → IsFoundAt paths cs found → IsFoundAt (paths ++ path ∷ []) cs found
+IsFoundAt-kept paths path cs None elsewhere none = IsNoneAt-kept paths path cs elsewhere none
+IsFoundAt-kept paths path cs (Some k) elsewhere is = IsFirstAt-kept paths path cs k is
+
+-- for the normal text of one more path the index has what it had, or else this number
+abbrev pub IsInserted : PlaceIndex → PlaceIndex → List ℕ → ℕ → Type 0
+IsInserted old new text number = (other : List ℕ) → get_by_text new.by_text other
+    ≡ update bytes_eq (get_by_text old.by_text) text (Some (unwrap_or (get_by_text old.by_text text) number)) other
+
+-- the index of one more path
+pub Indexes-insert : (paths : List (List Step)) (path : List Step) (old new : PlaceIndex) (text : List ℕ) (number : ℕ)
+    → IsNormalTextOf path text → IsInserted old new text number → Indexes paths old → length paths ≡ number
+    → Indexes (paths ++ path ∷ []) new
+Indexes-insert paths path old new text number normal inserted index next = record { found = found } where
+  found : (cs : List Step) (other : List ℕ) → IsNormalTextOf cs other
+      → IsFoundAt (paths ++ path ∷ []) cs (get_by_text new.by_text other)
+  found cs other has = tell (bytes_eq text other) (bytes_eq-Decides text other) (inserted other) where
+    tell : (b : Bool) → ((b ≡ true → text ≡ other) × (text ≡ other → b ≡ true))
+        → get_by_text new.by_text other
+        ≡ cond b (Some (unwrap_or (get_by_text old.by_text text) number)) (get_by_text old.by_text other)
+        → IsFoundAt (paths ++ path ∷ []) cs (get_by_text new.by_text other)
+    tell true (same, _) is =
+        let here = rw (sym (same refl)) at has in
+        rw (is, sym next)
+        (IsFirstAt-or paths path cs _ (same_normal_text cs path text here normal) (index.found cs text here))
+    tell false (_, differs) is =
+        rw is
+        (IsFoundAt-kept paths path cs _
+        (λ same. true≢false (sym (differs (normal_text_same cs path other text same has normal))))
+        (index.found cs other has))
+
+-- the number of the first path at the place of one more
+pub IsFirstAt-insert : (paths : List (List Step)) (path : List Step) (old : PlaceIndex) (text : List ℕ)
+    (number first : ℕ) → IsNormalTextOf path text → first ≡ unwrap_or (get_by_text old.by_text text) number
+    → Indexes paths old → length paths ≡ number → IsFirstAt (paths ++ path ∷ []) path first
+IsFirstAt-insert paths path old text number first normal is index next =
+    rw (is, sym next)
+    (IsFirstAt-or paths path path _ (record { everywhere = λ base. refl }) (index.found path text normal))
