@@ -12,7 +12,8 @@ use Rattle.relative_path.specs.Normalizing.{IsNormalTextOf}
 use Rattle.relative_path.specs.RelativePathBuf.{Buffer}
 use Rattle.relative_path_uses.specs.declared.manifest.ManifestError.{ManifestError}
 use Rattle.relative_path_uses.specs.declared.manifest.ManifestError.TheVariants.{NoBase, NoFiles, NotAString, ClimbsAbove, LeadsToBase, OutOfMemory}
-use Rattle.relative_path_uses.specs.Places.{place_of, SpellsPlace}
+use Rattle.relative_path_moves.specs.Places.{place_of}
+use Rattle.relative_path_uses.specs.Places.{SpellsPlace}
 use Rattle.relative_path_uses.proofs.PlacesLemmas.{SpellsPlace-some}
 use Rattle.relative_path_uses.specs.Manifest.{base_of, item_list, entries_of, OfManifest, Refuses, IsFileOf, AreFiles, IsRefusedFor, file_text}
 

@@ -1,4 +1,5 @@
 pub mod Places
 pub mod Router
 pub mod Manifest
+pub mod Reference
 pub mod SiteMap

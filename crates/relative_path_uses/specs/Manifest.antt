@@ -10,7 +10,7 @@ use Rattle.relative_path.specs.Normalizing.{IsNormalTextOf}
 use Rattle.relative_path.specs.RelativePathBuf.{Buffer}
 use Rattle.relative_path_uses.specs.declared.manifest.ManifestError.{ManifestError}
 use Rattle.relative_path_uses.specs.declared.manifest.ManifestError.TheVariants.{NoBase, NoFiles, NotAString, ClimbsAbove, LeadsToBase, OutOfMemory}
-use Rattle.relative_path_uses.specs.Places.{place_of}
+use Rattle.relative_path_moves.specs.Places.{place_of}
 
 -- the text of the member `base`, if it is a string
 abbrev pub base_of : Data → Option (List ℕ)

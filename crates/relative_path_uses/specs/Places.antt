@@ -1,11 +1,7 @@
--- The place of a path from the top.
-use Rattle.std.specs.Prelude.{◌≡◌, ℕ, List, [], map, Option, Some}
+-- The text of a path's place from the top.
+use Rattle.std.specs.Prelude.{◌≡◌, ℕ, List, map, Some}
 use Rattle.relative_path.specs.Steps.{Step, name, components, spell}
-use Rattle.relative_path.specs.Walk.{walk}
-
--- where the components lead from the top, if they lead to a place
-abbrev pub place_of : List Step → Option (List (List ℕ))
-place_of cs = walk [] cs
+use Rattle.relative_path_moves.specs.Places.{place_of}
 
 -- the text is the names of the place where the components lead from the top, with single slashes between
 pub record SpellsPlace (cs : List Step) (text : List ℕ) : Type 0 where

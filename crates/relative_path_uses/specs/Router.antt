@@ -3,7 +3,7 @@ use Rattle.std.specs.Prelude.{◌≡◌, ◌≢◌, ℕ, Bool, ◌==◌, ◌||�
 use Rattle.std.specs.List.{All, list_any}
 use Rattle.relative_path.specs.Steps.{Step, name, is_slash}
 use Rattle.relative_path.specs.Unix.{onto}
-use Rattle.relative_path_uses.specs.Places.{place_of}
+use Rattle.relative_path_moves.specs.Places.{place_of}
 
 -- `b'\\'`
 abbrev pub backslash : ℕ

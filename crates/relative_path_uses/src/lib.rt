@@ -1,12 +1,13 @@
-//! Three users of relative paths, each proved from the public contracts of the crates below.
+//! Users of relative paths, each proved from the public contracts of the crates below.
 #![tactic(auto)]
 
 pub use self::manifest::{ManifestError, manifest_files};
 pub use self::router::served;
-pub use self::site_map::SiteMap;
+pub use self::site_map::{SiteMap, SiteMapError};
 
 mod manifest;
 mod places;
+mod reference;
 mod router;
 mod site_map;
 #[cfg(test)]
