@@ -1,5 +1,5 @@
 -- An index with one path more.
-use Rattle.std.proofs.Common.{◌≡◌, ◌≢◌, ℕ, ◌<◌, ◌≤◌, ◌⊎◌, true, false, List, [], ◌∷◌, ◌++◌, length, get_or, Option, Some, None, MatchOption, unwrap_or, Bool, cond, inl, inr, refl, sym, ap, ◌∙◌, arith, true≢false}
+use Rattle.std.proofs.Common.{◌≡◌, ℕ, ◌<◌, ◌+◌, true, false, List, [], ◌∷◌, ◌++◌, length, Option, Some, None, IfSome, unwrap_or, Bool, cond, inl, inr, refl, sym, ap, ◌∙◌, arith, true≢false}
 use Rattle.std.proofs.lemmas.Bool.{cases_lt}
 use Rattle.std.proofs.lemmas.List.{get_or_append_left, get_or_push, length_push}
 use Rattle.std.proofs.lemmas.Slice.Eq.{bytes_eq-Decides}
@@ -10,7 +10,7 @@ use Rattle.relative_path.specs.Steps.{Step}
 use Rattle.relative_path.specs.Walk.{IsSame}
 use Rattle.relative_path.specs.Normalizing.{IsNormalTextOf}
 use Rattle.relative_path_moves.specs.declared.place_index.PlaceIndex.{PlaceIndex}
-use Rattle.relative_path_moves.specs.PlaceIndex.{path_at, IsFirstAt, IsNoneAt, IsFoundAt, Indexes}
+use Rattle.relative_path_moves.specs.PlaceIndex.{IsFirstAt, IsNoneAt, IsFoundAt, Indexes}
 
 -- what has the same normal text leads to the same
 same_normal_text : (cs ds : List Step) (text : List ℕ) → IsNormalTextOf cs text → IsNormalTextOf ds text → IsSame cs ds
@@ -72,23 +72,42 @@ IsInserted old new text number = (other : List ℕ) → get_by_text new.by_text 
 pub Indexes-insert : (paths : List (List Step)) (path : List Step) (old new : PlaceIndex) (text : List ℕ) (number : ℕ)
     → IsNormalTextOf path text → IsInserted old new text number → Indexes paths old → length paths ≡ number
     → Indexes (paths ++ path ∷ []) new
-Indexes-insert paths path old new text number normal inserted index next = record { found = found } where
-  found : (cs : List Step) (other : List ℕ) → IsNormalTextOf cs other
-      → IsFoundAt (paths ++ path ∷ []) cs (get_by_text new.by_text other)
-  found cs other has = tell (bytes_eq text other) (bytes_eq-Decides text other) (inserted other) where
-    tell : (b : Bool) → ((b ≡ true → text ≡ other) × (text ≡ other → b ≡ true))
-        → get_by_text new.by_text other
-        ≡ cond b (Some (unwrap_or (get_by_text old.by_text text) number)) (get_by_text old.by_text other)
-        → IsFoundAt (paths ++ path ∷ []) cs (get_by_text new.by_text other)
-    tell true (same, _) is =
-        let here = rw (sym (same refl)) at has in
-        rw (is, sym next)
-        (IsFirstAt-or paths path cs _ (same_normal_text cs path text here normal) (index.found cs text here))
-    tell false (_, differs) is =
-        rw is
-        (IsFoundAt-kept paths path cs _
-        (λ same. true≢false (sym (differs (normal_text_same cs path other text same has normal))))
-        (index.found cs other has))
+Indexes-insert paths path old new text number normal inserted index next =
+    record { within = within; found = found } where
+      count : length (paths ++ path ∷ []) ≡ length paths + 1
+      count = length_push paths path
+
+      -- the number that the index now has for the text
+      here : (had : Option ℕ) (k : ℕ) → ((j : ℕ) → had ≡ Some j → j < length paths)
+          → Some (unwrap_or had number) ≡ Some k → k < length (paths ++ path ∷ [])
+      here None k held is = let e = ap (λ found. unwrap_or found 0) is in omega (arith, e, next, count)
+      here (Some j) k held is =
+          let e = ap (λ found. unwrap_or found 0) is in omega (arith, e, held j refl, count)
+
+      within : (other : List ℕ) (k : ℕ) → get_by_text new.by_text other ≡ Some k → k < length (paths ++ path ∷ [])
+      within other k is = tell (bytes_eq text other) (sym (inserted other) ∙ is) where
+        tell : (b : Bool)
+            → cond b (Some (unwrap_or (get_by_text old.by_text text) number)) (get_by_text old.by_text other) ≡ Some k
+            → k < length (paths ++ path ∷ [])
+        tell true is = here (get_by_text old.by_text text) k (index.within text) is
+        tell false is = omega (arith, index.within other k is, count)
+
+      found : (cs : List Step) (other : List ℕ) → IsNormalTextOf cs other
+          → IsFoundAt (paths ++ path ∷ []) cs (get_by_text new.by_text other)
+      found cs other has = tell (bytes_eq text other) (bytes_eq-Decides text other) (inserted other) where
+        tell : (b : Bool) → ((b ≡ true → text ≡ other) × (text ≡ other → b ≡ true))
+            → get_by_text new.by_text other
+            ≡ cond b (Some (unwrap_or (get_by_text old.by_text text) number)) (get_by_text old.by_text other)
+            → IsFoundAt (paths ++ path ∷ []) cs (get_by_text new.by_text other)
+        tell true (same, _) is =
+            let has_text = rw (sym (same refl)) at has in
+            rw (is, sym next)
+            (IsFirstAt-or paths path cs _ (same_normal_text cs path text has_text normal) (index.found cs text has_text))
+        tell false (_, differs) is =
+            rw is
+            (IsFoundAt-kept paths path cs _
+            (λ same. true≢false (sym (differs (normal_text_same cs path other text same has normal))))
+            (index.found cs other has))
 
 -- the number of the first path at the place of one more
 pub IsFirstAt-insert : (paths : List (List Step)) (path : List Step) (old : PlaceIndex) (text : List ℕ)
@@ -97,3 +116,9 @@ pub IsFirstAt-insert : (paths : List (List Step)) (path : List Step) (old : Plac
 IsFirstAt-insert paths path old text number first normal is index next =
     rw (is, sym next)
     (IsFirstAt-or paths path path _ (record { everywhere = λ base. refl }) (index.found path text normal))
+
+-- a number that the index has is one of its paths'
+pub within-found : (index : PlaceIndex) (text : List ℕ) (found : Option ℕ) → found ≡ get_by_text index.by_text text
+    → IfSome found (λ k. (paths : List (List Step)) → Indexes paths index → k < length paths)
+within-found index text None is = tt
+within-found index text (Some k) is = λ paths indexes. indexes.within text k (sym is)

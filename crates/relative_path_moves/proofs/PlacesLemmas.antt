@@ -1,5 +1,5 @@
 -- The directory by a path's parent, and whether a path has a place from the top.
-use Rattle.std.proofs.Common.{◌≡◌, ◌≢◌, ℕ, List, [], ◌∷◌, length, take, codes, zero, suc, ◌↔◌, IsTrue, IsSome, IfSome, IfNone, Option, Some, None, unwrap_or, refl, sym, ap, ◌∙◌, arith, true≢false}
+use Rattle.std.proofs.Common.{◌≡◌, ◌≢◌, ℕ, List, [], ◌∷◌, length, codes, zero, suc, ◌↔◌, IsTrue, IsSome, IfSome, IfNone, Option, Some, None, unwrap_or, refl, sym, ap, ◌∙◌, arith, true≢false}
 use Rattle.std.proofs.lemmas.Bool.{ne_eqb}
 use Rattle.std.proofs.lemmas.Option.{none-some}
 use Rattle.std.specs.Option.{option_eq}

@@ -1,5 +1,5 @@
 -- The first of some paths at a place, and the paths that an index has.
-use Rattle.std.specs.Prelude.{◌≡◌, ◌<◌, ℕ, List, [], length, Option, MatchOption, slice_index_or}
+use Rattle.std.specs.Prelude.{◌≡◌, ◌<◌, ℕ, List, [], length, Option, Some, MatchOption, slice_index_or}
 use Rattle.std.specs.BTreeMap.{get_by_text}
 use Rattle.relative_path.specs.Steps.{Step}
 use Rattle.relative_path.specs.Walk.{IsSame}
@@ -24,7 +24,9 @@ IsNoneAt paths cs = (k : ℕ) → k < length paths → ¬ IsSame cs (path_at pat
 abbrev pub IsFoundAt : List (List Step) → List Step → Option ℕ → Type 0
 IsFoundAt paths cs found = MatchOption found (IsNoneAt paths cs) (IsFirstAt paths cs)
 
--- these are the paths of the index: for each normal text it has the number of the first that leads where that leads
+-- these are the paths of the index: each of its numbers is one of theirs, and for a normal text it has that of the first
+-- that leads where the text leads
 pub record Indexes (paths : List (List Step)) (index : PlaceIndex) : Type 0 where
+  pub within : (text : List ℕ) (k : ℕ) → get_by_text index.by_text text ≡ Some k → k < length paths
   pub found : (cs : List Step) (text : List ℕ) → IsNormalTextOf cs text
       → IsFoundAt paths cs (get_by_text index.by_text text)

@@ -1,8 +1,24 @@
 //! Files that moved, and what their references have to become.
+//!
+//! ```text
+//! reference                   one reference, with a table for it alone
+//!     │
+//! move_table                  many references, with one table
+//!     │
+//! move_error   place_index    why a reference has no answer; paths by the places they lead to
+//!                  │
+//!               places        a file's directory; whether a path has a place from the top
+//! ```
 #![tactic(auto)]
 
+pub use self::move_error::MoveError;
+pub use self::move_table::MoveTable;
 pub use self::place_index::PlaceIndex;
 pub use self::places::{directory, has_place};
+pub use self::reference::moved;
 
+mod move_error;
+mod move_table;
 mod place_index;
 mod places;
+mod reference;

@@ -1,5 +1,5 @@
 //! Paths by the places that they lead to.
-ghost use Rattle.std.specs.Prelude.{◌≡◌, ◌++◌, ℕ, [], ◌∷◌, List, length, IfOk, OnOk, OnErr};
+ghost use Rattle.std.specs.Prelude.{◌≡◌, ◌<◌, ◌++◌, ℕ, [], ◌∷◌, List, length, IfOk, IfSome, OnOk, OnErr};
 ghost use Rattle.relative_path.specs.Steps.{Step};
 ghost use Rattle.relative_path.specs.Normalizing.{IsNormalTextOf};
 ghost use Rattle.relative_path.specs.RelativePath.{path_text, path_components};
@@ -98,8 +98,10 @@ impl PlaceIndex {
     /// assert_eq!(rt; index.get_normal(RelativePath::new("b")), Some(0));
     /// ```
     pub fn get_normal(&self, path: RelativePath<'_>) -> Option<usize>
-        ensures { (paths : List (List Step)) (steps : List Step) → Indexes paths self.now
-            → IsNormalTextOf steps (path_text path.entry) → IsFoundAt paths steps result }
+        ensures found { (paths : List (List Step)) (cs : List Step) → Indexes paths self.now
+            → IsNormalTextOf cs (path_text path.entry) → IsFoundAt paths cs result }
+        ensures within { IfSome result (λ k. (paths : List (List Step)) → Indexes paths self.now
+            → k < length paths) }
     {
         self.by_text.get(path.as_str()).copied()
     }

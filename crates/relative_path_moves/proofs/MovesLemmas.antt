@@ -1,0 +1,86 @@
+-- The moves that pairs of paths are, and the first without a file name.
+use Rattle.std.proofs.Common.{◌≡◌, ◌≢◌, ℕ, ◌<◌, ◌+◌, ◌⊎◌, List, [], ◌∷◌, ◌++◌, length, take, get_or, not, is_some, Bool, true, false, Bor, true≢false, Option, Some, None, inl, inr, sym, ap, ◌∙◌, arith}
+use Rattle.std.proofs.lemmas.Bool.{cases_lt}
+use Rattle.std.proofs.lemmas.List.{get_or-map, length-map, take_more}
+use Rattle.std.proofs.lemmas.Option.{none-some}
+use Rattle.std.specs.Option.{option_copied}
+use Rattle.relative_path.specs.Steps.{Step}
+use Rattle.relative_path.specs.Naming.{file_name_of}
+use Rattle.relative_path.specs.RelativePath.{path_text, path_components}
+use Rattle.relative_path.specs.declared.path.RelativePath.{RelativePath}
+use Rattle.relative_path_moves.specs.Moves.{Move, LacksFileName, IsFirstNameless, moves_of, move_at}
+use Rattle.relative_path_moves.specs.PlaceIndex.{path_at}
+use Rattle.relative_path_moves.specs.MoveTable.{olds_of}
+
+-- a move by its number
+pub move_at-moves_of : (paths : List (RelativePath × RelativePath)) (i : ℕ) (none : RelativePath × RelativePath)
+    → i < length paths → move_at (moves_of paths) i
+    ≡ record { old = path_components (get_or paths i none).0; new = path_components (get_or paths i none).1 }
+move_at-moves_of paths i none l = get_or-map _ paths i none _ l
+
+pub length-moves_of : (paths : List (RelativePath × RelativePath)) → length (moves_of paths) ≡ length paths
+length-moves_of paths = length-map paths _
+
+pub length-olds_of : (paths : List (RelativePath × RelativePath)) → length (olds_of (moves_of paths)) ≡ length paths
+length-olds_of paths = length-map (moves_of paths) _ ∙ length-moves_of paths
+
+-- an old path by its number
+pub old_at : (moves : List Move) (k : ℕ) → k < length moves → path_at (olds_of moves) k ≡ (move_at moves k).old
+old_at moves k l = get_or-map (λ move. move.old) moves k _ [] l
+
+-- the old paths up to the next
+take_more-olds_of : (paths : List (RelativePath × RelativePath)) (none : RelativePath × RelativePath) (k : ℕ)
+    → k < length paths → take (k + 1) (olds_of (moves_of paths))
+    ≡ take k (olds_of (moves_of paths)) ++ path_components (get_or paths k none).0 ∷ []
+take_more-olds_of paths none k l =
+    take_more (olds_of (moves_of paths)) k [] (rw (length-olds_of paths) l)
+    ∙ ap (λ path. take k (olds_of (moves_of paths)) ++ path ∷ [])
+    (old_at (moves_of paths) k (rw (length-moves_of paths) l) ∙ ap (λ move. move.old) (move_at-moves_of paths k none l))
+
+-- what is known of the old paths before the next and that, as of those up to it
+pub olds_of-next : (P : List (List Step) → List Step → Type 0) (paths : List (RelativePath × RelativePath))
+    (none : RelativePath × RelativePath) (k : ℕ) → k < length paths
+    → P (take k (olds_of (moves_of paths)) ++ path_components (get_or paths k none).0 ∷ [])
+    (path_components (get_or paths k none).0)
+    → P (take (k + 1) (olds_of (moves_of paths))) (move_at (moves_of paths) k).old
+olds_of-next P paths none k l holds = rw (take_more-olds_of paths none k l, move_at-moves_of paths k none l) holds
+
+-- a path that answers no file name has none
+pub nameless : (found : Option (Bor (List ℕ))) (lacks : Bool) (name : Option (List ℕ)) → option_copied found ≡ name
+    → is_some found ≡ not lacks → lacks ≡ true → name ≡ None
+nameless None lacks name e is lacking = sym e
+nameless (Some n) lacks name e is lacking = absurd (true≢false (is ∙ ap not lacking))
+
+-- and one that answers a file name has that
+pub named : (found : Option (Bor (List ℕ))) (lacks : Bool) (name : Option (List ℕ)) → option_copied found ≡ name
+    → is_some found ≡ not lacks → lacks ≡ false → name ≢ None
+named None lacks name e is has = λ none. absurd (true≢false (sym (ap not has) ∙ sym is))
+named (Some n) lacks name e is has = λ none. none-some n.now (sym none ∙ sym e)
+
+-- one more move that has its file names
+pub named-next : (paths : List (RelativePath × RelativePath)) (none : RelativePath × RelativePath) (k : ℕ)
+    → k < length paths → ((j : ℕ) → j < k → ¬ LacksFileName (move_at (moves_of paths) j))
+    → file_name_of (path_text (get_or paths k none).0) ≢ None → file_name_of (path_text (get_or paths k none).1) ≢ None
+    → (j : ℕ) → j < k + 1 → ¬ LacksFileName (move_at (moves_of paths) j)
+named-next paths none k within before old new j l lacks = elim (cases_lt j k) [
+  | inl less ↦ before j less lacks
+  | inr no_less ↦
+      let is_k : j ≡ k = omega arith in
+      let here = rw (is_k, move_at-moves_of paths k none within) at lacks in
+      elim here [
+        | inl lacks_old ↦ old lacks_old
+        | inr lacks_new ↦ new lacks_new
+      ]
+]
+
+-- the first move without a file name
+pub IsFirstNameless-here : (paths : List (RelativePath × RelativePath)) (none : RelativePath × RelativePath) (k : ℕ)
+    → k < length paths → ((j : ℕ) → j < k → ¬ LacksFileName (move_at (moves_of paths) j))
+    → (file_name_of (path_text (get_or paths k none).0) ≡ None)
+    ⊎ (file_name_of (path_text (get_or paths k none).1) ≡ None)
+    → IsFirstNameless (moves_of paths) k
+IsFirstNameless-here paths none k within before lacks = record {
+  within = rw (length-moves_of paths) within;
+  lacks = rw (move_at-moves_of paths k none within) lacks;
+  first = before;
+}

@@ -1,0 +1,18 @@
+-- The index has the number of the move whose old path leads where the place does, if there is one.
+use Rattle.relative_path_moves.specs.MoveTable.{olds_of}
+use Rattle.relative_path_moves.proofs.MoveTableLemmas.{LeadToTarget-found, LeadToTarget-kept}
+use Rattle.relative_path_moves.proofs.move_table.MoveTable.target.Goals as goal
+
+pub returns-in-Some : goal.returns-in-Some
+returns-in-Some c = λ cs normal.
+    let table = rw c.self.view_is at c.self.invariant in
+    LeadToTarget-found c.args.self.now cs _ c.in-Some.j table.apart
+    (c.in-Some.ensures.found (olds_of c.args.self.now) cs table.olds (rw c.as_relative_path-place.ensures normal))
+    c.paths.ensures.new
+
+pub returns-in-None : goal.returns-in-None
+returns-in-None c = λ cs normal.
+    let table = rw c.self.view_is at c.self.invariant in
+    LeadToTarget-kept c.args.self.now cs _ table.apart
+    (c.in-None.ensures.found (olds_of c.args.self.now) cs table.olds (rw c.as_relative_path-place.ensures normal))
+    (rw c.as_relative_path-place.ensures normal.same)

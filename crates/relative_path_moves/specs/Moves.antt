@@ -1,0 +1,86 @@
+-- Files that moved, and where a reference of one of them has to lead.
+use Rattle.std.specs.Prelude.{◌≡◌, ◌≢◌, ◌⊎◌, ◌<◌, ◌≤◌, ℕ, List, [], ◌++◌, map, length, None, slice_index_or}
+use Rattle.relative_path.specs.Steps.{Step}
+use Rattle.relative_path.specs.Walk.{IsSame}
+use Rattle.relative_path.specs.Naming.{last_name}
+use Rattle.relative_path.specs.Relating.{IsReachable, IsShortestText}
+use Rattle.relative_path.specs.RelativePath.{path_components}
+use Rattle.relative_path.specs.declared.path.RelativePath.{RelativePath}
+use Rattle.relative_path_moves.specs.Places.{place_of, directory}
+
+-- a move of a file: the components of its old path and of its new one
+pub record Move : Type 0 where
+  pub old : List Step
+  pub new : List Step
+
+-- the moves that pairs of an old and a new path are
+abbrev pub moves_of : List (RelativePath × RelativePath) → List Move
+moves_of = map (λ paths. record { old = path_components paths.0; new = path_components paths.1 })
+
+-- move number k, counted from 0
+abbrev pub move_at : List Move → ℕ → Move
+move_at moves k = slice_index_or moves k (record { old = []; new = [] })
+
+-- the old or the new path has no file name
+abbrev pub LacksFileName : Move → Type 0
+LacksFileName move = (last_name move.old ≡ None) ⊎ (last_name move.new ≡ None)
+
+-- k is the least number of a move without a file name
+pub record IsFirstNameless (moves : List Move) (k : ℕ) : Type 0 where
+  pub within : k < length moves
+  pub lacks : LacksFileName (move_at moves k)
+  pub first : (j : ℕ) → j < k → ¬ LacksFileName (move_at moves j)
+
+-- every move has a file name in its old and in its new path
+abbrev pub AreNamed : List Move → Type 0
+AreNamed moves = (k : ℕ) → k < length moves → ¬ LacksFileName (move_at moves k)
+
+-- j is less than k, and the old paths of these moves lead to the same from every base
+pub record HaveSameOld (moves : List Move) (j k : ℕ) : Type 0 where
+  pub before : j < k
+  pub within : k < length moves
+  pub same : IsSame (move_at moves j).old (move_at moves k).old
+
+-- the lexicographically least pair of moves with the same old path
+pub record IsFirstPair (moves : List Move) (j k : ℕ) : Type 0 where
+  pub pair : HaveSameOld moves j k
+  pub first : (a b : ℕ) → HaveSameOld moves a b → (j < a) ⊎ (j ≡ a) × (k ≤ b)
+
+-- no two moves have the same old path
+abbrev pub AreApart : List Move → Type 0
+AreApart moves = (j k : ℕ) → ¬ HaveSameOld moves j k
+
+-- the place meant by a reference in the file of move number i, before the file moved
+abbrev pub meant : List Move → ℕ → List Step → List Step
+meant moves i reference = directory (move_at moves i).old ++ reference
+
+-- the file at this place is that of move number j
+pub record MovesFrom (moves : List Move) (place : List Step) (j : ℕ) : Type 0 where
+  pub within : j < length moves
+  pub same : IsSame place (move_at moves j).old
+
+-- where the file at a place is after the moves: the new path, if it moved, and else the place itself
+abbrev pub IsTarget : List Move → List Step → List Step → Type 0
+IsTarget moves place target =
+    ((j : ℕ) × MovesFrom moves place j × (target ≡ (move_at moves j).new))
+    ⊎ ((j : ℕ) → ¬ MovesFrom moves place j) × (target ≡ place)
+
+-- P holds of the target of the reference in the file of move number i
+abbrev pub OfTarget : List Move → ℕ → List Step → (List Step → Type 0) → Type 0
+OfTarget moves i reference P = (target : List Step) × IsTarget moves (meant moves i reference) target × P target
+
+-- from the top it leads to no place
+abbrev pub ClimbsAbove : List Step → Type 0
+ClimbsAbove target = place_of target ≡ None
+
+-- P holds of the target, which has a place from the top
+abbrev pub BelowTop : (List Step → Type 0) → List Step → Type 0
+BelowTop P target = (place_of target ≢ None) × P target
+
+-- no list leads to the target from the directory where the file of move i is now
+abbrev pub IsBeyond : List Move → ℕ → List Step → Type 0
+IsBeyond moves i target = ¬ IsReachable (directory (move_at moves i).new) target
+
+-- the text spells the shortest list that leads to the target from the directory where the file of move i is now
+abbrev pub IsMovedText : List Move → ℕ → List ℕ → List Step → Type 0
+IsMovedText moves i text target = IsShortestText (directory (move_at moves i).new) target text
