@@ -3,3 +3,4 @@ pub mod RouterLemmas
 pub mod ManifestLemmas
 pub mod ReferenceLemmas
 pub mod SiteMapLemmas
+pub mod RewriterLemmas

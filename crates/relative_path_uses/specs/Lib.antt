@@ -3,3 +3,4 @@ pub mod Router
 pub mod Manifest
 pub mod Reference
 pub mod SiteMap
+pub mod Rewriter

@@ -2,12 +2,14 @@
 #![tactic(auto)]
 
 pub use self::manifest::{ManifestError, manifest_files};
+pub use self::rewriter::{RewriteError, rewritten};
 pub use self::router::served;
 pub use self::site_map::{SiteMap, SiteMapError};
 
 mod manifest;
 mod places;
 mod reference;
+mod rewriter;
 mod router;
 mod site_map;
 #[cfg(test)]

@@ -17,14 +17,14 @@ pub(crate) fn reference(alloc: Global, link: RelativePathBuf) -> Result<String, 
 }
 
 // Whether a link isn't read as a path: an empty one, and one with a scheme.
-fn is_misread(link: &str) -> bool
+pub(crate) fn is_misread(link: &str) -> bool
     ensures { result ≡ is_misread link.now }
 {
     link.is_empty() || has_scheme(link)
 }
 
 // Whether a colon stands before the first slash.
-pub(crate) fn has_scheme(text: &str) -> bool
+fn has_scheme(text: &str) -> bool
     ensures { result ≡ has_scheme text.now }
 {
     text.bytes().take_while(|b| *b != b'/').any(|b| b == b':')

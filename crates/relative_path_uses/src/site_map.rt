@@ -106,6 +106,18 @@ impl<'a> SiteMap<'a> {
         Ok(SiteMap { pages, by_place })
     }
 
+    /// How many pages the site has.
+    ///
+    /// ```
+    /// let pages = ["index.html", "guide/start.html"].map(RelativePath::new);
+    /// assert_eq!(rt; SiteMap::new(alloc, &pages)?.len(), 2);
+    /// ```
+    pub fn len(&self) -> usize
+        ensures { result ≡ length self.now }
+    {
+        self.pages.len()
+    }
+
     /// The first page that leads from every base to where the path leads.
     ///
     /// It costs a normal form of the path, for which it takes memory, and a search by halves.

@@ -1,4 +1,5 @@
 //! The users on real input.
 mod manifest;
+mod rewriter;
 mod router;
 mod site_map;

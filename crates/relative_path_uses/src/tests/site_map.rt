@@ -69,6 +69,7 @@ fn links_a_page_to_another(rt: HostRuntime) -> Result<(), Fail> {
         (19, 16, "img/logo.svg"),
         (0, 9, "blog/2024/b: again.html"),
     ] {
+        assert!(rt; from < site.len() && to < site.len(), "{from} and {to}");
         let link = site.link(rt.alloc(), from, to)?.ok_or(want)?;
         assert_eq!(rt; link.as_relative_path().as_str(), want, "{from} to {to}");
     }
@@ -89,6 +90,7 @@ fn refers_from_a_page_to_another(rt: HostRuntime) -> Result<(), Fail> {
         (15, 15, "c.html"),
         (1, 15, "../a:b/c.html"),
     ] {
+        assert!(rt; from < site.len() && to < site.len(), "{from} and {to}");
         let href = site.href(rt.alloc(), from, to)?.ok_or(want)?;
         assert_eq!(rt; href.as_str(), want, "{from} to {to}");
     }
@@ -99,6 +101,7 @@ fn refers_from_a_page_to_another(rt: HostRuntime) -> Result<(), Fail> {
 fn no_link_leads_down_to_a_page_of_unknown_names(rt: HostRuntime) -> Result<(), Fail> {
     let pages = PAGES.map(RelativePath::new);
     let site = SiteMap::new(rt.alloc(), &pages)?;
+    assert!(rt; site.len() > 18, "the pages");
     assert!(rt; site.link(rt.alloc(), 18, 0)?.is_none(), "a link");
     assert!(rt; site.href(rt.alloc(), 18, 0)?.is_none(), "a reference");
     Ok(())
