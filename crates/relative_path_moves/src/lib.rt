@@ -22,3 +22,5 @@ mod move_table;
 mod place_index;
 mod places;
 mod reference;
+#[cfg(test)]
+mod tests;

@@ -1,11 +1,17 @@
 -- The answer to a line is the answer to the fields of it that are shown.
-use Rattle.std.proofs.Common.{◌≡◌, ◌≢◌, ◌⊎◌, ℕ, ◌<◌, ◌==◌, true, false, List, [], ◌∷◌, ◌++◌, length, map, take, drop, get_or, codes, Bor, Bool, Some, None, Result, Ok, Err, OnOk, inl, inr, refl, sym, ◌∙◌, arith, lit<, zero, suc, Option, MatchOption, MatchBool}
+use Rattle.std.proofs.Common.{◌≡◌, ◌≢◌, ◌⊎◌, ℕ, ◌<◌, ◌==◌, true, false, List, [], ◌∷◌, ◌++◌, length, map, take, drop, get_or, codes, Bor, Bool, Some, None, Result, Ok, Err, OnOk, IsErrOf, ◌↔◌, inl, inr, refl, sym, ◌∙◌, arith, lit<, zero, suc, Option, MatchOption, MatchBool}
 use Rattle.std.proofs.lemmas.Bool.{eq-eqb, ne_eqb}
 use Rattle.std.proofs.lemmas.Bool.Decides.{eqb_tells}
 use Rattle.std.proofs.lemmas.List.{length-map, length-take, drop-take, get_or-take}
+use Rattle.relative_path.specs.Steps.{Step}
+use Rattle.relative_path_moves.specs.declared.move_error.MoveError.{MoveError}
+use Rattle.relative_path_moves.specs.declared.move_error.MoveError.TheVariants.{NoFileName, SameOld, AboveRoot, NoPath, OutOfMemory}
+use Rattle.relative_path_moves.specs.MoveError.{Refuses}
+use Rattle.relative_path_moves.specs.Moves.{Move as FileMove, AreNamed, AreApart, IsFirstNameless, IsFirstPair, OfTarget, ClimbsAbove, BelowTop, IsBeyond}
+use Rattle.relative_path_moves.specs.Reference.{IsAnswered}
 use Rattle.relpath.specs.Command.{Answers, AnswersFields, AnswersCommand, AnswersArguments, Adds, field, command_named, arity_of, words_answer}
 use Rattle.relpath.specs.declared.command.Command.{Command}
-use Rattle.relpath.specs.declared.command.Command.TheVariants.{Normalize, Join, Relative, TryRelative, RelativeTo, Moved}
+use Rattle.relpath.specs.declared.command.Command.TheVariants.{Normalize, Join, Relative, TryRelative, RelativeTo, Move}
 use Rattle.relpath.specs.Lines.{fields_of}
 use Rattle.relpath.specs.declared.lines.TheConstants.{MAX_FIELDS}
 
@@ -32,7 +38,7 @@ AnswersArguments-take TryRelative arguments answer a =
     rw (same_field arguments 0 (lit< tt), same_field arguments 1 (lit< tt)) a
 AnswersArguments-take RelativeTo arguments answer a =
     rw (same_field arguments 0 (lit< tt), same_field arguments 1 (lit< tt)) a
-AnswersArguments-take Moved arguments answer a =
+AnswersArguments-take Move arguments answer a =
     rw (same_field arguments 0 (lit< tt), same_field arguments 1 (lit< tt), same_field arguments 2 (lit< tt)) a
 
 arity_of_lt : (command : Command) → arity_of command < 4
@@ -41,7 +47,7 @@ arity_of_lt Join = lit< tt
 arity_of_lt Relative = lit< tt
 arity_of_lt TryRelative = lit< tt
 arity_of_lt RelativeTo = lit< tt
-arity_of_lt Moved = lit< tt
+arity_of_lt Move = lit< tt
 
 -- the answer of a command that is one, or is none, to these arguments
 abbrev AnswersNamed : Option Command → List (List ℕ) → List ℕ → Type 0
@@ -125,3 +131,18 @@ pub field-map : (arguments : List (Bor (List ℕ))) (n : ℕ) (none : Bor (List 
 field-map [] n none inside = absurd (omega arith)
 field-map (x ∷ xs) zero none inside = refl
 field-map (x ∷ xs) (suc n) none inside = field-map xs n none (omega arith)
+
+-- a refusal that isn't want of memory is the answer
+pub IsAnswered-refused : {T : Type 0} (moves : List FileMove) (i : ℕ) (reference : List Step) (e : MoveError)
+    → e ≢ OutOfMemory
+    → ((k : ℕ) → IsErrOf {T = T} (Err e) (NoFileName k) ↔ IsFirstNameless moves k)
+    → ((j k : ℕ) → Refuses {T = T} (Err e) (SameOld j k) (AreNamed moves × IsFirstPair moves j k))
+    → Refuses {T = T} (Err e) AboveRoot (AreNamed moves × AreApart moves × OfTarget moves i reference ClimbsAbove)
+    → Refuses {T = T} (Err e) NoPath
+    (AreNamed moves × AreApart moves × OfTarget moves i reference (BelowTop (IsBeyond moves i)))
+    → IsAnswered moves i reference (Err e)
+IsAnswered-refused moves i reference (NoFileName k) some lacks pair above beyond = (lacks k).0 refl
+IsAnswered-refused moves i reference (SameOld j k) some lacks pair above beyond = (pair j k).only refl
+IsAnswered-refused moves i reference AboveRoot some lacks pair above beyond = above.only refl
+IsAnswered-refused moves i reference NoPath some lacks pair above beyond = beyond.only refl
+IsAnswered-refused moves i reference OutOfMemory some lacks pair above beyond = absurd (some refl)

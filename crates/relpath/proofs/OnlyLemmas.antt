@@ -11,11 +11,12 @@ use Rattle.relative_path.specs.Normalizing.{IsNormalTextOf}
 use Rattle.relative_path.specs.Relating.{IsReachable, IsShortestText}
 use Rattle.relpath.specs.Command.{path_answer, words_answer, GivesPath, IsWayText, TellsWay, field, command_named, arity_of, TellsWayBack, AnswersArguments, AnswersCommand, TellsMoved, moved_answer, one_move}
 use Rattle.relpath.specs.declared.command.Command.{Command}
-use Rattle.relpath.specs.declared.command.Command.TheVariants.{Normalize, Join, Relative, TryRelative, RelativeTo, Moved}
-use Rattle.relpath.specs.Mover.{Move, OfTarget, ClimbsAbove, BelowTop, IsBeyond, IsMovedText, AreNamed, AreApart, IsFirstNameless, IsFirstPair, IsAnswered}
-use Rattle.relpath.specs.declared.mover.MoveError.{MoveError}
-use Rattle.relpath.specs.declared.mover.MoveError.TheVariants.{NoFileName, SameOld, AboveRoot, NoPath, OutOfMemory}
-use Rattle.relpath.proofs.MoverLemmas.{IsTarget-only}
+use Rattle.relpath.specs.declared.command.Command.TheVariants.{Normalize, Join, Relative, TryRelative, RelativeTo, Move}
+use Rattle.relative_path_moves.specs.Moves.{Move as FileMove, OfTarget, ClimbsAbove, BelowTop, IsBeyond, IsMovedText, AreNamed, AreApart, IsFirstNameless, IsFirstPair}
+use Rattle.relative_path_moves.specs.MovesLaws.{IsTarget-only}
+use Rattle.relative_path_moves.specs.Reference.{IsAnswered}
+use Rattle.relative_path_moves.specs.declared.move_error.MoveError.{MoveError}
+use Rattle.relative_path_moves.specs.declared.move_error.MoveError.TheVariants.{NoFileName, SameOld, AboveRoot, NoPath, OutOfMemory}
 use Rattle.relpath.specs.Lines.{line_feed, lines_of, fields_of}
 use Rattle.relpath.specs.Output.{AnswersLines, IsOutput}
 
@@ -69,19 +70,19 @@ TellsWay-IsOfOne f t one other (inr (none, e)) (inl (text, way, f_2)) =
 TellsWay-IsOfOne f t one other (inr (none, e)) (inr (none_2, f_2)) = f_2 ∙ sym e
 
 -- two targets with a property are one, for moves that are apart
-OfTarget-both : (moves : List Move) (i : ℕ) (reference : List Step) (P Q : List Step → Type 0) → AreApart moves
+OfTarget-both : (moves : List FileMove) (i : ℕ) (reference : List Step) (P Q : List Step → Type 0) → AreApart moves
     → OfTarget moves i reference P → OfTarget moves i reference Q → (target : List Step) × P target × Q target
 OfTarget-both moves i reference P Q apart (target, is, p) (other, other_is, q) =
     (target, p, rw (sym (IsTarget-only moves _ target other apart is other_is)) q)
 
-IsFirstNameless-only : (moves : List Move) (j k : ℕ) → IsFirstNameless moves j → IsFirstNameless moves k → k ≡ j
+IsFirstNameless-only : (moves : List FileMove) (j k : ℕ) → IsFirstNameless moves j → IsFirstNameless moves k → k ≡ j
 IsFirstNameless-only moves j k first second = elim (cases_order j k) [
   | inl same ↦ sym same
   | inr (inl less) ↦ absurd (second.first j less first.lacks)
   | inr (inr more) ↦ absurd (first.first k more second.lacks)
 ]
 
-IsFirstPair-only : (moves : List Move) (j k a b : ℕ) → IsFirstPair moves j k → IsFirstPair moves a b
+IsFirstPair-only : (moves : List FileMove) (j k a b : ℕ) → IsFirstPair moves j k → IsFirstPair moves a b
     → (a ≡ j) × (b ≡ k)
 IsFirstPair-only moves j k a b first second = tell (first.first a b second.pair) (second.first j k first.pair) where
   tell : (j < a) ⊎ (j ≡ a) × (k ≤ b) → (a < j) ⊎ (a ≡ j) × (b ≤ k) → (a ≡ j) × (b ≡ k)
@@ -90,11 +91,11 @@ IsFirstPair-only moves j k a b first second = tell (first.first a b second.pair)
   tell (inr same) (inl more) = absurd (omega (arith, same.0))
   tell (inr same) (inr same_2) = (same_2.0, omega (arith, same.1, same_2.1))
 
-unnamed : (moves : List Move) (k : ℕ) → AreNamed moves → IsFirstNameless moves k → ⊥
+unnamed : (moves : List FileMove) (k : ℕ) → AreNamed moves → IsFirstNameless moves k → ⊥
 unnamed moves k all_named first = all_named k first.within first.lacks
 
 -- the moves and a reference have one outcome
-IsAnswered-only : (moves : List Move) (i : ℕ) (reference : List Step) (one other : Result (List ℕ) MoveError)
+IsAnswered-only : (moves : List FileMove) (i : ℕ) (reference : List Step) (one other : Result (List ℕ) MoveError)
     → IsAnswered moves i reference one → IsAnswered moves i reference other → other ≡ one
 IsAnswered-only moves i reference (Err (NoFileName j)) (Err (NoFileName k)) h n =
     ap (λ k. Err (NoFileName k)) (IsFirstNameless-only moves j k h n)
@@ -164,7 +165,7 @@ AnswersArguments-IsOfOne Join arguments = is-IsOfOne _
 AnswersArguments-IsOfOne Relative arguments = GivesPath-IsOfOne _ (IsWayText-IsOfOne _ _)
 AnswersArguments-IsOfOne TryRelative arguments = TellsWay-IsOfOne _ _
 AnswersArguments-IsOfOne RelativeTo arguments = TellsWayBack-IsOfOne (field arguments 0) (field arguments 1)
-AnswersArguments-IsOfOne Moved arguments = TellsMoved-IsOfOne _ _ _
+AnswersArguments-IsOfOne Move arguments = TellsMoved-IsOfOne _ _ _
 
 AnswersCommand-IsOfOne : (name : List ℕ) (arguments : List (List ℕ)) → IsOfOne (AnswersCommand name arguments)
 AnswersCommand-IsOfOne name arguments = named (command_named name) where

@@ -8,10 +8,12 @@ use Rattle.relative_path.specs.Relating.{IsReachable, IsShortestText}
 use Rattle.relative_path.specs.Unix.{has_root, way_to}
 use Rattle.relative_path.specs.RelativeToError.{relative_to_words}
 use Rattle.relative_path.specs.declared.relative_to_error.RelativeToErrorKind.TheVariants.{PrefixMismatch, AmbiguousTraversal}
-use Rattle.relpath.specs.declared.mover.MoveError.{MoveError}
-use Rattle.relpath.specs.Mover.{Move, IsAnswered, refusal_text}
+use Rattle.relative_path_moves.specs.declared.move_error.MoveError.{MoveError}
+use Rattle.relative_path_moves.specs.MoveError.{refusal_text}
+use Rattle.relative_path_moves.specs.Moves.{Move as FileMove}
+use Rattle.relative_path_moves.specs.Reference.{IsAnswered}
 use Rattle.relpath.specs.declared.command.Command.{Command}
-use Rattle.relpath.specs.declared.command.Command.TheVariants.{Normalize, Join, Relative, TryRelative, RelativeTo, Moved}
+use Rattle.relpath.specs.declared.command.Command.TheVariants.{Normalize, Join, Relative, TryRelative, RelativeTo, Move}
 use Rattle.relpath.specs.Lines.{fields_of}
 
 -- the answer that gives a path
@@ -74,7 +76,7 @@ moved_answer (Ok text) = path_answer text
 moved_answer (Err refusal) = words_answer (refusal_text refusal)
 
 -- the move from one path to another
-abbrev pub one_move : List Step → List Step → List Move
+abbrev pub one_move : List Step → List Step → List FileMove
 one_move old new = record { old = old; new = new } ∷ []
 
 -- the answer tells what the reference becomes in the file that moved from one path to another, or why nothing
@@ -95,7 +97,7 @@ command_named name =
     else if bytes_eq name (codes "relative") then Some Relative
     else if bytes_eq name (codes "try_relative") then Some TryRelative
     else if bytes_eq name (codes "relative_to") then Some RelativeTo
-    else if bytes_eq name (codes "move") then Some Moved
+    else if bytes_eq name (codes "move") then Some Move
     else None
 
 -- how many arguments a command takes
@@ -105,7 +107,7 @@ arity_of Join = 2
 arity_of Relative = 2
 arity_of TryRelative = 2
 arity_of RelativeTo = 2
-arity_of Moved = 3
+arity_of Move = 3
 
 -- the answer to a command and as many arguments as it takes
 abbrev pub AnswersArguments : Command → List (List ℕ) → List ℕ → Type 0
@@ -114,7 +116,7 @@ AnswersArguments Join arguments = AnswersJoin (field arguments 0) (field argumen
 AnswersArguments Relative arguments = AnswersRelative (field arguments 0) (field arguments 1)
 AnswersArguments TryRelative arguments = AnswersTryRelative (field arguments 0) (field arguments 1)
 AnswersArguments RelativeTo arguments = AnswersRelativeTo (field arguments 0) (field arguments 1)
-AnswersArguments Moved arguments = AnswersMove (field arguments 0) (field arguments 1) (field arguments 2)
+AnswersArguments Move arguments = AnswersMove (field arguments 0) (field arguments 1) (field arguments 2)
 
 -- the answer to a command, by its name, and its arguments
 abbrev pub AnswersCommand : List ℕ → List (List ℕ) → List ℕ → Type 0

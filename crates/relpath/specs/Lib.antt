@@ -1,8 +1,7 @@
 pub mod Meter
 pub mod Fault
+pub mod Report
 pub mod Lines
-pub mod Mover
-pub mod MoveTable
 pub mod Command
 pub mod Output
 pub mod Input

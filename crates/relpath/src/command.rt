@@ -1,5 +1,5 @@
 //! The commands, and the answer that each gives.
-ghost use Rattle.std.specs.Prelude.{◌≡◌, ◌≢◌, ◌++◌, length, map, string_bytes, OnOk};
+ghost use Rattle.std.specs.Prelude.{◌≡◌, ◌≢◌, ◌++◌, length, map, string_bytes, IfSome, OnOk};
 ghost use Rattle.relpath.specs.Command.{
   Answers,
   AnswersCommand,
@@ -18,13 +18,13 @@ ghost use Rattle.relpath.specs.Command.{
 };
 ghost use Rattle.relative_path.specs.RelativeToError.{relative_to_kind, relative_to_words};
 ghost use Rattle.relative_path.specs.declared.relative_to_error.RelativeToErrorKind.TheVariants as RelativeToErrorKind;
-ghost use Rattle.relpath.specs.Mover.{refusal_text};
+ghost use Rattle.relative_path_moves.specs.MoveError.{refusal_text};
 
 use crate::lines::{MAX_FIELDS, split_fields};
 use crate::mover::{MoveError, moved};
 use relative_path::{RelativePath, RelativePathBuf, RelativeToError, RelativeToErrorKind, unix};
 use std::alloc::{AllocError, Global};
-use std::fmt::Write;
+use std::fmt::{self, Write};
 
 /// A command.
 #[derive(Clone, Copy)]
@@ -34,7 +34,7 @@ enum Command {
     Relative,
     TryRelative,
     RelativeTo,
-    Moved,
+    Move,
 }
 
 impl Command {
@@ -48,7 +48,7 @@ impl Command {
             "relative" => Some(Command::Relative),
             "try_relative" => Some(Command::TryRelative),
             "relative_to" => Some(Command::RelativeTo),
-            "move" => Some(Command::Moved),
+            "move" => Some(Command::Move),
             _ => None,
         }
     }
@@ -63,7 +63,7 @@ impl Command {
             Command::Relative => 2,
             Command::TryRelative => 2,
             Command::RelativeTo => 2,
-            Command::Moved => 3,
+            Command::Move => 3,
         }
     }
 }
@@ -114,7 +114,7 @@ fn answer_arguments(
         Command::Relative => answer_relative(alloc, arguments[0], arguments[1], output),
         Command::TryRelative => answer_try_relative(alloc, arguments[0], arguments[1], output),
         Command::RelativeTo => answer_relative_to(alloc, arguments[0], arguments[1], output),
-        Command::Moved => answer_move(alloc, arguments[0], arguments[1], arguments[2], output),
+        Command::Move => answer_move(alloc, arguments[0], arguments[1], arguments[2], output),
     }
 }
 
@@ -207,7 +207,7 @@ fn add_error(error: RelativeToError, output: &mut String) -> Result<(), AllocErr
 {
     match error.kind() {
         RelativeToErrorKind::OutOfMemory => Err(AllocError),
-        _ => write!(output, "! {error}"),
+        _ => add_printed(output, &error),
     }
 }
 
@@ -218,8 +218,16 @@ fn add_refusal(refusal: MoveError, output: &mut String) -> Result<(), AllocError
 {
     match refusal {
         MoveError::OutOfMemory => Err(AllocError),
-        _ => write!(output, "! {refusal}"),
+        _ => add_printed(output, &refusal),
     }
+}
+
+/// Adds the answer that refuses in what a value prints.
+fn add_printed<T: fmt::Display>(output: &mut String, words: &T) -> Result<(), AllocError>
+    ensures { OnOk result (IfSome (T.output words.now) (λ words.
+        string_bytes output.new ≡ string_bytes output.old ++ words_answer words)) }
+{
+    write!(output, "! {words}")
 }
 
 /// Adds the answer that gives a path.

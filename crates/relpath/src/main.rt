@@ -6,8 +6,8 @@
 //! ```
 #![tactic(auto)]
 
-use crate::fault::report;
 use crate::meter::Meter;
+use crate::report::report;
 use std::process::ExitCode;
 
 mod bytes;
@@ -16,9 +16,9 @@ mod fault;
 mod input;
 mod lines;
 mod meter;
-mod move_table;
 mod mover;
 mod output;
+mod report;
 mod run;
 #[cfg(test)]
 mod tests;

@@ -2,7 +2,6 @@
 
 mod fault;
 mod meter;
-mod mover;
 mod refusals;
 mod run;
 mod streams;

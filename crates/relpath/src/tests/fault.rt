@@ -1,5 +1,6 @@
-use crate::fault::{Fault, report};
+use crate::fault::Fault;
 use crate::meter::Meter;
+use crate::report::report;
 use crate::tests::streams::Sink;
 use std::io::ErrorKind;
 use std::process::ExitCode;

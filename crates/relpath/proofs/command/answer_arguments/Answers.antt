@@ -51,11 +51,11 @@ returns-in-RelativeTo c =
       field-map c.args.arguments.now 1 none (omega (arith, count)),
     ) c.answer_relative_to.ensures
 
-pub returns-in-Moved : goal.returns-in-Moved
-returns-in-Moved c =
-    let count : length c.args.arguments.now ≡ 3 = c.requires ∙ ap arity_of c.in-Moved.is in
+pub returns-in-Move : goal.returns-in-Move
+returns-in-Move c =
+    let count : length c.args.arguments.now ≡ 3 = c.requires ∙ ap arity_of c.in-Move.is in
     rw (
-      c.in-Moved.is,
+      c.in-Move.is,
       field-map c.args.arguments.now 0 none (omega (arith, count)),
       field-map c.args.arguments.now 1 none (omega (arith, count)),
       field-map c.args.arguments.now 2 none (omega (arith, count)),

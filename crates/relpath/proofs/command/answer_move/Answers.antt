@@ -2,9 +2,8 @@
 use Rattle.std.proofs.Common.{◌≢◌, Ok, Err, refl}
 use Rattle.relative_path.specs.Steps.{components}
 use Rattle.relpath.specs.Command.{TellsMoved}
-use Rattle.relpath.specs.declared.mover.MoveError.TheVariants.{OutOfMemory}
-use Rattle.relpath.proofs.CommandLemmas.{Adds-three, OnOk-known}
-use Rattle.relpath.proofs.MoverLemmas.{IsAnswered-refused}
+use Rattle.relative_path_moves.specs.declared.move_error.MoveError.TheVariants.{OutOfMemory}
+use Rattle.relpath.proofs.CommandLemmas.{Adds-three, OnOk-known, IsAnswered-refused}
 use Rattle.relpath.proofs.command.answer_move.Goals as goal
 
 pub returns-in-Ok : goal.returns-in-Ok

@@ -1,0 +1,5 @@
+//! Each call that takes memory, between two marks. tools/refusals runs each of these tests with each
+//! request between its marks refused in turn, so each takes a refusal as well as an answer.
+mod index;
+mod marks;
+mod moves;

@@ -1,7 +1,0 @@
--- The pieces and numbers, one after the other.
-use Rattle.std.proofs.Common.{append_assoc}
-use Rattle.relpath.proofs.mover.MoveErrorDisplay.fmt.Goals as goal
-
-pub returns-in-SameOld-clause-writes : goal.returns-in-SameOld-clause-writes
-returns-in-SameOld-clause-writes g c =
-    rw (c.in-SameOld.is, append_assoc, append_assoc) c.write-in-SameOld.ensures.writes
