@@ -76,9 +76,11 @@ impl From<AllocError> for RewriteError {
 /// A target stands between `](` and the next `)` on the same line; without that, `](` is text. It
 /// stays as it is where it begins with a slash, `#` or `?`, where it is empty, and where a colon
 /// before its first slash ends a scheme. What stands behind its path, from the first `#`, `?` or
-/// space on (a fragment, a query, a title), is kept. A path that would then be misread stands behind
-/// `./`. Nothing else of the page is read: also a link in a block of code is moved, references with
-/// a name (`[a]: b.md`) and targets in `<>` aren't understood, and percent signs are names' own.
+/// space on (a fragment, a query, a title), is kept. A path that would then be misread, as it is
+/// empty or its first name holds a colon, stands behind `./`. Nothing else of the page is read: also
+/// a link in a block of code is moved, references with a name (`[a]: b.md`) and targets in `<>`
+/// aren't understood, and nothing is encoded or decoded: percent signs are names' own, and a new
+/// path with a space, `#`, `?` or `)` is written as it is.
 ///
 /// It writes one text, in one pass, and takes memory for that, at first as much as the page has, and
 /// for each way.
