@@ -5,13 +5,17 @@ ghost use Rattle.relative_path_uses.specs.Reference.{is_misread, has_scheme, IsR
 use relative_path::RelativePathBuf;
 use std::alloc::{AllocError, Global};
 
-// The link as a reference: behind `./` where it would be misread. It asks for memory there alone.
+// The link as a reference: behind `./` where it would be misread. It asks for memory there
+// alone, once.
 pub(crate) fn reference(alloc: Global, link: RelativePathBuf) -> Result<String, AllocError>
     ensures { IfOk result (λ reference. IsReference link.text (string_bytes reference)) }
 {
     let link = link.into_string();
     if is_misread(&link) {
-        return Ok(format!(in alloc; "./{link}")?);
+        let mut dotted = String::with_capacity(alloc, link.len().saturating_add(2))?;
+        dotted.push_str("./")?;
+        dotted.push_str(&link)?;
+        return Ok(dotted);
     }
     Ok(link)
 }

@@ -24,8 +24,8 @@ use std::alloc::{AllocError, Global};
 /// the file system lead, which names a platform reserves (`C:`, `nul`), and whether it tells upper
 /// from lower case.
 ///
-/// It asks for memory twice, for the place and for the answer, and where it answers `None` once;
-/// for an empty text it doesn't ask.
+/// It asks for memory twice: for the place, unless the request is empty, and for the answer. Where
+/// it answers `None`, it asks once.
 ///
 /// ```
 /// let file = served(alloc, "/srv/www", "/css/./../a.css")?;

@@ -7,5 +7,5 @@ use Rattle.relative_path_uses.proofs.reference.reference.Goals as goal
 pub returns-then-is_misread : goal.returns-then-is_misread
 returns-then-is_misread c =
     let misread : is_misread c.args.link.text ≡ true = search rules in
-    let text : string_bytes c.in_ok-format.field-0 ≡ codes "./" ++ c.args.link.text = search rules in
+    let text : string_bytes c.push_str-then-is_misread.new.self ≡ codes "./" ++ c.args.link.text = search rules in
     IsReference-dotted c.args.link.text _ misread text

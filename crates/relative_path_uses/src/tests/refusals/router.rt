@@ -24,9 +24,9 @@ fn a_request_that_climbs(rt: HostRuntime) {
 }
 
 #[test]
-fn nothing(rt: HostRuntime) {
+fn an_empty_request(rt: HostRuntime) {
     begin(rt.alloc());
-    let answer = served(rt.alloc(), "", "");
+    let answer = served(rt.alloc(), "/srv/www", "");
     end(rt.alloc(), answer.is_err());
-    assert!(rt; answer.is_ok_and(|file| file.is_some_and(|file| file.as_str().is_empty())));
+    assert!(rt; answer.map_or(true, |file| file.is_some_and(|file| file.as_str() == "/srv/www")));
 }
