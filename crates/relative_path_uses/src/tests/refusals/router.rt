@@ -28,5 +28,10 @@ fn an_empty_request(rt: HostRuntime) {
     begin(rt.alloc());
     let answer = served(rt.alloc(), "/srv/www", "");
     end(rt.alloc(), answer.is_err());
-    assert!(rt; answer.map_or(true, |file| file.is_some_and(|file| file.as_str() == "/srv/www")));
+    assert!(rt;
+        answer.map_or(
+            true,
+            |file| file.is_some_and(|file| file.as_str() == "/srv/www")
+        )
+    );
 }
