@@ -42,8 +42,8 @@ map_push f [] x = refl
 map_push f (y ∷ ys) x = ap (λ zs. f y ∷ zs) (map_push f ys x)
 
 -- the files with that of the next entry
-pub AreFiles-next : (base : List Step) (values : List Value) (none : Value) (files : List Buffer) (file : Buffer) (k : ℕ)
-    → k < length values → AreFiles (map file_text files) base (take k (map view values))
+pub AreFiles-next : (base : List Step) (values : List Value) (none : Value) (files : List Buffer) (file : Buffer)
+    (k : ℕ) → k < length values → AreFiles (map file_text files) base (take k (map view values))
     → IsFileOf base (view (get_or values k none)) file.text
     → AreFiles (map file_text (files ++ file ∷ [])) base (take (k + 1) (map view values))
 AreFiles-next base values none files file k l are is =

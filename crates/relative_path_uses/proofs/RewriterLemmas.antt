@@ -212,7 +212,9 @@ pub Progress-next : (moves : List Move) (i : ℕ) (page left chunk rest old new 
 Progress-next moves i page left chunk rest old new links part so_far next is added = record {
   before = so_far.before ++ chunk ∷ [];
   parts = so_far.parts ++ part ∷ [];
-  cut = so_far.cut ∙ ap (λ more. so_far.before ++ more) next ∙ sym (append_assoc so_far.before (chunk ∷ []) (chunks rest));
+  cut =
+      so_far.cut ∙ ap (λ more. so_far.before ++ more) next
+      ∙ sym (append_assoc so_far.before (chunk ∷ []) (chunks rest));
   moved = all_zipped_more (IsChunkMoved moves i) so_far.before so_far.parts chunk part so_far.moved is;
   joined = added ∙ ap (λ text. text ++ part.text) so_far.joined ∙ sym (parts_text_push so_far.parts part);
   number =
@@ -228,7 +230,8 @@ Progress-next moves i page left chunk rest old new links part so_far next is add
 pub IsRewritten-end : (moves : List Move) (i : ℕ) (page left text : List ℕ) (links : ℕ)
     → Progress moves i page left text links → chunks left ≡ [] → IsRewritten moves i page text
 IsRewritten-end moves i page left text links so_far none =
-    (so_far.parts, rw (so_far.cut ∙ ap (λ more. so_far.before ++ more) none ∙ append-nil so_far.before) so_far.moved, so_far.joined)
+    let all = so_far.cut ∙ ap (λ more. so_far.before ++ more) none ∙ append-nil so_far.before in
+    (so_far.parts, rw all so_far.moved, so_far.joined)
 
 -- the next chunk is refused
 pub IsRefusedAt-next : (moves : List Move) (i : ℕ) (page left chunk rest text : List ℕ) (links : ℕ) (error : MoveError)

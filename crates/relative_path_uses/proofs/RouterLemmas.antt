@@ -61,7 +61,8 @@ unfolding components pieces
 plain-components text = plain-classed (slice_split is_slash text) (HasNoSlash-slice_split text)
 
 -- the text that spells names holds NUL or a backslash if one of them does
-pub foreign-spell : (place : List (List ℕ)) → list_any is_foreign (spell (map name place)) ≡ list_any holds_foreign place
+pub foreign-spell : (place : List (List ℕ))
+    → list_any is_foreign (spell (map name place)) ≡ list_any holds_foreign place
 foreign-spell [] = refl
 foreign-spell (n ∷ []) = or_false (holds_foreign n) where
   or_false : (b : Bool) → b ≡ (b || false)

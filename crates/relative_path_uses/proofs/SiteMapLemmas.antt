@@ -63,7 +63,8 @@ IsShortestText-same from page to other link same_from same_to is = record {
 -- the way from a directory to a page is the link
 pub IsLink-way : (from to directory target : List Step) (found : Option Buffer) → directory ≡ above_page from
     → target ≡ to → (IsNone found ↔ (¬ IsReachable directory target))
-    → IfSome found (λ way. IsShortestText directory target way.text) → IsLink from to (option_map (λ way. way.text) found)
+    → IfSome found (λ way. IsShortestText directory target way.text)
+    → IsLink from to (option_map (λ way. way.text) found)
 IsLink-way from to directory target None at is none shortest = rw (at, is) at (none.0 refl)
 IsLink-way from to directory target (Some way) at is none shortest = rw (at, is) at shortest
 
@@ -84,8 +85,9 @@ IsHref-same from page to other (Some href) (link, is, reference) same_from same_
     (link, IsShortestText-same from page to other link same_from same_to is, reference)
 
 -- the next page answers a file name, so it has one
-pub named-next : (pages : List RelativePath) (none : RelativePath) (k : ℕ) (found : Option (Bor (List ℕ))) (lacks : Bool)
-    → k < length pages → ((j : ℕ) → j < k → last_name (path_at (map path_components pages) j) ≢ None)
+pub named-next : (pages : List RelativePath) (none : RelativePath) (k : ℕ) (found : Option (Bor (List ℕ)))
+    (lacks : Bool) → k < length pages
+    → ((j : ℕ) → j < k → last_name (path_at (map path_components pages) j) ≢ None)
     → option_copied found ≡ last_name (path_components (get_or pages k none)) → is_some found ≡ not lacks
     → lacks ≡ false → (j : ℕ) → j < k + 1 → last_name (path_at (map path_components pages) j) ≢ None
 named-next pages none k None lacks within before is some has = absurd (true≢false (sym (ap not has) ∙ sym some))

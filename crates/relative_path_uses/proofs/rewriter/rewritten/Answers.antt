@@ -8,7 +8,8 @@ loop-chunk-init c = record {
   text = search rules;
   room = omega arith;
   progress =
-      Progress-start c.args.table.now c.args.i c.args.page.now (string_bytes c.in_ok-text.text) c.in_ok-text.ensures.bytes;
+      Progress-start c.args.table.now c.args.i c.args.page.now (string_bytes c.in_ok-text.text)
+      c.in_ok-text.ensures.bytes;
 }
 
 pub returns-in-Err-clause-refused : goal.returns-in-Err-clause-refused
@@ -31,6 +32,6 @@ loop-chunk-preserved c =
       progress =
           rw (one, sym is_link)
           (Progress-next c.args.table.now c.args.i c.args.page.now c.loop-chunk.left.now c.in-Some.chunk.now
-          c.in-Some.rest.now (string_bytes c.loop-chunk.text) (string_bytes c.push_chunk.new.text) c.loop-chunk.links part
-          c.loop-chunk.invariant.progress c.in-Some.ensures.some is added);
+          c.in-Some.rest.now (string_bytes c.loop-chunk.text) (string_bytes c.push_chunk.new.text) c.loop-chunk.links
+          part c.loop-chunk.invariant.progress c.in-Some.ensures.some is added);
     }

@@ -9,5 +9,5 @@ loop-k-preserved c =
 
 pub returns-then-is_none : goal.returns-then-is_none
 returns-then-is_none c =
-    IsFirstNameless-here c.args.pages.now _ c.loop-k.k _ _ c.loop-k-test.true c.loop-k.invariant c.file_name.ensures.text
-    c.is_none.ensures c.if-is_none.true
+    IsFirstNameless-here c.args.pages.now _ c.loop-k.k _ _ c.loop-k-test.true c.loop-k.invariant
+    c.file_name.ensures.text c.is_none.ensures c.if-is_none.true
