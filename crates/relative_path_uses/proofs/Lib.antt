@@ -1,4 +1,6 @@
 pub mod PlacesLemmas
 pub mod RouterLemmas
 pub mod ManifestLemmas
+pub mod ReferenceLemmas
 pub mod SiteMapLemmas
+pub mod RewriterLemmas

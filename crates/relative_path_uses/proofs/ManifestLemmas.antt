@@ -1,5 +1,5 @@
 -- The files of a manifest's entries, one after the other, and the first that is refused.
-use Rattle.std.proofs.Common.{◌≡◌, ◌<◌, ◌+◌, ℕ, List, [], ◌∷◌, ◌++◌, map, length, take, get_or, IsSome, Option, Some, None, codes, option_map, option_and_then, refl, sym, ap, ◌∙◌, true≢false}
+use Rattle.std.proofs.Common.{◌≡◌, ◌≢◌, ◌<◌, ◌+◌, ℕ, List, [], ◌∷◌, ◌++◌, map, length, take, get_or, Some, codes, option_map, option_and_then, refl, ap, ◌∙◌}
 use Rattle.std.proofs.lemmas.List.{get_or-map, length-map, take_more}
 use Rattle.std.proofs.lemmas.Slice.Zip.{all_zipped_more}
 use Rattle.serde_json.specs.Data.{Data, null}
@@ -11,26 +11,26 @@ use Rattle.relative_path.specs.Walk.{LeadsBelow}
 use Rattle.relative_path.specs.Normalizing.{IsNormalTextOf}
 use Rattle.relative_path.specs.RelativePathBuf.{Buffer}
 use Rattle.relative_path_uses.specs.declared.manifest.ManifestError.{ManifestError}
-use Rattle.relative_path_uses.specs.declared.manifest.ManifestError.TheVariants.{NoBase, NoFiles, NotAString, ClimbsAbove, OutOfMemory}
-use Rattle.relative_path_uses.specs.Places.{place_of}
+use Rattle.relative_path_uses.specs.declared.manifest.ManifestError.TheVariants.{NoBase, NoFiles, NotAString, ClimbsAbove, LeadsToBase, OutOfMemory}
+use Rattle.relative_path_moves.specs.Places.{place_of}
+use Rattle.relative_path_uses.specs.Places.{SpellsPlace}
+use Rattle.relative_path_uses.proofs.PlacesLemmas.{SpellsPlace-some}
 use Rattle.relative_path_uses.specs.Manifest.{base_of, item_list, entries_of, OfManifest, Refuses, IsFileOf, AreFiles, IsRefusedFor, file_text}
 
--- the file of an entry whose path has a place
-pub IsFileOf-some : (base : List Step) (entry : Data) (path file : List ℕ) → as_str entry ≡ Some path
-    → IsSome (place_of (components path)) → IsNormalTextOf (base ++ components path) file
+-- the file of an entry whose path has a place with a name
+pub IsFileOf-place : (base : List Step) (entry : Data) (path place file : List ℕ) → as_str entry ≡ Some path
+    → SpellsPlace (components path) place → place ≢ [] → IsNormalTextOf (base ++ components path) file
     → ((place : List (List ℕ)) → place_of (components path) ≡ Some place → LeadsBelow base place (components file))
     → IsFileOf base entry file
-IsFileOf-some base entry path file string some normal below = tell (place_of (components path)) refl some where
-  tell : (named : Option (List (List ℕ))) → place_of (components path) ≡ named → IsSome named → IsFileOf base entry file
-  tell None is some = absurd (true≢false (sym some))
-  tell (Some place) is some = record {
-    path = path;
-    place = place;
-    string = string;
-    named = is;
-    normal = normal;
-    below = below place is;
-  }
+IsFileOf-place base entry path place file string spells some normal below = record {
+  path = path;
+  place = spells.place;
+  string = string;
+  named = spells.named;
+  not_base = SpellsPlace-some (components path) place spells some;
+  normal = normal;
+  below = below spells.place spells.named;
+}
 
 -- the items of a list made of data are these
 pub item_list-items_of : (ds : List Data) → item_list (items_of ds) ≡ ds
@@ -42,8 +42,8 @@ map_push f [] x = refl
 map_push f (y ∷ ys) x = ap (λ zs. f y ∷ zs) (map_push f ys x)
 
 -- the files with that of the next entry
-pub AreFiles-next : (base : List Step) (values : List Value) (none : Value) (files : List Buffer) (file : Buffer) (k : ℕ)
-    → k < length values → AreFiles (map file_text files) base (take k (map view values))
+pub AreFiles-next : (base : List Step) (values : List Value) (none : Value) (files : List Buffer) (file : Buffer)
+    (k : ℕ) → k < length values → AreFiles (map file_text files) base (take k (map view values))
     → IsFileOf base (view (get_or values k none)) file.text
     → AreFiles (map file_text (files ++ file ∷ [])) base (take (k + 1) (map view values))
 AreFiles-next base values none files file k l are is =
@@ -66,6 +66,7 @@ Refuses-entries manifest base entries NoBase based listed is = absurd is
 Refuses-entries manifest base entries NoFiles based listed is = absurd is
 Refuses-entries manifest base entries (NotAString k) based listed is = (base, entries, based, listed, is)
 Refuses-entries manifest base entries (ClimbsAbove k) based listed is = (base, entries, based, listed, is)
+Refuses-entries manifest base entries (LeadsToBase k) based listed is = (base, entries, based, listed, is)
 Refuses-entries manifest base entries OutOfMemory based listed is = tt
 
 -- the list of entries that are these values

@@ -1,44 +1,67 @@
--- Whether a path has a place from the top.
-use Rattle.std.proofs.Common.{◌≡◌, ◌≢◌, ℕ, List, [], ◌∷◌, length, codes, zero, suc, ◌↔◌, IsTrue, IsSome, Option, Some, None, unwrap_or, refl, sym, ap, ◌∙◌, arith, true≢false}
-use Rattle.std.proofs.lemmas.Bool.{ne_eqb}
-use Rattle.std.proofs.lemmas.Option.{none-some}
-use Rattle.std.specs.Option.{option_eq}
-use lib.Dec.{eqb}
-use Rattle.relative_path.specs.Steps.{Step, up, pieces, components}
+-- The place that a normal text names.
+use Rattle.std.proofs.Common.{◌≡◌, ◌≢◌, ℕ, List, [], ◌∷◌, ◌++◌, map, length, codes, Some, None, refl, sym, ap, ◌∙◌, arith, append-nil, append_assoc}
+use Rattle.relative_path.specs.Steps.{Step, cur, up, name, pieces, components, spell}
 use Rattle.relative_path.specs.Walk.{walk}
-use Rattle.relative_path.specs.Relating.{LeadsApart}
-use Rattle.relative_path_uses.specs.Places.{place_of}
+use Rattle.relative_path.specs.Normalizing.{AreNames, IsNormal, IsNormalTextOf}
+use Rattle.relative_path.specs.Prefixing.{StartsWith}
+use Rattle.relative_path_moves.specs.Places.{place_of}
+use Rattle.relative_path_uses.specs.Places.{SpellsPlace}
 
 -- the one component of `..`
-components_up : (text : List ℕ) → text ≡ codes ".." → components text ≡ up ∷ []
+pub components_up : (text : List ℕ) → text ≡ codes ".." → components text ≡ up ∷ []
 unfolding components pieces
 components_up text e = ap components e
 
--- a path leads apart from `..` at the top exactly if it has a place
-pub has_place-apart : (cs : List Step) (up_text : List ℕ) (apart : Option ℕ) → up_text ≡ codes ".."
-    → ((n : ℕ) → (apart ≡ Some n) ↔ LeadsApart cs (components up_text) n)
-    → IsTrue (option_eq eqb apart (Some 0)) ↔ IsSome (place_of cs)
-has_place-apart cs up_text apart e some = tell apart (rw (components_up up_text e) at some) where
-  none : (apart : Option ℕ) → apart ≢ Some 0 → ((n : ℕ) → (apart ≡ Some n) ↔ LeadsApart cs (up ∷ []) n)
-      → (found : Option (List (List ℕ))) → walk [] cs ≡ found → IsSome found → ⊥
-  none apart other some None is has = true≢false (sym has)
-  none apart other some (Some place) is has = other ((some 0).1 (record {
-    apart = differ;
-    together = λ base l. absurd (omega arith);
-  })) where
-    differ : (base : List (List ℕ)) → length base ≡ 0 → walk base cs ≢ walk base (up ∷ [])
-    differ [] e same = none-some place (sym same ∙ is)
-    differ (n ∷ base) e same = absurd (omega arith)
+-- names alone are those of a place, and lead from each base down to it
+names_lead : (cs : List Step) → AreNames cs
+    → (place : List (List ℕ)) × (cs ≡ map name place) × ((base : List (List ℕ)) → walk base cs ≡ Some (base ++ place))
+names_lead [] are = ([], refl, λ base. ap Some (sym (append-nil base)))
+names_lead (cur ∷ cs) are = absurd are
+names_lead (up ∷ cs) are = absurd are
+names_lead (name n ∷ cs) are =
+    let (place, is, leads) = names_lead cs are in (
+      n ∷ place,
+      ap (λ cs. name n ∷ cs) is,
+      λ base. leads (base ++ n ∷ []) ∙ ap Some (append_assoc base (n ∷ []) place),
+    )
 
-  has : (found : Option (List (List ℕ))) → walk [] cs ≡ found → found ≢ None → IsSome found
-  has None is other = absurd (other refl)
-  has (Some place) is other = refl
+-- a normal text that doesn't begin with `..` spells the place
+pub SpellsPlace-normal : (cs ups : List Step) (text : List ℕ) → IsNormalTextOf cs text → ups ≡ up ∷ []
+    → (StartsWith (components text) ups → ⊥) → SpellsPlace cs text
+SpellsPlace-normal cs ups text normal e inside =
+    tell (components text) refl normal.normal_text.normal (rw e at inside) where
+      spells : (ds : List Step) → components text ≡ ds → AreNames ds → SpellsPlace cs text
+      spells ds is are =
+          let (place, named, leads) = names_lead ds are in
+          record {
+            place = place;
+            named = normal.same.everywhere [] ∙ ap (walk []) is ∙ leads [];
+            names = is ∙ named;
+            spelled = normal.normal_text.spelled ∙ ap spell (is ∙ named);
+          }
 
-  tell : (apart : Option ℕ) → ((n : ℕ) → (apart ≡ Some n) ↔ LeadsApart cs (up ∷ []) n)
-      → IsTrue (option_eq eqb apart (Some 0)) ↔ IsSome (place_of cs)
-  tell None some = (λ no. absurd (true≢false (sym no)), λ is. absurd (none None (none-some 0) some (walk [] cs) refl is))
-  tell (Some zero) some = (λ _. has (walk [] cs) refl (λ is. ((some 0).0 refl).apart [] refl is), λ _. refl)
-  tell (Some (suc n)) some = (
-    λ yes. absurd (true≢false (sym yes ∙ ne_eqb (suc n) 0 (λ e. omega (arith, e)))),
-    λ is. absurd (none (Some (suc n)) (λ e. omega (arith, ap (λ is. unwrap_or is 0) e)) some (walk [] cs) refl is),
-  )
+      tell : (ds : List Step) → components text ≡ ds → IsNormal ds → (StartsWith ds (up ∷ []) → ⊥) → SpellsPlace cs text
+      tell [] is normal inside = spells [] is tt
+      tell (cur ∷ ds) is normal inside = absurd normal
+      tell (up ∷ ds) is normal inside = absurd (inside (ds, refl))
+      tell (name n ∷ ds) is normal inside = spells (name n ∷ ds) is normal
+
+-- a normal text that begins with `..` leads from the top to no place
+pub place_of-climbs : (cs ups : List Step) (text : List ℕ) → IsNormalTextOf cs text → ups ≡ up ∷ []
+    → StartsWith (components text) ups → place_of cs ≡ None
+place_of-climbs cs ups text normal e (rest, is) =
+    normal.same.everywhere [] ∙ ap (walk []) (is ∙ ap (λ ups. ups ++ rest) e)
+
+-- the empty text spells the top
+pub SpellsPlace-empty : (cs : List Step) (text : List ℕ) → length text ≡ 0 → SpellsPlace cs text
+    → place_of cs ≡ Some []
+unfolding components pieces
+SpellsPlace-empty cs (b ∷ text) none spells = absurd (omega arith)
+SpellsPlace-empty cs [] none spells = tell spells.place spells.names spells.named where
+  tell : (place : List (List ℕ)) → [] ≡ map name place → place_of cs ≡ Some place → place_of cs ≡ Some []
+  tell [] e named = named
+  tell (n ∷ place) e named = absurd (omega (arith, ap length e))
+
+-- another text spells a place with a name
+pub SpellsPlace-some : (cs : List Step) (text : List ℕ) (spells : SpellsPlace cs text) → text ≢ [] → spells.place ≢ []
+SpellsPlace-some cs text spells some none = some (spells.spelled ∙ ap (λ place. spell (map name place)) none)

@@ -1,4 +1,6 @@
 pub mod Places
 pub mod Router
 pub mod Manifest
+pub mod Reference
 pub mod SiteMap
+pub mod Rewriter

@@ -9,8 +9,8 @@ use Rattle.relative_path.specs.Walk.{LeadsBelow}
 use Rattle.relative_path.specs.Normalizing.{IsNormalTextOf}
 use Rattle.relative_path.specs.RelativePathBuf.{Buffer}
 use Rattle.relative_path_uses.specs.declared.manifest.ManifestError.{ManifestError}
-use Rattle.relative_path_uses.specs.declared.manifest.ManifestError.TheVariants.{NoBase, NoFiles, NotAString, ClimbsAbove, OutOfMemory}
-use Rattle.relative_path_uses.specs.Places.{place_of}
+use Rattle.relative_path_uses.specs.declared.manifest.ManifestError.TheVariants.{NoBase, NoFiles, NotAString, ClimbsAbove, LeadsToBase, OutOfMemory}
+use Rattle.relative_path_moves.specs.Places.{place_of}
 
 -- the text of the member `base`, if it is a string
 abbrev pub base_of : Data → Option (List ℕ)
@@ -25,13 +25,14 @@ item_list (item d ds) = d ∷ item_list ds
 abbrev pub entries_of : Data → Option (List Data)
 entries_of manifest = option_map item_list (option_and_then as_array (get (codes "files") manifest))
 
--- the entry is a path with a place from the top, and the file is the normal text of where base and entry lead in turn:
--- from every base at that place, below the directory that the base is
+-- the entry is a path with a place from the top that has a name, and the file is the normal text of where base and
+-- entry lead in turn: from every base at that place, below the directory that the base is
 pub record IsFileOf (base : List Step) (entry : Data) (file : List ℕ) : Type 0 where
   pub path : List ℕ
   pub place : List (List ℕ)
   pub string : as_str entry ≡ Some path
   pub named : place_of (components path) ≡ Some place
+  pub not_base : place ≢ []
   pub normal : IsNormalTextOf (base ++ components path) file
   pub below : LeadsBelow base place (components file)
 
@@ -42,6 +43,10 @@ IsNoString entry = as_str entry ≡ None
 -- the entry is a path that climbs above where it starts
 abbrev pub Climbs : Data → Type 0
 Climbs entry = (path : List ℕ) × (as_str entry ≡ Some path) × (place_of (components path) ≡ None)
+
+-- the entry is a path that leads to where it starts
+abbrev pub LeadsToStart : Data → Type 0
+LeadsToStart entry = (path : List ℕ) × (as_str entry ≡ Some path) × (place_of (components path) ≡ Some [])
 
 -- entry number k is in this case, and each before it has its file
 pub record IsFirst (Case : Data → Type 0) (base : List Step) (entries : List Data) (k : ℕ) : Type 0 where
@@ -64,6 +69,7 @@ IsRefusedFor NoBase base entries = ⊥
 IsRefusedFor NoFiles base entries = ⊥
 IsRefusedFor (NotAString k) base entries = IsFirst IsNoString base entries k
 IsRefusedFor (ClimbsAbove k) base entries = IsFirst Climbs base entries k
+IsRefusedFor (LeadsToBase k) base entries = IsFirst LeadsToStart base entries k
 IsRefusedFor OutOfMemory base entries = ⊤
 
 -- what the manifest is where it is refused so
@@ -72,6 +78,7 @@ Refuses manifest NoBase = base_of manifest ≡ None
 Refuses manifest NoFiles = (base_of manifest ≢ None) × (entries_of manifest ≡ None)
 Refuses manifest (NotAString k) = OfManifest manifest (IsRefusedFor (NotAString k))
 Refuses manifest (ClimbsAbove k) = OfManifest manifest (IsRefusedFor (ClimbsAbove k))
+Refuses manifest (LeadsToBase k) = OfManifest manifest (IsRefusedFor (LeadsToBase k))
 Refuses manifest OutOfMemory = ⊤
 
 -- what the entry with this number is where it is refused so
@@ -80,6 +87,7 @@ IsEntryRefused entry k NoBase = ⊥
 IsEntryRefused entry k NoFiles = ⊥
 IsEntryRefused entry k (NotAString j) = (j ≡ k) × IsNoString entry
 IsEntryRefused entry k (ClimbsAbove j) = (j ≡ k) × Climbs entry
+IsEntryRefused entry k (LeadsToBase j) = (j ≡ k) × LeadsToStart entry
 IsEntryRefused entry k OutOfMemory = ⊤
 
 -- the text of a file
@@ -92,4 +100,5 @@ refusal_text NoBase = codes "no base directory"
 refusal_text NoFiles = codes "no list of files"
 refusal_text (NotAString k) = codes "file " ++ decimal k ++ codes " is no string"
 refusal_text (ClimbsAbove k) = codes "file " ++ decimal k ++ codes " climbs above the base"
+refusal_text (LeadsToBase k) = codes "file " ++ decimal k ++ codes " leads to the base"
 refusal_text OutOfMemory = codes "out of memory"

@@ -1,8 +1,11 @@
--- The place of a path from the top.
-use Rattle.std.specs.Prelude.{ℕ, List, [], Option}
-use Rattle.relative_path.specs.Steps.{Step}
-use Rattle.relative_path.specs.Walk.{walk}
+-- The text of a path's place from the top.
+use Rattle.std.specs.Prelude.{◌≡◌, ℕ, List, map, Some}
+use Rattle.relative_path.specs.Steps.{Step, name, components, spell}
+use Rattle.relative_path_moves.specs.Places.{place_of}
 
--- where the components lead from the top, if they lead to a place
-abbrev pub place_of : List Step → Option (List (List ℕ))
-place_of cs = walk [] cs
+-- the text is the names of the place where the components lead from the top, with single slashes between
+pub record SpellsPlace (cs : List Step) (text : List ℕ) : Type 0 where
+  pub place : List (List ℕ)
+  pub named : place_of cs ≡ Some place
+  pub names : components text ≡ map name place
+  pub spelled : text ≡ spell (map name place)

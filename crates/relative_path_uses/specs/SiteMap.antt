@@ -1,33 +1,37 @@
--- The pages of a site, the page that a path finds, and the directory that a page's links start from.
-use Rattle.std.specs.Prelude.{◌≡◌, ◌<◌, ◌≤◌, ℕ, List, [], length, take, Some, String, slice_index_or}
-use Rattle.std.specs.Global.{Global}
-use Rattle.std.specs.BTreeMap.{BTreeMap, get_by_text}
-use Rattle.relative_path.specs.Steps.{Step}
-use Rattle.relative_path.specs.Walk.{IsSame}
-use Rattle.relative_path.specs.Editing.{kept_len}
-use Rattle.relative_path.specs.Normalizing.{IsNormalTextOf}
+-- The pages of a site, and the links from one to another.
+use Rattle.std.specs.Prelude.{◌≡◌, ◌≢◌, ◌<◌, ℕ, List, [], ◌∷◌, ◌++◌, length, codes, decimal, None, Option, MatchOption}
+use Rattle.relative_path.specs.Steps.{Step, up}
+use Rattle.relative_path.specs.Naming.{last_name}
+use Rattle.relative_path.specs.Relating.{IsReachable, IsShortestText}
+use Rattle.relative_path_moves.specs.PlaceIndex.{path_at}
+use Rattle.relative_path_uses.specs.Reference.{IsReference}
+use Rattle.relative_path_uses.specs.declared.site_map.SiteMapError.{SiteMapError}
+use Rattle.relative_path_uses.specs.declared.site_map.SiteMapError.TheVariants.{NoFileName, OutOfMemory}
 
--- the components of page number k, counted from 0
-abbrev pub page_at : List (List Step) → ℕ → List Step
-page_at pages k = slice_index_or pages k []
+-- each page has a file name
+abbrev pub AreNamed : List (List Step) → Type 0
+AreNamed pages = (k : ℕ) → k < length pages → last_name (path_at pages k) ≢ None
 
--- k is the number of the first page where the path leads, from every base
-pub record IsPageOf (pages : List (List Step)) (path : List Step) (k : ℕ) : Type 0 where
+-- k is the number of the first page without a file name
+pub record IsFirstNameless (pages : List (List Step)) (k : ℕ) : Type 0 where
   pub within : k < length pages
-  pub same : IsSame path (page_at pages k)
-  pub first : (j : ℕ) → j < k → ¬ IsSame path (page_at pages j)
+  pub nameless : last_name (path_at pages k) ≡ None
+  pub first : (j : ℕ) → j < k → last_name (path_at pages j) ≢ None
 
--- no page is where the path leads
-abbrev pub IsNoPage : List (List Step) → List Step → Type 0
-IsNoPage pages path = (k : ℕ) → k < length pages → ¬ IsSame path (page_at pages k)
+-- the directory of a page: one step up from it
+abbrev pub above_page : List Step → List Step
+above_page page = page ++ up ∷ []
 
--- the directory of a page: its components before the last one that is no `.`
-abbrev pub directory : List Step → List Step
-directory page = take (kept_len page) page
+-- found is the shortest link from the directory of a page to another page, or nothing, where no list leads there
+abbrev pub IsLink : List Step → List Step → Option (List ℕ) → Type 0
+IsLink from to found = MatchOption found (¬ IsReachable (above_page from) to) (IsShortestText (above_page from) to)
 
--- the index has one of the first n pages for each normal text of one of them: the first
-pub record Indexes (pages : List (List Step)) (n : ℕ) (by_text : BTreeMap (String Global) ℕ) : Type 0 where
-  pub held : (text : List ℕ) (k : ℕ) → get_by_text by_text text ≡ Some k
-      → (k < n) × IsNormalTextOf (page_at pages k) text
-  pub first : (text : List ℕ) (k : ℕ) → k < n → IsNormalTextOf (page_at pages k) text
-      → (j : ℕ) × (get_by_text by_text text ≡ Some j) × (j ≤ k)
+-- found is such a link as a reference, or nothing, where no list leads there
+abbrev pub IsHref : List Step → List Step → Option (List ℕ) → Type 0
+IsHref from to found = MatchOption found (¬ IsReachable (above_page from) to)
+    (λ href. (link : List ℕ) × IsShortestText (above_page from) to link × IsReference link href)
+
+-- what is printed of a refusal
+abbrev pub refusal_text : SiteMapError → List ℕ
+refusal_text (NoFileName k) = codes "page " ++ decimal k ++ codes " lacks a file name"
+refusal_text OutOfMemory = codes "out of memory"

@@ -1,12 +1,15 @@
-//! Three users of relative paths, each proved from the public contracts of the crates below.
+//! Users of relative paths, each proved from the public contracts of the crates below.
 #![tactic(auto)]
 
 pub use self::manifest::{ManifestError, manifest_files};
-pub use self::router::{routed, routed_alike};
-pub use self::site_map::SiteMap;
+pub use self::rewriter::{RewriteError, rewritten};
+pub use self::router::served;
+pub use self::site_map::{SiteMap, SiteMapError};
 
 mod manifest;
 mod places;
+mod reference;
+mod rewriter;
 mod router;
 mod site_map;
 #[cfg(test)]

@@ -4,7 +4,7 @@ ghost use Rattle.relative_path.specs.RelativePath.{path_components};
 ghost use Rattle.serde_json.specs.View.{view};
 ghost use Rattle.relative_path_uses.specs.Manifest.{base_of, entries_of, file_text, AreFiles, IsEntryRefused, IsFileOf, IsRefusedFor, OfManifest, Refuses};
 
-use crate::places::has_place;
+use crate::places::place_from_top;
 use relative_path::{RelativePath, RelativePathBuf};
 use relative_path_shared::view_value;
 use serde_json::Value;
@@ -30,6 +30,8 @@ pub enum ManifestError {
     NotAString(usize),
     /// The first file to be refused climbs above the base.
     ClimbsAbove(usize),
+    /// The first file to be refused leads to the base itself, which is no file.
+    LeadsToBase(usize),
     /// Memory was refused.
     OutOfMemory,
 }
@@ -45,6 +47,7 @@ impl fmt::Display for ManifestError {
             ManifestError::NoFiles => f.write_str("no list of files"),
             ManifestError::NotAString(k) => write!(f, "file {k} is no string"),
             ManifestError::ClimbsAbove(k) => write!(f, "file {k} climbs above the base"),
+            ManifestError::LeadsToBase(k) => write!(f, "file {k} leads to the base"),
             ManifestError::OutOfMemory => f.write_str("out of memory"),
         }
     }
@@ -74,8 +77,13 @@ impl<T: Drop> From<AllocFailed<T>> for ManifestError {
 
 /// The files of a manifest, each as the normal path of the base and the file.
 ///
-/// The first file that is no string, or that climbs above the base, refuses the manifest. What other
-/// members the manifest has doesn't count.
+/// The first file that is no string, climbs above the base or leads to the base itself refuses the
+/// manifest. So each file is below the base: at the base with one name or more behind it. A file
+/// that leaves the base and comes back climbs above it too, and a slash at its start counts
+/// nothing: `/a` is `a`. Where the base itself leads is the caller's own business: one that climbs
+/// stands in front of each file as it climbs. What other members the manifest has doesn't count.
+///
+/// It asks for memory three times for each file, and for the list as it grows.
 ///
 /// ```
 /// let manifest = json!(in alloc; {"base": "assets", "files": ["img/x.png", "./css/../js/a.js"]})?;
@@ -133,8 +141,9 @@ fn file_below(
     let Ok(file) = view_value(file) else {
         return Err(ManifestError::NotAString(k));
     };
-    if !has_place(alloc, file)? {
-        return Err(ManifestError::ClimbsAbove(k));
+    let place = place_from_top(alloc, file)?.ok_or(ManifestError::ClimbsAbove(k))?;
+    if place.len() == 0 {
+        return Err(ManifestError::LeadsToBase(k));
     }
     Ok(base.join_normalized(alloc, file)?)
 }

@@ -1,15 +1,27 @@
 //! The places that paths lead to from the top.
-ghost use Rattle.std.specs.Prelude.{IfOk, IsSome, IsTrue, ◌↔◌};
+ghost use Rattle.std.specs.Prelude.{◌≡◌, ◌↔◌, IfOk, IfSome, IsNone, None};
 ghost use Rattle.relative_path.specs.RelativePath.{path_components};
-ghost use Rattle.relative_path_uses.specs.Places.{place_of};
+ghost use Rattle.relative_path_moves.specs.Places.{place_of};
+ghost use Rattle.relative_path_uses.specs.Places.{SpellsPlace};
 
-use relative_path::RelativePath;
+use relative_path::{RelativePath, RelativePathBuf};
 use std::alloc::{AllocError, Global};
 
-// Whether a path leads to a place from the top, as no path does that climbs above where it starts.
-pub(crate) fn has_place(alloc: Global, path: RelativePath<'_>) -> Result<bool, AllocError>
-    ensures { IfOk result (λ has. IsTrue has ↔ IsSome (place_of (path_components path.entry))) }
+// The place that a path leads to from the top, as its names with single slashes between; `None`
+// where it climbs above the top. It asks for memory once.
+pub(crate) fn place_from_top(
+    alloc: Global,
+    path: RelativePath<'_>,
+) -> Result<Option<RelativePathBuf>, AllocError>
+    ensures none { IfOk result (λ found. IsNone found ↔ (place_of (path_components path.entry) ≡ None)) }
+    ensures some { IfOk result (λ found. IfSome found
+        (λ place. SpellsPlace (path_components path.entry) place.text)) }
 {
-    let apart = path.leads_apart(alloc, RelativePath::new(".."))?;
-    Ok(apart == Some(0))
+    let mut place = RelativePathBuf::with_capacity(alloc, path.as_str().len())?;
+    path.normalize_into(&mut place);
+    let up = RelativePath::new("..");
+    if place.as_relative_path().starts_with(up) {
+        return Ok(None);
+    }
+    Ok(Some(place))
 }

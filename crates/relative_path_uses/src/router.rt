@@ -1,62 +1,56 @@
-//! A router of static files: what a request names below a root.
-ghost use Rattle.std.specs.Prelude.{◌≡◌, ◌↔◌, IfOk, IfSome, IsNone, None};
-ghost use Rattle.relative_path.specs.RelativePath.{path_components};
+//! A router of static files: the file that a request names below a root.
+ghost use Rattle.std.specs.Prelude.{◌≡◌, ◌↔◌, IfOk, IfSome, IsNone, string_bytes};
 ghost use Rattle.relative_path.specs.Steps.{components};
-ghost use Rattle.relative_path_uses.specs.Places.{place_of};
-ghost use Rattle.relative_path_uses.specs.Router.{answer_text, IsServed};
+ghost use Rattle.relative_path_uses.specs.Router.{holds_foreign, IsRefused, IsServed};
 
-use crate::places::has_place;
-use relative_path::{RelativePath, RelativePathBuf};
+use crate::places::place_from_top;
+use relative_path::{RelativePath, unix};
 use std::alloc::{AllocError, Global};
 
-/// The file below the root that a request's path names; `None` where the path has no place from the
-/// top.
+/// The platform path of the file below `root` that a request's path names: the root as it is, and
+/// each name of the place where the request leads from the top, behind a slash.
+///
+/// `None` where the request climbs above the top, even if it comes back, and where a name of its
+/// place holds NUL, at which platforms end a path, or a backslash, at which some cut it. Behind the
+/// root stand names alone, none of them `.`, `..` or empty. Slashes at the start of a request and
+/// double ones count nothing, so `//x` is `x`, and a request that leads to the top is answered by
+/// the root itself.
+///
+/// The root may be absolute or not, and nothing of it is checked or changed: behind one that ends
+/// in a slash stand two, and behind the empty one the first name stands alone.
+///
+/// Before the call, cut off the query at its `?` and decode percent signs, once. Never decode the
+/// answer: `%2e%2e` is a name here. What a text can't tell is left to the caller: where links in
+/// the file system lead, which names a platform reserves (`C:`, `nul`), and whether it tells upper
+/// from lower case.
+///
+/// It asks for memory twice: for the place, unless the request is empty, and for the answer. Where
+/// it answers `None`, it asks once.
 ///
 /// ```
-/// let root = RelativePath::new("site/public");
-/// let file = routed(alloc, root, "/css//./a.css")?;
-/// assert!(rt; file.is_some_and(|file| file.as_relative_path().as_str() == "site/public/css/a.css"));
-/// assert!(rt; routed(alloc, root, "/../secrets")?.is_none());
+/// let file = served(alloc, "/srv/www", "/css/./../a.css")?;
+/// assert!(rt; file.is_some_and(|file| file.as_str() == "/srv/www/a.css"));
+/// assert!(rt; served(alloc, "/srv/www", "/../secrets")?.is_none());
+/// assert!(rt; served(alloc, "/srv/www", r"/..\..\secrets")?.is_none());
 /// ```
-pub fn routed(
-    alloc: Global,
-    root: RelativePath<'_>,
-    request: &str,
-) -> Result<Option<RelativePathBuf>, AllocError>
-    ensures refused { IfOk result (λ found. IsNone found ↔ (place_of (components request.now) ≡ None)) }
-    ensures below { IfOk result (λ found. IfSome found
-        (IsServed (path_components root.entry) (components request.now))) }
+pub fn served(alloc: Global, root: &str, request: &str) -> Result<Option<String>, AllocError>
+    ensures refused { IfOk result (λ found. IsNone found ↔ IsRefused (components request.now)) }
+    ensures file { IfOk result (λ found. IfSome found
+        (λ file. IsServed root.now (components request.now) (string_bytes file))) }
 {
-    let request = RelativePath::new(request);
-    if !has_place(alloc, request)? {
+    let Some(place) = place_from_top(alloc, RelativePath::new(request))? else {
+        return Ok(None);
+    };
+    let place = place.as_relative_path();
+    if holds_foreign(place.as_str()) {
         return Ok(None);
     }
-    Ok(Some(root.join_normalized(alloc, request)?))
+    Ok(Some(unix::to_path(alloc, place, root)?))
 }
 
-/// The answers to two requests: the same if both have the same place from the top, or none.
-///
-/// ```
-/// let root = RelativePath::new("site");
-/// let (file, other) = routed_alike(alloc, root, "/a/../b.css", "b.css/.")?;
-/// assert!(rt; file == other);
-/// ```
-pub fn routed_alike(
-    alloc: Global,
-    root: RelativePath<'_>,
-    request: &str,
-    other: &str,
-) -> Result<(Option<RelativePathBuf>, Option<RelativePathBuf>), AllocError>
-    ensures refused { IfOk result (λ found.
-        (IsNone found.0 ↔ (place_of (components request.now) ≡ None))
-        × (IsNone found.1 ↔ (place_of (components other.now) ≡ None))) }
-    ensures below { IfOk result (λ found.
-        IfSome found.0 (IsServed (path_components root.entry) (components request.now))
-        × IfSome found.1 (IsServed (path_components root.entry) (components other.now))) }
-    ensures alike { IfOk result (λ found.
-        place_of (components request.now) ≡ place_of (components other.now)
-        → answer_text found.0 ≡ answer_text found.1) }
+// Whether a text holds NUL or a backslash.
+fn holds_foreign(text: &str) -> bool
+    ensures { result ≡ holds_foreign text.now }
 {
-    let file = routed(alloc, root, request)?;
-    Ok((file, routed(alloc, root, other)?))
+    text.bytes().any(|b| b == 0 || b == b'\\')
 }

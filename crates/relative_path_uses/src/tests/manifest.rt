@@ -6,7 +6,7 @@ use std::test::Fail;
 const MANIFEST: &str = r#"{
     "name": "a site",
     "base": "assets/./web",
-    "files": ["img/x.png", "./css/../js/a.js", "\u00fc//b.css", "fonts/..\/.", "/c.html"]
+    "files": ["img/x.png", "./css/../js/a.js", "\u00fc//b.css", "fonts/..\/./d", "/c.html", "..a"]
 }"#;
 
 #[test]
@@ -17,8 +17,9 @@ fn reads_a_manifest(rt: HostRuntime) -> Result<(), Fail> {
         "assets/web/img/x.png",
         "assets/web/js/a.js",
         "assets/web/ü/b.css",
-        "assets/web",
+        "assets/web/d",
         "assets/web/c.html",
+        "assets/web/..a",
     ];
     assert_eq!(rt; files.len(), normal.len());
     for (file, want) in files.iter().zip(normal) {
@@ -46,11 +47,28 @@ fn refuses_a_manifest(rt: HostRuntime) -> Result<(), Fail> {
             r#"{"base": "a/b", "files": ["..", "c"]}"#,
             ManifestError::ClimbsAbove(0),
         ),
+        (
+            r#"{"base": "a", "files": ["b", "c/../.", ".."]}"#,
+            ManifestError::LeadsToBase(1),
+        ),
+        (
+            r#"{"base": "", "files": ["/"]}"#,
+            ManifestError::LeadsToBase(0),
+        ),
     ] {
         let manifest = Value::from_str(rt.alloc(), json)?;
         let answer = manifest_files(rt.alloc(), &manifest);
         assert_eq!(rt; answer.err(), Some(refusal), "{json}");
     }
+    Ok(())
+}
+
+#[test]
+fn leaves_a_base_that_climbs_to_the_caller(rt: HostRuntime) -> Result<(), Fail> {
+    let manifest = Value::from_str(rt.alloc(), r#"{"base": "../x/../..", "files": ["/a//b"]}"#)?;
+    let files = manifest_files(rt.alloc(), &manifest)?;
+    assert_eq!(rt; files.len(), 1);
+    assert_eq!(rt; files[0].as_relative_path().as_str(), "../../a/b");
     Ok(())
 }
 
@@ -72,6 +90,7 @@ fn refusals_print_their_words(rt: HostRuntime) -> Result<(), Fail> {
             ManifestError::ClimbsAbove(12),
             "file 12 climbs above the base",
         ),
+        (ManifestError::LeadsToBase(7), "file 7 leads to the base"),
         (ManifestError::OutOfMemory, "out of memory"),
     ] {
         assert_eq!(rt; format!(in alloc; "{refusal}")?.as_str(), words);

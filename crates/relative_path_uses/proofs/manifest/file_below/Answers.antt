@@ -1,12 +1,15 @@
--- The entry is a path with a place, and the join is its file.
-use Rattle.std.proofs.Common.{rules, IsTrue}
-use Rattle.serde_json.specs.View.{view}
+-- The file leads to the base: its place has no name.
+use Rattle.std.proofs.Common.{rules, ◌≡◌, Some, refl, sym, ◌∙◌}
 use Rattle.relative_path.specs.RelativePath.{path_text, path_components}
-use Rattle.relative_path_uses.proofs.ManifestLemmas.{IsFileOf-some}
+use Rattle.relative_path_uses.specs.Places.{SpellsPlace}
+use Rattle.relative_path_uses.proofs.PlacesLemmas.{SpellsPlace-empty}
 use Rattle.relative_path_uses.proofs.manifest.file_below.Goals as goal
 
-pub returns-clause-file : goal.returns-clause-file
-returns-clause-file c =
-    let has : IsTrue c.in_ok-has_place.field-0 = search rules in
-    IsFileOf-some (path_components c.args.base) (view c.args.file.now) (path_text c.in-Ok.file) _ c.in-Ok.ensures.ok
-    (c.in_ok-has_place.ensures.0 has) c.in_ok-join_normalized.ensures.normal_form c.in_ok-join_normalized.ensures.below
+pub returns-then-len-eq0-clause-refused : goal.returns-then-len-eq0-clause-refused
+returns-then-len-eq0-clause-refused c =
+    let found : c.in_ok-place_from_top.field-0 ≡ Some c.in_ok-place.place = search rules in
+    let spells : SpellsPlace (path_components c.in-Ok.file) c.in_ok-place.place.text =
+    rw found at c.in_ok-place_from_top.ensures.some in
+    let leads = SpellsPlace-empty (path_components c.in-Ok.file) c.in_ok-place.place.text
+    (sym c.len.ensures ∙ c.if-len-eq0.true) spells in
+    (refl, (path_text c.in-Ok.file, c.in-Ok.ensures.ok, leads))

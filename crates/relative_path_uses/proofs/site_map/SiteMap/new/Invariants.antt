@@ -1,8 +1,8 @@
 -- The index has the pages so far.
-use Rattle.std.proofs.Common.{map}
+use Rattle.std.proofs.Common.{map, take}
 use Rattle.relative_path.specs.RelativePath.{path_components}
-use Rattle.relative_path_uses.specs.SiteMap.{Indexes}
+use Rattle.relative_path_moves.specs.PlaceIndex.{Indexes}
 use Rattle.relative_path_uses.proofs.site_map.SiteMap.new.Given as goal
 
 abbrev pub invariant-loop-k : goal.invariant-loop-k
-invariant-loop-k l = Indexes (map path_components l.pages) l.k l.by_text
+invariant-loop-k l = Indexes (take l.k (map path_components l.pages)) l.by_place

@@ -1,0 +1,35 @@
+//! Links as references of a page.
+ghost use Rattle.std.specs.Prelude.{◌≡◌, IfOk, string_bytes};
+ghost use Rattle.relative_path_uses.specs.Reference.{is_misread, has_scheme, IsReference};
+
+use relative_path::RelativePathBuf;
+use std::alloc::{AllocError, Global};
+
+// The link as a reference: behind `./` where it would be misread. It asks for memory there
+// alone, once.
+pub(crate) fn reference(alloc: Global, link: RelativePathBuf) -> Result<String, AllocError>
+    ensures { IfOk result (λ reference. IsReference link.text (string_bytes reference)) }
+{
+    let link = link.into_string();
+    if is_misread(&link) {
+        let mut dotted = String::with_capacity(alloc, link.len().saturating_add(2))?;
+        dotted.push_str("./")?;
+        dotted.push_str(&link)?;
+        return Ok(dotted);
+    }
+    Ok(link)
+}
+
+// Whether a link isn't read as a path: an empty one, and one with a scheme.
+pub(crate) fn is_misread(link: &str) -> bool
+    ensures { result ≡ is_misread link.now }
+{
+    link.is_empty() || has_scheme(link)
+}
+
+// Whether a colon stands before the first slash.
+fn has_scheme(text: &str) -> bool
+    ensures { result ≡ has_scheme text.now }
+{
+    text.bytes().take_while(|b| *b != b'/').any(|b| b == b':')
+}
