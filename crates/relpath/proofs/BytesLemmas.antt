@@ -1,5 +1,5 @@
 -- Where a byte stands first, by blocks of bytes.
-use Rattle.std.proofs.Common.{◌≡◌, ◌≢◌, ℕ, ◌+◌, ◌%◌, ◌<◌, ◌≤◌, ◌==◌, Bool, true, false, not, List, length, map, take, drop, get_or, replicate, cond, eqb, refl, sym, ap, ◌∙◌, arith, ◌⊎◌, inl, inr, w8}
+use Rattle.std.proofs.Common.{◌≡◌, ◌≢◌, ℕ, ◌+◌, ◌-◌, ◌%◌, ◌<◌, ◌≤◌, ◌==◌, Bool, true, false, not, List, length, map, take, drop, get_or, replicate, cond, eqb, refl, sym, ap, ◌∙◌, arith, ◌⊎◌, inl, inr, w8}
 use Rattle.std.proofs.lemmas.Bool.{eq-eqb, ne_eqb, cases_lt, both_ways}
 use Rattle.std.proofs.lemmas.Bool.Decides.{eqb_tells}
 use Rattle.std.proofs.lemmas.List.Sums.{prefix_len_is, prefix_len_passes, prefix_len_stops, prefix_len-le-length}
@@ -130,6 +130,20 @@ pub position-holds : (bytes : List ℕ) (byte at : ℕ) → at ≡ position_or_l
 position-holds bytes byte at is inside =
     same _ byte (ap (λ n. not (get_or bytes n 0 == byte)) is
     ∙ prefix_len_stops (λ b. not (b == byte)) bytes 0 (omega (arith, is, inside)))
+
+-- the first place is behind a block in which each byte is another
+pub position-passed : (bytes : List ℕ) (at n byte : ℕ) → at ≤ position_or_len (λ b. b == byte) bytes
+    → at + n ≤ length bytes → ((k : ℕ) → k < n → get_or bytes (at + k) 0 ≢ byte)
+    → at + n ≤ position_or_len (λ b. b == byte) bytes
+position-passed bytes at n byte before room others =
+    let first = position_or_len (λ b. b == byte) bytes in
+    elim (cases_lt first (at + n)) [
+      | inl inside ↦
+          let back : at + (first - at) ≡ first = omega arith in
+          absurd (others (first - at) (omega arith)
+          (ap (λ i. get_or bytes i 0) back ∙ position-holds bytes byte first refl (omega arith)))
+      | inr behind ↦ behind
+    ]
 
 -- a place that isn't the end is within the bytes
 pub position-inside : (bytes : List ℕ) (byte at : ℕ) → at ≡ position_or_len (λ b. b == byte) bytes

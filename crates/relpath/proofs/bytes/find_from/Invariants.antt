@@ -1,7 +1,7 @@
 -- The byte isn't among those before the place.
 use Rattle.std.proofs.Common.{◌-◌, ◌≤◌, ◌==◌, length}
 use Rattle.std.specs.List.{position_or_len}
-use Rattle.relpath.proofs.bytes.find_byte.Given as goal
+use Rattle.relpath.proofs.bytes.find_from.Given as goal
 
 abbrev pub invariant-loop-at : goal.invariant-loop-at
 invariant-loop-at l = l.at ≤ position_or_len (λ b. b == l.byte) l.bytes
