@@ -106,3 +106,19 @@ fn tells_refusals_apart(rt: HostRuntime) {
     assert_ne!(rt; MoveError::NoFileName(0), MoveError::NoFileName(1));
     assert_ne!(rt; MoveError::AboveRoot, MoveError::NoPath);
 }
+
+#[test]
+fn refusals_print_their_words(rt: HostRuntime) -> Result<(), Fail> {
+    let alloc = rt.alloc();
+    for (refusal, words) in [
+        (MoveError::AboveRoot, "reference climbs above the root"),
+        (MoveError::NoFileName(10), "move 10 lacks a file name"),
+        (
+            MoveError::SameOld(10, usize::MAX),
+            "moves 10 and 18446744073709551615 have the same old path",
+        ),
+    ] {
+        assert_eq!(rt; format!(in alloc; "{refusal}")?.as_str(), words);
+    }
+    Ok(())
+}

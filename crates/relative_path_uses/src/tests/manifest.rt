@@ -97,3 +97,16 @@ fn refusals_print_their_words(rt: HostRuntime) -> Result<(), Fail> {
     }
     Ok(())
 }
+
+#[test]
+fn tells_refusals_apart(rt: HostRuntime) {
+    assert_ne!(rt;
+        ManifestError::ClimbsAbove(0),
+        ManifestError::ClimbsAbove(1)
+    );
+    assert_ne!(rt;
+        ManifestError::ClimbsAbove(1),
+        ManifestError::LeadsToBase(1)
+    );
+    assert_ne!(rt; ManifestError::NoBase, ManifestError::NoFiles);
+}
