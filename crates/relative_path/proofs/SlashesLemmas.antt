@@ -120,7 +120,8 @@ module _ (bytes : List ℕ) (start mask : ℕ)
   slash_at : (k : ℕ) → k < 16 → bit_at mask k ≡ 1 → get_or bytes (start + k) 0 ≡ slash
   slash_at k inside set =
       let bit = sym (bits k inside) ∙ set in
-      ⊎_elim (λ e. eqb-true _ _ e) (λ e. absurd (omega (arith, bit, cond-false {A = ℕ} (is_slash (get_or bytes (start + k) 0)) 1 0 e)))
+      ⊎_elim (λ e. eqb-true _ _ e)
+      (λ e. absurd (omega (arith, bit, cond-false {A = ℕ} (is_slash (get_or bytes (start + k) 0)) 1 0 e)))
       (cases_Bool (is_slash (get_or bytes (start + k) 0)))
 
   no_slash_at : (k : ℕ) → start ≤ k → k < start + 16 → bit_at mask (k - start) ≡ 0 → get_or bytes k 0 ≢ slash
@@ -140,7 +141,9 @@ module _ (bytes : List ℕ) (start mask : ℕ)
   first_slash_in bound some =
       let lowest = bit_at-trailing_zeros w64 mask (omega (arith, some)) (omega (arith, bound)) in
       let within : trailing_zeros w64 mask < 16 =
-      ⊎_elim (λ h. h) (λ h. absurd (omega (arith, lowest.1, bit_at_above mask 16 (trailing_zeros w64 mask) bound h))) (cases_lt (trailing_zeros w64 mask) 16) in (
+      ⊎_elim (λ h. h)
+      (λ h. absurd (omega (arith, lowest.1, bit_at_above mask 16 (trailing_zeros w64 mask) bound h)))
+      (cases_lt (trailing_zeros w64 mask) 16) in (
         within,
         slash_at (trailing_zeros w64 mask) within lowest.1,
         λ k from to. no_slash_at k from (omega (arith, to, within)) (lowest.2 (k - start) (omega (arith, from, to))),

@@ -15,6 +15,8 @@ returns c =
       bits = λ k h.
           ap (λ n. bit_at n k) mask ∙ bit_mask_l (map is_slash block) k
           ∙ ap (λ b. cond b 1 0)
-          (get_or-map is_slash block k 0 false (omega (arith, long, h)) ∙ ap is_slash (get_or-chunk c.args.start 16 c.args.bytes.now k 0 h));
-      bound = rw mask (subst (λ n. mask_l (map is_slash block) < 2 ^ n) (length-map block is_slash ∙ long) (mask_l-lt (map is_slash block)));
+          (get_or-map is_slash block k 0 false (omega (arith, long, h))
+          ∙ ap is_slash (get_or-chunk c.args.start 16 c.args.bytes.now k 0 h));
+      bound = rw mask (subst (λ n. mask_l (map is_slash block) < 2 ^ n) (length-map block is_slash ∙ long)
+          (mask_l-lt (map is_slash block)));
     }
