@@ -2,7 +2,7 @@
 
 /// The paragraph of the front page that points to the others.
 pub const FRONT_PAGE: &str =
-    r#"Read on: [docs/CALLING.md](docs/CALLING.md) for callers and porters, with every public contract; [docs/DIFFERENCES.md](docs/DIFFERENCES.md), where the crate and this part; [docs/DEFINITIONS.md](docs/DEFINITIONS.md), what a reader has to believe; [docs/DECISIONS.md](docs/DECISIONS.md), why it is made so; [docs/PLANTS.md](docs/PLANTS.md), which wrong bodies its contracts refuse; [docs/SPEED.md](docs/SPEED.md), what a call costs. Names and behaviour are the crate's, which is licensed MIT or Apache-2.0, as this repository is.
+    r#"To call it: [docs/CALLING.md](docs/CALLING.md). To prove a clause of your own over it: [docs/PROVING.md](docs/PROVING.md), with each [contract](docs/contracts/relative_path.md) and [what its words mean](docs/DEFINITIONS.md). To change it: [docs/CHANGING.md](docs/CHANGING.md), [why it is made so](docs/DECISIONS.md), [which wrong bodies are refused](docs/PLANTS.md). What is new: [CHANGELOG.md](CHANGELOG.md).
 "#;
 
 /// The page of the rewriter, docs/REWRITER.md.
@@ -13,7 +13,7 @@ pub const REWRITER: &str = r#"# Links of pages that move
 | A link here | stands on the moved page as |
 |---|---|
 | [the callers](CALLING.md), which move too | `calling.md` |
-| [how a contract reads](CALLING.md#callers-and-their-proofs), with a fragment | `calling.md#callers-and-their-proofs` |
+| [the errors](CALLING.md#errors), with a fragment | `calling.md#errors` |
 | [the decisions](DECISIONS.md "why it is made so"), with a title | `../docs/DECISIONS.md "why it is made so"` |
 | [the front page](../README.md), above | `../README.md` |
 | [the directory of this page](.) | `../docs` |

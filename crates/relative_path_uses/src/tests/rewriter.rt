@@ -146,7 +146,7 @@ fn moves_the_page_of_the_docs(rt: HostRuntime) -> Result<(), Fail> {
     let text = rewritten(rt.alloc(), REWRITER, &table, 0)?;
     for line in [
         "| [the callers](calling.md), which move too | `calling.md` |",
-        "[how a contract reads](calling.md#callers-and-their-proofs)",
+        "[the errors](calling.md#errors), with a fragment",
         "[the decisions](../docs/DECISIONS.md \"why it is made so\")",
         "[the front page](../README.md)",
         "[the directory of this page](../docs)",
