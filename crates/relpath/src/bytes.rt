@@ -4,10 +4,10 @@ ghost use Rattle.std.specs.List.{position_or_len};
 
 use std::simd::prelude::*;
 
-// How many bytes a block has, where the byte may be far.
+/// How many bytes a block has, where the byte may be far.
 const FAR: usize = 64;
 
-// How many bytes a block has, where the bytes end soon.
+/// How many bytes a block has, where the bytes end soon.
 const NEAR: usize = 16;
 
 /// Where a byte stands first; the number of the bytes, if it is none of them.
@@ -26,8 +26,8 @@ pub fn find_byte(bytes: &[u8], byte: u8) -> usize
     find_from(bytes, from, byte)
 }
 
-// A place before which the byte isn't: that of the first block that has it, or that is cut off by
-// the end.
+/// A place before which the byte isn't: that of the first block that has it, or that is cut off by
+/// the end.
 #[inline(never)]
 fn pass_far(bytes: &[u8], byte: u8) -> usize
     ensures { result ≤ position_or_len (λ b. b == byte) bytes.now }
@@ -39,7 +39,7 @@ fn pass_far(bytes: &[u8], byte: u8) -> usize
     at
 }
 
-// Whether a block has the byte. With no early end, it looks at many bytes at once.
+/// Whether a block has the byte. With no early end, it looks at many bytes at once.
 fn has_byte(bytes: &[u8], at: usize, byte: u8) -> bool
     requires { at + FAR ≤ length bytes.now }
     ensures { (k : ℕ) → k < FAR → slice_index_or bytes.now (at + k) 0 ≡ byte → IsTrue result }
@@ -51,8 +51,8 @@ fn has_byte(bytes: &[u8], at: usize, byte: u8) -> bool
     found
 }
 
-// Where a byte stands first, if it isn't among the first bytes. The last block overlaps the one
-// before it.
+/// Where a byte stands first, if it isn't among the first bytes. The last block overlaps the one
+/// before it.
 #[inline(always)]
 fn find_from(bytes: &[u8], from: usize, byte: u8) -> usize
     requires { from ≤ position_or_len (λ b. b == byte) bytes.now }
@@ -73,7 +73,7 @@ fn find_from(bytes: &[u8], from: usize, byte: u8) -> usize
     last + find_near(bytes, last, byte)
 }
 
-// The same, byte by byte.
+/// The same, byte by byte.
 fn find_by_one(bytes: &[u8], from: usize, byte: u8) -> usize
     requires { from ≤ position_or_len (λ b. b == byte) bytes.now }
     ensures { result ≡ position_or_len (λ b. b == byte) bytes.now }
@@ -85,7 +85,7 @@ fn find_by_one(bytes: &[u8], from: usize, byte: u8) -> usize
     at
 }
 
-// Where a byte stands first in a far block; the block's length, if it isn't there.
+/// Where a byte stands first in a far block; the block's length, if it isn't there.
 #[inline(always)]
 fn find_far(bytes: &[u8], at: usize, byte: u8) -> usize
     requires { at + FAR ≤ length bytes.now }
@@ -99,7 +99,7 @@ fn find_far(bytes: &[u8], at: usize, byte: u8) -> usize
     places.trailing_zeros() as usize
 }
 
-// The same in a near block.
+/// The same in a near block.
 #[inline(always)]
 fn find_near(bytes: &[u8], at: usize, byte: u8) -> usize
     requires { at + NEAR ≤ length bytes.now }
