@@ -8,7 +8,7 @@ use std::path::Path;
 
 const MAX_INPUT: usize = 65_536;
 
-/// Why a run ends without an answer.
+/// Why `run` ends without an answer.
 #[derive(Debug)]
 pub enum Fault {
     Read,

@@ -11,7 +11,7 @@ use Rattle.relative_path.proofs.NormalFormLemmas.{length-with_pieces_le, with_pi
 
 -- ---- the table that climbs are cut out of
 
--- a text of so many `..`, with a slash behind each
+-- a text of some `..`, with a slash behind each
 abbrev pub climbs : ℕ → List ℕ
 climbs zero = []
 climbs (suc n) = dot ∷ dot ∷ slash ∷ climbs n
@@ -40,7 +40,7 @@ climbs_boundary m n fits = IsCharBoundary-from_ascii (climbs m) n (ascii m) fits
     ascii (suc k) (suc (suc zero)) = omega arith
     ascii (suc k) (suc (suc (suc i))) = ascii k i
 
--- a cut of so many
+-- a cut of its first ones
 pub climbs_cut : (n m : ℕ) (run : List ℕ) → 0 < n → n ≤ m → run ≡ slice_range (climbs m) 0 (3 * n - 1)
     → run ≡ spell (replicate n up)
 climbs_cut n m run some few cut =

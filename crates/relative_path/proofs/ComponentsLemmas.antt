@@ -151,7 +151,7 @@ module _ (text trimmed piece front left : List ℕ) (trim : IsTrimmedEnd text tr
             (firsts ∙ ap (λ n. take n (components text)) counted) trim'.end,
       )
 
--- ---- what follows of the lists of components, and that the walk ends
+-- ---- what follows of the lists of components, and that the iterators end
 
 equal_from_reverse : (o : Ordering) → o ≡ ordering_reverse o → o ≡ Equal
 equal_from_reverse Less e = absurd (cc)
@@ -178,7 +178,7 @@ MakesProgress-TakesLast s t (Some c) (joined, _) =
       rests = λ _. tt;
     }
 
--- a walk gives the components of its text, one after another
+-- an iterator gives the components of its text, one after another
 pub YieldsList-components : (s : Components) (text : List ℕ) → text_left s ≡ text
     → YieldsList (λ s taken t. TakesFirst (text_left s) taken (text_left t)) step_of s (components text)
 YieldsList-components s text same =
@@ -186,7 +186,7 @@ YieldsList-components s text same =
     (YieldsList-from_shown (λ s taken t. TakesFirst (text_left s) taken (text_left t))
     step_of components_left (λ s t taken. ap length taken.0) (λ s c t taken. taken.0) s)
 
--- a call of `next` of a walk, and of an `Iter`
+-- a call of `next` of a `Components`, and of an `Iter`
 abbrev walk_steps : Components → Option Component → Components → Type 0
 walk_steps s taken t = TakesFirst (text_left s) taken (text_left t)
 

@@ -270,7 +270,7 @@ abbrev pub IsExtendedAt : List ℕ → List ℕ → List ℕ → Option (List �
 IsExtendedAt text e extended named = MatchOption named (extended ≡ text)
     (λ n. (head : List ℕ) × IsCut text (kept_len (components text) + 1) (head ++ n) × (extended ≡ head ++ stem_of n ++ dotted e))
 
--- the base of a text, where its file name is that one
+-- what a new file name is pushed onto, where the file name is that one
 abbrev IsBaseAt : List ℕ → List ℕ → Option (List ℕ) → Type 0
 IsBaseAt text base named = MatchOption named (base ≡ text) (λ _. IsPopped text base)
 

@@ -1,4 +1,4 @@
--- Two walks in step: what is taken off a path while it agrees with another.
+-- Two iterators in step: what is taken off a path while it agrees with another.
 use Rattle.std.proofs.Common.{◌≡◌, ◌≢◌, ℕ, zero, suc, Bool, true, false, not, List, [], ◌∷◌, ◌++◌, length, Option, Some, None, sym, refl, ap, ◌∙◌, subst, append_assoc, arith, length-append, true≢false}
 use Rattle.std.specs.Option.{option_eq}
 use Rattle.std.specs.Ordering.{on}
@@ -61,7 +61,7 @@ module _ {text base left base_left : List ℕ} (h : Agrees text base left base_l
         dropped = subst (λ n. IsDropped text n rest) more (IsDropped-rest text _ left rest h.dropped takes.1);
       }
 
-  -- the next component is another, so the text does not start with the base
+  -- the next component is another, so the text does not start with the prefix
   pub StartsWith-other : (t : Option Component) {cs : List Step}
       → TakesFirst left t rest → components base_left ≡ step_of c ∷ cs → is_other t c ≡ true
       → StartsWith (components text) (components base) → ⊥

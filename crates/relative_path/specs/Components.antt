@@ -65,7 +65,7 @@ TakesFirstText = TakesFirstBy text_of component_texts
 abbrev pub TakesLastText : List ℕ → Option (Bor (List ℕ)) → List ℕ → Type 0
 TakesLastText = TakesLastBy text_of component_texts
 
--- each run of a walk reads the components that it had left, in order
+-- calls of `next` one after another give the components that the iterator had left, in order
 abbrev pub GivesComponents : Type 0
 GivesComponents =
     EveryRun {S = Components} (λ s taken t. TakesFirst (text_left s) taken (text_left t))

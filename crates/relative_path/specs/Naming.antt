@@ -52,13 +52,13 @@ is_plain_byte b = not (is_dot b) && not (is_slash b)
 abbrev pub is_plain_extension : List ℕ → Bool
 is_plain_extension e = is_not_empty e && list_all is_plain_byte e
 
--- base is what a new file name is pushed onto: what `pop` leaves of a text with a file name, else the text
+-- front is what a new file name is pushed onto: what `pop` leaves of a text with a file name, else the text
 abbrev pub IsBase : List ℕ → List ℕ → Type 0
-IsBase text base = MatchOption (file_name_of text) (base ≡ text) (λ _. IsPopped text base)
+IsBase text front = MatchOption (file_name_of text) (front ≡ text) (λ _. IsPopped text front)
 
 -- named is the text with a new file name
 abbrev pub IsNamed : List ℕ → List ℕ → List ℕ → Type 0
-IsNamed text f named = (base : List ℕ) × IsBase text base × (named ≡ pushed base f)
+IsNamed text f named = (front : List ℕ) × IsBase text front × (named ≡ pushed front f)
 
 -- a dot and the extension, and nothing for an empty one
 abbrev pub dotted : List ℕ → List ℕ

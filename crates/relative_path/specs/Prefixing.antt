@@ -3,11 +3,11 @@ use Rattle.std.specs.Prelude.{◌≡◌, ℕ, zero, suc, List, ◌++◌}
 use Rattle.relative_path.specs.Steps.{Step}
 use Rattle.relative_path.specs.Slices.{IsRest}
 
--- base is a prefix of the components
+-- the components begin with those of the prefix
 abbrev pub StartsWith : List Step → List Step → Type 0
-StartsWith cs base = (rest : List Step) × (cs ≡ base ++ rest)
+StartsWith cs prefix = (rest : List Step) × (cs ≡ prefix ++ rest)
 
--- child is a suffix of the components
+-- the components end with those of the child
 abbrev pub EndsWith : List Step → List Step → Type 0
 EndsWith cs child = (front : List Step) × (cs ≡ front ++ child)
 

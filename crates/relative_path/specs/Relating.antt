@@ -21,7 +21,8 @@ pub record IsShortestText (f t : List Step) (text : List ℕ) : Type 0 where
   pub spelled : text ≡ spell (components text)
   pub shortest : IsShortest f (components text) t
 
--- from every base of n names the two walks differ, and from every base of fewer names they agree
+-- from every base of n names they lead to different places, or one of them to none; from every base of fewer names to
+-- the same
 pub record LeadsApart (cs ds : List Step) (n : ℕ) : Type 0 where
   pub apart : (base : List (List ℕ)) → length base ≡ n → walk base cs ≢ walk base ds
   pub together : (base : List (List ℕ)) → length base < n → walk base cs ≡ walk base ds

@@ -41,17 +41,17 @@ pub record IsAbove (text p : List ℕ) : Type 0 where
   pub shortest : unix_components text ≢ [] → (k : ℕ) → has_root (take k text) ≡ has_root text
       → unix_components (take k text) ≡ unix_components p → length p ≤ k
 
--- the base with the text of each component added in turn
+-- the root with the text of each component added in turn, behind a slash unless nothing stands before it
 abbrev pub onto : List ℕ → List Step → List ℕ
-onto base [] = base
-onto base (c ∷ cs) = onto (with_piece base (step_text c)) cs
+onto root [] = root
+onto root (c ∷ cs) = onto (with_piece root (step_text c)) cs
 
--- text is where the components lead from the base: `.` stays, `..` goes up, a name is added
+-- text is where the components lead from the root: `.` stays, `..` goes up, a name is added as `onto` adds it
 abbrev pub IsLogical : List ℕ → List Step → List ℕ → Type 0
-IsLogical base [] text = text ≡ base
-IsLogical base (cur ∷ cs) text = IsLogical base cs text
-IsLogical base (up ∷ cs) text = (p : List ℕ) × IsAbove base p × IsLogical p cs text
-IsLogical base (name n ∷ cs) text = IsLogical (with_piece base n) cs text
+IsLogical root [] text = text ≡ root
+IsLogical root (cur ∷ cs) text = IsLogical root cs text
+IsLogical root (up ∷ cs) text = (p : List ℕ) × IsAbove root p × IsLogical p cs text
+IsLogical root (name n ∷ cs) text = IsLogical (with_piece root n) cs text
 
 -- a `..` for each name of the place where from leads from the top, and then to; none where from climbs above the top
 abbrev pub way_back : (from to : List Step) → Option (List Step)

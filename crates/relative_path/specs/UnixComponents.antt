@@ -4,6 +4,6 @@ use Rattle.relative_path.specs.declared.unix_components.UnixComponents.{UnixComp
 use Rattle.relative_path.specs.Steps.{Step, components}
 use Rattle.relative_path.specs.Unix.{counted}
 
--- the components that the walk has still to give
+-- the components that the iterator has still to give
 abbrev pub unix_left : UnixComponents → List Step
-unix_left walk = counted walk.drops_cur (components walk.left.now)
+unix_left it = counted it.drops_cur (components it.left.now)

@@ -77,7 +77,7 @@ impl RelativePathBuf {
 
     /// The empty path, with room for `capacity` bytes.
     ///
-    /// It asks for memory once, and fails only where that is refused.
+    /// It asks for memory once, if there is to be room, and fails only where that is refused.
     ///
     /// ```
     /// let buf = RelativePathBuf::with_capacity(alloc, 15)?;
@@ -93,7 +93,7 @@ impl RelativePathBuf {
 
     /// A copy of the text.
     ///
-    /// It asks for memory once, and fails only where that is refused.
+    /// It asks for memory once, if the text isn't empty, and fails only where that is refused.
     ///
     /// ```
     /// let buf = RelativePathBuf::from_text(alloc, "foo/bar")?;
@@ -110,7 +110,8 @@ impl RelativePathBuf {
     /// begins with a slash.
     ///
     /// A path that begins with a slash is refused before any memory is asked for. Else it asks for
-    /// memory once, for as many bytes as the path has, and fails only where that is refused.
+    /// memory once, for as many bytes as the path has, if it has any, and fails only where that is
+    /// refused.
     ///
     /// ```
     /// let buf = RelativePathBuf::from_path(alloc, Path::new("./foo//bar/."))?;
@@ -129,7 +130,7 @@ impl RelativePathBuf {
     /// The paths that the iterator gives, pushed in order onto the empty path. The iterator has to
     /// end.
     ///
-    /// It asks for memory as each push does. A refusal gives up what was pushed, and takes no
+    /// It asks for memory where a push does, at each path that doesn't fit. A refusal gives up what was pushed, and takes no
     /// further path.
     ///
     /// ```
@@ -170,7 +171,7 @@ impl RelativePathBuf {
 
     /// A copy of the path.
     ///
-    /// It asks for memory once, and fails only where that is refused.
+    /// It asks for memory once, if the path isn't empty, and fails only where that is refused.
     ///
     /// ```
     /// let buf = RelativePathBuf::from_text(alloc, "foo//bar")?;
@@ -211,8 +212,8 @@ impl RelativePathBuf {
     /// Adds a path behind this one: a slash, unless the text is empty or ends in one, and the path
     /// without one slash at its start.
     ///
-    /// It asks for memory only where the result doesn't fit the room there is. A refusal leaves the
-    /// text as it was.
+    /// It asks for memory once, and only where the result doesn't fit the room there is. A refusal
+    /// leaves the text as it was.
     ///
     /// ```
     /// let mut buf = RelativePathBuf::from_text(alloc, "foo")?;
@@ -249,7 +250,7 @@ impl RelativePathBuf {
 
     /// Replaces the file name, or pushes one if the path has none.
     ///
-    /// It asks for memory only where the result is longer than the text and its spare room
+    /// It asks for memory once, only where the result is longer than the text and its spare room
     /// together, and before it changes anything: a refusal leaves the text as it was.
     ///
     /// ```
@@ -277,7 +278,7 @@ impl RelativePathBuf {
     /// Replaces the extension of the file name, or takes it off where `extension` is empty. It
     /// answers whether the path has a file name; a path without one stays as it is.
     ///
-    /// It asks for memory only where the result is longer than the text and its spare room
+    /// It asks for memory once, only where the result is longer than the text and its spare room
     /// together, and before it changes anything: a refusal leaves the text as it was. Neither an
     /// empty extension nor a path without a file name needs memory.
     ///
@@ -396,7 +397,7 @@ impl RelativePathBuf {
 
     /// Pushes each path that the iterator gives, in order. The iterator has to end.
     ///
-    /// It asks for memory as each push does. A refusal leaves the text after the pushes before it,
+    /// It asks for memory where a push does, at each path that doesn't fit. A refusal leaves the text after the pushes before it,
     /// and takes no further path: an iterator that is lent by `&mut` still has them.
     ///
     /// ```

@@ -1,4 +1,4 @@
-//! Climbs as text: so many `..`, written up to twenty-four at a time.
+//! Climbs as text: each is a `..`, and up to twenty-four are written at a time.
 ghost use Rattle.std.specs.Prelude.{◌≡◌, ◌≤◌, fold, length, replicate, string_bytes};
 ghost use Rattle.std.specs.String.{string_capacity};
 ghost use Rattle.relative_path.specs.Editing.{with_piece};
@@ -6,13 +6,13 @@ ghost use Rattle.relative_path.specs.Steps.{up, step_text};
 
 use crate::editing::add_piece;
 
-// So many climbs are written at once.
+// The most climbs that are written at once.
 const MOST: usize = 24;
 
-// As many `..`, with a slash behind each.
+// As many `..` as that, with a slash behind each.
 const CLIMBS: &str = "../../../../../../../../../../../../../../../../../../../../../../../../";
 
-// Adds so many `..`.
+// Adds `climb` times `..`.
 #[inline]
 pub(crate) fn push_climb(text: &mut String, climb: usize)
     requires { length (fold with_piece (string_bytes text.old) (replicate climb (step_text up)))

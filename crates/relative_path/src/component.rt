@@ -1,4 +1,4 @@
-//! The components of a relative path, and the walk over them.
+//! The components of a relative path, and the iterators over them.
 ghost use Rattle.std.specs.Prelude.{◌≡◌, ◌≢◌, ◌↔◌, [], ◌∷◌, ⊤, IsTrue};
 ghost use Rattle.std.specs.Iterator.{item_count};
 ghost use Rattle.relative_path.specs.Steps.{classed, components, step_text};
@@ -27,7 +27,7 @@ pub enum Component<'a> {
     CurDir,
     /// `..`
     ParentDir,
-    /// Any other run of bytes between slashes.
+    /// A name: any other bytes between slashes.
     Normal(&'a str),
 }
 
@@ -117,9 +117,9 @@ impl Hash for Component<'_> {
     }
 }
 
-/// The walk over the components of a relative path, from both ends. No call on it takes memory.
+/// The iterator over the components of a relative path, from both ends. No call on it takes memory.
 ///
-/// Two walks are equal if the components left are.
+/// Two of them are equal if the components that they have left are.
 ///
 /// ```
 /// let mut components = RelativePath::new("/a/./b/").components();
@@ -133,14 +133,14 @@ pub struct Components<'a> {
 }
 
 impl<'a> Components<'a> {
-    // The walk over a whole text.
+    // The iterator over a whole text.
     pub(crate) fn new(text: &'a str) -> Components<'a>
         ensures { text_left result ≡ text.now }
     {
         Components { text }
     }
 
-    // The text that is left to walk.
+    // The text that is left.
     pub(crate) fn as_str(&self) -> &'a str
         ensures { result.now ≡ text_left self.now }
     {
@@ -149,7 +149,7 @@ impl<'a> Components<'a> {
 }
 
 impl Clone for Components<'_> {
-    ghost is_clone = { λ walk copy. text_left copy ≡ text_left walk };
+    ghost is_clone = { λ it copy. text_left copy ≡ text_left it };
 
     ghost is_infallible = { λ _. ⊤ };
 
@@ -209,7 +209,7 @@ impl<'a> DoubleEndedIterator for Components<'a> {
     }
 }
 
-/// The walk over the texts of the components of a relative path, from both ends. No call on it takes memory.
+/// The iterator over the texts of the components of a relative path, from both ends. No call on it takes memory.
 ///
 /// ```
 /// let mut texts = RelativePath::new("a/..//b").iter();
@@ -224,7 +224,7 @@ pub struct Iter<'a> {
 }
 
 impl<'a> Iter<'a> {
-    // The walk over a whole text.
+    // The iterator over a whole text.
     pub(crate) fn new(text: &'a str) -> Iter<'a>
         ensures { iter_text_left result ≡ text.now }
     {
@@ -235,7 +235,7 @@ impl<'a> Iter<'a> {
 }
 
 impl Clone for Iter<'_> {
-    ghost is_clone = { λ walk copy. iter_text_left copy ≡ iter_text_left walk };
+    ghost is_clone = { λ it copy. iter_text_left copy ≡ iter_text_left it };
 
     ghost is_infallible = { λ _. ⊤ };
 

@@ -39,7 +39,7 @@ fn begun_by_blocks(bytes: &[u8]) -> usize
     count + begun_in(bytes, last, at - last)
 }
 
-// How many components begin in a block, without its first so many bytes.
+// How many components begin in a block, without its first `skipped` bytes.
 #[inline(always)]
 fn begun_in(bytes: &[u8], start: usize, skipped: usize) -> usize
     requires start { 0 < start }

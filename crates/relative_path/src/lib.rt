@@ -1,4 +1,4 @@
-//! Portable relative paths: a text cut at `/` on every platform, which names a place only beside a base.
+//! Portable relative paths: a text cut at `/` on every platform, which names a place only relative to a base.
 //!
 //! Each module uses those below it, and of its own layer those that stand before it; `path`, `buf`
 //! and `unix` know each other.

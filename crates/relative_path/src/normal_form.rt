@@ -28,7 +28,7 @@ impl<'a> NormalForm<'a> {
     ghost use Rattle.relative_path.specs.NormalForm.{climbed, padded_len, form_sources, form_climb, form_names, form_steps, form_len, form_room, Reduces, IsNormalFormOf};
 
     // The normal form of a text. It asks for memory once, for a table with a place for each of its
-    // components.
+    // components, if it has one.
     pub(crate) fn of(alloc: Global, text: &'a str) -> Result<NormalForm<'a>, AllocError>
         ensures normal_form { IfOk result
             (λ form. IsNormalFormOf (components text.now) (form_steps form)) }
@@ -99,7 +99,7 @@ impl<'a> NormalForm<'a> {
         most
     }
 
-    // The text that spells the form. It asks for memory once, for just this text.
+    // The text that spells the form. It asks for memory once, for just this text, if it isn't empty.
     pub(crate) fn spelled(&self, alloc: Global) -> Result<String, AllocError>
         requires { length (spell (form_steps self.now)) < 2 ^ 64 }
         ensures text { IfOk result (λ text. string_bytes text ≡ spell (form_steps self.now)) }
@@ -108,8 +108,8 @@ impl<'a> NormalForm<'a> {
         self.spelled_past(alloc, self.climb, 0)
     }
 
-    // The text that spells so many `..`, and then the names without the first so many. It asks for
-    // memory once, for just this text; a length that no `usize` holds is a want of memory too.
+    // The text that spells `climb` times `..`, and then the names without the first `skipped`. It asks for
+    // memory once, for just this text, if it isn't empty; a length that no `usize` holds is an allocation failure too.
     pub(crate) fn spelled_past(
         &self,
         alloc: Global,
@@ -135,7 +135,7 @@ impl<'a> NormalForm<'a> {
         Ok(text)
     }
 
-    // The spans of the names without the first so many.
+    // The spans of the names without the first `skipped`.
     fn names_past(&self, skipped: usize) -> &[Span]
         requires { skipped ≤ length (form_names self.now) }
         ensures names { map (span_text (form_sources self.now)) result.now
@@ -145,7 +145,7 @@ impl<'a> NormalForm<'a> {
         &self.names[skipped..]
     }
 
-    // The normal form of nothing, with room for so many names.
+    // The normal form of nothing, with room for `room` names.
     fn with_room(
         alloc: Global,
         sources: Sources<'a>,
@@ -228,7 +228,7 @@ fn first_run(names: &[Span]) -> Option<(Span, &[Span])>
     Some((run, left))
 }
 
-// How many bytes so many `..`, a run and the names behind it have, with single slashes between.
+// How many bytes `climb` times `..`, a run and the names behind it have, with single slashes between.
 fn spelled_len(climb: usize, names: Option<(Span, &[Span])>) -> Option<usize>
     requires ordered { IfSome names (λ found. (found.0.start ≤ found.0.end) × All IsOrdered found.1.now) }
     requires bound { rest_len names ≤ 2 ^ 64 }

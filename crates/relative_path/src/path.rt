@@ -35,7 +35,7 @@ use std::fmt;
 use std::hash::{Hash, Hasher};
 use std::path::{Path, PathBuf};
 
-/// What [`RelativePath::strip_prefix`] answers where the path doesn't start with the base. It says
+/// What [`RelativePath::strip_prefix`] answers where the path doesn't start with the other. It says
 /// no more than that: any two are equal.
 ///
 /// ```
@@ -112,7 +112,7 @@ impl<'a> RelativePath<'a> {
     /// This path with `path` pushed onto it, in memory of its own.
     ///
     /// One slash at the start of `path` is dropped, so nothing replaces this path. It asks for
-    /// memory once, for the whole result, and fails only where that is refused.
+    /// memory once, for the whole result if that isn't empty, and fails only where that is refused.
     ///
     /// ```
     /// let joined = RelativePath::new("foo").join(alloc, RelativePath::new("/bar"))?;
@@ -132,7 +132,7 @@ impl<'a> RelativePath<'a> {
         Ok(joined)
     }
 
-    /// The walk over the path's components, from both ends. It takes no memory.
+    /// The iterator over the path's components, from both ends. It takes no memory.
     ///
     /// ```
     /// let mut components = RelativePath::new("foo/../bar").components();
@@ -145,7 +145,7 @@ impl<'a> RelativePath<'a> {
         Components::new(self.text)
     }
 
-    /// The walk over the texts of the path's components, from both ends. It takes no memory.
+    /// The iterator over the texts of the path's components, from both ends. It takes no memory.
     ///
     /// ```
     /// let mut texts = RelativePath::new("foo//bar").iter();
@@ -160,7 +160,7 @@ impl<'a> RelativePath<'a> {
 
     /// A copy of the path, in memory of its own.
     ///
-    /// It asks for memory once, and fails only where that is refused.
+    /// It asks for memory once, if the path isn't empty, and fails only where that is refused.
     ///
     /// ```
     /// let buf = RelativePath::new("//a/").to_relative_path_buf(alloc)?;
@@ -327,7 +327,8 @@ impl<'a> RelativePath<'a> {
     /// This path with the file name replaced, or with one pushed onto it if it has none, in memory
     /// of its own.
     ///
-    /// It asks for memory once, for the whole result, and fails only where that is refused.
+    /// It asks for memory once, for the whole result if that isn't empty, and fails only where that
+    /// is refused.
     ///
     /// ```
     /// let named = RelativePath::new("tmp/foo.txt").with_file_name(alloc, "bar.txt")?;
@@ -381,7 +382,8 @@ impl<'a> RelativePath<'a> {
     /// This path with the extension of its file name replaced, in memory of its own. An empty
     /// extension takes it off. A path without a file name stays as it is.
     ///
-    /// It asks for memory once, for the whole result, and fails only where that is refused.
+    /// It asks for memory once, for the whole result if that isn't empty, and fails only where that
+    /// is refused.
     ///
     /// ```
     /// let extended = RelativePath::new("foo.rs").with_extension(alloc, "txt")?;
@@ -407,9 +409,9 @@ impl<'a> RelativePath<'a> {
     /// The only normal path that leads where this path, and then `path`, lead: the answer of
     /// `normalize` for both joined.
     ///
-    /// It asks for memory twice: for a table with a span for each component of both paths, and for
-    /// the answer's text at its exact length; for none where these are empty. It fails only where
-    /// one of the two is refused.
+    /// It asks for memory at most twice: for a table with a span for each component of both paths, if
+    /// there is one, and for the answer's text at its exact length, if that isn't empty. It fails
+    /// only where one of the two is refused.
     ///
     /// ```
     /// let foo = RelativePath::new("x/y");
@@ -438,9 +440,9 @@ impl<'a> RelativePath<'a> {
     /// The only normal path that leads where this one leads: `..` first, then names, with single
     /// slashes between.
     ///
-    /// It asks for memory twice: for a table with a span for each of its components, and for the
-    /// answer's text at its exact length; for none where these are empty. It fails only where one
-    /// of the two is refused.
+    /// It asks for memory at most twice: for a table with a span for each of its components, if there
+    /// is one, and for the answer's text at its exact length, if that isn't empty. It fails only
+    /// where one of the two is refused.
     ///
     /// ```
     /// let normal = RelativePath::new("../foo/./bar/../baz.txt").normalize(alloc)?;
@@ -481,15 +483,15 @@ impl<'a> RelativePath<'a> {
     }
 
     /// The shortest path that leads from where this path leads to where `to` leads, whatever base
-    /// both start from. From or to a normal text it is the
-    /// shortest from or to the path too.
+    /// both start from. From or to a normal text it is also the shortest from or to each path that
+    /// has that normal text.
     ///
     /// The answer is empty where both lead to the same, and also where no path leads from here to
     /// there, as from `..` to `a`: [`RelativePath::try_relative`] tells these apart.
     ///
-    /// It asks for memory three times, for a table of a span for each component of either path, and
-    /// for the answer's text, and fails only where one is refused or no memory could hold the text.
-    /// Of an empty table or an empty text it asks for none.
+    /// It asks for memory at most three times: for a table of each path that has a component, with a
+    /// span for each, and for the answer's text, if that isn't empty. It fails only where one is
+    /// refused or no memory could hold the text.
     ///
     /// ```
     /// let from = RelativePath::new("a/b/c/d");
@@ -529,9 +531,9 @@ impl<'a> RelativePath<'a> {
     /// The path that [`RelativePath::relative`] answers, or `None` where no path leads from where
     /// this path leads to where `to` leads.
     ///
-    /// It asks for memory three times, for a table of a span for each component of either path, and
-    /// for the answer's text, and fails only where one is refused or no memory could hold the text.
-    /// Of an empty table or an empty text, and of a text where no path leads, it asks for none.
+    /// It asks for memory at most three times: for a table of each path that has a component, with a
+    /// span for each, and for the answer's text, if some path leads and it isn't empty. It fails only
+    /// where one is refused or no memory could hold the text.
     ///
     /// ```
     /// let path = RelativePath::new("a");
@@ -568,8 +570,8 @@ impl<'a> RelativePath<'a> {
     /// The fewest names a base can have from which this path and `path` lead to different places,
     /// or only one of them leads to a place; `None` where both lead to the same from every base.
     ///
-    /// It asks for memory twice, for a table of a span for each component of either path, and fails
-    /// only where one is refused. Of an empty table it asks for none.
+    /// It asks for memory at most twice: for a table of each path that has a component, with a span
+    /// for each. It fails only where one is refused.
     ///
     /// ```
     /// let path = RelativePath::new("../a");
@@ -608,7 +610,7 @@ impl<'a> Component<'a> {
 }
 
 impl<'a> Components<'a> {
-    /// The text that is left to walk, as a path. Before any call it is the whole text.
+    /// The text that is left, as a path. Before any call it is the whole text.
     ///
     /// ```
     /// let mut components = RelativePath::new("/a//b/").components();
@@ -627,7 +629,7 @@ impl<'a> IntoIterator for RelativePath<'a> {
 
     type IntoIter = Iter<'a>;
 
-    ghost into_iter_gives = { λ path walk. iter_text_left walk ≡ path_text path };
+    ghost into_iter_gives = { λ path iter. iter_text_left iter ≡ path_text path };
 
     fn into_iter(self) -> Iter<'a> {
         self.iter()

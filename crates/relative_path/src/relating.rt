@@ -6,7 +6,7 @@ ghost use Rattle.relative_path.specs.Walk.{IsSame};
 
 use crate::normal_form::NormalForm;
 
-// The way from one normal form to another: so many `..`, and the target's names without the first so many.
+// The way from one normal form to another: `climb` times `..`, and the target's names without the first `skipped`.
 #[derive(Clone, Copy)]
 pub(crate) struct Way {
     pub(crate) climb: usize,

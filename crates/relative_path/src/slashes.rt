@@ -6,10 +6,10 @@ ghost use Rattle.relative_path.specs.Steps.{slash, is_slash, components};
 
 use std::simd::prelude::*;
 
-// So many bytes are compared side by side.
+// How many bytes are compared side by side.
 pub(crate) const BLOCK: usize = 16;
 
-// A run of slashes is taken off by so many, and then one by one.
+// Slashes are taken off by as many as these, and then one by one.
 const SLASHES: &str = "////////////////";
 
 // The text without the slashes at its start.

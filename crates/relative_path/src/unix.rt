@@ -71,7 +71,8 @@ pub fn view(text: &str) -> Result<RelativePath<'_>, FromPathError>
 /// with a slash.
 ///
 /// A text that begins with a slash is refused before any memory is asked for. Else it asks for
-/// memory once, for as many bytes as the text has, and fails only where that is refused.
+/// memory once, for as many bytes as the text has, if it has any, and fails only where that is
+/// refused.
 ///
 /// ```
 /// let path = unix::from_path(alloc, "./foo//bar/.")?;
@@ -142,12 +143,13 @@ pub fn to_logical_path(
 }
 
 /// The relative path from one platform path, the root, to another. What both begin with is dropped;
-/// a `..` for each name that is left of the root, when it is walked from there, stands before what
-/// is left of the path.
+/// a `..` for each name of the place where what is left of the root leads stands before what is
+/// left of the path.
 ///
 /// It is refused where only one of the texts begins with a slash, and else where what is left of
 /// the root climbs above what both begin with. These refusals come before any memory is asked for.
-/// Else it asks for memory once, for exactly the answer, and fails only where that is refused.
+/// Else it asks for memory once, for exactly the answer if that isn't empty, and fails only where
+/// that is refused.
 ///
 /// ```
 /// let path = unix::relative_to(alloc, "/foo/qux", "/foo/bar/./baz")?;

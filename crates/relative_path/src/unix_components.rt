@@ -11,7 +11,7 @@ ghost use Rattle.relative_path.specs.Walk.{walk};
 use crate::component::{Component, Components};
 use crate::slashes::without_trailing_slashes;
 
-// The walk over the components of a platform path that count, from the front.
+// The iterator over the components of a platform path that count, from the front.
 #[derive(Clone, Copy)]
 pub(crate) struct UnixComponents<'a> {
     // What is left of the path.
@@ -21,7 +21,7 @@ pub(crate) struct UnixComponents<'a> {
 }
 
 impl<'a> UnixComponents<'a> {
-    // The walk over a whole path, behind its root.
+    // The iterator over a whole path, behind its root.
     pub(crate) fn new(text: &'a str) -> UnixComponents<'a>
         ensures { unix_left result ≡ unix_components text.now }
     {
@@ -31,7 +31,7 @@ impl<'a> UnixComponents<'a> {
         }
     }
 
-    // The walk over the components that are no `.`.
+    // The iterator over the components that are no `.`.
     pub(crate) fn without_curs(text: &'a str) -> UnixComponents<'a>
         ensures { unix_left result ≡ without_curs (components text.now) }
     {
@@ -64,7 +64,7 @@ impl<'a> Iterator for UnixComponents<'a> {
     }
 }
 
-// What is left of two walks behind the components that both begin with.
+// What is left of two paths behind the components that both begin with.
 pub(crate) fn without_shared<'a, 'b>(
     path: &'a str,
     root: &'b str,

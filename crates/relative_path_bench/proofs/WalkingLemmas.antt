@@ -1,4 +1,4 @@
--- Calls at either end of a walk, one after another.
+-- Calls at either end of an iterator, one after another.
 use Rattle.std.proofs.Common.{◌≡◌, ℕ, suc, zero, ◌-◌, ◌<◌, ◌↔◌, List, [], ◌∷◌, ◌++◌, length, take, drop, get_or, Option, Some, None, IsSome, sym, refl, ap, ◌∙◌, subst, append_assoc, append-nil, arith, true≢false, length-append, length-drop, length-take-le}
 use Rattle.relative_path.specs.declared.component.Component.{Component}
 use Rattle.relative_path.specs.Steps.{components}

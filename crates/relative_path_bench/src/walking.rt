@@ -1,4 +1,4 @@
-//! The walk over a path's components from both ends.
+//! The iterator over a path's components from both ends.
 ghost use Rattle.std.specs.Prelude.{IfOk};
 ghost use Rattle.relative_path.specs.RelativePath.{path_text};
 ghost use Rattle.relative_path_bench.specs.Walking.{IsTakenInTurn};
@@ -6,7 +6,7 @@ ghost use Rattle.relative_path_bench.specs.Walking.{IsTakenInTurn};
 use relative_path::{Component, RelativePath};
 use std::alloc::{AllocError, Global};
 
-/// An end of a walk, as `End::Front`.
+/// An end of an iterator, as `End::Front`.
 #[derive(Clone, Copy, Debug, PartialEq, Eq)]
 pub enum End {
     /// The end that `next` takes from.
@@ -15,7 +15,7 @@ pub enum End {
     Back,
 }
 
-/// What a walk gave, and what it left: the answer of [`take_in_turn`].
+/// What an iterator gave, and what it left: the answer of [`take_in_turn`].
 #[derive(Drop)]
 pub struct Taken<'a> {
     /// What each call gave.

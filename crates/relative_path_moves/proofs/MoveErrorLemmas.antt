@@ -24,7 +24,7 @@ Refuses-other result refusal case other none = record {
   always = λ holds. absurd (none holds);
 }
 
--- want of memory comes in every case
+-- an allocation failure comes in every case
 pub Refuses-memory : {T : Type 0} (refusal : MoveError) (case : Type 0)
     → 5 ≢ number_of {T = T} (Err refusal) → Refuses {T = T} (Err OutOfMemory) refusal case
 Refuses-memory refusal case other =

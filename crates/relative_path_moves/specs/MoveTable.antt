@@ -28,7 +28,8 @@ pub record LeadToTarget (moves : List Move) (place cs : List Step) : Type 0 wher
   pub only : (other : List Step) → IsTarget moves place other → other ≡ target
   pub same : IsSame target cs
 
--- what the components lead to where this is the way to them from a directory; want of memory tells nothing
+-- what the components lead to where this is the way to them from a directory; an allocation failure tells
+-- nothing
 abbrev pub IsWay : List Step → List Step → Result Buffer MoveError → Type 0
 IsWay directory cs (Ok way) = (place_of cs ≢ None) × IsShortestText directory cs way.text
 IsWay directory cs (Err (NoFileName k)) = ⊥

@@ -5,7 +5,7 @@ use Rattle.relative_path_moves.specs.declared.move_error.MoveError.{MoveError}
 use Rattle.relative_path_moves.specs.declared.move_error.MoveError.TheVariants.{NoFileName, SameOld, AboveRoot, NoPath, OutOfMemory}
 use Rattle.relative_path_moves.specs.Moves.{Move, AreNamed, AreApart, IsFirstNameless, IsFirstPair, OfTarget, ClimbsAbove, BelowTop, IsBeyond, IsMovedText}
 
--- what the moves and the reference are where this is the answer, a text or a refusal; want of memory answers nothing
+-- what the moves and the reference are where this is the answer, a text or a refusal; an allocation failure answers nothing
 abbrev pub IsAnswered : List Move → ℕ → List Step → Result (List ℕ) MoveError → Type 0
 IsAnswered moves i reference (Ok text) =
     AreNamed moves × AreApart moves × OfTarget moves i reference (BelowTop (IsMovedText moves i text))

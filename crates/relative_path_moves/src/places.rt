@@ -8,8 +8,8 @@ use std::alloc::{AllocError, Global};
 
 /// Whether a path leads to a place from the top, as no path does that climbs above where it starts.
 ///
-/// A path with a place leads from every base to that place below the base. It takes memory for two
-/// normal forms, and fails only where that is refused.
+/// A path with a place leads from every base to that place below the base. It asks for memory at most
+/// twice, for a table each, and fails only where one is refused.
 ///
 /// ```
 /// assert!(rt; has_place(alloc, RelativePath::new("a/../b"))?);

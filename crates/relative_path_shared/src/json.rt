@@ -54,7 +54,7 @@ impl From<AllocError> for FromValueError {
 
 /// The path's text as a JSON string.
 ///
-/// It asks for memory once, and fails only where that is refused.
+/// It asks for memory once, if the text isn't empty, and fails only where that is refused.
 ///
 /// ```
 /// let value = json::to_value(alloc, RelativePath::new("a//b"))?;
@@ -68,7 +68,8 @@ pub fn to_value(alloc: Global, path: RelativePath<'_>) -> Result<Value, AllocErr
 
 /// The text of a value that is a string, as a path in memory of its own.
 ///
-/// It asks for memory once, and only for a string: any other value is refused before.
+/// It asks for memory once, and only for a string that isn't empty: any other value is refused
+/// before.
 ///
 /// ```
 /// let value = Value::from_str(alloc, "\"a/b\"")?;
@@ -85,7 +86,8 @@ pub fn from_value(alloc: Global, value: &Value) -> Result<RelativePathBuf, FromV
 
 /// The text of a value that is a string, as a boxed path.
 ///
-/// It asks for memory once, and only for a string: any other value is refused before.
+/// It asks for memory once, and only for a string that isn't empty: any other value is refused
+/// before.
 ///
 /// ```
 /// let value = Value::from_str(alloc, "\"a/b\"")?;

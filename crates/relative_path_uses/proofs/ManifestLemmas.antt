@@ -52,7 +52,7 @@ AreFiles-next base values none files file k l are is =
     rw (take_more (map view values) k null within, map_push file_text files file)
     (all_zipped_more (IsFileOf base) (take k (map view values)) (map file_text files) _ file.text are (rw entry is))
 
--- what holds of the entries of a manifest with this base
+-- what holds of the entries of a manifest with this directory
 pub OfManifest-of : (manifest : Data) (base : List ℕ) (entries : List Data) (P : List Step → List Data → Type 0)
     → base_of manifest ≡ Some base → entries_of manifest ≡ Some entries → P (components base) entries
     → OfManifest manifest P

@@ -25,8 +25,8 @@ item_list (item d ds) = d ∷ item_list ds
 abbrev pub entries_of : Data → Option (List Data)
 entries_of manifest = option_map item_list (option_and_then as_array (get (codes "files") manifest))
 
--- the entry is a path with a place from the top that has a name, and the file is the normal text of where base and
--- entry lead in turn: from every base at that place, below the directory that the base is
+-- the entry is a path with a place from the top that has a name, and the file is the normal text of where `base` and
+-- entry lead in turn: from every base at that place, below the directory that the member `base` names
 pub record IsFileOf (base : List Step) (entry : Data) (file : List ℕ) : Type 0 where
   pub path : List ℕ
   pub place : List (List ℕ)
@@ -54,7 +54,7 @@ pub record IsFirst (Case : Data → Type 0) (base : List Step) (entries : List D
   pub case : Case (slice_index_or entries k null)
   pub before : (files : List (List ℕ)) × AllZip (IsFileOf base) (take k entries) files
 
--- P holds of the components of the manifest's base, and of its entries
+-- P holds of the components of the manifest's member `base`, and of its entries
 abbrev pub OfManifest : Data → (List Step → List Data → Type 0) → Type 0
 OfManifest manifest P = (base : List ℕ) × (entries : List Data)
     × (base_of manifest ≡ Some base) × (entries_of manifest ≡ Some entries) × P (components base) entries
@@ -63,7 +63,7 @@ OfManifest manifest P = (base : List ℕ) × (entries : List Data)
 abbrev pub AreFiles : List (List ℕ) → List Step → List Data → Type 0
 AreFiles files base entries = AllZip (IsFileOf base) entries files
 
--- what the entries are where they are refused so; want of memory says nothing of them
+-- what the entries are where they are refused so; an allocation failure says nothing of them
 abbrev pub IsRefusedFor : ManifestError → List Step → List Data → Type 0
 IsRefusedFor NoBase base entries = ⊥
 IsRefusedFor NoFiles base entries = ⊥

@@ -89,7 +89,7 @@ link_count parts = count_by (λ part. part.is_link) parts
 abbrev pub IsRewritten : List Move → ℕ → List ℕ → List ℕ → Type 0
 IsRewritten moves i page text = (parts : List Part) × AreMoved moves i (chunks page) parts × (text ≡ parts_text parts)
 
--- the moves refuse the reference so; want of memory says nothing of it
+-- the moves refuse the reference so; an allocation failure says nothing of it
 abbrev pub IsRefusal : List Move → ℕ → List Step → MoveError → Type 0
 IsRefusal moves i reference (NoFileName k) = ⊥
 IsRefusal moves i reference (SameOld j k) = ⊥
@@ -118,7 +118,7 @@ pub record IsFirstRefused (moves : List Move) (i : ℕ) (page : List ℕ) (k : �
   pub number : k ≡ link_count parts
   pub refused : IsChunkRefused moves i chunk refusal
 
--- what the page is where it is refused so; want of memory says nothing of it
+-- what the page is where it is refused so; an allocation failure says nothing of it
 abbrev pub IsRefusedAt : List Move → ℕ → List ℕ → RewriteError → Type 0
 IsRefusedAt moves i page (rewrite.Link k refusal) = IsFirstRefused moves i page k refusal
 IsRefusedAt moves i page rewrite.OutOfMemory = ⊤
@@ -131,7 +131,7 @@ at_link k AboveRoot = rewrite.Link k AboveRoot
 at_link k NoPath = rewrite.Link k NoPath
 at_link k OutOfMemory = rewrite.OutOfMemory
 
--- P holds of a refusal, unless it is want of memory
+-- P holds of a refusal, unless it is an allocation failure
 abbrev pub UnlessMemory : (MoveError → Type 0) → MoveError → Type 0
 UnlessMemory P (NoFileName k) = P (NoFileName k)
 UnlessMemory P (SameOld j k) = P (SameOld j k)

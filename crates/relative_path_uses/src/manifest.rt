@@ -1,4 +1,4 @@
-//! A manifest in JSON: a base directory, and files that are read from there.
+//! A manifest in JSON: a directory, and files that are read from there.
 ghost use Rattle.std.specs.Prelude.{◌≡◌, ◌≢◌, ◌↔◌, map, IfErr, IfOk, IsErrOf, None, Some};
 ghost use Rattle.relative_path.specs.RelativePath.{path_components};
 ghost use Rattle.serde_json.specs.View.{view};
@@ -22,15 +22,15 @@ use std::fmt;
 /// ```
 #[derive(Clone, Copy, Debug, PartialEq, Eq)]
 pub enum ManifestError {
-    /// The member `base` is missing, or no string.
+    /// The member `base`, which names the directory, is missing, or no string.
     NoBase,
-    /// There is a base, but the member `files` is missing, or no list.
+    /// There is a directory, but the member `files` is missing, or no list.
     NoFiles,
     /// The first file to be refused is no string.
     NotAString(usize),
-    /// The first file to be refused climbs above the base.
+    /// The first file to be refused climbs above the directory.
     ClimbsAbove(usize),
-    /// The first file to be refused leads to the base itself, which is no file.
+    /// The first file to be refused leads to the directory itself, which is no file.
     LeadsToBase(usize),
     /// Memory was refused.
     OutOfMemory,
@@ -75,15 +75,16 @@ impl<T: Drop> From<AllocFailed<T>> for ManifestError {
     }
 }
 
-/// The files of a manifest, each as the normal path of the base and the file.
+/// The files of a manifest, each as the normal path of its directory, the member `base`, and the file.
 ///
-/// The first file that is no string, climbs above the base or leads to the base itself refuses the
-/// manifest. So each file is below the base: at the base with one name or more behind it. A file
-/// that leaves the base and comes back climbs above it too, and a slash at its start counts
-/// nothing: `/a` is `a`. Where the base itself leads is the caller's own business: one that climbs
-/// stands in front of each file as it climbs. What other members the manifest has doesn't count.
+/// The first file that is no string, climbs above the directory or leads to the directory itself
+/// refuses the manifest. So each file is below the directory: one name or more stand behind it. A
+/// file that leaves the directory and comes back climbs above it too, and a slash at its start
+/// counts nothing: `/a` is `a`. Where the directory itself leads is the caller's own business: one
+/// that climbs stands in front of each file as it climbs. What other members the manifest has
+/// doesn't count.
 ///
-/// It asks for memory three times for each file, and for the list as it grows.
+/// It asks for memory at most three times for each file, and for the list as it grows.
 ///
 /// ```
 /// let manifest = json!(in alloc; {"base": "assets", "files": ["img/x.png", "./css/../js/a.js"]})?;
@@ -109,7 +110,7 @@ pub fn manifest_files(
     files_below(alloc, RelativePath::new(base), files)
 }
 
-// Each of the files as the normal path of the base and the file.
+// Each of the files as the normal path of the directory and the file.
 fn files_below(
     alloc: Global,
     base: RelativePath<'_>,
@@ -127,7 +128,7 @@ fn files_below(
     Ok(paths)
 }
 
-// File number `k` as the normal path of the base and the file.
+// File number `k` as the normal path of the directory and the file.
 fn file_below(
     alloc: Global,
     base: RelativePath<'_>,

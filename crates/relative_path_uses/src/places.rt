@@ -8,7 +8,7 @@ use relative_path::{RelativePath, RelativePathBuf};
 use std::alloc::{AllocError, Global};
 
 // The place that a path leads to from the top, as its names with single slashes between; `None`
-// where it climbs above the top. It asks for memory once.
+// where it climbs above the top. It asks for memory once, if the path isn't empty.
 pub(crate) fn place_from_top(
     alloc: Global,
     path: RelativePath<'_>,

@@ -140,7 +140,7 @@ impl<'a> SiteMap<'a> {
     /// where no link leads there. So it is the same for each spelling of the two pages.
     ///
     /// An empty link is the directory itself, where the other page is then said to be. It asks for
-    /// memory four times.
+    /// memory at most four times.
     ///
     /// ```
     /// let pages = ["index.html", "guide/./a/../start.html"].map(RelativePath::new);
@@ -174,7 +174,7 @@ impl<'a> SiteMap<'a> {
     /// colon, which would end a scheme.
     ///
     /// Nothing is encoded: a caller writes `%`, `?`, `#` and what else a reference can't hold as
-    /// percent signs. It asks for memory four times, and once more where `./` stands before the
+    /// percent signs. It asks for memory at most four times, and once more where `./` stands before the
     /// link.
     ///
     /// ```

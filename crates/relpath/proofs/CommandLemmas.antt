@@ -132,7 +132,7 @@ field-map [] n none inside = absurd (omega arith)
 field-map (x ∷ xs) zero none inside = refl
 field-map (x ∷ xs) (suc n) none inside = field-map xs n none (omega arith)
 
--- a refusal that isn't want of memory is the answer
+-- a refusal that is no allocation failure is the answer
 pub IsAnswered-refused : {T : Type 0} (moves : List FileMove) (i : ℕ) (reference : List Step) (e : MoveError)
     → e ≢ OutOfMemory
     → ((k : ℕ) → IsErrOf {T = T} (Err e) (NoFileName k) ↔ IsFirstNameless moves k)

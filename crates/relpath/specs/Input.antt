@@ -1,4 +1,4 @@
--- The input of a run, and how the reading of it ends.
+-- The input of `run`, and how the reading of it ends.
 use Rattle.std.specs.Prelude.{◌≡◌, ℕ, ◌<◌, ◌≤◌, List, length, Option, IsUtf8}
 use Rattle.relpath.specs.declared.fault.Fault.{Fault}
 use Rattle.relpath.specs.declared.fault.Fault.TheVariants.{Read, InputTooLong, NotText, OutOfMemory, Write}

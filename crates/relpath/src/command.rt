@@ -26,7 +26,7 @@ use relative_path::{RelativePath, RelativePathBuf, RelativeToError, RelativeToEr
 use std::alloc::{AllocError, Global};
 use std::fmt::{self, Write};
 
-/// A command.
+// A command.
 #[derive(Clone, Copy)]
 enum Command {
     Normalize,
@@ -38,7 +38,7 @@ enum Command {
 }
 
 impl Command {
-    /// The command of this name.
+    // The command of this name.
     fn named(name: &str) -> Option<Command>
         ensures { result ≡ command_named name.now }
     {
@@ -53,7 +53,7 @@ impl Command {
         }
     }
 
-    /// How many arguments it takes.
+    // How many arguments it takes.
     fn arity(self) -> usize
         ensures { result ≡ arity_of self }
     {
@@ -77,7 +77,7 @@ pub fn answer_line(alloc: Global, line: &str, output: &mut String) -> Result<(),
     answer_command(alloc, fields[0], &fields[1..], output)
 }
 
-/// Adds the answer to a command, by its name, and its arguments.
+// Adds the answer to a command, by its name, and its arguments.
 fn answer_command(
     alloc: Global,
     name: &str,
@@ -96,7 +96,7 @@ fn answer_command(
     answer_arguments(alloc, command, arguments, output)
 }
 
-/// Adds the answer to a command and as many arguments as it takes.
+// Adds the answer to a command and as many arguments as it takes.
 fn answer_arguments(
     alloc: Global,
     command: Command,
@@ -118,7 +118,7 @@ fn answer_arguments(
     }
 }
 
-/// Adds the answer of `normalize`.
+// Adds the answer of `normalize`.
 fn answer_normalize(alloc: Global, path: &str, output: &mut String) -> Result<(), AllocError>
     ensures { OnOk result
         (Adds (AnswersNormalize path.now) (string_bytes output.old) (string_bytes output.new)) }
@@ -126,7 +126,7 @@ fn answer_normalize(alloc: Global, path: &str, output: &mut String) -> Result<()
     add_path(output, &RelativePath::new(path).normalize(alloc)?)
 }
 
-/// Adds the answer of `join`.
+// Adds the answer of `join`.
 fn answer_join(alloc: Global, path: &str, more: &str, output: &mut String) -> Result<(), AllocError>
     ensures { OnOk result
         (Adds (AnswersJoin path.now more.now) (string_bytes output.old) (string_bytes output.new)) }
@@ -135,7 +135,7 @@ fn answer_join(alloc: Global, path: &str, more: &str, output: &mut String) -> Re
     add_path(output, &joined)
 }
 
-/// Adds the answer of `relative`.
+// Adds the answer of `relative`.
 fn answer_relative(
     alloc: Global,
     from: &str,
@@ -149,7 +149,7 @@ fn answer_relative(
     add_path(output, &way)
 }
 
-/// Adds the answer of `try_relative`.
+// Adds the answer of `try_relative`.
 fn answer_try_relative(
     alloc: Global,
     from: &str,
@@ -165,7 +165,7 @@ fn answer_try_relative(
     }
 }
 
-/// Adds the answer of `relative_to`.
+// Adds the answer of `relative_to`.
 fn answer_relative_to(
     alloc: Global,
     path: &str,
@@ -181,7 +181,7 @@ fn answer_relative_to(
     }
 }
 
-/// Adds the answer of `move`.
+// Adds the answer of `move`.
 fn answer_move(
     alloc: Global,
     old: &str,
@@ -199,7 +199,7 @@ fn answer_move(
     }
 }
 
-/// Adds the answer that tells why no relative path is known, unless memory was refused.
+// Adds the answer that tells why no relative path is known, unless memory was refused.
 fn add_error(error: RelativeToError, output: &mut String) -> Result<(), AllocError>
     ensures { OnOk result ((relative_to_kind error ≢ RelativeToErrorKind.OutOfMemory)
         × (string_bytes output.new
@@ -211,7 +211,7 @@ fn add_error(error: RelativeToError, output: &mut String) -> Result<(), AllocErr
     }
 }
 
-/// Adds the answer that refuses a reference, unless memory was refused.
+// Adds the answer that refuses a reference, unless memory was refused.
 fn add_refusal(refusal: MoveError, output: &mut String) -> Result<(), AllocError>
     ensures { OnOk result ((refusal ≢ MoveError.OutOfMemory)
         × (string_bytes output.new ≡ string_bytes output.old ++ words_answer (refusal_text refusal))) }
@@ -222,7 +222,7 @@ fn add_refusal(refusal: MoveError, output: &mut String) -> Result<(), AllocError
     }
 }
 
-/// Adds the answer that refuses in what a value prints.
+// Adds the answer that refuses in what a value prints.
 fn add_printed<T: fmt::Display>(output: &mut String, words: &T) -> Result<(), AllocError>
     ensures { OnOk result (IfSome (T.output words.now) (λ words.
         string_bytes output.new ≡ string_bytes output.old ++ words_answer words)) }
@@ -230,7 +230,7 @@ fn add_printed<T: fmt::Display>(output: &mut String, words: &T) -> Result<(), Al
     write!(output, "! {words}")
 }
 
-/// Adds the answer that gives a path.
+// Adds the answer that gives a path.
 fn add_path(output: &mut String, path: &RelativePathBuf) -> Result<(), AllocError>
     ensures { OnOk result
         (string_bytes output.new ≡ string_bytes output.old ++ path_answer path.now.text) }
@@ -239,7 +239,7 @@ fn add_path(output: &mut String, path: &RelativePathBuf) -> Result<(), AllocErro
     output.push_str(path.as_relative_path().as_str())
 }
 
-/// Adds the answer that refuses in words.
+// Adds the answer that refuses in words.
 fn add_words(output: &mut String, words: &str) -> Result<(), AllocError>
     ensures { OnOk result
         (string_bytes output.new ≡ string_bytes output.old ++ words_answer words.now) }

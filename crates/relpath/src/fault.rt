@@ -1,4 +1,4 @@
-//! Why a run ends without an answer.
+//! Why `run` ends without an answer.
 ghost use Rattle.std.specs.Prelude.{◌≡◌, Some};
 ghost use Rattle.std.specs.Fmt.{styled_text};
 
@@ -6,7 +6,7 @@ use std::alloc::AllocError;
 use std::error::Error;
 use std::fmt;
 
-/// Why a run ends without an answer.
+/// Why `run` ends without an answer.
 ///
 /// A fault prints its name.
 ///

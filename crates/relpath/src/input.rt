@@ -21,7 +21,7 @@ use std::io::Read;
 /// How many bytes an input may have.
 pub const MAX_INPUT: usize = 65_536;
 
-/// How many bytes the first read has room for, and how many are made zero at once.
+// How many bytes the first read has room for, and how many are made zero at once.
 const STEP: usize = 1_024;
 
 /// Reads until a read gives no byte, or until more bytes came than an input may have. Memory is
@@ -50,8 +50,8 @@ pub fn read_input<R: Read>(alloc: Global, reader: &mut Meter<R>) -> Result<Vec<u
     Err(Fault::InputTooLong)
 }
 
-/// Zeros behind the bytes up to this length, in steps: a short input needs few, and for a step
-/// they are cheap.
+// Zeros behind the bytes up to this length, in steps: a short input needs few, and for a step
+// they are cheap.
 fn widen(input: &mut Vec<u8>, len: usize)
     requires { len ≤ vec_capacity input.old }
     ensures kept { take (vec_len input.old) input.new.items ≡ input.old.items }
@@ -64,7 +64,7 @@ fn widen(input: &mut Vec<u8>, len: usize)
     }
 }
 
-/// Reads once, behind the filled bytes, and answers how many bytes came.
+// Reads once, behind the filled bytes, and answers how many bytes came.
 fn read_more<R: Read>(
     reader: &mut Meter<R>,
     input: &mut [u8],

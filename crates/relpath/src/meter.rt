@@ -75,7 +75,7 @@ impl<T> Meter<T> {
         self.inner
     }
 
-    /// Counts a read or a write, and whether it failed.
+    // Counts a read or a write, and whether it failed.
     fn count_call(&mut self, failed: bool)
         requires calls { calls_of self.old < u64.MAX }
         requires failures { failures_of self.old < u64.MAX }
@@ -86,7 +86,7 @@ impl<T> Meter<T> {
         self.count_failure(failed);
     }
 
-    /// Counts a flush, and whether it failed.
+    // Counts a flush, and whether it failed.
     fn count_flush(&mut self, failed: bool)
         requires flushes { flushes_of self.old < u64.MAX }
         requires failures { failures_of self.old < u64.MAX }
@@ -97,7 +97,7 @@ impl<T> Meter<T> {
         self.count_failure(failed);
     }
 
-    /// Counts a failure, if the call failed.
+    // Counts a failure, if the call failed.
     fn count_failure(&mut self, failed: bool)
         requires { failures_of self.old < u64.MAX }
         ensures inner { inner_of self.new ≡ inner_of self.old }

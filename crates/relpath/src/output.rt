@@ -10,8 +10,8 @@ use crate::meter::Meter;
 use std::alloc::{AllocError, Global};
 use std::io::Write;
 
-/// How many bytes of output there is room for at first, for each byte of input: most answers are no
-/// longer than their line, and the longest are some times as long.
+// How many bytes of output there is room for at first, for each byte of input: most answers are no
+// longer than their line, and the longest are some times as long.
 const ROOM: usize = 4;
 
 /// The answers to the lines of a text, one for each, in order, each with a line feed.
@@ -61,7 +61,7 @@ pub fn write_all<W: Write>(writer: &mut Meter<W>, bytes: &[u8]) -> Result<(), Fa
     Ok(())
 }
 
-/// Writes at least one of the bytes, and answers how many.
+// Writes at least one of the bytes, and answers how many.
 fn write_some<W: Write>(writer: &mut Meter<W>, bytes: &[u8]) -> Result<usize, Fault>
     requires some { 0 < length bytes.now }
     requires calls { calls_of writer.old < u64.MAX }

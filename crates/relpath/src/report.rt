@@ -1,4 +1,4 @@
-//! What is told of how a run ended.
+//! What is told of how `run` ended.
 ghost use Rattle.std.specs.Prelude.{◌≡◌, Err, is_err, IsOk, OnOk, if◌then◌else◌};
 ghost use Rattle.std.specs.Process.{exit_status};
 ghost use Rattle.relpath.specs.Meter.{failures_of, IsFresh, Gains};
@@ -10,7 +10,7 @@ use crate::output::write_all;
 use std::io::Write;
 use std::process::ExitCode;
 
-/// Tells how a run ended: prints the fault's name, and answers the status to end with.
+/// Tells how `run` ended: prints the fault's name, and answers the status to end with.
 ///
 /// Where printing fails, a part of the line may be missing.
 ///
@@ -36,7 +36,7 @@ pub fn report<W: Write>(ended: Result<(), Fault>, errors: &mut Meter<W>) -> Exit
     }
 }
 
-/// Prints the line that names a fault.
+// Prints the line that names a fault.
 fn print_fault<W: Write>(fault: Fault, errors: &mut Meter<W>) -> Result<(), Fault>
     requires { IsFresh errors.old }
     ensures printed { OnOk result (Gains W.contents errors.old errors.new (report_of (Err fault))) }

@@ -1,4 +1,4 @@
-//! The run: from the whole input to the whole output.
+//! From the whole input to the whole output.
 ghost use Rattle.std.specs.Prelude.{◌≡◌, ◌≢◌, ◌+◌, ◌≤◌, ◌⊎◌, ◌↔◌, IfErr, OnOk, IsErrOf};
 ghost use Rattle.relpath.specs.Input.{
   max_input_len,

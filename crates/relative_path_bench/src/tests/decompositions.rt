@@ -1,4 +1,4 @@
-//! Texts with their parts, for the tests of walks and of names.
+//! Texts with their parts, for the tests of iterators and of names.
 
 // A text, the texts of its components, its parent and its file name.
 pub type Decomposition = (

@@ -22,7 +22,7 @@ fn short_texts(alloc: Global) -> Result<Vec<String>, Fail> {
     Ok(texts)
 }
 
-// The place that a path leads to from a base of so many names, if there is one.
+// The place that a path leads to from a base of some names, if there is one.
 fn lead<'a>(
     alloc: Global,
     depth: usize,

@@ -38,7 +38,7 @@ impl Model for BoxedRelativePath {
 impl BoxedRelativePath {
     /// A copy of the text.
     ///
-    /// It asks for memory once, and fails only where that is refused.
+    /// It asks for memory once, if the text isn't empty, and fails only where that is refused.
     ///
     /// ```
     /// let boxed = BoxedRelativePath::from_text(alloc, "foo/bar")?;
@@ -74,7 +74,7 @@ impl BoxedRelativePath {
 
     /// A copy of the path.
     ///
-    /// It asks for memory once, and fails only where that is refused.
+    /// It asks for memory once, if the text isn't empty, and fails only where that is refused.
     ///
     /// ```
     /// let boxed = BoxedRelativePath::from_text(alloc, "foo//bar")?;

@@ -39,8 +39,8 @@ impl Model for RcRelativePath {
 impl RcRelativePath {
     /// A copy of the path's text, to be shared.
     ///
-    /// It asks for memory twice, for the text and for the count of its owners, and fails only where
-    /// one of these is refused.
+    /// It asks for memory at most twice, for the text if it isn't empty and for the count of its
+    /// owners, and fails only where one of these is refused.
     ///
     /// ```
     /// let path = RcRelativePath::from_path_text(alloc, RelativePath::new("foo/bar"))?;
@@ -58,8 +58,8 @@ impl RcRelativePath {
 
     /// A copy of the buffer's text, to be shared. The buffer is dropped once the copy is made.
     ///
-    /// It asks for memory twice, and fails only where one of these is refused. A refusal hands the
-    /// buffer back.
+    /// It asks for memory at most twice, as `from_path_text` does, and fails only where one of these is
+    /// refused. A refusal hands the buffer back.
     ///
     /// ```
     /// let buf = RelativePathBuf::from_text(alloc, "foo/bar")?;

@@ -94,7 +94,7 @@ fn passes_two_hundred_writes_on(rt: HostRuntime) {
     assert_eq!(rt; (sink.flushes, sink.flushed), (1, 200));
 }
 
-/// More bytes than an input may have.
+// More bytes than an input may have.
 fn long_room(alloc: Global) -> Result<Vec<u8>, AllocError> {
     vec![in alloc; 0; 65_537]
 }

@@ -6,7 +6,7 @@ use std::alloc::{AllocError, Global};
 use std::io::{self, ErrorKind, Read};
 use std::test::Fail;
 
-/// How many bytes an input may have.
+// How many bytes an input may have.
 const MOST: usize = 65_536;
 
 pub const SIX_LINES: &[u8] =
@@ -47,7 +47,7 @@ const NOTHING: &[u8] = b"";
 
 const UNKNOWN_COMMAND: &[u8] = b"! unknown command\n";
 
-/// A text, and letters `a` behind it.
+// A text, and letters `a` behind it.
 fn with_letters(alloc: Global, text: &str, count: usize) -> Result<String, AllocError> {
     let mut line = text.to_string(alloc)?;
     for _ in 0..count {
@@ -56,7 +56,7 @@ fn with_letters(alloc: Global, text: &str, count: usize) -> Result<String, Alloc
     Ok(line)
 }
 
-/// What a run over the source ends with, how many reads it made, and what it wrote.
+// What `run` over the source ends with, how many reads it made, and what it wrote.
 fn outcome<R: Read + Drop>(alloc: Global, source: Source<R>) -> (Result<(), Fault>, u64, Vec<u8>) {
     let mut reader = Meter::new(source);
     let mut writer = Meter::new(Vec::new(alloc));

@@ -1,4 +1,4 @@
--- The file leads to the base: its place has no name.
+-- The file leads to the directory: its place has no name.
 use Rattle.std.proofs.Common.{rules, ◌≡◌, Some, refl, sym, ◌∙◌}
 use Rattle.relative_path.specs.RelativePath.{path_text, path_components}
 use Rattle.relative_path_uses.specs.Places.{SpellsPlace}

@@ -1,4 +1,4 @@
--- The manifest has this base and these entries, of which the files are made.
+-- The manifest has this directory and these entries, of which the files are made.
 use Rattle.std.proofs.Common.{◌≡◌, rules, map, codes, Some, option_and_then}
 use Rattle.std.proofs.lemmas.Result.{IfOk-weaker, IfErr-weaker}
 use Rattle.serde_json.specs.Find.{get, as_array}

@@ -1,4 +1,4 @@
-//! The run, over memory.
+//! `run`, over memory.
 use super::marks::{begin, end};
 use crate::fault::Fault;
 use crate::meter::Meter;
