@@ -2,7 +2,7 @@
 use super::normalizes;
 use std::test::Fail;
 
-const NORMAL_FORMS: [(&str, &str); 10] = [
+const NORMAL_FORMS: [(&str, &str); 11] = [
     ("a/.././b/../c/d", "c/d"),
     ("", ""),
     (".", ""),
@@ -13,6 +13,7 @@ const NORMAL_FORMS: [(&str, &str); 10] = [
     ("foo//bar", "foo/bar"),
     ("..../.../..", "...."),
     ("a\\b/..", ""),
+    ("é\0/./\n日\0.\nü/", "é\0/\n日\0.\nü"),
 ];
 
 #[test]
