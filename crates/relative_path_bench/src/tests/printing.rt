@@ -1,4 +1,5 @@
 //! What paths print.
+use super::same;
 use relative_path::{RelativePath, RelativePathBuf};
 use std::test::Fail;
 
@@ -13,37 +14,32 @@ const DEBUGS: [(&str, &str); 5] = [
 
 #[test]
 fn prints_the_text(rt: HostRuntime) -> Result<(), Fail> {
-    let alloc = rt.alloc();
-    for (text, debug) in DEBUGS {
+    for (text, debug) in &DEBUGS {
         let path = RelativePath::new(text);
-        let buf = RelativePathBuf::from_text(alloc, text)?;
+        let view = format!(in rt.alloc(); "{path}|{path:?}")?;
+        let expected = format!(in rt.alloc(); "{text}|{debug}")?;
+        same("a view", &view.as_str(), &expected.as_str())?;
+        let buf = RelativePathBuf::from_text(rt.alloc(), text)?;
+        let buffer = format!(in rt.alloc(); "{buf}|{buf:?}")?;
+        same("a buffer", &buffer.as_str(), &expected.as_str())?;
         let display = path.display();
-        assert_eq!(rt; format!(in alloc; "{path}")?.as_str(), text, "view");
-        assert_eq!(rt; format!(in alloc; "{buf}")?.as_str(), text, "buffer");
-        assert_eq!(rt; format!(in alloc; "{display}")?.as_str(), text, "display");
-        assert_eq!(rt; format!(in alloc; "{path:?}")?.as_str(), debug, "view");
-        assert_eq!(rt; format!(in alloc; "{buf:?}")?.as_str(), debug, "buffer");
-        assert_eq!(rt;
-            format!(in alloc; "{display:?}")?.as_str(),
-            debug,
-            "display"
-        );
+        let displayed = format!(in rt.alloc(); "{display}|{display:?}")?;
+        same("display", &displayed.as_str(), &expected.as_str())?;
     }
     Ok(())
 }
 
 #[test]
 fn fills_a_width_as_a_text_does(rt: HostRuntime) -> Result<(), Fail> {
-    let alloc = rt.alloc();
     let path = RelativePath::new("é/b");
-    let buf = RelativePathBuf::from_text(alloc, "é/b")?;
+    let buf = RelativePathBuf::from_text(rt.alloc(), "é/b")?;
     let display = path.display();
-    for printed in [
-        format!(in alloc; "{path:5}|{path:>5}|{path:-^7}|{path:.2}|{path:2}")?,
-        format!(in alloc; "{buf:5}|{buf:>5}|{buf:-^7}|{buf:.2}|{buf:2}")?,
-        format!(in alloc; "{display:5}|{display:>5}|{display:-^7}|{display:.2}|{display:2}")?,
+    for printed in &[
+        format!(in rt.alloc(); "{path:5}|{path:>5}|{path:-^7}|{path:.2}|{path:2}")?,
+        format!(in rt.alloc(); "{buf:5}|{buf:>5}|{buf:-^7}|{buf:.2}|{buf:2}")?,
+        format!(in rt.alloc(); "{display:5}|{display:>5}|{display:-^7}|{display:.2}|{display:2}")?,
     ] {
-        assert_eq!(rt; printed.as_str(), "é/b  |  é/b|--é/b--|é/|é/b");
+        same("a width", &printed.as_str(), &"é/b  |  é/b|--é/b--|é/|é/b")?;
     }
     Ok(())
 }

@@ -1,6 +1,7 @@
 //! Each text of up to three letters out of four, beside what the definitions say of it: where paths lead is walked from
 //! bases of each depth.
-use relative_path::{Component, RelativePath, RelativePathBuf};
+use super::{normalizes, same, text_of};
+use relative_path::{Component, RelativePath};
 use std::alloc::{AllocError, Global};
 use std::test::Fail;
 
@@ -75,72 +76,47 @@ fn is_out_of_reach(
 }
 
 #[test]
-fn copies(rt: HostRuntime) -> Result<(), Fail> {
-    for text in &short_texts(rt.alloc())? {
-        let copy = RelativePathBuf::from_text(rt.alloc(), text.as_str())?;
-        assert_eq!(rt; copy.clone()?.into_string().as_str(), text.as_str());
-        let copy = RelativePath::new(text.as_str()).to_relative_path_buf(rt.alloc())?;
-        assert_eq!(rt; copy.as_relative_path().as_str(), text.as_str());
-    }
-    Ok(())
-}
-
-#[test]
 fn normal_forms(rt: HostRuntime) -> Result<(), Fail> {
     for text in &short_texts(rt.alloc())? {
         let path = RelativePath::new(text.as_str());
-        let made = path.normalize(rt.alloc())?;
-        let mut filled = RelativePathBuf::with_capacity(rt.alloc(), text.len())?;
-        path.normalize_into(&mut filled);
-        let normal = made.as_relative_path();
-        assert_eq!(rt;
-            filled.as_relative_path().as_str(),
-            normal.as_str(),
-            "{text:?}"
-        );
-        assert!(rt; normal.is_normalized(), "{text:?}");
-        assert_eq!(rt; parted(rt.alloc(), normal, path)?, None, "{text:?}");
+        let normal = path.normalize(rt.alloc())?;
+        normalizes(rt.alloc(), text.as_str(), text_of(&normal))?;
+        let normal = normal.as_relative_path();
+        same(text.as_str(), &normal.is_normalized(), &true)?;
+        same(text.as_str(), &parted(rt.alloc(), normal, path)?, &None)?;
     }
     Ok(())
 }
 
-#[test]
-fn ways(rt: HostRuntime) -> Result<(), Fail> {
-    let texts = short_texts(rt.alloc())?;
-    for from in &texts {
-        for to in &texts {
-            let (from, to) = (
-                RelativePath::new(from.as_str()),
-                RelativePath::new(to.as_str()),
-            );
-            match from.try_relative(rt.alloc(), to)? {
-                Some(way) => {
-                    let there = from.join(rt.alloc(), way.as_relative_path())?;
-                    let parted = parted(rt.alloc(), there.as_relative_path(), to)?;
-                    assert_eq!(rt; parted, None, "{from:?}, {to:?}");
-                }
-                None => assert!(rt; is_out_of_reach(rt.alloc(), from, to)?, "{from:?}, {to:?}"),
-            }
+// What is wrong with the way between two paths, if anything is.
+fn fault_of_way(
+    alloc: Global,
+    from: RelativePath<'_>,
+    to: RelativePath<'_>,
+) -> Result<Option<usize>, AllocError> {
+    match from.try_relative(alloc, to)? {
+        Some(way) => {
+            let there = from.join(alloc, way.as_relative_path())?;
+            parted(alloc, there.as_relative_path(), to)
+        }
+        None => {
+            let is_right = is_out_of_reach(alloc, from, to)?;
+            Ok(if is_right { None } else { Some(0) })
         }
     }
-    Ok(())
 }
 
 #[test]
-fn parting(rt: HostRuntime) -> Result<(), Fail> {
+fn pairs(rt: HostRuntime) -> Result<(), Fail> {
     let texts = short_texts(rt.alloc())?;
     for text in &texts {
+        let path = RelativePath::new(text.as_str());
         for other in &texts {
-            let (path, other) = (
-                RelativePath::new(text.as_str()),
-                RelativePath::new(other.as_str()),
-            );
+            let other = RelativePath::new(other.as_str());
+            let fault = fault_of_way(rt.alloc(), path, other)?;
+            same(text.as_str(), &fault, &None)?;
             let apart = path.leads_apart(rt.alloc(), other)?;
-            assert_eq!(rt;
-                apart,
-                parted(rt.alloc(), path, other)?,
-                "{path:?}, {other:?}"
-            );
+            same(text.as_str(), &apart, &parted(rt.alloc(), path, other)?)?;
         }
     }
     Ok(())

@@ -1,6 +1,6 @@
 //! The components of a path, from either end.
 use super::decompositions::DECOMPOSITIONS;
-use crate::{End, take_in_turn};
+use super::same;
 use relative_path::{Component, RelativePath};
 use std::test::Fail;
 
@@ -18,33 +18,42 @@ fn has_components(path: RelativePath<'_>, texts: &[&str]) -> bool {
         .eq(texts.iter().map(|text| component(text)))
 }
 
+// Whether `iter` and `into_iter` give these texts, and `iter` backwards too.
+fn gives(path: RelativePath<'_>, texts: &[&str]) -> (bool, bool, bool) {
+    (
+        path.iter().eq(texts.iter().copied()),
+        path.into_iter().eq(texts.iter().copied()),
+        path.iter().rev().eq(texts.iter().rev().copied()),
+    )
+}
+
 #[test]
-fn gives_the_components_and_their_texts(rt: HostRuntime) -> Result<(), Fail> {
-    for rows in DECOMPOSITIONS {
-        for (text, expected, _, _) in rows {
+fn gives_the_components_and_their_texts() -> Result<(), Fail> {
+    for rows in &DECOMPOSITIONS {
+        for (text, expected, _, _) in *rows {
             let path = RelativePath::new(text);
-            assert!(rt; has_components(path, expected), "components of {text:?}");
-            let texts: Vec<&str> = path.iter().collect(rt.alloc())?;
-            assert_eq!(rt; texts.as_slice(), *expected, "iter of {text:?}");
-            let texts: Vec<&str> = path.into_iter().collect(rt.alloc())?;
-            assert_eq!(rt; texts.as_slice(), *expected, "into_iter of {text:?}");
-            let backwards: Vec<&str> = path.iter().rev().collect(rt.alloc())?;
-            assert!(rt;
-                backwards.iter().rev().eq(expected.iter()),
-                "iter of {text:?}, back to front"
-            );
+            same(text, &has_components(path, expected), &true)?;
+            same(text, &gives(path, expected), &(true, true, true))?;
         }
     }
     Ok(())
 }
 
 // A text, calls of `next` (F) and `next_back` (B), the text that the last one gives (none: no text), and what it leaves.
-const BOTH_ENDS: [(&str, &str, &str, &str); 12] = [
+type Walk = (&'static str, &'static str, &'static str, &'static str);
+
+const WALKS: [&[Walk]; 3] = [&BOTH_ENDS, &IN_TURN, &ONE_END];
+
+const BOTH_ENDS: [Walk; 6] = [
+    ("/a/./b/", "", "", "/a/./b/"),
     ("/a/./b/", "F", "a", "./b/"),
     ("/a/./b/", "FB", "b", "."),
     ("/a/./b/", "FBF", ".", ""),
     ("/a/./b/", "FBFF", "", ""),
     ("/a/./b/", "FBFFB", "", ""),
+];
+
+const IN_TURN: [Walk; 7] = [
     ("a/b/c/d/e", "F", "a", "b/c/d/e"),
     ("a/b/c/d/e", "FB", "e", "b/c/d"),
     ("a/b/c/d/e", "FBF", "b", "c/d"),
@@ -54,7 +63,7 @@ const BOTH_ENDS: [(&str, &str, &str, &str); 12] = [
     ("a/b/c/d/e", "FBFBFBF", "", ""),
 ];
 
-const ONE_END: [(&str, &str, &str, &str); 7] = [
+const ONE_END: [Walk; 7] = [
     ("/hello///world//", "F", "hello", "world//"),
     ("/hello///world//", "FF", "world", ""),
     ("/hello///world//", "FFF", "", ""),
@@ -79,62 +88,11 @@ fn after<'a>(text: &'a str, calls: &str) -> (&'a str, &'a str) {
 }
 
 #[test]
-fn takes_from_both_ends(rt: HostRuntime) {
-    for (text, calls, component, left) in BOTH_ENDS {
-        assert_eq!(rt; after(text, ""), ("", text), "before any call");
-        assert_eq!(rt;
-            after(text, calls),
-            (component, left),
-            "{calls} of {text:?}"
-        );
+fn takes_from_both_ends() -> Result<(), Fail> {
+    for rows in &WALKS {
+        for (text, calls, component, left) in *rows {
+            same(calls, &after(text, calls), &(*component, *left))?;
+        }
     }
-}
-
-#[test]
-fn takes_from_one_end(rt: HostRuntime) {
-    for (text, calls, component, left) in ONE_END {
-        assert_eq!(rt;
-            after(text, calls),
-            (component, left),
-            "{calls} of {text:?}"
-        );
-    }
-}
-
-#[test]
-fn takes_in_turn(rt: HostRuntime) -> Result<(), Fail> {
-    let ends = [End::Back, End::Front, End::Front];
-    let taken = take_in_turn(rt.alloc(), RelativePath::new("/x//./y/"), &ends)?;
-    let expected = [
-        Some(Component::Normal("y")),
-        Some(Component::Normal("x")),
-        Some(Component::CurDir),
-    ];
-    assert_eq!(rt; taken.components.as_slice(), expected.as_slice());
-    assert_eq!(rt; taken.left.as_str(), "");
     Ok(())
-}
-
-#[test]
-fn clones_go_their_own_way(rt: HostRuntime) -> Result<(), Fail> {
-    let path = RelativePath::new("a/b");
-    let mut walk = path.components();
-    let copy = walk.clone()?;
-    assert!(rt; walk == copy, "a clone is equal");
-    walk.next();
-    assert!(rt; walk != copy, "the clone stays");
-    let mut texts = path.iter();
-    let mut copy = texts.clone()?;
-    assert_eq!(rt; texts.next(), Some("a"));
-    assert_eq!(rt; copy.next_back(), Some("b"));
-    Ok(())
-}
-
-#[test]
-fn a_component_is_a_path(rt: HostRuntime) {
-    for component in RelativePath::new("./../c:/...").components() {
-        let path = component.as_relative_path();
-        assert_eq!(rt; path.as_str(), component.as_str());
-        assert_eq!(rt; path.components().next(), Some(component));
-    }
 }

@@ -1,11 +1,13 @@
 //! Equality, order and hash across the forms.
 ghost use Rattle.std.specs.Prelude.{◌+◌, ◌*◌, ◌%◌, ◌^◌, fold};
 
+use super::same;
 use crate::{BoxedRelativePath, CowRelativePath, RcRelativePath};
 use relative_path::{Component, RelativePath, RelativePathBuf};
+use std::alloc::{AllocError, Global};
 use std::cmp::Ordering;
 use std::collections::HashMap;
-use std::hash::{DefaultHasher, Hash, Hasher};
+use std::hash::{Hash, Hasher};
 use std::test::Fail;
 
 const COMPARISONS: [(&str, &str, Ordering); 8] = [
@@ -19,33 +21,37 @@ const COMPARISONS: [(&str, &str, Ordering); 8] = [
     ("a/./b", "a/b", Ordering::Less),
 ];
 
-fn hash_of<T: Hash>(value: &T) -> u64 {
-    let mut state = DefaultHasher::new();
-    value.hash(&mut state);
-    state.finish()
+// How two paths compare in boxes, behind owners, and the one borrowed and the other owned.
+fn compared(alloc: Global, left: &str, right: &str) -> Result<[Ordering; 3], AllocError> {
+    let (a, b) = (RelativePath::new(left), RelativePath::new(right));
+    let boxed = BoxedRelativePath::from_text(alloc, left)?;
+    let shared = RcRelativePath::from_path_text(alloc, a)?;
+    let borrowed = CowRelativePath::from(a);
+    Ok([
+        boxed.cmp(&BoxedRelativePath::from_text(alloc, right)?),
+        shared.cmp(&RcRelativePath::from_path_text(alloc, b)?),
+        borrowed.cmp(&CowRelativePath::from(RelativePathBuf::from_text(alloc, right)?)),
+    ])
+}
+
+// Whether they are equal.
+fn equal(alloc: Global, left: &str, right: &str) -> Result<[bool; 3], AllocError> {
+    let (a, b) = (RelativePath::new(left), RelativePath::new(right));
+    let boxed = BoxedRelativePath::from_text(alloc, left)?;
+    let shared = RcRelativePath::from_path_text(alloc, a)?;
+    let borrowed = CowRelativePath::from(a);
+    Ok([
+        boxed == BoxedRelativePath::from_text(alloc, right)?,
+        shared == RcRelativePath::from_path_text(alloc, b)?,
+        borrowed == CowRelativePath::from(RelativePathBuf::from_text(alloc, right)?),
+    ])
 }
 
 #[test]
 fn compares_by_components(rt: HostRuntime) -> Result<(), Fail> {
-    let alloc = rt.alloc();
-    for (left, right, order) in COMPARISONS {
-        let (a, b) = (RelativePath::new(left), RelativePath::new(right));
-        let x = BoxedRelativePath::from_text(alloc, left)?;
-        let y = BoxedRelativePath::from_text(alloc, right)?;
-        assert_eq!(rt; x.cmp(&y), order, "boxes of {left:?} and {right:?}");
-        assert_eq!(rt; x == y, order.is_eq(), "boxes of {left:?} and {right:?}");
-        let x = RcRelativePath::from_path_text(alloc, a)?;
-        let y = RcRelativePath::from_path_text(alloc, b)?;
-        assert_eq!(rt; x.cmp(&y), order, "owners of {left:?} and {right:?}");
-        assert_eq!(rt; x == y, order.is_eq(), "owners of {left:?} and {right:?}");
-        let x = CowRelativePath::from(a);
-        let y = CowRelativePath::from(RelativePathBuf::from_text(alloc, right)?);
-        assert_eq!(rt; x.cmp(&y), order, "{left:?} borrowed and {right:?} owned");
-        assert_eq!(rt;
-            x == y,
-            order.is_eq(),
-            "{left:?} borrowed and {right:?} owned"
-        );
+    for (left, right, order) in &COMPARISONS {
+        same(left, &compared(rt.alloc(), left, right)?, &[*order; 3])?;
+        same(left, &equal(rt.alloc(), left, right)?, &[order.is_eq(); 3])?;
     }
     Ok(())
 }
@@ -83,119 +89,67 @@ fn writes_of<T: Hash>(value: &T) -> [u8; 8] {
 
 #[test]
 fn each_component_is_a_write_and_a_slash_another(rt: HostRuntime) -> Result<(), Fail> {
-    let alloc = rt.alloc();
     let path = RelativePath::new("a//b");
-    let buf = path.to_relative_path_buf(alloc)?;
-    let boxed = BoxedRelativePath::from_text(alloc, "a//b")?;
-    let shared = RcRelativePath::from_path_text(alloc, path)?;
-    assert_eq!(rt; writes_of(&path), *b"a|/|b|/|", "view");
-    assert_eq!(rt; writes_of(&buf), *b"a|/|b|/|", "buffer");
-    assert_eq!(rt; writes_of(&boxed), *b"a|/|b|/|", "box");
-    assert_eq!(rt; writes_of(&shared), *b"a|/|b|/|", "owner");
-    let borrowed = CowRelativePath::from(path);
-    let owned = CowRelativePath::from(buf);
-    assert_eq!(rt; writes_of(&borrowed), *b"a|/|b|/|", "borrowed");
-    assert_eq!(rt; writes_of(&owned), *b"a|/|b|/|", "owned");
-    assert_eq!(rt;
-        writes_of(&Component::ParentDir),
-        *b"\0\0\0..|/|",
-        "`..` alone"
-    );
-    Ok(())
-}
-
-#[test]
-fn all_forms_feed_the_same(rt: HostRuntime) -> Result<(), Fail> {
-    let alloc = rt.alloc();
-    for text in ["", "a/b", "//a/./é///..", "foo/bar/"] {
-        let path = RelativePath::new(text);
-        let hash = hash_of(&path);
-        let buf = RelativePathBuf::from_text(alloc, text)?;
-        assert_eq!(rt; hash_of(&buf), hash, "buffer of {text:?}");
-        let boxed = BoxedRelativePath::from_text(alloc, text)?;
-        assert_eq!(rt; hash_of(&boxed), hash, "box of {text:?}");
-        let shared = RcRelativePath::from_path_text(alloc, path)?;
-        assert_eq!(rt; hash_of(&shared), hash, "owner of {text:?}");
-        assert_eq!(rt;
-            hash_of(&CowRelativePath::from(path)),
-            hash,
-            "{text:?} borrowed"
-        );
-        assert_eq!(rt;
-            hash_of(&CowRelativePath::from(buf)),
-            hash,
-            "{text:?} owned"
-        );
-    }
-    Ok(())
+    let expected = *b"a|/|b|/|";
+    same("view", &writes_of(&path), &expected)?;
+    let boxed = BoxedRelativePath::from_text(rt.alloc(), "a//b")?;
+    same("box", &writes_of(&boxed), &expected)?;
+    let shared = RcRelativePath::from_path_text(rt.alloc(), path)?;
+    same("owner", &writes_of(&shared), &expected)?;
+    same(
+        "borrowed",
+        &writes_of(&CowRelativePath::from(path)),
+        &expected,
+    )?;
+    let buf = path.to_relative_path_buf(rt.alloc())?;
+    same("buffer", &writes_of(&buf), &expected)?;
+    same("owned", &writes_of(&CowRelativePath::from(buf)), &expected)?;
+    same(
+        "`..` alone",
+        &writes_of(&Component::ParentDir),
+        &*b"\0\0\0..|/|",
+    )
 }
 
 #[test]
 fn boxed_keys_are_found_however_they_are_spelled(rt: HostRuntime) -> Result<(), Fail> {
-    let alloc = rt.alloc();
-    let mut sizes = HashMap::new(alloc);
-    sizes.insert(BoxedRelativePath::from_text(alloc, "src/main.rs")?, 120)?;
-    sizes.insert(BoxedRelativePath::from_text(alloc, "src//lib.rs")?, 7)?;
-    for (text, size) in [
-        ("src//main.rs/", Some(120)),
-        ("src/lib.rs", Some(7)),
-        ("src", None),
-    ] {
-        let key = BoxedRelativePath::from_text(alloc, text)?;
-        assert_eq!(rt; sizes.get(&key).copied(), size, "{text:?}");
+    let mut sizes = HashMap::new(rt.alloc());
+    sizes.insert(
+        BoxedRelativePath::from_text(rt.alloc(), "src/main.rs")?,
+        120,
+    )?;
+    for (text, size) in &[("src//main.rs/", Some(120)), ("src", None)] {
+        let key = BoxedRelativePath::from_text(rt.alloc(), text)?;
+        same(text, &sizes.get(&key).copied(), size)?;
     }
     Ok(())
 }
 
 #[test]
-fn forms_made_of_one_text_are_equal(rt: HostRuntime) -> Result<(), Fail> {
-    let alloc = rt.alloc();
-    let path = RelativePath::new("foo/bar");
-    let buf = path.to_relative_path_buf(alloc)?;
-    assert!(rt;
-        buf == RelativePathBuf::from(String::from_str(alloc, "foo/bar")?),
-        "From<String>"
-    );
-    assert!(rt;
-        buf == RelativePathBuf::from_text(alloc, "foo/bar")?,
-        "from_text"
-    );
-    let boxed = BoxedRelativePath::from_text(alloc, "foo/bar")?;
-    assert!(rt; boxed.as_relative_path() == path, "box of a text");
-    let boxed = BoxedRelativePath::from_buf(alloc, buf.clone()?).ok();
-    assert!(rt;
-        boxed.is_some_and(|boxed| boxed.as_relative_path() == path),
-        "box of a buffer"
-    );
-    let shared = RcRelativePath::from_path_text(alloc, path)?;
-    assert!(rt; shared.as_relative_path() == path, "owner of a path");
-    let shared = RcRelativePath::from_buf(alloc, buf).ok();
-    assert!(rt;
-        shared.is_some_and(|shared| shared.as_relative_path() == path),
-        "owner of a buffer"
-    );
-    Ok(())
+fn buffers_made_of_one_text_are_equal(rt: HostRuntime) -> Result<(), Fail> {
+    let buf = RelativePath::new("foo/bar").to_relative_path_buf(rt.alloc())?;
+    let other = RelativePathBuf::from(String::from_str(rt.alloc(), "foo/bar")?);
+    same("From<String>", &buf, &other)?;
+    let other = RelativePathBuf::from_text(rt.alloc(), "foo/bar")?;
+    same("from_text", &buf, &other)
 }
 
 #[test]
 fn forms_of_equal_paths_are_equal_as_views(rt: HostRuntime) -> Result<(), Fail> {
-    let alloc = rt.alloc();
     let path = RelativePath::new("foo/bar");
-    let mut buf = RelativePathBuf::new(alloc);
+    let boxed = BoxedRelativePath::from_text(rt.alloc(), "foo/bar")?;
+    same("a box", &boxed.as_relative_path(), &path)?;
+    let shared = RcRelativePath::from_path_text(rt.alloc(), path)?;
+    same("an owner", &shared.as_relative_path(), &path)?;
+    same(
+        "borrowed",
+        &CowRelativePath::from(path).as_relative_path(),
+        &path,
+    )?;
+    let mut buf = RelativePathBuf::new(rt.alloc());
     buf.push(RelativePath::new("foo"))?;
     buf.push(RelativePath::new("bar"))?;
-    let borrowed = CowRelativePath::from(path);
-    let owned = CowRelativePath::from(buf.clone()?);
-    let views = [
-        path,
-        buf.as_relative_path(),
-        borrowed.as_relative_path(),
-        owned.as_relative_path(),
-    ];
-    for left in views {
-        for right in views {
-            assert_eq!(rt; left, right);
-        }
-    }
-    Ok(())
+    same("pushed", &buf.as_relative_path(), &path)?;
+    let owned = CowRelativePath::from(buf);
+    same("owned", &owned.as_relative_path(), &path)
 }

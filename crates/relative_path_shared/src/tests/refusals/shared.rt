@@ -1,6 +1,7 @@
 //! The forms that own or share a text, and the buffer's way to them.
 use super::long_text;
 use super::marks::{begin, end};
+use crate::tests::shows;
 use crate::{BoxedRelativePath, BufExt, RcRelativePath};
 use relative_path::{RelativePath, RelativePathBuf};
 use std::test::Fail;
@@ -8,14 +9,13 @@ use std::test::Fail;
 #[test]
 fn boxed_from_text(rt: HostRuntime) -> Result<(), Fail> {
     let long = long_text(rt.alloc())?;
-    for text in ["a//b", long.as_str()] {
+    for text in &["a//b", long.as_str()] {
         begin(rt.alloc());
         let answer = BoxedRelativePath::from_text(rt.alloc(), text);
         end(rt.alloc(), answer.is_err());
-        assert!(rt;
-            answer.map_or(true, |boxed| boxed.as_relative_path().as_str() == text),
-            "from_text"
-        );
+        if let Ok(boxed) = answer {
+            shows("from_text", boxed.as_relative_path(), text)?;
+        }
     }
     Ok(())
 }
@@ -23,12 +23,14 @@ fn boxed_from_text(rt: HostRuntime) -> Result<(), Fail> {
 #[test]
 fn boxed_clone(rt: HostRuntime) -> Result<(), Fail> {
     let long = long_text(rt.alloc())?;
-    for text in ["a//b", long.as_str()] {
+    for text in &["a//b", long.as_str()] {
         let boxed = BoxedRelativePath::from_text(rt.alloc(), text)?;
         begin(rt.alloc());
         let answer = boxed.clone(rt.alloc());
         end(rt.alloc(), answer.is_err());
-        assert!(rt; answer.map_or(true, |copy| copy.as_relative_path().as_str() == text));
+        if let Ok(copy) = answer {
+            shows("clone", copy.as_relative_path(), text)?;
+        }
     }
     Ok(())
 }
@@ -36,12 +38,13 @@ fn boxed_clone(rt: HostRuntime) -> Result<(), Fail> {
 #[test]
 fn boxed_from_buf(rt: HostRuntime) -> Result<(), Fail> {
     let long = long_text(rt.alloc())?;
-    for text in ["a//b", long.as_str()] {
+    for text in &["a//b", long.as_str()] {
         let buf = RelativePathBuf::from_text(rt.alloc(), text)?;
         begin(rt.alloc());
         let answer = BoxedRelativePath::from_buf(rt.alloc(), buf);
         end(rt.alloc(), answer.is_err());
-        assert!(rt; answer.is_ok_and(|boxed| boxed.as_relative_path().as_str() == text));
+        let boxed = answer.ok().ok_or("a box")?;
+        shows("a box", boxed.as_relative_path(), text)?;
     }
     Ok(())
 }
@@ -49,12 +52,13 @@ fn boxed_from_buf(rt: HostRuntime) -> Result<(), Fail> {
 #[test]
 fn into_boxed_relative_path(rt: HostRuntime) -> Result<(), Fail> {
     let long = long_text(rt.alloc())?;
-    for text in ["a//b", long.as_str()] {
+    for text in &["a//b", long.as_str()] {
         let buf = RelativePathBuf::from_text(rt.alloc(), text)?;
         begin(rt.alloc());
         let answer = buf.into_boxed_relative_path(rt.alloc());
         end(rt.alloc(), answer.is_err());
-        assert!(rt; answer.is_ok_and(|boxed| boxed.as_relative_path().as_str() == text));
+        let boxed = answer.ok().ok_or("a box")?;
+        shows("a box", boxed.as_relative_path(), text)?;
     }
     Ok(())
 }
@@ -62,11 +66,13 @@ fn into_boxed_relative_path(rt: HostRuntime) -> Result<(), Fail> {
 #[test]
 fn rc_from_path_text(rt: HostRuntime) -> Result<(), Fail> {
     let long = long_text(rt.alloc())?;
-    for text in ["a//b", long.as_str()] {
+    for text in &["a//b", long.as_str()] {
         begin(rt.alloc());
         let answer = RcRelativePath::from_path_text(rt.alloc(), RelativePath::new(text));
         end(rt.alloc(), answer.is_err());
-        assert!(rt; answer.map_or(true, |shared| shared.as_relative_path().as_str() == text));
+        if let Ok(shared) = answer {
+            shows("from_path_text", shared.as_relative_path(), text)?;
+        }
     }
     Ok(())
 }
@@ -74,14 +80,14 @@ fn rc_from_path_text(rt: HostRuntime) -> Result<(), Fail> {
 #[test]
 fn rc_from_buf(rt: HostRuntime) -> Result<(), Fail> {
     let long = long_text(rt.alloc())?;
-    for text in ["a//b", long.as_str()] {
+    for text in &["a//b", long.as_str()] {
         let buf = RelativePathBuf::from_text(rt.alloc(), text)?;
         begin(rt.alloc());
         let answer = RcRelativePath::from_buf(rt.alloc(), buf);
         end(rt.alloc(), answer.is_err());
         match answer {
-            Ok(shared) => assert!(rt; shared.as_relative_path().as_str() == text, "shared"),
-            Err(buf) => assert!(rt; buf.as_relative_path().as_str() == text, "handed back"),
+            Ok(shared) => shows("shared", shared.as_relative_path(), text)?,
+            Err(buf) => shows("handed back", buf.as_relative_path(), text)?,
         }
     }
     Ok(())
@@ -90,16 +96,14 @@ fn rc_from_buf(rt: HostRuntime) -> Result<(), Fail> {
 #[test]
 fn rc_share(rt: HostRuntime) -> Result<(), Fail> {
     let long = long_text(rt.alloc())?;
-    for text in ["a//b", long.as_str()] {
+    for text in &["a//b", long.as_str()] {
         let first = RcRelativePath::from_path_text(rt.alloc(), RelativePath::new(text))?;
         begin(rt.alloc());
         let answer = first.share();
         end(rt.alloc(), answer.is_err());
-        assert!(rt; answer.is_ok_and(|second| second.as_relative_path().as_str() == text));
-        assert!(rt;
-            first.as_relative_path().as_str() == text,
-            "the first owner"
-        );
+        let second = answer.ok().ok_or("a second owner")?;
+        shows("the second owner", second.as_relative_path(), text)?;
+        shows("the first owner", first.as_relative_path(), text)?;
     }
     Ok(())
 }

@@ -3,8 +3,8 @@ ghost use Rattle.std.specs.Iterator.{IsFinite};
 
 use super::editing::{is_left, long_name};
 use super::marks::{begin, end};
-use super::text_of;
-use relative_path::{RelativePath, RelativePathBuf};
+use super::{same, text_of};
+use crate::{RelativePath, RelativePathBuf};
 use std::alloc::AllocError;
 use std::test::Fail;
 
@@ -26,8 +26,11 @@ fn set_file_name(rt: HostRuntime) -> Result<(), Fail> {
     } else {
         "bar"
     };
-    assert_eq!(rt; text_of(&buf).strip_prefix("foo/"), Some(left));
-    Ok(())
+    same(
+        "set_file_name",
+        &text_of(&buf).strip_prefix("foo/"),
+        &Some(left),
+    )
 }
 
 // Pushes the paths, and takes the first text back where a push is refused.
@@ -57,6 +60,6 @@ fn extend(rt: HostRuntime) -> Result<(), Fail> {
     let answer = push_or_restore(&mut buf, &mut lent);
     end(rt.alloc(), answer.is_err());
     let left = lent.next().map(RelativePath::as_str);
-    assert!(rt; is_left(answer, text_of(&buf), name.as_str(), left));
-    Ok(())
+    let is_right = is_left(answer, text_of(&buf), name.as_str(), left);
+    same("extend", &is_right, &true)
 }

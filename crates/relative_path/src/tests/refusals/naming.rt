@@ -1,20 +1,20 @@
 //! File names and extensions.
 use super::marks::{begin, end};
-use super::{is_refused_or, long_text, text_of};
-use relative_path::{RelativePath, RelativePathBuf};
+use super::{gives, long_text, same, text_of};
+use crate::{RelativePath, RelativePathBuf};
 use std::test::Fail;
 
 #[test]
 fn with_file_name(rt: HostRuntime) -> Result<(), Fail> {
     let long = long_text(rt.alloc())?;
-    for (text, file_name, named) in [
+    for (text, file_name, named) in &[
         ("tmp/foo.txt", "bar.txt", "tmp/bar.txt"),
         (long.as_str(), "aa", long.as_str()),
     ] {
         begin(rt.alloc());
         let answer = RelativePath::new(text).with_file_name(rt.alloc(), file_name);
         end(rt.alloc(), answer.is_err());
-        assert!(rt; is_refused_or(&answer, named), "{} bytes", named.len());
+        gives(&answer, named)?;
     }
     Ok(())
 }
@@ -22,18 +22,14 @@ fn with_file_name(rt: HostRuntime) -> Result<(), Fail> {
 #[test]
 fn with_extension(rt: HostRuntime) -> Result<(), Fail> {
     let long = long_text(rt.alloc())?;
-    for (text, extension, extended) in [
+    for (text, extension, extended) in &[
         ("foo.rs", "txt", "foo.txt"),
         (long.as_str(), "", long.as_str()),
     ] {
         begin(rt.alloc());
         let answer = RelativePath::new(text).with_extension(rt.alloc(), extension);
         end(rt.alloc(), answer.is_err());
-        assert!(rt;
-            is_refused_or(&answer, extended),
-            "{} bytes",
-            extended.len()
-        );
+        gives(&answer, extended)?;
     }
     Ok(())
 }
@@ -50,8 +46,11 @@ fn set_file_name(rt: HostRuntime) -> Result<(), Fail> {
     } else {
         "bar"
     };
-    assert_eq!(rt; text_of(&buf).strip_prefix("foo/"), Some(left));
-    Ok(())
+    same(
+        "set_file_name",
+        &text_of(&buf).strip_prefix("foo/"),
+        &Some(left),
+    )
 }
 
 #[test]
@@ -60,21 +59,23 @@ fn set_file_name_that_fits(rt: HostRuntime) -> Result<(), Fail> {
     begin(rt.alloc());
     let answer = buf.set_file_name("baz");
     end(rt.alloc(), answer.is_err());
-    assert_eq!(rt; text_of(&buf), "foo/baz");
-    Ok(())
+    same("set_file_name", &text_of(&buf), &"foo/baz")
 }
 
 #[test]
 fn set_extension(rt: HostRuntime) -> Result<(), Fail> {
     let long = long_text(rt.alloc())?;
-    for (text, front) in [("foo/.", "foo"), (long.as_str(), long.as_str())] {
+    for (text, front) in &[("foo/.", "foo"), (long.as_str(), long.as_str())] {
         let mut buf = RelativePathBuf::from_text(rt.alloc(), text)?;
         begin(rt.alloc());
         let answer = buf.set_extension("bar");
         end(rt.alloc(), answer.is_err());
         match answer {
-            Ok(is_set) => assert!(rt; is_set && text_of(&buf).strip_prefix(front) == Some(".bar")),
-            Err(_) => assert!(rt; text_of(&buf) == text),
+            Ok(is_set) => {
+                let added = text_of(&buf).strip_prefix(*front);
+                same("set_extension", &(is_set, added), &(true, Some(".bar")))?;
+            }
+            Err(_) => same("refused", &text_of(&buf), text)?,
         }
     }
     Ok(())
@@ -89,14 +90,14 @@ const FITTING: [(&str, usize, &str, &str, bool); 3] = [
 
 #[test]
 fn set_extension_that_fits(rt: HostRuntime) -> Result<(), Fail> {
-    for (text, room, extension, left, is_set) in FITTING {
-        let mut buf = RelativePathBuf::with_capacity(rt.alloc(), room)?;
+    for (text, room, extension, left, is_set) in &FITTING {
+        let mut buf = RelativePathBuf::with_capacity(rt.alloc(), *room)?;
         buf.push(RelativePath::new(text))?;
         begin(rt.alloc());
         let answer = buf.set_extension(extension);
         end(rt.alloc(), answer.is_err());
-        assert_eq!(rt; answer.unwrap_or(!is_set), is_set, "{text:?}");
-        assert_eq!(rt; text_of(&buf), left, "{text:?}");
+        same(text, &answer.ok(), &Some(*is_set))?;
+        same(text, &text_of(&buf), left)?;
     }
     Ok(())
 }

@@ -1,7 +1,7 @@
 //! Copies, joins and pushes.
 use super::marks::{begin, end};
-use super::{is_refused_or, long_text, text_of};
-use relative_path::{RelativePath, RelativePathBuf};
+use super::{gives, long_text, same, text_of};
+use crate::{RelativePath, RelativePathBuf};
 use std::alloc::{AllocError, Global};
 use std::fmt::InlineText;
 use std::hash::{DefaultHasher, Hash, Hasher};
@@ -10,36 +10,41 @@ use std::test::Fail;
 #[test]
 fn from_text(rt: HostRuntime) -> Result<(), Fail> {
     let long = long_text(rt.alloc())?;
-    for text in ["//a/", long.as_str()] {
+    for text in &["//a/", long.as_str()] {
         begin(rt.alloc());
         let answer = RelativePathBuf::from_text(rt.alloc(), text);
         end(rt.alloc(), answer.is_err());
-        assert!(rt; is_refused_or(&answer, text), "{} bytes", text.len());
+        gives(&answer, text)?;
     }
     Ok(())
 }
 
 #[test]
-fn with_capacity(rt: HostRuntime) {
-    for capacity in [15, 10_000] {
+fn with_capacity(rt: HostRuntime) -> Result<(), Fail> {
+    for capacity in &[15, 10_000] {
         begin(rt.alloc());
-        let answer = RelativePathBuf::with_capacity(rt.alloc(), capacity);
+        let answer = RelativePathBuf::with_capacity(rt.alloc(), *capacity);
         end(rt.alloc(), answer.is_err());
         if let Ok(buf) = answer {
-            assert_eq!(rt; (buf.len(), buf.spare()), (0, capacity));
+            same(
+                "length and room",
+                &(buf.len(), buf.spare()),
+                &(0, *capacity),
+            )?;
         }
     }
+    Ok(())
 }
 
 #[test]
 fn clone(rt: HostRuntime) -> Result<(), Fail> {
     let long = long_text(rt.alloc())?;
-    for text in ["//a/", long.as_str()] {
+    for text in &["//a/", long.as_str()] {
         let buf = RelativePathBuf::from_text(rt.alloc(), text)?;
         begin(rt.alloc());
         let answer = buf.clone();
         end(rt.alloc(), answer.is_err());
-        assert!(rt; is_refused_or(&answer, text), "{} bytes", text.len());
+        gives(&answer, text)?;
     }
     Ok(())
 }
@@ -47,11 +52,11 @@ fn clone(rt: HostRuntime) -> Result<(), Fail> {
 #[test]
 fn to_relative_path_buf(rt: HostRuntime) -> Result<(), Fail> {
     let long = long_text(rt.alloc())?;
-    for text in ["//a/", long.as_str()] {
+    for text in &["//a/", long.as_str()] {
         begin(rt.alloc());
         let answer = RelativePath::new(text).to_relative_path_buf(rt.alloc());
         end(rt.alloc(), answer.is_err());
-        assert!(rt; is_refused_or(&answer, text), "{} bytes", text.len());
+        gives(&answer, text)?;
     }
     Ok(())
 }
@@ -59,14 +64,14 @@ fn to_relative_path_buf(rt: HostRuntime) -> Result<(), Fail> {
 #[test]
 fn join(rt: HostRuntime) -> Result<(), Fail> {
     let long = long_text(rt.alloc())?;
-    for (text, more, joined) in [
+    for (text, more, joined) in &[
         ("foo", "/bar", "foo/bar"),
         ("", long.as_str(), long.as_str()),
     ] {
         begin(rt.alloc());
         let answer = RelativePath::new(text).join(rt.alloc(), RelativePath::new(more));
         end(rt.alloc(), answer.is_err());
-        assert!(rt; is_refused_or(&answer, joined), "{} bytes", joined.len());
+        gives(&answer, joined)?;
     }
     Ok(())
 }
@@ -74,14 +79,14 @@ fn join(rt: HostRuntime) -> Result<(), Fail> {
 #[test]
 fn push(rt: HostRuntime) -> Result<(), Fail> {
     let long = long_text(rt.alloc())?;
-    for more in ["bar", long.as_str()] {
+    for more in &["bar", long.as_str()] {
         let mut buf = RelativePathBuf::from_text(rt.alloc(), "foo")?;
         begin(rt.alloc());
         let answer = buf.push(RelativePath::new(more));
         end(rt.alloc(), answer.is_err());
         match answer {
-            Ok(()) => assert_eq!(rt; text_of(&buf).strip_prefix("foo/"), Some(more)),
-            Err(_) => assert_eq!(rt; text_of(&buf), "foo"),
+            Ok(()) => same("pushed", &text_of(&buf).strip_prefix("foo/"), &Some(*more))?,
+            Err(_) => same("refused", &text_of(&buf), &"foo")?,
         }
     }
     Ok(())
@@ -94,13 +99,12 @@ fn fits(rt: HostRuntime) -> Result<(), Fail> {
     begin(rt.alloc());
     let pushed = buf.push(RelativePath::new("foo"));
     end(rt.alloc(), pushed.is_err());
-    assert_eq!(rt; text_of(&buf), "foo", "push");
+    same("push", &text_of(&buf), &"foo")?;
     let paths = ["bar", "baz", "qux"].map(RelativePath::new);
     begin(rt.alloc());
     let extended = buf.extend(paths);
     end(rt.alloc(), extended.is_err());
-    assert_eq!(rt; text_of(&buf), "foo/bar/baz/qux", "extend");
-    Ok(())
+    same("extend", &text_of(&buf), &"foo/bar/baz/qux")
 }
 
 #[test]
@@ -109,8 +113,7 @@ fn pop(rt: HostRuntime) -> Result<(), Fail> {
     begin(rt.alloc());
     let popped = buf.pop();
     end(rt.alloc(), false);
-    assert_eq!(rt; (popped, text_of(&buf)), (true, "foo"));
-    Ok(())
+    same("pop", &(popped, text_of(&buf)), &(true, "foo"))
 }
 
 #[test]
@@ -131,18 +134,16 @@ fn asks_for_nothing(rt: HostRuntime) -> Result<(), Fail> {
     buf = RelativePathBuf::from(buf.into_string());
     let text = String::from(buf);
     end(rt.alloc(), false);
-    assert_eq!(rt; sizes, (7, 0, 7));
-    assert_eq!(rt; compared, (false, true));
-    assert_eq!(rt; printed.as_str(), "foo/bar");
-    assert_eq!(rt; shown.as_str(), "\"foo//baz\"");
-    assert_eq!(rt; text.as_str(), "foo/bar");
-    Ok(())
+    same("sizes", &sizes, &(7, 0, 7))?;
+    same("== and <", &compared, &(false, true))?;
+    let texts = (printed.as_str(), shown.as_str(), text.as_str());
+    same("texts", &texts, &("foo/bar", "\"foo//baz\"", "foo/bar"))
 }
 
 #[test]
 fn from_paths(rt: HostRuntime) -> Result<(), Fail> {
     let long = long_text(rt.alloc())?;
-    for (texts, text) in [
+    for (texts, text) in &[
         (["a", "/b", "", "c"], "a/b/c"),
         (["", "", "", long.as_str()], long.as_str()),
     ] {
@@ -150,11 +151,9 @@ fn from_paths(rt: HostRuntime) -> Result<(), Fail> {
         begin(rt.alloc());
         let answer = RelativePathBuf::from_paths(rt.alloc(), paths);
         end(rt.alloc(), answer.is_err());
-        assert!(rt;
-            answer.map_or(true, |buf| text_of(&buf) == text),
-            "{} bytes",
-            text.len()
-        );
+        if let Ok(buf) = answer {
+            same("from_paths", &text_of(&buf), text)?;
+        }
     }
     Ok(())
 }
@@ -187,6 +186,6 @@ fn extend(rt: HostRuntime) -> Result<(), Fail> {
     let answer = buf.extend(&mut lent);
     end(rt.alloc(), answer.is_err());
     let left = lent.next().map(RelativePath::as_str);
-    assert!(rt; is_left(answer, text_of(&buf), name.as_str(), left));
-    Ok(())
+    let is_right = is_left(answer, text_of(&buf), name.as_str(), left);
+    same("extend", &is_right, &true)
 }

@@ -1,13 +1,13 @@
 //! The way from one path to another, and where paths lead apart.
 use super::marks::{begin, end};
-use super::{is_refused_or, long_text};
-use relative_path::RelativePath;
+use super::{gives, long_text, same, text_of};
+use crate::{RelativePath, RelativePathBuf};
 use std::test::Fail;
 
 #[test]
 fn relative(rt: HostRuntime) -> Result<(), Fail> {
     let long = long_text(rt.alloc())?;
-    for (from, to, way) in [
+    for (from, to, way) in &[
         ("a/b/c/d", "a/b/e/f", "../../e/f"),
         ("", "a", "a"),
         ("", "", ""),
@@ -16,11 +16,7 @@ fn relative(rt: HostRuntime) -> Result<(), Fail> {
         begin(rt.alloc());
         let answer = RelativePath::new(from).relative(rt.alloc(), RelativePath::new(to));
         end(rt.alloc(), answer.is_err());
-        assert!(rt;
-            is_refused_or(&answer, way),
-            "from {from:?} to {} bytes",
-            to.len()
-        );
+        gives(&answer, way)?;
     }
     Ok(())
 }
@@ -28,7 +24,7 @@ fn relative(rt: HostRuntime) -> Result<(), Fail> {
 #[test]
 fn try_relative(rt: HostRuntime) -> Result<(), Fail> {
     let long = long_text(rt.alloc())?;
-    for (from, to, way) in [
+    for (from, to, way) in &[
         ("a/b", "a/c", Some("../c")),
         ("..", "a", None),
         ("a", "", Some("..")),
@@ -39,15 +35,9 @@ fn try_relative(rt: HostRuntime) -> Result<(), Fail> {
         let answer = RelativePath::new(from).try_relative(rt.alloc(), RelativePath::new(to));
         end(rt.alloc(), answer.is_err());
         if let Ok(found) = answer {
-            let text = found
-                .as_ref()
-                .map(|found| found.as_relative_path().as_str());
-            assert!(rt; text == way, "from {from:?} to {} bytes", to.len());
-            assert!(rt;
-                found.map_or(true, |found| found.spare() == 0),
-                "{} bytes",
-                to.len()
-            );
+            same("a way", &found.as_ref().map(text_of), way)?;
+            let room = found.as_ref().map(RelativePathBuf::spare);
+            same("its room", &room.unwrap_or(0), &0)?;
         }
     }
     Ok(())
@@ -56,7 +46,7 @@ fn try_relative(rt: HostRuntime) -> Result<(), Fail> {
 #[test]
 fn leads_apart(rt: HostRuntime) -> Result<(), Fail> {
     let long = long_text(rt.alloc())?;
-    for (text, other, apart) in [
+    for (text, other, apart) in &[
         ("../a", "../b", Some(1)),
         ("", "a", Some(0)),
         ("", "", None),
@@ -65,7 +55,7 @@ fn leads_apart(rt: HostRuntime) -> Result<(), Fail> {
         begin(rt.alloc());
         let answer = RelativePath::new(text).leads_apart(rt.alloc(), RelativePath::new(other));
         end(rt.alloc(), answer.is_err());
-        assert_eq!(rt; answer.unwrap_or(apart), apart, "{} bytes", text.len());
+        same("leads_apart", &answer.unwrap_or(*apart), apart)?;
     }
     Ok(())
 }

@@ -1,98 +1,94 @@
 //! Platform paths, by their texts and as `Path` and `PathBuf`.
 use super::marks::{begin, end};
-use super::{long_text, text_of};
-use relative_path::{
+use super::{long_text, same, text_of};
+use crate::{
     FromPathError, FromPathErrorKind, PathExt, RelativePath, RelativePathBuf, RelativeToError,
     RelativeToErrorKind, unix,
 };
-use std::alloc::Global;
+use std::alloc::{AllocError, Global};
 use std::path::{Path, PathBuf};
 use std::test::Fail;
 
-// The mark behind a call, and whether that was refused memory or answered this text.
-fn is_path_made(
+// The mark behind a call, which fails where memory was there and the answer has another text.
+fn end_with_path(
     alloc: Global,
-    answer: &Result<RelativePathBuf, FromPathError>,
+    answer: Result<RelativePathBuf, FromPathError>,
     text: &str,
-) -> bool {
+) -> Result<(), Fail> {
     let kind = answer.as_ref().err().map(FromPathError::kind);
     end(alloc, kind == Some(FromPathErrorKind::OutOfMemory));
     match answer {
-        Ok(path) => text_of(path) == text,
-        Err(_) => kind == Some(FromPathErrorKind::OutOfMemory),
+        Ok(path) => same("a path", &text_of(&path), &text),
+        Err(_) => same("a kind", &kind, &Some(FromPathErrorKind::OutOfMemory)),
     }
 }
 
 // The same of a way.
-fn is_way_found(
+fn end_with_way(
     alloc: Global,
-    answer: &Result<RelativePathBuf, RelativeToError>,
+    answer: Result<RelativePathBuf, RelativeToError>,
     text: &str,
-) -> bool {
+) -> Result<(), Fail> {
     let kind = answer.as_ref().err().map(RelativeToError::kind);
     end(alloc, kind == Some(RelativeToErrorKind::OutOfMemory));
     match answer {
-        Ok(way) => text_of(way) == text && way.spare() == 0,
-        Err(_) => kind == Some(RelativeToErrorKind::OutOfMemory),
+        Ok(way) => same("a way", &(text_of(&way), way.spare()), &(text, 0)),
+        Err(_) => same("a kind", &kind, &Some(RelativeToErrorKind::OutOfMemory)),
+    }
+}
+
+// The same of a platform path's text.
+fn end_with_text(
+    alloc: Global,
+    answer: Result<String, AllocError>,
+    text: &str,
+) -> Result<(), Fail> {
+    end(alloc, answer.is_err());
+    match answer {
+        Ok(found) => same("a text", &found.as_str(), &text),
+        Err(_) => Ok(()),
     }
 }
 
 #[test]
 fn from_path(rt: HostRuntime) -> Result<(), Fail> {
     let long = long_text(rt.alloc())?;
-    for (text, left) in [("./a/./b//c/", "a/b/c"), (long.as_str(), long.as_str())] {
+    for (text, left) in &[("./a/./b//c/", "a/b/c"), (long.as_str(), long.as_str())] {
         begin(rt.alloc());
         let answer = RelativePathBuf::from_path(rt.alloc(), Path::new(text));
-        assert!(rt;
-            is_path_made(rt.alloc(), &answer, left),
-            "a path of {} bytes",
-            text.len()
-        );
+        end_with_path(rt.alloc(), answer, left)?;
         begin(rt.alloc());
-        let answer = unix::from_path(rt.alloc(), text);
-        assert!(rt;
-            is_path_made(rt.alloc(), &answer, left),
-            "a text of {} bytes",
-            text.len()
-        );
+        end_with_path(rt.alloc(), unix::from_path(rt.alloc(), text), left)?;
     }
     Ok(())
 }
 
 #[test]
-fn from_path_of_a_root(rt: HostRuntime) {
+fn from_path_of_a_root(rt: HostRuntime) -> Result<(), Fail> {
     begin(rt.alloc());
     let as_path = RelativePathBuf::from_path(rt.alloc(), Path::new("/"));
     let as_text = unix::from_path(rt.alloc(), "/");
     end(rt.alloc(), false);
     for answer in [as_path, as_text] {
         let kind = answer.err().map(|error| error.kind());
-        assert_eq!(rt; kind, Some(FromPathErrorKind::NonRelative));
+        same("a root", &kind, &Some(FromPathErrorKind::NonRelative))?;
     }
+    Ok(())
 }
 
 #[test]
 fn to_path(rt: HostRuntime) -> Result<(), Fail> {
     let long = long_text(rt.alloc())?;
-    for (text, base, joined) in [
+    for (text, base, joined) in &[
         ("/hello///world//", ".", "./hello/world"),
         (long.as_str(), "", long.as_str()),
     ] {
         let path = RelativePath::new(text);
         begin(rt.alloc());
         let answer = path.to_path(rt.alloc(), Path::new(base));
-        end(rt.alloc(), answer.is_err());
-        assert!(rt;
-            answer.map_or(true, |path| path.as_path().as_str() == joined),
-            "{base:?}"
-        );
+        end_with_text(rt.alloc(), answer.map(PathBuf::into_string), joined)?;
         begin(rt.alloc());
-        let answer = unix::to_path(rt.alloc(), path, base);
-        end(rt.alloc(), answer.is_err());
-        assert!(rt;
-            answer.map_or(true, |text| text.as_str() == joined),
-            "text {base:?}"
-        );
+        end_with_text(rt.alloc(), unix::to_path(rt.alloc(), path, base), joined)?;
     }
     Ok(())
 }
@@ -100,25 +96,17 @@ fn to_path(rt: HostRuntime) -> Result<(), Fail> {
 #[test]
 fn to_logical_path(rt: HostRuntime) -> Result<(), Fail> {
     let long = long_text(rt.alloc())?;
-    for (text, base, reached) in [
+    for (text, base, reached) in &[
         ("../../x", "/a/./b", "//x"),
         (long.as_str(), "", long.as_str()),
     ] {
         let path = RelativePath::new(text);
         begin(rt.alloc());
         let answer = path.to_logical_path(rt.alloc(), Path::new(base));
-        end(rt.alloc(), answer.is_err());
-        assert!(rt;
-            answer.map_or(true, |path| path.as_path().as_str() == reached),
-            "{base:?}"
-        );
+        end_with_text(rt.alloc(), answer.map(PathBuf::into_string), reached)?;
         begin(rt.alloc());
         let answer = unix::to_logical_path(rt.alloc(), path, base);
-        end(rt.alloc(), answer.is_err());
-        assert!(rt;
-            answer.map_or(true, |text| text.as_str() == reached),
-            "text {base:?}"
-        );
+        end_with_text(rt.alloc(), answer, reached)?;
     }
     Ok(())
 }
@@ -127,53 +115,45 @@ fn to_logical_path(rt: HostRuntime) -> Result<(), Fail> {
 #[test]
 fn relative_to(rt: HostRuntime) -> Result<(), Fail> {
     let long = long_text(rt.alloc())?;
-    for (text, root, way) in [
+    for (text, root, way) in &[
         ("some/path", "some/foo/bar/../baz/path", "../../../path"),
         (long.as_str(), "", long.as_str()),
     ] {
-        let buf = PathBuf::from(String::from_str(rt.alloc(), text)?);
         begin(rt.alloc());
-        let answer = unix::relative_to(rt.alloc(), text, root);
-        assert!(rt;
-            is_way_found(rt.alloc(), &answer, way),
-            "a text from {root:?}"
-        );
+        end_with_way(rt.alloc(), unix::relative_to(rt.alloc(), text, root), way)?;
         begin(rt.alloc());
         let answer = Path::new(text).relative_to(rt.alloc(), Path::new(root));
-        assert!(rt;
-            is_way_found(rt.alloc(), &answer, way),
-            "a path from {root:?}"
-        );
+        end_with_way(rt.alloc(), answer, way)?;
+        let buf = PathBuf::from(String::from_str(rt.alloc(), text)?);
         begin(rt.alloc());
         let answer = buf.relative_to(rt.alloc(), Path::new(root));
-        assert!(rt;
-            is_way_found(rt.alloc(), &answer, way),
-            "a buffer from {root:?}"
-        );
+        end_with_way(rt.alloc(), answer, way)?;
     }
     Ok(())
 }
 
 #[test]
-fn relative_to_another_prefix(rt: HostRuntime) {
+fn relative_to_another_prefix(rt: HostRuntime) -> Result<(), Fail> {
     begin(rt.alloc());
     let as_path = Path::new("foo").relative_to(rt.alloc(), Path::new("/bar"));
     let as_text = unix::relative_to(rt.alloc(), "foo", "/bar");
     end(rt.alloc(), false);
     for answer in [as_path, as_text] {
         let kind = answer.err().map(|error| error.kind());
-        assert_eq!(rt; kind, Some(RelativeToErrorKind::PrefixMismatch));
+        same("foo", &kind, &Some(RelativeToErrorKind::PrefixMismatch))?;
     }
+    Ok(())
 }
 
 #[test]
-fn relative_to_what_climbs(rt: HostRuntime) {
+fn relative_to_what_climbs(rt: HostRuntime) -> Result<(), Fail> {
     begin(rt.alloc());
     let as_path = Path::new(".").relative_to(rt.alloc(), Path::new("a/../.."));
     let as_text = unix::relative_to(rt.alloc(), ".", "a/../..");
     end(rt.alloc(), false);
     for answer in [as_path, as_text] {
         let kind = answer.err().map(|error| error.kind());
-        assert_eq!(rt; kind, Some(RelativeToErrorKind::AmbiguousTraversal));
+        same(".", &kind, &Some(RelativeToErrorKind::AmbiguousTraversal))?;
     }
+    Ok(())
 }

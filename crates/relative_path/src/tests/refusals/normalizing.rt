@@ -1,13 +1,13 @@
 //! Normal forms.
 use super::marks::{begin, end};
-use super::{is_refused_or, long_text, text_of};
-use relative_path::{RelativePath, RelativePathBuf};
+use super::{gives, long_text, same, text_of};
+use crate::{RelativePath, RelativePathBuf};
 use std::test::Fail;
 
 #[test]
 fn normalize(rt: HostRuntime) -> Result<(), Fail> {
     let long = long_text(rt.alloc())?;
-    for (text, normal) in [
+    for (text, normal) in &[
         ("a", "a"),
         ("a/.././b/../c/d", "c/d"),
         (long.as_str(), long.as_str()),
@@ -16,7 +16,7 @@ fn normalize(rt: HostRuntime) -> Result<(), Fail> {
         begin(rt.alloc());
         let answer = RelativePath::new(text).normalize(rt.alloc());
         end(rt.alloc(), answer.is_err());
-        assert!(rt; is_refused_or(&answer, normal), "{} bytes", text.len());
+        gives(&answer, normal)?;
     }
     Ok(())
 }
@@ -24,12 +24,12 @@ fn normalize(rt: HostRuntime) -> Result<(), Fail> {
 #[test]
 fn normalize_into(rt: HostRuntime) -> Result<(), Fail> {
     let long = long_text(rt.alloc())?;
-    for (text, normal) in [("a/.././b/../c/d", "c/d"), (long.as_str(), long.as_str())] {
+    for (text, normal) in &[("a/.././b/../c/d", "c/d"), (long.as_str(), long.as_str())] {
         let mut out = RelativePathBuf::with_capacity(rt.alloc(), text.len())?;
         begin(rt.alloc());
         RelativePath::new(text).normalize_into(&mut out);
         end(rt.alloc(), false);
-        assert!(rt; text_of(&out) == normal, "{} bytes", text.len());
+        same("normalize_into", &text_of(&out), normal)?;
     }
     Ok(())
 }
@@ -37,7 +37,7 @@ fn normalize_into(rt: HostRuntime) -> Result<(), Fail> {
 #[test]
 fn join_normalized(rt: HostRuntime) -> Result<(), Fail> {
     let long = long_text(rt.alloc())?;
-    for (text, more, normal) in [
+    for (text, more, normal) in &[
         ("x/y", "../../a/b/../../../c/d/../e", "../c/e"),
         ("", long.as_str(), long.as_str()),
         ("", "", ""),
@@ -45,7 +45,7 @@ fn join_normalized(rt: HostRuntime) -> Result<(), Fail> {
         begin(rt.alloc());
         let answer = RelativePath::new(text).join_normalized(rt.alloc(), RelativePath::new(more));
         end(rt.alloc(), answer.is_err());
-        assert!(rt; is_refused_or(&answer, normal), "{} bytes", more.len());
+        gives(&answer, normal)?;
     }
     Ok(())
 }
