@@ -186,8 +186,7 @@ impl<'a> RelativePath<'a> {
         ensures { IfOk result
             (λ path. path_buf_bytes path ≡ onto (path_bytes base.entry) (path_components self.entry)) }
     {
-        let text = unix::to_path(alloc, self, base.as_str())?;
-        Ok(PathBuf::from(text))
+        unix::to_path(alloc, self, base.as_str()).map(PathBuf::from)
     }
 
     /// The platform path to which this path leads from another one: `.` stays, `..` goes up as
@@ -205,8 +204,7 @@ impl<'a> RelativePath<'a> {
         ensures { IfOk result (λ path. IsLogical (path_bytes base.entry) (path_components self.entry)
             (path_buf_bytes path)) }
     {
-        let text = unix::to_logical_path(alloc, self, base.as_str())?;
-        Ok(PathBuf::from(text))
+        unix::to_logical_path(alloc, self, base.as_str()).map(PathBuf::from)
     }
 
     /// The path without each `.` at its end and one component more. Only the empty path has none.
@@ -359,7 +357,8 @@ impl<'a> RelativePath<'a> {
         ensures joined { IfSome result (λ stem. IfSome (file_name_of (path_text self.entry))
             (λ file_name. IsStemAndExtension file_name stem.now (extension_of file_name))) }
     {
-        self.file_name().map(|name| split_name(name).0)
+        let (stem, _) = split_name(self.file_name()?);
+        Some(stem)
     }
 
     /// What stands after the last dot of the file name, if there is one and something stands before
@@ -375,7 +374,7 @@ impl<'a> RelativePath<'a> {
         ensures { option_copied result
             ≡ option_and_then extension_of (file_name_of (path_text self.entry)) }
     {
-        self.file_name().and_then(|name| split_name(name).1)
+        split_name(self.file_name()?).1
     }
 
     /// This path with the extension of its file name replaced, in memory of its own. An empty
@@ -432,7 +431,7 @@ impl<'a> RelativePath<'a> {
             → IsOk result }
     {
         let form = NormalForm::of_both(alloc, self.text, path.text)?;
-        Ok(form.spelled(alloc)?.into())
+        Ok(form.into_text(alloc)?.into())
     }
 
     /// The only normal path that leads where this one leads: `..` first, then names, with single
@@ -456,7 +455,7 @@ impl<'a> RelativePath<'a> {
         ensures succeeds { path_components self.entry ≡ [] → IsOk result }
     {
         let form = NormalForm::of(alloc, self.text)?;
-        Ok(form.spelled(alloc)?.into())
+        Ok(form.into_text(alloc)?.into())
     }
 
     /// Writes the text of `normalize` into an empty buffer with room for this path. It takes no
@@ -522,8 +521,10 @@ impl<'a> RelativePath<'a> {
             → Leads middle s (path_components to.entry)
             → Leads (path_components self.entry) (r ++ s) (path_components to.entry) }
     {
-        let way = self.try_relative(alloc, to)?;
-        Ok(way.unwrap_or_else(|| RelativePathBuf::new(alloc)))
+        match self.try_relative(alloc, to)? {
+            Some(way) => Ok(way),
+            None => Ok(RelativePathBuf::new(alloc)),
+        }
     }
 
     /// The path that [`RelativePath::relative`] answers, or `None` where no path leads from where
