@@ -298,7 +298,8 @@ impl<'a> RelativePath<'a> {
             ↔ EndsWith (path_components self.entry) (path_components child.entry) }
     {
         let mut left = self.components();
-        for component in child.components().rev() {
+        let mut child_left = child.components();
+        while let Some(component) = child_left.next_back() {
             if left.next_back() != Some(component) {
                 return false;
             }
@@ -317,9 +318,16 @@ impl<'a> RelativePath<'a> {
     pub fn is_normalized(self) -> bool
         ensures { IsTrue result ↔ IsNormal (path_components self.entry) }
     {
-        self.components()
-            .skip_while(|component| matches!(component, Component::ParentDir))
-            .all(|component| matches!(component, Component::Normal(_)))
+        let mut behind_name = false;
+        for component in self.components() {
+            match component {
+                Component::CurDir => return false,
+                Component::ParentDir if behind_name => return false,
+                Component::ParentDir => {}
+                Component::Normal(_) => behind_name = true,
+            }
+        }
+        true
     }
 
     /// This path with the file name replaced, or with one pushed onto it if it has none, in memory
