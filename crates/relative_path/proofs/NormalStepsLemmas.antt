@@ -1,7 +1,6 @@
 -- Normal lists of steps: their parts, where they lead, that each is the only one that leads there, and their texts.
-use Rattle.std.proofs.Common.{◌≡◌, ℕ, zero, suc, ◌-◌, ◌<◌, ◌≤◌, Bool, true, false, true≢false, Decides, List, [], ◌∷◌, ◌++◌, length, take, drop, map, replicate, Some, None, refl, sym, ap, ◌∙◌, subst, append_assoc, append-nil, arith, length-append, length-take-le, take_all, take_at, take-take}
+use Rattle.std.proofs.Common.{◌≡◌, ℕ, zero, suc, ◌-◌, ◌<◌, ◌≤◌, Bool, true, false, List, [], ◌∷◌, ◌++◌, length, take, drop, map, replicate, Some, None, refl, sym, ap, ◌∙◌, subst, append_assoc, append-nil, arith, length-append, length-take-le, take_all, take_at, take-take}
 use Rattle.std.proofs.lemmas.List.{append_cancel_left, length-replicate}
-use Rattle.std.specs.List.{list_all, prefix_len}
 use Rattle.relative_path.specs.Steps.{Step, cur, up, name, slash, step_text, spell}
 use Rattle.relative_path.specs.Walk.{walk, IsSame}
 use Rattle.relative_path.specs.Normalizing.{AreNames, IsNormal, climb}
@@ -190,29 +189,7 @@ length-spell-drop_one (e ∷ es) (d ∷ ds) c =
 
 -- ---- a test of a normal list
 
--- the step is `..`
-abbrev pub is_up : Step → Bool
-is_up cur = false
-is_up up = true
-is_up (name n) = false
-
--- the step is a name
-abbrev pub is_name : Step → Bool
-is_name cur = false
-is_name up = false
-is_name (name n) = true
-
-AreNames-list_all : (cs : List Step) → Decides (list_all is_name cs) (AreNames cs)
-AreNames-list_all [] = (λ _. tt, λ _. refl)
-AreNames-list_all (cur ∷ cs) = (λ e. true≢false (sym e), λ names. absurd names)
-AreNames-list_all (up ∷ cs) = (λ e. true≢false (sym e), λ names. absurd names)
-AreNames-list_all (name n ∷ cs) = AreNames-list_all cs
-
--- without the `..` at its front, a normal list is all names
-pub IsNormal-list_all : (cs : List Step) → Decides (list_all is_name (drop (prefix_len is_up cs) cs)) (IsNormal cs)
-IsNormal-list_all [] = (λ _. tt, λ _. refl)
-IsNormal-list_all (cur ∷ cs) = (λ e. true≢false (sym e), λ normal. absurd normal)
-IsNormal-list_all (up ∷ cs) =
-    let more : suc (prefix_len is_up cs) ≡ prefix_len is_up (up ∷ cs) = omega arith in
-    subst (λ n. Decides (list_all is_name (drop n (up ∷ cs))) (IsNormal cs)) more (IsNormal-list_all cs)
-IsNormal-list_all (name n ∷ cs) = AreNames-list_all cs
+-- behind a name only names are normal
+abbrev pub IsNormalBehind : Bool → List Step → Type 0
+IsNormalBehind false cs = IsNormal cs
+IsNormalBehind true cs = AreNames cs

@@ -1,5 +1,5 @@
 -- Two iterators in step: what is taken off a path while it agrees with another.
-use Rattle.std.proofs.Common.{◌≡◌, ◌≢◌, ℕ, zero, suc, Bool, true, false, not, List, [], ◌∷◌, ◌++◌, length, Option, Some, None, sym, refl, ap, ◌∙◌, subst, append_assoc, arith, length-append, true≢false}
+use Rattle.std.proofs.Common.{◌≡◌, ◌≢◌, ℕ, zero, suc, Bool, true, false, not, List, [], ◌∷◌, ◌++◌, length, Option, Some, None, sym, refl, ap, ◌∙◌, subst, append_assoc, append-nil, arith, length-append, true≢false}
 use Rattle.std.specs.Option.{option_eq}
 use Rattle.std.specs.Ordering.{on}
 use Rattle.std.proofs.lemmas.Bool.{not-true, not-false}
@@ -43,6 +43,15 @@ pub record Agrees (text base left base_left : List ℕ) : Type 0 where
   pub joined : components text ≡ taken ++ components left
   pub base_joined : components base ≡ taken ++ components base_left
   pub dropped : IsDropped text (length taken) left
+
+-- all of the base was taken
+pub Agrees-all : {text base left base_left : List ℕ} → Agrees text base left base_left → components base_left ≡ []
+    → (components text ≡ components base ++ components left) × IsDropped text (length (components base)) left
+Agrees-all {text} {base} {left} h none =
+    let all = h.base_joined ∙ ap (λ cs. h.taken ++ cs) none ∙ append-nil h.taken in (
+      h.joined ∙ ap (λ cs. cs ++ components left) (sym all),
+      subst (λ cs. IsDropped text (length cs) left) (sym all) h.dropped,
+    )
 
 module _ {text base left base_left : List ℕ} (h : Agrees text base left base_left) (c : Component) {rest : List ℕ} where
   -- the next component is the same

@@ -1,10 +1,10 @@
 -- Texts that are written a component at a time.
-use Rattle.std.proofs.Common.{◌≡◌, ℕ, zero, suc, ◌+◌, ◌*◌, ◌-◌, ◌≤◌, Bool, true, false, not, List, [], ◌∷◌, ◌++◌, fold, map, length, replicate, sym, refl, ap, ap₂, ◌∙◌, ⊎_elim, arith}
+use Rattle.std.proofs.Common.{◌≡◌, ℕ, zero, suc, ◌+◌, ◌*◌, ◌-◌, ◌≤◌, Bool, true, false, not, List, [], ◌∷◌, ◌++◌, fold, map, length, replicate, sym, refl, ap, ap₂, ◌∙◌, ⊎_elim, arith, length-append}
 use Rattle.std.specs.List.{filter}
 use Rattle.std.proofs.lemmas.Bool.{cases_Bool, cond-true, cond-false}
 use Rattle.std.proofs.lemmas.List.{map-append}
 use Rattle.std.proofs.lemmas.List.Sums.{fold-append}
-use Rattle.relative_path.specs.Steps.{Step, cur, up, name, step_text, components, spell}
+use Rattle.relative_path.specs.Steps.{Step, cur, up, name, slash, step_text, components, spell}
 use Rattle.relative_path.specs.Editing.{is_cur, with_piece, without_curs}
 use Rattle.relative_path.specs.Unix.{has_root, without_inner_curs, counted, onto, unix_components}
 use Rattle.relative_path.proofs.StepsLemmas.{AreProper, AreProper-append, AreProper-components, IsProper-up}
@@ -74,6 +74,11 @@ length-way n cs =
 onto-with_pieces : (base : List ℕ) (cs : List Step) → onto base cs ≡ fold with_piece base (map step_text cs)
 onto-with_pieces base [] = refl
 onto-with_pieces base (c ∷ cs) = onto-with_pieces (with_piece base (step_text c)) cs
+
+pub length-with_piece_le : (text : List ℕ) (c : Step)
+    → length (with_piece text (step_text c)) ≤ length text + padded_len (c ∷ [])
+length-with_piece_le [] c = omega arith
+length-with_piece_le (b ∷ bs) c = omega (arith, length-append (b ∷ bs) (slash ∷ step_text c))
 
 pub length-onto_le : (base : List ℕ) (cs : List Step) → length base ≤ length (onto base cs)
 length-onto_le base cs = omega (arith, length-with_pieces_le base (map step_text cs), ap length (onto-with_pieces base cs))

@@ -87,8 +87,7 @@ impl RelativePathBuf {
         ensures empty { IfOk result (λ buf. buf.text ≡ []) }
         ensures room { IfOk result (λ buf. buf.room ≡ capacity) }
     {
-        let text = String::with_capacity(alloc, capacity)?;
-        Ok(RelativePathBuf { text })
+        String::with_capacity(alloc, capacity).map(RelativePathBuf::from)
     }
 
     /// A copy of the text.
@@ -102,8 +101,7 @@ impl RelativePathBuf {
     pub fn from_text(alloc: Global, text: &str) -> Result<RelativePathBuf, AllocError>
         ensures { IfOk result (λ buf. buf.text ≡ text.now) }
     {
-        let text = String::from_str(alloc, text)?;
-        Ok(RelativePathBuf { text })
+        String::from_str(alloc, text).map(RelativePathBuf::from)
     }
 
     /// The components of a platform path but each `.`, with single slashes between, unless it
@@ -180,8 +178,7 @@ impl RelativePathBuf {
     pub fn clone(&self) -> Result<RelativePathBuf, AllocError>
         ensures { IfOk result (λ buf. buf.text ≡ self.now.text) }
     {
-        let text = self.text.clone()?;
-        Ok(RelativePathBuf { text })
+        self.text.clone().map(RelativePathBuf::from)
     }
 
     /// How many bytes the text has.

@@ -28,6 +28,20 @@ pub enum FromPathErrorKind {
     OutOfMemory,
 }
 
+impl FromPathErrorKind {
+    // The words that an error of this kind prints.
+    fn words(self) -> &'static str
+        ensures { result.now ≡ from_path_words self }
+    {
+        match self {
+            FromPathErrorKind::NonRelative => "path contains non-relative component",
+            FromPathErrorKind::NonUtf8 => "path contains non-utf8 component",
+            FromPathErrorKind::BadSeparator => "path contains platform-specific path separator",
+            FromPathErrorKind::OutOfMemory => "out of memory",
+        }
+    }
+}
+
 /// Why a platform path is no relative path: what a `from_path` refuses with.
 ///
 /// It prints the words for its kind, and two are equal if their kinds are.
@@ -79,12 +93,7 @@ impl fmt::Display for FromPathError {
     ghost styled_output = { λ error spec. Some (styled_text spec (from_path_words (from_path_kind error))) };
 
     fn fmt<W: fmt::Write>(&self, f: &mut fmt::Formatter<W>) -> fmt::Result {
-        f.pad(match self.kind {
-            FromPathErrorKind::NonRelative => "path contains non-relative component",
-            FromPathErrorKind::NonUtf8 => "path contains non-utf8 component",
-            FromPathErrorKind::BadSeparator => "path contains platform-specific path separator",
-            FromPathErrorKind::OutOfMemory => "out of memory",
-        })
+        f.pad(self.kind.words())
     }
 }
 

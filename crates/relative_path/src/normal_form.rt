@@ -100,10 +100,10 @@ impl<'a> NormalForm<'a> {
     }
 
     // The text that spells the form. It asks for memory once, for just this text, if it isn't empty.
-    pub(crate) fn spelled(&self, alloc: Global) -> Result<String, AllocError>
-        requires { length (spell (form_steps self.now)) < 2 ^ 64 }
-        ensures text { IfOk result (λ text. string_bytes text ≡ spell (form_steps self.now)) }
-        ensures succeeds { form_steps self.now ≡ [] → IsOk result }
+    pub(crate) fn into_text(self, alloc: Global) -> Result<String, AllocError>
+        requires { length (spell (form_steps self)) < 2 ^ 64 }
+        ensures text { IfOk result (λ text. string_bytes text ≡ spell (form_steps self.entry)) }
+        ensures succeeds { form_steps self.entry ≡ [] → IsOk result }
     {
         self.spelled_past(alloc, self.climb, 0)
     }

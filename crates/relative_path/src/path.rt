@@ -186,8 +186,7 @@ impl<'a> RelativePath<'a> {
         ensures { IfOk result
             (λ path. path_buf_bytes path ≡ onto (path_bytes base.entry) (path_components self.entry)) }
     {
-        let text = unix::to_path(alloc, self, base.as_str())?;
-        Ok(PathBuf::from(text))
+        unix::to_path(alloc, self, base.as_str()).map(PathBuf::from)
     }
 
     /// The platform path to which this path leads from another one: `.` stays, `..` goes up as
@@ -205,8 +204,7 @@ impl<'a> RelativePath<'a> {
         ensures { IfOk result (λ path. IsLogical (path_bytes base.entry) (path_components self.entry)
             (path_buf_bytes path)) }
     {
-        let text = unix::to_logical_path(alloc, self, base.as_str())?;
-        Ok(PathBuf::from(text))
+        unix::to_logical_path(alloc, self, base.as_str()).map(PathBuf::from)
     }
 
     /// The path without each `.` at its end and one component more. Only the empty path has none.
@@ -300,7 +298,8 @@ impl<'a> RelativePath<'a> {
             ↔ EndsWith (path_components self.entry) (path_components child.entry) }
     {
         let mut left = self.components();
-        for component in child.components().rev() {
+        let mut child_left = child.components();
+        while let Some(component) = child_left.next_back() {
             if left.next_back() != Some(component) {
                 return false;
             }
@@ -319,9 +318,16 @@ impl<'a> RelativePath<'a> {
     pub fn is_normalized(self) -> bool
         ensures { IsTrue result ↔ IsNormal (path_components self.entry) }
     {
-        self.components()
-            .skip_while(|component| matches!(component, Component::ParentDir))
-            .all(|component| matches!(component, Component::Normal(_)))
+        let mut behind_name = false;
+        for component in self.components() {
+            match component {
+                Component::CurDir => return false,
+                Component::ParentDir if behind_name => return false,
+                Component::ParentDir => {}
+                Component::Normal(_) => behind_name = true,
+            }
+        }
+        true
     }
 
     /// This path with the file name replaced, or with one pushed onto it if it has none, in memory
@@ -360,7 +366,8 @@ impl<'a> RelativePath<'a> {
         ensures joined { IfSome result (λ stem. IfSome (file_name_of (path_text self.entry))
             (λ file_name. IsStemAndExtension file_name stem.now (extension_of file_name))) }
     {
-        self.file_name().map(|name| split_name(name).0)
+        let (stem, _) = split_name(self.file_name()?);
+        Some(stem)
     }
 
     /// What stands after the last dot of the file name, if there is one and something stands before
@@ -376,7 +383,7 @@ impl<'a> RelativePath<'a> {
         ensures { option_copied result
             ≡ option_and_then extension_of (file_name_of (path_text self.entry)) }
     {
-        self.file_name().and_then(|name| split_name(name).1)
+        split_name(self.file_name()?).1
     }
 
     /// This path with the extension of its file name replaced, in memory of its own. An empty
@@ -434,7 +441,7 @@ impl<'a> RelativePath<'a> {
             → IsOk result }
     {
         let form = NormalForm::of_both(alloc, self.text, path.text)?;
-        Ok(form.spelled(alloc)?.into())
+        Ok(form.into_text(alloc)?.into())
     }
 
     /// The only normal path that leads where this one leads: `..` first, then names, with single
@@ -458,7 +465,7 @@ impl<'a> RelativePath<'a> {
         ensures succeeds { path_components self.entry ≡ [] → IsOk result }
     {
         let form = NormalForm::of(alloc, self.text)?;
-        Ok(form.spelled(alloc)?.into())
+        Ok(form.into_text(alloc)?.into())
     }
 
     /// Writes the text of `normalize` into an empty buffer with room for this path. It takes no
@@ -524,8 +531,10 @@ impl<'a> RelativePath<'a> {
             → Leads middle s (path_components to.entry)
             → Leads (path_components self.entry) (r ++ s) (path_components to.entry) }
     {
-        let way = self.try_relative(alloc, to)?;
-        Ok(way.unwrap_or_else(|| RelativePathBuf::new(alloc)))
+        match self.try_relative(alloc, to)? {
+            Some(way) => Ok(way),
+            None => Ok(RelativePathBuf::new(alloc)),
+        }
     }
 
     /// The path that [`RelativePath::relative`] answers, or `None` where no path leads from where

@@ -31,6 +31,21 @@ pub enum RelativeToErrorKind {
     OutOfMemory,
 }
 
+impl RelativeToErrorKind {
+    // The words that an error of this kind prints.
+    fn words(self) -> &'static str
+        ensures { result.now ≡ relative_to_words self }
+    {
+        match self {
+            RelativeToErrorKind::NonUtf8 => "path contains non-utf8 component",
+            RelativeToErrorKind::PrefixMismatch => "paths contain different absolute prefixes",
+            RelativeToErrorKind::AmbiguousTraversal => "path traversal cannot be determined",
+            RelativeToErrorKind::IllegalComponent => "path contains illegal components",
+            RelativeToErrorKind::OutOfMemory => "out of memory",
+        }
+    }
+}
+
 /// Why no relative path leads from one platform path to another: what a `relative_to` refuses
 /// with.
 ///
@@ -83,13 +98,7 @@ impl fmt::Display for RelativeToError {
     ghost styled_output = { λ error spec. Some (styled_text spec (relative_to_words (relative_to_kind error))) };
 
     fn fmt<W: fmt::Write>(&self, f: &mut fmt::Formatter<W>) -> fmt::Result {
-        f.pad(match self.kind {
-            RelativeToErrorKind::NonUtf8 => "path contains non-utf8 component",
-            RelativeToErrorKind::PrefixMismatch => "paths contain different absolute prefixes",
-            RelativeToErrorKind::AmbiguousTraversal => "path traversal cannot be determined",
-            RelativeToErrorKind::IllegalComponent => "path contains illegal components",
-            RelativeToErrorKind::OutOfMemory => "out of memory",
-        })
+        f.pad(self.kind.words())
     }
 }
 

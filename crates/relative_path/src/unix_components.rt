@@ -123,10 +123,9 @@ pub(crate) fn without_idle_end(text: &str, rooted: bool) -> &str
     let mut components = Components::new(without_trailing_slashes(text));
     loop {
         let left = components.as_str();
-        let last = components.next_back();
-        let is_first = components.as_str().is_empty();
-        if last != Some(Component::CurDir) || is_first && !rooted {
-            return left;
+        match components.next_back() {
+            Some(Component::CurDir) if rooted || !components.as_str().is_empty() => {}
+            _ => return left,
         }
     }
 }

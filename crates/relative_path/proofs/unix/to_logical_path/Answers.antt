@@ -1,8 +1,12 @@
-use Rattle.std.proofs.Common.{ap, length, arith, string_bytes}
+use Rattle.std.proofs.Common.{◌∙◌, sym, ap, length, arith, string_bytes}
+use Rattle.relative_path.specs.Components.{components_left, step_of}
+use Rattle.relative_path.specs.Editing.{with_piece}
+use Rattle.relative_path.specs.NormalForm.{padded_len}
+use Rattle.relative_path.specs.Steps.{name}
 use Rattle.std.proofs.lemmas.Str.{IsUtf8-string_bytes}
 use Rattle.relative_path.specs.RelativePath.{path_text}
 use Rattle.relative_path.proofs.SlicesLemmas.{IsPrefix, IsCharBoundary-IsPrefix}
-use Rattle.relative_path.proofs.UnixTextsLemmas.{padded_len-components}
+use Rattle.relative_path.proofs.UnixTextsLemmas.{length-with_piece_le, padded_len-components}
 use Rattle.relative_path.proofs.unix.to_logical_path.Goals as goal
 
 pub loop-component-init : goal.loop-component-init
@@ -23,3 +27,26 @@ truncate-requires c =
     let boundary =
     IsCharBoundary-IsPrefix front (IsUtf8-string_bytes c.loop-component.text) c.parent_text-parent_len.utf8 in
     λ _. (boundary.0, λ _. boundary.1)
+
+pub add_piece-requires : goal.add_piece-requires
+add_piece-requires c =
+    let text = string_bytes c.loop-component.text in
+    let first = ap padded_len (rw c.in-Normal.is at c.in-Some.ensures.steps.0) in
+    omega (arith, c.loop-component.invariant.1, first, length-with_piece_le text (name c.in-Normal.name.now))
+
+pub loop-component-preserved : goal.loop-component-preserved
+loop-component-preserved c =
+    let text = string_bytes c.loop-component.text in
+    let before = c.loop-component.invariant in
+    let first = rw c.in-Normal.is at c.in-Some.ensures.steps.0 in
+    let added = c.add_piece.ensures.text in (
+      λ end leads. before.0 end (rw first (rw added at leads)),
+      omega (
+        arith,
+        before.1,
+        ap padded_len first,
+        ap length added,
+        length-with_piece_le text (name c.in-Normal.name.now),
+        c.add_piece.ensures.room,
+      ),
+    )

@@ -1,28 +1,26 @@
-use Rattle.std.proofs.Common.{length, sym, ap, ◌∙◌, inl, inr, ⊎_elim, eqb-true}
+use Rattle.std.proofs.Common.{length, refl, sym, ap, ◌∙◌, inl, inr, eqb-true}
 use Rattle.std.proofs.lemmas.Bool.{eqb-false, not-true, not-false}
 use Rattle.std.proofs.lemmas.List.{nil_from_length}
 use Rattle.relative_path.proofs.UnixComponentsLemmas.{LosesIdle-cur, LastCounts-taken}
 use Rattle.relative_path.proofs.unix_components.without_idle_end.Goals as goal
-use Rattle.relative_path.proofs.unix_components.without_idle_end.Goals.{then-ne-via-then-ne, then-ne-via-else-ne+then-not-rooted}
+use Rattle.relative_path.proofs.unix_components.without_idle_end.Goals.{then-rooted, else-rooted}
 
-pub returns-then-ne-clause-last : goal.returns-then-ne-clause-last
-returns-then-ne-clause-last c =
+pub returns-in_default-clause-last : goal.returns-in_default-clause-last
+returns-in_default-clause-last c =
     rw c.as_str-left.ensures
-    (LastCounts-taken _ _ _ c.next_back-last.result c.next_back-last.ensures.steps (elim c.then-ne.branch [
-      | then-ne-via-then-ne w ↦ inl (not-true _ (sym w.if-ne.ensures))
-      | then-ne-via-else-ne+then-not-rooted w ↦
-          inr (
-            sym c.as_str.ensures
-                ∙ nil_from_length _ (eqb-true _ 0 (sym c.is_empty-is_first.ensures ∙ w.if-not-rooted.true.0)),
-            w.if-not-rooted.true.1,
-          )
+    (LastCounts-taken _ _ _ c.next_back.result c.next_back.ensures.steps (elim c.if-rooted.branch [
+      | then-rooted w ↦ absurd (cc)
+      | else-rooted w ↦
+          let empty = not-false _ (sym w.value-is ∙ c.if-not-is_empty.false) in
+          inr (sym w.as_str.ensures ∙ nil_from_length _ (eqb-true _ 0 (sym w.is_empty.ensures ∙ empty)), w.if-rooted.false)
     ]))
 
 pub loop-components-preserved : goal.loop-components-preserved
 loop-components-preserved c =
-    let counts =
-    ⊎_elim (λ h. inr h.1)
-    (λ e. inl (λ none. eqb-false _ 0 (sym c.is_empty-is_first.ensures ∙ e)
-    (ap length (c.as_str.ensures ∙ none)))) c.if-not-rooted.either in
-    LosesIdle-cur _ _ _ _ c.next_back-last.result
-    (not-false _ (sym c.if-ne.ensures)) c.loop-components.invariant c.next_back-last.ensures.steps counts
+    LosesIdle-cur _ _ _ _ c.next_back.result (rw (c.in-Some-CurDir.is, c.in-Some-CurDir.field-0-is) refl)
+    c.loop-components.invariant c.next_back.ensures.steps (elim c.if-rooted.branch [
+      | then-rooted w ↦ inr w.if-rooted.true
+      | else-rooted w ↦
+          let some = not-true _ (sym w.value-is ∙ c.if-not-is_empty.true) in
+          inl (λ none. eqb-false _ 0 (sym w.is_empty.ensures ∙ some) (ap length (w.as_str.ensures ∙ none)))
+    ])

@@ -1,3 +1,4 @@
+use Rattle.std.proofs.Common.{arith, length}
 -- The text is cut to what the name is pushed onto.
 use Rattle.std.proofs.Common.{rules, ap, ap₂, ◌∙◌, subst, sym}
 use Rattle.std.specs.Str.{IsUtf8}
@@ -28,3 +29,11 @@ returns-clause-ok c =
     let cut = c.cut_to.ensures.text ∙ sym front.front in
     let pushed_on = c.push_reserved.ensures.text ∙ ap₂ pushed cut c.new.ensures in
     (c.base_of-base.result.now, rw (← shown) c.base_of-base.ensures, pushed_on)
+
+pub push_reserved-requires : goal.push_reserved-requires
+push_reserved-requires c =
+    let shown = c.as_str.ensures.value ∙ ap (λ b. b.text) c.self.view_is in
+    let front = rw (shown ∙ sym c.in_ok-reserve_to.ensures.text) at (IsPrefix-IsBase _ _ c.base_of-base.ensures) in
+    let cut = c.cut_to.ensures.text ∙ sym front.front in
+    let len = ap length (ap₂ pushed cut c.new.ensures) in
+    omega (arith, len, c.pushed_len-len.ensures, c.cut_to.ensures.room, c.in_ok-reserve_to.ensures.ok)

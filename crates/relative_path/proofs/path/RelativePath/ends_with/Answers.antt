@@ -1,13 +1,12 @@
 use Rattle.std.proofs.Common.{true≢false, sym, ◌∙◌}
-use Rattle.std.specs.Iterator.Adapters.{rev_source}
 use Rattle.relative_path.specs.Components.{components_left}
 use Rattle.relative_path.proofs.PrefixingLemmas.{AgreesBack-taken, EndsWith-other}
 use Rattle.relative_path.proofs.path.RelativePath.ends_with.Goals as goal
 
 pub returns-then-ne : goal.returns-then-ne
 returns-then-ne c =
-    let front = components_left (rev_source c.next.new.self) in
-    let left = c.next_back.ensures.steps in
+    let front = components_left c.next_back.new.self in
+    let left = c.next_back-in-Some.ensures.steps in
     let last = c.in-Some.ensures.steps.0 in
     let other = sym c.ne.ensures ∙ c.if-ne.true in
     let not_found = EndsWith-other c.loop-component.invariant c.in-Some.component front _ left last other in
@@ -15,8 +14,8 @@ returns-then-ne c =
 
 pub loop-component-preserved : goal.loop-component-preserved
 loop-component-preserved c =
-    let front = components_left (rev_source c.next.new.self) in
-    let left = c.next_back.ensures.steps in
+    let front = components_left c.next_back.new.self in
+    let left = c.next_back-in-Some.ensures.steps in
     let last = c.in-Some.ensures.steps.0 in
     let same = sym c.ne.ensures ∙ c.if-ne.false in
     AgreesBack-taken c.loop-component.invariant c.in-Some.component front _ left last same

@@ -1,4 +1,4 @@
-use Rattle.std.specs.Iterator.Adapters.{rev_source}
+use Rattle.std.proofs.Common.{length}
 use Rattle.relative_path.specs.Components.{components_left}
 use Rattle.relative_path.specs.RelativePath.{path_components}
 use Rattle.relative_path.proofs.PrefixingLemmas.{AgreesBack}
@@ -6,5 +6,8 @@ use Rattle.relative_path.proofs.path.RelativePath.ends_with.Given as goal
 
 abbrev pub invariant-loop-component : goal.invariant-loop-component
 invariant-loop-component l =
-    let child_left = components_left (rev_source l.component-iterator) in
-    AgreesBack (path_components l.fn.self) (path_components l.fn.child) (components_left l.left) child_left
+    AgreesBack (path_components l.fn.self) (path_components l.fn.child) (components_left l.left)
+    (components_left l.child_left)
+
+abbrev pub decreases-loop-component : goal.decreases-loop-component
+decreases-loop-component l = length (components_left l.child_left)

@@ -5,7 +5,7 @@ use Rattle.relative_path.proofs.path.RelativePath.join_normalized.Goals as goal
 
 pub returns-clause-normal_form : goal.returns-clause-normal_form
 returns-clause-normal_form c =
-    IsNormalTextOf-spell _ _ c.into.result.text c.in_ok-form.ensures.normal_form (c.into.ensures.0 ∙ c.in_ok-spelled.ensures.text)
+    IsNormalTextOf-spell _ _ c.into.result.text c.in_ok-form.ensures.normal_form (c.into.ensures.0 ∙ c.in_ok-into_text.ensures.text)
 
 pub returns-clause-in_turn : goal.returns-clause-in_turn
 returns-clause-in_turn c = LeadsInTurn-same _ _ _ (returns-clause-normal_form c).same
@@ -13,7 +13,7 @@ returns-clause-in_turn c = LeadsInTurn-same _ _ _ (returns-clause-normal_form c)
 pub returns-clause-below : goal.returns-clause-below
 returns-clause-below c = λ place is. LeadsBelow-in_turn _ _ _ place (returns-clause-in_turn c) is
 
-pub returns-in_err-spelled-clause-succeeds : goal.returns-in_err-spelled-clause-succeeds
-returns-in_err-spelled-clause-succeeds c = λ none.
-    let ok = c.in_err-spelled.ensures.succeeds (IsNormalFormOf-nil _ _ none c.in_ok-form.ensures.normal_form) in
+pub returns-in_err-into_text-clause-succeeds : goal.returns-in_err-into_text-clause-succeeds
+returns-in_err-into_text-clause-succeeds c = λ none.
+    let ok = c.in_err-into_text.ensures.succeeds (IsNormalFormOf-nil _ _ none c.in_ok-form.ensures.normal_form) in
     search rules
