@@ -1,14 +1,12 @@
 -- Where a byte stands first, by blocks of bytes.
-use Rattle.std.proofs.Common.{◌≡◌, ◌≢◌, ℕ, ◌+◌, ◌%◌, ◌<◌, ◌≤◌, ◌==◌, Bool, true, false, not, List, Option, Some, None, length, map, subst, ◌^◌, w64, take, drop, get_or, replicate, cond, eqb, refl, sym, ap, ◌∙◌, arith, ◌⊎◌, inl, inr, w8}
-use Rattle.std.proofs.lemmas.Bool.{eq-eqb, cases_lt, both_ways}
+use Rattle.std.proofs.Common.{◌-◌, ◌≡◌, ◌≢◌, ℕ, ◌+◌, ◌%◌, ◌<◌, ◌≤◌, ◌==◌, Bool, true, false, not, List, length, map, subst, ◌^◌, w64, take, drop, get_or, replicate, cond, eqb, refl, sym, ap, ◌∙◌, arith, ◌⊎◌, inl, inr, w8}
+use Rattle.std.proofs.lemmas.Bool.{eq-eqb, ne_eqb, cases_lt, both_ways}
 use Rattle.std.proofs.lemmas.Bool.Decides.{eqb_tells}
-use Rattle.std.proofs.lemmas.List.Sums.{prefix_len_is, prefix_len_passes, prefix_len_stops, prefix_len-le-length}
+use Rattle.std.proofs.lemmas.List.Sums.{position_or_len_is, prefix_len_is, prefix_len_passes, prefix_len_stops, prefix_len-le-length}
 use Rattle.std.proofs.lemmas.List.{length-map}
 use Rattle.std.proofs.lemmas.Nat.Bits.{bit_at-trailing_zeros, bit_at_above}
 use Rattle.std.proofs.lemmas.Simd.{bitmask_splat, leading_from_mask_l, trailing_mask_l, run_in_chunk_fails, run_in_chunk_stops, mask_l-lt}
 use Rattle.std.specs.List.{position_or_len}
-use Rattle.std.specs.Option.{unwrap_or}
-use Rattle.memchr.specs.Find.{IsFirstByte, is_byte}
 use lib.Count.{count_trailing_zeros}
 use lib.Lanes.{zip2, mask_l, top}
 
@@ -81,6 +79,11 @@ position-behind p bytes at n r before room is whole =
       | inr behind ↦ omega arith
     ]
 
+-- a place before which the byte isn't is within the bytes, or behind the last
+pub position-le : (bytes : List ℕ) (at byte : ℕ) → at ≤ position_or_len (λ b. b == byte) bytes → at ≤ length bytes
+position-le bytes at byte before =
+    let bound = prefix_len-le-length (λ b. not (b == byte)) bytes in omega arith
+
 different : (x y : ℕ) → not (x == y) ≡ true → x ≢ y
 different x y other e = both_ways _ (ap not (eq-eqb x y e)) other
 
@@ -103,6 +106,20 @@ position-holds bytes byte at is inside =
     same _ byte (ap (λ n. not (get_or bytes n 0 == byte)) is
     ∙ prefix_len_stops (λ b. not (b == byte)) bytes 0 (omega (arith, is, inside)))
 
+-- the first place is behind a block in which each byte is another
+pub position-passed : (bytes : List ℕ) (at n byte : ℕ) → at ≤ position_or_len (λ b. b == byte) bytes
+    → at + n ≤ length bytes → ((k : ℕ) → k < n → get_or bytes (at + k) 0 ≢ byte)
+    → at + n ≤ position_or_len (λ b. b == byte) bytes
+position-passed bytes at n byte before room others =
+    let first = position_or_len (λ b. b == byte) bytes in
+    elim (cases_lt first (at + n)) [
+      | inl inside ↦
+          let back : at + (first - at) ≡ first = omega arith in
+          absurd (others (first - at) (omega arith)
+          (ap (λ i. get_or bytes i 0) back ∙ position-holds bytes byte first refl (omega arith)))
+      | inr behind ↦ behind
+    ]
+
 -- a place that isn't the end is within the bytes
 pub position-inside : (bytes : List ℕ) (byte at : ℕ) → at ≡ position_or_len (λ b. b == byte) bytes
     → at ≢ length bytes → at < length bytes
@@ -119,16 +136,10 @@ pub position-end : (bytes : List ℕ) (at byte : ℕ) → at ≤ position_or_len
 position-end bytes at byte before end =
     let bound = prefix_len-le-length (λ b. not (b == byte)) bytes in omega arith
 
-fails : (b : Bool) → (b ≡ true → ⊥) → not b ≡ true
-fails false differs = refl
-fails true differs = absurd (differs refl)
-
--- what the library's search finds
-pub position-found : (bytes : List ℕ) (byte : ℕ) (found : Option ℕ) → IsFirstByte (is_byte byte) bytes found
-    → unwrap_or found (length bytes) ≡ position_or_len (λ b. b == byte) bytes
-position-found bytes byte None none =
-    sym (prefix_len_is (λ b. not (b == byte)) bytes (length bytes) 0 (omega arith)
-    (λ k l. fails _ (none k (omega arith) l)) (λ l. absurd (omega (arith, l))))
-position-found bytes byte (Some at) first =
-    sym (prefix_len_is (λ b. not (b == byte)) bytes at 0 (omega (arith, first.0.high))
-    (λ k l. fails _ (first.0.before k (omega arith) l)) (λ l. ap not first.1))
+-- a place where the byte is, or the end, before which it isn't
+pub position-of : (bytes : List ℕ) (byte at : ℕ) → at ≤ length bytes
+    → ((k : ℕ) → k < at → get_or bytes k 0 ≢ byte) → (at < length bytes → get_or bytes at 0 ≡ byte)
+    → at ≡ position_or_len (λ b. b == byte) bytes
+position-of bytes byte at within before found =
+    sym (position_or_len_is (λ b. b == byte) bytes at 0 within
+    (λ k l. ne_eqb _ _ (before k l)) (λ l. eq-eqb _ _ (found l)))

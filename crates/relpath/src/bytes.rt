@@ -1,45 +1,54 @@
 //! Searches over bytes.
-ghost use Rattle.std.specs.Prelude.{◌≡◌, ◌+◌, ◌<◌, ◌≤◌, ◌==◌, MatchOption, length, take, drop};
+ghost use Rattle.std.specs.Prelude.{◌≡◌, ◌≢◌, ◌+◌, ◌<◌, ◌≤◌, ◌==◌, ℕ, IsTrue, MatchOption, length, slice_index_or, take, drop};
 ghost use Rattle.std.specs.List.{position_or_len};
 
-use memchr::memchr;
 use std::simd::prelude::*;
 
-/// How many bytes are looked at at once.
+// How many bytes are compared at once.
 const BLOCK: usize = 16;
 
-/// How many bytes are looked at before the library is called.
-const NEAR: usize = 64;
+// How many bytes are looked at before far blocks are passed, and in each of these.
+const FAR: usize = 64;
 
 /// Where a byte stands first; the number of the bytes, if it is none of them.
 ///
-/// The first bytes are looked at in place, a block at a time, since most lines and fields end there.
-/// A byte farther on is found by the library, and so is one of a text that is shorter than a block.
+/// A block is looked at after the other, since most lines and fields end in the first few; behind
+/// these, far blocks without the byte are passed. The last block may begin within the one before it.
 #[inline(always)]
 pub fn find_byte(bytes: &[u8], byte: u8) -> usize
     ensures { result ≡ position_or_len (λ b. b == byte) bytes.now }
 {
-    if bytes.len() >= BLOCK {
-        let last = bytes.len() - BLOCK;
-        let mut start = 0;
-        while start < NEAR && start < last {
-            if let Some(at) = find_in_block(bytes, start, byte) {
-                return start + at;
-            }
-            start += BLOCK;
+    if bytes.len() < BLOCK {
+        return find_in_few(bytes, byte);
+    }
+    let last = bytes.len() - BLOCK;
+    let mut start = 0;
+    while start < last {
+        if let Some(at) = find_in_block(bytes, start, byte) {
+            return start + at;
         }
-        // The last block may begin within the one before it.
-        if start >= last {
-            return match find_in_block(bytes, last, byte) {
-                Some(at) => last + at,
-                None => bytes.len(),
-            };
+        start += BLOCK;
+        if start == FAR {
+            start = pass_far(bytes, start, byte);
         }
     }
-    memchr(byte, bytes).unwrap_or(bytes.len())
+    match find_in_block(bytes, last, byte) {
+        Some(at) => last + at,
+        None => bytes.len(),
+    }
 }
 
-/// Where a byte stands first in a block, if it is there.
+// Where a byte stands first, or how many bytes there are.
+#[inline(always)]
+fn find_in_few(bytes: &[u8], byte: u8) -> usize
+    ensures within { result ≤ length bytes.now }
+    ensures before { (k : ℕ) → k < result → slice_index_or bytes.now k 0 ≢ byte }
+    ensures found { result < length bytes.now → slice_index_or bytes.now result 0 ≡ byte }
+{
+    bytes.iter().position(|b| *b == byte).unwrap_or(bytes.len())
+}
+
+// Where a byte stands first in a block, if it is there.
 #[inline(always)]
 fn find_in_block(bytes: &[u8], start: usize, byte: u8) -> Option<usize>
     requires { start + BLOCK ≤ length bytes.now }
@@ -55,4 +64,31 @@ fn find_in_block(bytes: &[u8], start: usize, byte: u8) -> Option<usize>
     } else {
         Some(places.trailing_zeros() as usize)
     }
+}
+
+// A place before which the byte isn't: that of the first far block that has it, or that is cut off by
+// the end.
+#[inline(never)]
+fn pass_far(bytes: &[u8], from: usize, byte: u8) -> usize
+    requires { from ≤ position_or_len (λ b. b == byte) bytes.now }
+    ensures before { result ≤ position_or_len (λ b. b == byte) bytes.now }
+    ensures onward { from ≤ result }
+{
+    let mut at = from;
+    while bytes.len() - at >= FAR && !has_byte(bytes, at, byte) {
+        at += FAR;
+    }
+    at
+}
+
+// Whether a far block has the byte. With no early end, it looks at many bytes at once.
+fn has_byte(bytes: &[u8], at: usize, byte: u8) -> bool
+    requires { at + FAR ≤ length bytes.now }
+    ensures { (k : ℕ) → k < FAR → slice_index_or bytes.now (at + k) 0 ≡ byte → IsTrue result }
+{
+    let mut found = false;
+    for i in 0..FAR {
+        found |= bytes[at + i] == byte;
+    }
+    found
 }
