@@ -1,9 +1,11 @@
 -- Where a byte stands first, by blocks of bytes.
-use Rattle.std.proofs.Common.{◌≡◌, ◌≢◌, ℕ, ◌+◌, ◌-◌, ◌%◌, ◌<◌, ◌≤◌, ◌==◌, Bool, true, false, not, List, length, map, take, drop, get_or, replicate, cond, eqb, refl, sym, ap, ◌∙◌, arith, ◌⊎◌, inl, inr, w8}
+use Rattle.std.proofs.Common.{◌-◌, ◌≡◌, ◌≢◌, ℕ, ◌+◌, ◌%◌, ◌<◌, ◌≤◌, ◌==◌, Bool, true, false, not, List, length, map, subst, ◌^◌, w64, take, drop, get_or, replicate, cond, eqb, refl, sym, ap, ◌∙◌, arith, ◌⊎◌, inl, inr, w8}
 use Rattle.std.proofs.lemmas.Bool.{eq-eqb, ne_eqb, cases_lt, both_ways}
 use Rattle.std.proofs.lemmas.Bool.Decides.{eqb_tells}
-use Rattle.std.proofs.lemmas.List.Sums.{prefix_len_is, prefix_len_passes, prefix_len_stops, prefix_len-le-length}
-use Rattle.std.proofs.lemmas.Simd.{bitmask_splat, leading_from_mask_l, trailing_mask_l, run_in_chunk_le, run_in_chunk_fails, run_in_chunk_stops}
+use Rattle.std.proofs.lemmas.List.Sums.{position_or_len_is, prefix_len_is, prefix_len_passes, prefix_len_stops, prefix_len-le-length}
+use Rattle.std.proofs.lemmas.List.{length-map}
+use Rattle.std.proofs.lemmas.Nat.Bits.{bit_at-trailing_zeros, bit_at_above}
+use Rattle.std.proofs.lemmas.Simd.{bitmask_splat, leading_from_mask_l, trailing_mask_l, run_in_chunk_fails, run_in_chunk_stops, mask_l-lt}
 use Rattle.std.specs.List.{position_or_len}
 use lib.Count.{count_trailing_zeros}
 use lib.Lanes.{zip2, mask_l, top}
@@ -27,13 +29,28 @@ positive m some = elim (cases_lt 0 m) [
 ]
 
 -- and else the lowest bit is the first place
-pub position-some : (block : List ℕ) (n byte : ℕ) → length block ≡ n → n ≤ 64
-    → places block n byte ≢ 0
-    → count_trailing_zeros 64 (places block n byte) ≡ position_or_len (λ b. b == byte) block
-position-some block n byte long small some =
-    let mask = bitmask_splat w8 eqb block n byte long small in
-    ap (count_trailing_zeros 64) mask
-    ∙ trailing_mask_l (λ b. b == byte) 64 block (omega arith) (positive _ (λ none. some (mask ∙ none)))
+pub position-some : (block : List ℕ) (byte : ℕ) → length block ≡ 16 → places block 16 byte ≢ 0
+    → (count_trailing_zeros 64 (places block 16 byte) < 16)
+    × (count_trailing_zeros 64 (places block 16 byte) ≡ position_or_len (λ b. b == byte) block)
+position-some block byte long some =
+    let is_one : ℕ → Bool = λ b. b == byte in
+    let mask = bitmask_splat w8 eqb block 16 byte long (omega arith) in
+    let set = positive _ (λ none. some (mask ∙ none)) in
+    let bound = subst (λ n. mask_l (map is_one block) < 2 ^ n) (length-map block is_one ∙ long)
+    (mask_l-lt (map is_one block)) in
+    let lowest = bit_at-trailing_zeros w64 (mask_l (map is_one block)) set (omega (arith, bound)) in
+    let first = count_trailing_zeros 64 (mask_l (map is_one block)) in
+    let within : first < 16 = elim (cases_lt first 16) [
+      | inl inside ↦ inside
+      | inr outside ↦ absurd (omega (
+        arith,
+        lowest.1,
+        bit_at_above (mask_l (map is_one block)) 16 first bound outside,
+      ))
+    ] in (
+      rw mask within,
+      ap (count_trailing_zeros 64) mask ∙ trailing_mask_l is_one 64 block (omega arith) set,
+    )
 
 -- the first place in a block, before which the byte isn't, is the first of all
 pub position-here : (p : ℕ → Bool) (bytes : List ℕ) (at n r : ℕ) → at ≤ position_or_len p bytes → at + n ≤ length bytes
@@ -60,48 +77,6 @@ position-behind p bytes at n r before room is whole =
       | inl inside ↦ absurd (both_ways _ (prefix_len_stops (λ b. not (p b)) bytes 0 (omega arith))
           (ap not (run_in_chunk_fails p bytes at n r 0 room is first (omega arith) (omega arith))))
       | inr behind ↦ omega arith
-    ]
-
--- the first place in the last block
-pub position-last : (p : ℕ → Bool) (bytes : List ℕ) (at last n r : ℕ) → at ≤ position_or_len p bytes → last ≤ at
-    → last + n ≡ length bytes → r ≡ position_or_len p (take n (drop last bytes)) → last + r ≡ position_or_len p bytes
-position-last p bytes at last n r before early end is =
-    let bound = prefix_len-le-length (λ b. not (p b)) bytes in
-    let short = run_in_chunk_le p bytes last n r 0 (omega (arith, end)) is in
-    elim (cases_lt r n) [
-      | inl within ↦ position-here p bytes last n r (omega (arith, before, early)) (omega (arith, end)) is within
-      | inr whole ↦ omega (
-        arith,
-        bound,
-        short,
-        end,
-        position-behind p bytes last n r (omega (arith, before, early)) (omega (arith, end)) is whole,
-      )
-    ]
-
--- the first place is behind another byte
-pub position-next : (bytes : List ℕ) (at byte : ℕ) → at ≤ position_or_len (λ b. b == byte) bytes → at < length bytes
-    → get_or bytes at 0 ≢ byte → at + 1 ≤ position_or_len (λ b. b == byte) bytes
-position-next bytes at byte before inside other =
-    elim (cases_lt at (position_or_len (λ b. b == byte) bytes)) [
-      | inl behind ↦ omega arith
-      | inr here ↦ absurd (stopped (omega arith))
-    ]
-  where
-    stopped : position_or_len (λ b. b == byte) bytes ≡ at → ⊥
-    stopped is = both_ways _
-        (ap (λ n. not (get_or bytes n 0 == byte)) (sym is)
-        ∙ prefix_len_stops (λ b. not (b == byte)) bytes 0 (omega arith))
-        (ap not (ne_eqb _ _ other))
-
--- a place of the byte, before which it isn't, is the first
-pub position-at : (bytes : List ℕ) (at byte : ℕ) → at ≤ position_or_len (λ b. b == byte) bytes
-    → get_or bytes at 0 ≡ byte → at ≡ position_or_len (λ b. b == byte) bytes
-position-at bytes at byte before same =
-    elim (cases_lt at (position_or_len (λ b. b == byte) bytes)) [
-      | inl later ↦ absurd (both_ways _ (ap not (eq-eqb _ _ same))
-          (prefix_len_passes (λ b. not (b == byte)) bytes at 0 later))
-      | inr here ↦ omega arith
     ]
 
 -- a place before which the byte isn't is within the bytes, or behind the last
@@ -160,3 +135,11 @@ pub position-end : (bytes : List ℕ) (at byte : ℕ) → at ≤ position_or_len
     → length bytes ≤ at → at ≡ position_or_len (λ b. b == byte) bytes
 position-end bytes at byte before end =
     let bound = prefix_len-le-length (λ b. not (b == byte)) bytes in omega arith
+
+-- a place where the byte is, or the end, before which it isn't
+pub position-of : (bytes : List ℕ) (byte at : ℕ) → at ≤ length bytes
+    → ((k : ℕ) → k < at → get_or bytes k 0 ≢ byte) → (at < length bytes → get_or bytes at 0 ≡ byte)
+    → at ≡ position_or_len (λ b. b == byte) bytes
+position-of bytes byte at within before found =
+    sym (position_or_len_is (λ b. b == byte) bytes at 0 within
+    (λ k l. ne_eqb _ _ (before k l)) (λ l. eq-eqb _ _ (found l)))

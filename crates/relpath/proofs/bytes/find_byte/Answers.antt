@@ -1,10 +1,39 @@
--- The first block, and then what is left.
-use Rattle.std.proofs.Common.{◌==◌, arith}
-use Rattle.relpath.proofs.BytesLemmas.{position-here}
+-- A block at a time, and far blocks without the byte at once.
+use Rattle.std.proofs.Common.{◌-◌, ◌==◌, length, arith}
+use Rattle.relpath.proofs.BytesLemmas.{position-here, position-behind, position-end, position-of}
 use Rattle.relpath.proofs.bytes.find_byte.Goals as goal
 
-pub returns-then-near-lt-FAR : goal.returns-then-near-lt-FAR
-returns-then-near-lt-FAR c =
-    let here = position-here (λ b. b == c.args.byte) c.args.bytes.now 0 64 c.find_far-near.result (omega arith)
-    (omega (arith, c.if-bytes-ge-FAR.true)) c.find_far-near.ensures c.if-near-lt-FAR.true in
-    omega (arith, here)
+pub returns-then-bytes-lt-BLOCK : goal.returns-then-bytes-lt-BLOCK
+returns-then-bytes-lt-BLOCK c =
+    position-of c.args.bytes.now c.args.byte _
+    c.find_in_few.ensures.within c.find_in_few.ensures.before c.find_in_few.ensures.found
+
+pub returns-in-Some : goal.returns-in-Some
+returns-in-Some c =
+    position-here (λ b. b == c.args.byte) c.args.bytes.now c.loop-start.start 16 c.in-Some.at c.loop-start.invariant
+    (omega (arith, c.loop-start-test.true)) c.in-Some.ensures.1 c.in-Some.ensures.0
+
+pub pass_far-start-requires : goal.pass_far-start-requires
+pass_far-start-requires c =
+    position-behind (λ b. b == c.args.byte) c.args.bytes.now c.loop-start.start 16 16 c.loop-start.invariant
+    (omega (arith, c.loop-start-test.true)) c.in_default.ensures (omega arith)
+
+pub loop-start-preserved : goal.loop-start-preserved
+loop-start-preserved c =
+    position-behind (λ b. b == c.args.byte) c.args.bytes.now c.loop-start.start 16 16 c.loop-start.invariant
+    (omega (arith, c.loop-start-test.true)) c.in_default.ensures (omega arith)
+
+pub returns-in-Some-find_in_block : goal.returns-in-Some-find_in_block
+returns-in-Some-find_in_block c =
+    position-here (λ b. b == c.args.byte) c.args.bytes.now (length c.args.bytes.now - 16) 16 c.in-Some-find_in_block.at
+    (omega (arith, c.loop-start-test.false, c.loop-start.invariant)) (omega (arith, c.if-bytes-lt-BLOCK.false))
+    c.in-Some-find_in_block.ensures.1 c.in-Some-find_in_block.ensures.0
+
+pub returns-in-None : goal.returns-in-None
+returns-in-None c =
+    let behind =
+    position-behind (λ b. b == c.args.byte) c.args.bytes.now (length c.args.bytes.now - 16) 16 16
+    (omega (arith, c.loop-start-test.false, c.loop-start.invariant)) (omega (arith, c.if-bytes-lt-BLOCK.false))
+    c.in-None.ensures (omega arith) in
+    position-end c.args.bytes.now (length c.args.bytes.now) c.args.byte
+    (omega (arith, behind, c.if-bytes-lt-BLOCK.false)) (omega arith)
