@@ -1,7 +1,8 @@
 //! The callers that the page on calling shows.
-ghost use Rattle.std.specs.Prelude.{◌++◌, ◌↔◌, IfOk, IfSome, IsNone};
+ghost use Rattle.std.specs.Prelude.{◌∷◌, [], ◌++◌, ◌↔◌, IfOk, IfSome, IsNone};
 ghost use Rattle.relative_path.specs.RelativePath.{path_components};
 ghost use Rattle.relative_path.specs.Relating.{IsReachable, IsShortestText};
+ghost use Rattle.relative_path.specs.Steps.{up};
 
 use relative_path::{RelativePath, RelativePathBuf};
 use std::alloc::{AllocError, Global};
@@ -40,6 +41,25 @@ pub fn way_back(
     Ok(back)
 }
 
+/// What a page's link has to be in a copy of the page in another directory, if a path leads from there
+/// to what the link means a step above the page.
+pub fn relink(
+    alloc: Global,
+    page: RelativePath<'_>,
+    link: RelativePath<'_>,
+    archive: RelativePath<'_>,
+) -> Result<RelativePathBuf, AllocError>
+    ensures { IfOk result (λ copied. IsReachable (path_components archive.entry)
+        ((path_components page.entry ++ up ∷ []) ++ path_components link.entry)
+        → IsShortestText (path_components archive.entry)
+        ((path_components page.entry ++ up ∷ []) ++ path_components link.entry) copied.text) }
+{
+    let directory = page.join(alloc, RelativePath::new(".."))?;
+    let target = directory.as_relative_path().join(alloc, link)?;
+    let copied = archive.relative(alloc, target.as_relative_path())?;
+    Ok(copied)
+}
+
 #[test]
 fn carries_a_link(rt: HostRuntime) -> Result<(), std::test::Fail> {
     let [docs, link, archive] = ["docs/guide", "../img/a.png", "archive"].map(RelativePath::new);
@@ -53,5 +73,13 @@ fn finds_the_way_back(rt: HostRuntime) -> Result<(), std::test::Fail> {
     let [docs, link] = ["docs/guide", "../img"].map(RelativePath::new);
     let back = way_back(rt.alloc(), docs, link)?;
     assert_eq!(rt; back.as_relative_path().as_str(), "../guide");
+    Ok(())
+}
+
+#[test]
+fn links_from_a_copy(rt: HostRuntime) -> Result<(), std::test::Fail> {
+    let [page, link, archive] = ["docs/guide.md", "img/a.png", "old/2024"].map(RelativePath::new);
+    let copied = relink(rt.alloc(), page, link, archive)?;
+    assert_eq!(rt; copied.as_relative_path().as_str(), "../../docs/img/a.png");
     Ok(())
 }
