@@ -35,3 +35,9 @@ returns-in-None-clause-shortest_to c = λ target normal reachable.
     let to = path_components c.args.to in
     let there = IsReachable-same self self target to (IsSame-refl self) normal.same reachable in
     absurd ((rw c.in-None.is at c.in_ok-way.ensures.none).0 refl there)
+
+pub returns-in-None-clause-shortest : goal.returns-in-None-clause-shortest
+returns-in-None-clause-shortest c = λ there. absurd ((rw c.in-None.is at c.in_ok-way.ensures.none).0 refl there)
+
+pub returns-in-Some-clause-shortest : goal.returns-in-Some-clause-shortest
+returns-in-Some-clause-shortest c = λ _. rw c.in-Some.is at c.in_ok-way.ensures.shortest
