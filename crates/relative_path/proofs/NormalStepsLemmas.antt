@@ -1,5 +1,5 @@
 -- Normal lists of steps: their parts, where they lead, that each is the only one that leads there, and their texts.
-use Rattle.std.proofs.Common.{◌≡◌, ℕ, zero, suc, ◌-◌, ◌<◌, ◌≤◌, Bool, true, false, List, [], ◌∷◌, ◌++◌, length, take, drop, map, replicate, Some, None, refl, sym, ap, ◌∙◌, subst, append_assoc, append-nil, arith, length-append, length-take-le, take_all, take_at, take-take}
+use Rattle.std.proofs.Common.{◌≡◌, ℕ, zero, suc, ◌-◌, ◌<◌, ◌≤◌, Bool, true, false, List, [], ◌∷◌, ◌++◌, length, take, map, replicate, Some, None, refl, sym, ap, ◌∙◌, append_assoc, append-nil, arith, length-append, length-take-le, take_all, take_at, take-take}
 use Rattle.std.proofs.lemmas.List.{append_cancel_left, length-replicate}
 use Rattle.relative_path.specs.Steps.{Step, cur, up, name, slash, step_text, spell}
 use Rattle.relative_path.specs.Walk.{walk, IsSame}

@@ -1,4 +1,4 @@
-use Rattle.std.proofs.Common.{◌≡◌, ◌+◌, ◌-◌, [], drop, length, slice_index, ap, arith}
+use Rattle.std.proofs.Common.{◌≡◌, ◌+◌, ◌-◌, drop, length, slice_index, ap, arith}
 use Rattle.std.proofs.lemmas.List.{drop_all}
 use Rattle.relative_path.specs.Counting.{begun}
 use Rattle.relative_path.specs.Steps.{is_slash}

@@ -1,6 +1,4 @@
-use Rattle.std.proofs.Common.{◌∙◌, sym, ap, length, arith, string_bytes}
-use Rattle.relative_path.specs.Components.{components_left, step_of}
-use Rattle.relative_path.specs.Editing.{with_piece}
+use Rattle.std.proofs.Common.{ap, length, arith, string_bytes}
 use Rattle.relative_path.specs.NormalForm.{padded_len}
 use Rattle.relative_path.specs.Steps.{name}
 use Rattle.std.proofs.lemmas.Str.{IsUtf8-string_bytes}

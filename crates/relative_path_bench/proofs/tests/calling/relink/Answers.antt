@@ -13,7 +13,7 @@ pub returns : goal.returns
 returns c =
     let ups = components_up (path_text c.new.result) c.new.ensures in
     let target : path_components c.as_relative_path-2.result
-        ≡ (path_components c.args.page ++ up ∷ []) ++ path_components c.args.link =
+    ≡ (path_components c.args.page ++ up ∷ []) ++ path_components c.args.link =
     rw (
       c.as_relative_path-2.ensures,
       c.in_ok-target.ensures.components,
