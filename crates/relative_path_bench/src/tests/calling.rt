@@ -1,8 +1,9 @@
-//! The callers that the page on calling shows.
-ghost use Rattle.std.specs.Prelude.{◌∷◌, [], ◌++◌, ◌↔◌, IfOk, IfSome, IsNone};
+//! The callers that the page on proving shows.
+ghost use Rattle.std.specs.Prelude.{◌∷◌, []};
+ghost use Rattle.relative_path.specs.Steps.{up};
+ghost use Rattle.std.specs.Prelude.{◌++◌, ◌↔◌, IfOk, IfSome, IsNone};
 ghost use Rattle.relative_path.specs.RelativePath.{path_components};
 ghost use Rattle.relative_path.specs.Relating.{IsReachable, IsShortestText};
-ghost use Rattle.relative_path.specs.Steps.{up};
 
 use relative_path::{RelativePath, RelativePathBuf};
 use std::alloc::{AllocError, Global};
