@@ -26,8 +26,8 @@ fn text_of(buf: &RelativePathBuf) -> &str {
     buf.as_relative_path().as_str()
 }
 
-/// Fails in the words of this case where another value was found than is expected. A call of it costs
-/// a proof a fourth of what `assert_eq!` with a message does.
+// Fails in the words of this case where another value was found than is expected. A call of it costs
+// a proof a fourth of what `assert_eq!` with a message does.
 fn same<T: PartialEq + Debug>(case: &str, found: &T, expected: &T) -> Result<(), Fail> {
     if found == expected {
         Ok(())
@@ -36,7 +36,7 @@ fn same<T: PartialEq + Debug>(case: &str, found: &T, expected: &T) -> Result<(),
     }
 }
 
-/// Whether a text has this normal form, by the call that makes a buffer and by the one that fills it.
+// Whether a text has this normal form, by the call that makes a buffer and by the one that fills it.
 fn normalizes(alloc: Global, text: &str, normal: &str) -> Result<(), Fail> {
     let path = RelativePath::new(text);
     let made = path.normalize(alloc)?;

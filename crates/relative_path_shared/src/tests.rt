@@ -8,8 +8,8 @@ mod json;
 mod refusals;
 mod shared;
 
-/// Fails in the words of this case where another value was found than is expected. A call of it costs
-/// a proof a fourth of what `assert_eq!` with a message does.
+// Fails in the words of this case where another value was found than is expected. A call of it costs
+// a proof a fourth of what `assert_eq!` with a message does.
 fn same<T: PartialEq + Debug>(case: &str, found: &T, expected: &T) -> Result<(), Fail> {
     if found == expected {
         Ok(())
@@ -18,7 +18,7 @@ fn same<T: PartialEq + Debug>(case: &str, found: &T, expected: &T) -> Result<(),
     }
 }
 
-/// Whether a path shows this text.
+// Whether a path shows this text.
 fn shows(case: &str, path: RelativePath<'_>, text: &str) -> Result<(), Fail> {
     same(case, &path.as_str(), &text)
 }

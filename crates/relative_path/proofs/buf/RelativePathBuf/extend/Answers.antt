@@ -30,8 +30,13 @@ loop-path-preserved g c =
 
 pub returns-clause-ok : goal.returns-clause-ok
 returns-clause-ok g c =
-    let walk = c.into_iter-path-iterator in
-    (walk.result, c.loop-path.yielded, walk.ensures.into_iter_gives, (c.next.new.self, (c.loop-path.path-iterator, c.loop-path.yielded_by, c.in-None.ensures.steps)), c.loop-path.invariant.0)
+    let made = c.into_iter-path-iterator in (
+      made.result,
+      c.loop-path.yielded,
+      made.ensures.into_iter_gives,
+      (c.next.new.self, (c.loop-path.path-iterator, c.loop-path.yielded_by, c.in-None.ensures.steps)),
+      c.loop-path.invariant.0,
+    )
 
 pub returns-clause-runs : goal.returns-clause-runs
 returns-clause-runs g c =
