@@ -32,8 +32,6 @@ mod relating;
 mod relative_to_error;
 mod slashes;
 mod spans;
-#[cfg(test)]
-mod tests;
 pub mod unix;
 mod unix_components;
 mod unix_texts;

@@ -1,7 +1,7 @@
 //! File names and extensions.
 use super::marks::{begin, end};
 use super::{gives, long_text, same, text_of};
-use crate::{RelativePath, RelativePathBuf};
+use relative_path::{RelativePath, RelativePathBuf};
 use std::test::Fail;
 
 #[test]

@@ -1,7 +1,7 @@
 //! Each call that takes memory, between two marks, on a short text and on one of 10,000 bytes.
 //! tools/refusals runs each of these tests with each request between its marks refused in turn, so
 //! each takes a refusal as well as an answer.
-use crate::RelativePathBuf;
+use relative_path::RelativePathBuf;
 use std::alloc::{AllocError, Global};
 use std::fmt::Debug;
 use std::test::Fail;

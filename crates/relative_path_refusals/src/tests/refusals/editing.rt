@@ -1,7 +1,7 @@
 //! Copies, joins and pushes.
 use super::marks::{begin, end};
 use super::{gives, long_text, same, text_of};
-use crate::{RelativePath, RelativePathBuf};
+use relative_path::{RelativePath, RelativePathBuf};
 use std::alloc::{AllocError, Global};
 use std::fmt::InlineText;
 use std::hash::{DefaultHasher, Hash, Hasher};
