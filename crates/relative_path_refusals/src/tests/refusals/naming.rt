@@ -82,8 +82,9 @@ fn set_extension(rt: HostRuntime) -> Result<(), Fail> {
 }
 
 // A text, the room that it is given, an extension, the text that setting that leaves, and the answer.
-const FITTING: [(&str, usize, &str, &str, bool); 3] = [
+const FITTING: [(&str, usize, &str, &str, bool); 4] = [
     ("foo", 7, "bar", "foo.bar", true),
+    ("foo.txt", 7, "bar", "foo.bar", true),
     ("foo.bar", 7, "", "foo", true),
     ("foo/..", 6, "bar", "foo/..", false),
 ];
