@@ -4,6 +4,7 @@ use crate::fault::Fault;
 use crate::meter::Meter;
 use crate::run::run;
 use crate::tests::run::{SIX_ANSWERS, SIX_LINES};
+use crate::tests::same;
 use std::alloc::{AllocError, Global};
 use std::test::Fail;
 
@@ -20,9 +21,9 @@ fn with_long_path(alloc: Global, text: &str, end: &str) -> Result<String, AllocE
 fn lines(rt: HostRuntime) -> Result<(), Fail> {
     let long = with_long_path(rt.alloc(), "normalize\t", "")?;
     let answers = with_long_path(rt.alloc(), "= ", "\n")?;
-    for (input, output) in [
-        (SIX_LINES, SIX_ANSWERS),
-        (long.as_bytes(), answers.as_bytes()),
+    for (case, input, output) in [
+        ("six lines", SIX_LINES, SIX_ANSWERS),
+        ("a long path", long.as_bytes(), answers.as_bytes()),
     ] {
         let mut reader = Meter::new(input);
         let mut writer = Meter::new(Vec::with_capacity(rt.alloc(), output.len())?);
@@ -31,14 +32,10 @@ fn lines(rt: HostRuntime) -> Result<(), Fail> {
         end(rt.alloc(), answer == Err(Fault::OutOfMemory));
         let written = writer.into_inner();
         if answer == Err(Fault::OutOfMemory) {
-            assert!(rt; written.is_empty());
+            same(case, &written.len(), &0)?;
         } else {
-            assert_eq!(rt; answer, Ok(()));
-            assert!(rt;
-                written.as_slice() == output,
-                "output of {} bytes",
-                input.len()
-            );
+            let is_output = written.as_slice() == output;
+            same(case, &(answer, is_output), &(Ok(()), true))?;
         }
     }
     Ok(())
