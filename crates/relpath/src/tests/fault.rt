@@ -1,3 +1,4 @@
+//! What a fault prints, and how a run that ended so is reported.
 use super::same;
 use crate::fault::Fault;
 use crate::meter::Meter;
@@ -58,21 +59,23 @@ fn reports_how_a_run_ended(rt: HostRuntime) -> Result<(), Fail> {
     Ok(())
 }
 
-#[test]
-fn ends_with_the_same_status_where_nothing_can_be_printed(rt: HostRuntime) -> Result<(), Fail> {
-    let full = Sink::new(rt.alloc()).full();
-    let failing = Sink::new(rt.alloc()).failing_at(1, ErrorKind::Interrupted);
-    for (case, sink) in [("full", full), ("failing", failing)] {
-        let mut errors = Meter::new(sink);
-        let status = report(Err(Fault::NotText), &mut errors);
-        let found = (status, errors.calls(), errors.into_inner().taken.len());
-        same(case, &found, &(ExitCode::FAILURE, 1, 0))?;
-    }
-    Ok(())
+// Whether a report to this sink makes one write, prints nothing and fails all the same.
+fn prints_nothing(case: &str, sink: Sink) -> Result<(), Fail> {
+    let mut errors = Meter::new(sink);
+    let status = report(Err(Fault::NotText), &mut errors);
+    let found = (status, errors.calls(), errors.into_inner().taken.len());
+    same(case, &found, &(ExitCode::FAILURE, 1, 0))
 }
 
 #[test]
-fn tells_faults_apart(_rt: HostRuntime) -> Result<(), Fail> {
+fn ends_with_the_same_status_where_nothing_can_be_printed(rt: HostRuntime) -> Result<(), Fail> {
+    let sink = Sink::new(rt.alloc());
+    prints_nothing("failing", sink.failing_at(1, ErrorKind::Interrupted))?;
+    prints_nothing("full", Sink::new(rt.alloc()).full())
+}
+
+#[test]
+fn tells_faults_apart() -> Result<(), Fail> {
     let equal = (
         Fault::Read == Fault::Write,
         Fault::InputTooLong == Fault::NotText,

@@ -1,3 +1,4 @@
+//! Calls that a `Meter` passes on.
 use super::same;
 use crate::meter::Meter;
 use crate::tests::streams::{Sink, Source};
@@ -11,21 +12,24 @@ fn kind<T>(answer: io::Result<T>) -> Result<T, ErrorKind> {
 }
 
 #[test]
-fn passes_each_read_on_once(rt: HostRuntime) -> Result<(), Fail> {
+fn passes_each_read_on_once() -> Result<(), Fail> {
     let mut buf = [0; 4];
     let source = Source::new(b"abc".as_slice()).in_pieces(2);
     let mut reader = Meter::new(source.failing_at(2, ErrorKind::Interrupted));
-    same(
-        "short",
-        &(kind(reader.read(&mut buf)), buf),
-        &(Ok(2), *b"ab\0\0"),
-    )?;
+    let short = (kind(reader.read(&mut buf)), buf);
     let failed = kind(reader.read(&mut buf));
-    same("failed", &failed, &Err(ErrorKind::Interrupted))?;
-    let last = kind(reader.read(&mut buf[..3]));
-    same("last", &(last, buf), &(Ok(1), *b"cb\0\0"))?;
+    let last = (kind(reader.read(&mut buf[..3])), buf);
     let ended = (kind(reader.read(&mut buf)), kind(reader.read(&mut [])));
-    same("ended", &ended, &(Ok(0), Ok(0)))?;
+    same(
+        "reads",
+        &(short, failed, last, ended),
+        &(
+            (Ok(2), *b"ab\0\0"),
+            Err(ErrorKind::Interrupted),
+            (Ok(1), *b"cb\0\0"),
+            (Ok(0), Ok(0)),
+        ),
+    )?;
     let counts = (reader.calls(), reader.flushes(), reader.failures());
     let source = reader.into_inner();
     let found = (counts, source.reads, source.room);
@@ -42,9 +46,10 @@ fn passes_each_write_on_once(rt: HostRuntime) -> Result<(), Fail> {
         kind(writer.write(b"c")),
         kind(writer.write(b"cd")),
     ];
+    let flushed = kind(writer.flush());
     let failed = Err(ErrorKind::Interrupted);
-    same("writes", &answers, &[Ok(2), Ok(0), failed, Ok(2)])?;
-    same("flush", &kind(writer.flush()), &Ok(()))?;
+    let expected = ([Ok(2), Ok(0), failed, Ok(2)], Ok(()));
+    same("writes, then a flush", &(answers, flushed), &expected)?;
     let counts = (writer.calls(), writer.flushes(), writer.failures());
     let sink = writer.into_inner();
     let calls = (sink.writes, sink.offered, sink.flushes);
@@ -62,22 +67,26 @@ fn counts_a_write_that_takes_nothing_as_a_failure(rt: HostRuntime) -> Result<(),
     same("nothing taken", &found, &([Ok(0), Ok(0)], (2, 1), 2, 1))
 }
 
+// Whether each of two flushes of this sink is passed on, and answers this.
+fn flushes_twice(case: &str, sink: Sink, answer: Result<(), ErrorKind>) -> Result<(), Fail> {
+    let failures = if answer.is_ok() { 0 } else { 2 };
+    let mut writer = Meter::new(sink);
+    let answers = [kind(writer.flush()), kind(writer.flush())];
+    let counts = (writer.calls(), writer.flushes(), writer.failures());
+    let sink = writer.into_inner();
+    let found = (answers, counts, sink.writes, sink.flushes);
+    same(case, &found, &([answer; 2], (0, 2, failures), 0, 2))
+}
+
 #[test]
 fn passes_each_flush_on_once(rt: HostRuntime) -> Result<(), Fail> {
-    let fine = Sink::new(rt.alloc());
-    let interrupted = Sink::new(rt.alloc()).failing_to_flush(ErrorKind::Interrupted);
-    let broken = Sink::new(rt.alloc()).failing_to_flush(ErrorKind::BrokenPipe);
-    for (case, sink, answer, failures) in [
-        ("fine", fine, Ok(()), 0),
-        ("interrupted", interrupted, Err(ErrorKind::Interrupted), 2),
-        ("broken", broken, Err(ErrorKind::BrokenPipe), 2),
+    flushes_twice("fine", Sink::new(rt.alloc()), Ok(()))?;
+    for (case, kind) in [
+        ("interrupted", ErrorKind::Interrupted),
+        ("broken", ErrorKind::BrokenPipe),
     ] {
-        let mut writer = Meter::new(sink);
-        let answers = [kind(writer.flush()), kind(writer.flush())];
-        let counts = (writer.calls(), writer.flushes(), writer.failures());
-        let sink = writer.into_inner();
-        let found = (answers, counts, sink.writes, sink.flushes);
-        same(case, &found, &([answer; 2], (0, 2, failures), 0, 2))?;
+        let sink = Sink::new(rt.alloc()).failing_to_flush(kind);
+        flushes_twice(case, sink, Err(kind))?;
     }
     Ok(())
 }
@@ -90,17 +99,12 @@ fn passes_two_hundred_writes_on(rt: HostRuntime) -> Result<(), Fail> {
         same("a write", &kind(writer.write(b"a")), &Ok(1))?;
     }
     assert!(rt; writer.flushes() == 0 && writer.failures() == 0);
-    same("flush", &kind(writer.flush()), &Ok(()))?;
+    let flushed = kind(writer.flush());
     let counts = (writer.calls(), writer.flushes(), writer.failures());
     let sink = writer.into_inner();
-    let found = (
-        counts,
-        sink.writes,
-        sink.offered,
-        sink.flushes,
-        sink.flushed,
-    );
-    same("calls", &found, &((200, 1, 0), 200, 200, 1, 200))
+    let writes = (sink.writes, sink.offered);
+    let found = (flushed, counts, writes, sink.flushes, sink.flushed);
+    same("calls", &found, &(Ok(()), (200, 1, 0), (200, 200), 1, 200))
 }
 
 // More bytes than an input may have.

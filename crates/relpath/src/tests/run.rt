@@ -1,3 +1,4 @@
+//! `run`, over readers and writers that give, take and fail as they are told to.
 use super::same;
 use crate::fault::Fault;
 use crate::meter::Meter;
@@ -141,21 +142,29 @@ fn tells_too_long_before_no_text(rt: HostRuntime) -> Result<(), Fail> {
     ends(rt.alloc(), "too long, no text", source, expected)
 }
 
+const NO_TEXTS: [(&str, &[u8]); 2] = [
+    ("no text", b"\xff"),
+    ("a line, then no text", b"normalize\ta/.././b/../c/d\n\xff"),
+];
+
 #[test]
-fn tells_why_an_input_has_no_answer(rt: HostRuntime) -> Result<(), Fail> {
-    let no_text = Source::new(b"\xff".as_slice());
-    let late_no_text = Source::new(b"normalize\ta/.././b/../c/d\n\xff".as_slice());
-    let pieces = Source::new(SIX_LINES).in_pieces(10);
-    let first_fails = pieces.failing_at(1, ErrorKind::Other);
-    let pieces = Source::new(SIX_LINES).in_pieces(10);
-    let interrupted = pieces.failing_at(2, ErrorKind::Interrupted);
-    for (case, source, fault, reads) in [
-        ("no text", no_text, Fault::NotText, 2),
-        ("a line, then no text", late_no_text, Fault::NotText, 2),
-        ("the first read fails", first_fails, Fault::Read, 1),
-        ("the second is interrupted", interrupted, Fault::Read, 2),
+fn tells_what_is_no_text(rt: HostRuntime) -> Result<(), Fail> {
+    for (case, input) in &NO_TEXTS {
+        let expected = (Err(Fault::NotText), 2, NOTHING);
+        ends(rt.alloc(), case, Source::new(*input), expected)?;
+    }
+    Ok(())
+}
+
+#[test]
+fn tells_a_failed_read(rt: HostRuntime) -> Result<(), Fail> {
+    for (case, number, kind) in [
+        ("the first read fails", 1, ErrorKind::Other),
+        ("the second is interrupted", 2, ErrorKind::Interrupted),
     ] {
-        ends(rt.alloc(), case, source, (Err(fault), reads, NOTHING))?;
+        let pieces = Source::new(SIX_LINES).in_pieces(10);
+        let expected = (Err(Fault::Read), number, NOTHING);
+        ends(rt.alloc(), case, pieces.failing_at(number, kind), expected)?;
     }
     Ok(())
 }
@@ -167,46 +176,50 @@ fn stops_an_endless_reader(rt: HostRuntime) -> Result<(), Fail> {
     ends(rt.alloc(), "an endless reader", source, expected)
 }
 
+// Whether `run` over the input ends with this result, after this many writes and flushes, and the sink
+// took this output.
+fn writes(
+    alloc: Global,
+    case: &str,
+    input: &[u8],
+    sink: Sink,
+    expected: (Result<(), Fault>, u64, u64, &[u8]),
+) -> Result<(), Fail> {
+    let mut reader = Meter::new(input);
+    let mut writer = Meter::new(sink);
+    let result = run(alloc, &mut reader, &mut writer);
+    let (writes, flushes) = (writer.calls(), writer.flushes());
+    let sink = writer.into_inner();
+    let found = (result, writes, flushes, sink.taken.as_slice());
+    same(case, &found, &expected)
+}
+
 #[test]
 fn writes_the_whole_output(rt: HostRuntime) -> Result<(), Fail> {
-    let slow = Sink::new(rt.alloc()).in_pieces(1);
-    let full = Sink::new(rt.alloc()).full();
-    let interrupted = Sink::new(rt.alloc()).failing_at(1, ErrorKind::Interrupted);
-    let unflushed = Sink::new(rt.alloc()).failing_to_flush(ErrorKind::Other);
-    let failed = Err(Fault::Write);
-    for (case, input, sink, expected) in [
-        (
-            "short writes",
-            SIX_LINES,
-            slow,
-            (Ok(()), 87, 1, SIX_ANSWERS),
-        ),
-        ("nothing is taken", SIX_LINES, full, (failed, 1, 0, NOTHING)),
-        (
-            "interrupted",
-            SIX_LINES,
-            interrupted,
-            (failed, 1, 0, NOTHING),
-        ),
-        (
-            "the flush fails",
-            NOTHING,
-            unflushed,
-            (failed, 0, 1, NOTHING),
-        ),
-    ] {
-        let mut reader = Meter::new(input);
-        let mut writer = Meter::new(sink);
-        let result = run(rt.alloc(), &mut reader, &mut writer);
-        let (writes, flushes) = (writer.calls(), writer.flushes());
-        let sink = writer.into_inner();
-        same(
-            case,
-            &(result, writes, flushes, sink.taken.as_slice()),
-            &expected,
-        )?;
-    }
-    Ok(())
+    let sink = Sink::new(rt.alloc()).in_pieces(1);
+    let expected = (Ok(()), 87, 1, SIX_ANSWERS);
+    writes(rt.alloc(), "short writes", SIX_LINES, sink, expected)
+}
+
+#[test]
+fn tells_that_nothing_is_taken(rt: HostRuntime) -> Result<(), Fail> {
+    let sink = Sink::new(rt.alloc()).full();
+    let expected = (Err(Fault::Write), 1, 0, NOTHING);
+    writes(rt.alloc(), "nothing is taken", SIX_LINES, sink, expected)
+}
+
+#[test]
+fn tells_an_interrupted_write(rt: HostRuntime) -> Result<(), Fail> {
+    let sink = Sink::new(rt.alloc()).failing_at(1, ErrorKind::Interrupted);
+    let expected = (Err(Fault::Write), 1, 0, NOTHING);
+    writes(rt.alloc(), "interrupted", SIX_LINES, sink, expected)
+}
+
+#[test]
+fn tells_a_failed_flush(rt: HostRuntime) -> Result<(), Fail> {
+    let sink = Sink::new(rt.alloc()).failing_to_flush(ErrorKind::Other);
+    let expected = (Err(Fault::Write), 0, 1, NOTHING);
+    writes(rt.alloc(), "the flush fails", NOTHING, sink, expected)
 }
 
 #[test]
