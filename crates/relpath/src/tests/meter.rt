@@ -1,97 +1,110 @@
+//! Calls that a `Meter` passes on.
+use super::same;
 use crate::meter::Meter;
 use crate::tests::streams::{Sink, Source};
 use std::alloc::{AllocError, Global};
 use std::io::{self, ErrorKind};
 use std::test::Fail;
 
+// What a call answered, by an error's kind.
+fn kind<T>(answer: io::Result<T>) -> Result<T, ErrorKind> {
+    answer.map_err(|e| e.kind())
+}
+
 #[test]
-fn passes_each_read_on_once(rt: HostRuntime) {
+fn passes_each_read_on_once() -> Result<(), Fail> {
     let mut buf = [0; 4];
     let source = Source::new(b"abc".as_slice()).in_pieces(2);
     let mut reader = Meter::new(source.failing_at(2, ErrorKind::Interrupted));
-    assert_eq!(rt; reader.read(&mut buf).map_err(|e| e.kind()), Ok(2));
-    assert_eq!(rt; buf, *b"ab\0\0");
-    assert_eq!(rt;
-        reader.read(&mut buf).map_err(|e| e.kind()),
-        Err(ErrorKind::Interrupted)
-    );
-    assert_eq!(rt; reader.read(&mut buf[..3]).map_err(|e| e.kind()), Ok(1));
-    assert_eq!(rt; buf, *b"cb\0\0");
-    assert_eq!(rt; reader.read(&mut buf).map_err(|e| e.kind()), Ok(0));
-    assert_eq!(rt; reader.read(&mut []).map_err(|e| e.kind()), Ok(0));
+    let short = (kind(reader.read(&mut buf)), buf);
+    let failed = kind(reader.read(&mut buf));
+    let last = (kind(reader.read(&mut buf[..3])), buf);
+    let ended = (kind(reader.read(&mut buf)), kind(reader.read(&mut [])));
+    same(
+        "reads",
+        &(short, failed, last, ended),
+        &(
+            (Ok(2), *b"ab\0\0"),
+            Err(ErrorKind::Interrupted),
+            (Ok(1), *b"cb\0\0"),
+            (Ok(0), Ok(0)),
+        ),
+    )?;
     let counts = (reader.calls(), reader.flushes(), reader.failures());
-    assert_eq!(rt; counts, (5, 0, 1));
     let source = reader.into_inner();
-    assert_eq!(rt; (source.reads, source.room), (5, 15));
+    let found = (counts, source.reads, source.room);
+    same("counts", &found, &((5, 0, 1), 5, 15))
 }
 
 #[test]
-fn passes_each_write_on_once(rt: HostRuntime) {
+fn passes_each_write_on_once(rt: HostRuntime) -> Result<(), Fail> {
     let sink = Sink::new(rt.alloc()).in_pieces(2);
     let mut writer = Meter::new(sink.failing_at(3, ErrorKind::Interrupted));
-    assert_eq!(rt; writer.write(b"abc").map_err(|e| e.kind()), Ok(2));
-    assert_eq!(rt; writer.write(b"").map_err(|e| e.kind()), Ok(0));
-    assert_eq!(rt;
-        writer.write(b"c").map_err(|e| e.kind()),
-        Err(ErrorKind::Interrupted)
-    );
-    assert_eq!(rt; writer.write(b"cd").map_err(|e| e.kind()), Ok(2));
-    assert_eq!(rt; writer.flush().map_err(|e| e.kind()), Ok(()));
+    let answers = [
+        kind(writer.write(b"abc")),
+        kind(writer.write(b"")),
+        kind(writer.write(b"c")),
+        kind(writer.write(b"cd")),
+    ];
+    let flushed = kind(writer.flush());
+    let failed = Err(ErrorKind::Interrupted);
+    let expected = ([Ok(2), Ok(0), failed, Ok(2)], Ok(()));
+    same("writes, then a flush", &(answers, flushed), &expected)?;
     let counts = (writer.calls(), writer.flushes(), writer.failures());
-    assert_eq!(rt; counts, (4, 1, 1));
     let sink = writer.into_inner();
-    assert_eq!(rt; (sink.writes, sink.offered, sink.flushes), (4, 6, 1));
-    assert_eq!(rt; sink.taken.as_slice(), b"abcd".as_slice());
+    let calls = (sink.writes, sink.offered, sink.flushes);
+    let found = (counts, calls, sink.taken.as_slice());
+    same("counts", &found, &((4, 1, 1), (4, 6, 1), b"abcd"))
 }
 
 #[test]
-fn counts_a_write_that_takes_nothing_as_a_failure(rt: HostRuntime) {
+fn counts_a_write_that_takes_nothing_as_a_failure(rt: HostRuntime) -> Result<(), Fail> {
     let mut writer = Meter::new(Sink::new(rt.alloc()).full());
-    assert_eq!(rt; writer.write(b"a").map_err(|e| e.kind()), Ok(0));
-    assert_eq!(rt; writer.write(b"").map_err(|e| e.kind()), Ok(0));
-    assert_eq!(rt; (writer.calls(), writer.failures()), (2, 1));
+    let answers = [kind(writer.write(b"a")), kind(writer.write(b""))];
+    let counts = (writer.calls(), writer.failures());
     let sink = writer.into_inner();
-    assert_eq!(rt; (sink.writes, sink.offered), (2, 1));
+    let found = (answers, counts, sink.writes, sink.offered);
+    same("nothing taken", &found, &([Ok(0), Ok(0)], (2, 1), 2, 1))
+}
+
+// Whether each of two flushes of this sink is passed on, and answers this.
+fn flushes_twice(case: &str, sink: Sink, answer: Result<(), ErrorKind>) -> Result<(), Fail> {
+    let failures = if answer.is_ok() { 0 } else { 2 };
+    let mut writer = Meter::new(sink);
+    let answers = [kind(writer.flush()), kind(writer.flush())];
+    let counts = (writer.calls(), writer.flushes(), writer.failures());
+    let sink = writer.into_inner();
+    let found = (answers, counts, sink.writes, sink.flushes);
+    same(case, &found, &([answer; 2], (0, 2, failures), 0, 2))
 }
 
 #[test]
-fn passes_each_flush_on_once(rt: HostRuntime) {
-    let fine = Sink::new(rt.alloc());
-    let interrupted = Sink::new(rt.alloc()).failing_to_flush(ErrorKind::Interrupted);
-    let broken = Sink::new(rt.alloc()).failing_to_flush(ErrorKind::BrokenPipe);
-    for (what, sink, answer, failures) in [
-        ("fine", fine, Ok(()), 0),
-        ("interrupted", interrupted, Err(ErrorKind::Interrupted), 2),
-        ("broken", broken, Err(ErrorKind::BrokenPipe), 2),
+fn passes_each_flush_on_once(rt: HostRuntime) -> Result<(), Fail> {
+    flushes_twice("fine", Sink::new(rt.alloc()), Ok(()))?;
+    for (case, kind) in [
+        ("interrupted", ErrorKind::Interrupted),
+        ("broken", ErrorKind::BrokenPipe),
     ] {
-        let mut writer = Meter::new(sink);
-        assert_eq!(rt; writer.flush().map_err(|e| e.kind()), answer, "{what}");
-        assert_eq!(rt;
-            writer.flush().map_err(|e| e.kind()),
-            answer,
-            "{what} again"
-        );
-        let counts = (writer.calls(), writer.flushes(), writer.failures());
-        assert_eq!(rt; counts, (0, 2, failures), "counts where {what}");
-        let sink = writer.into_inner();
-        assert_eq!(rt; (sink.writes, sink.flushes), (0, 2), "calls where {what}");
+        let sink = Sink::new(rt.alloc()).failing_to_flush(kind);
+        flushes_twice(case, sink, Err(kind))?;
     }
+    Ok(())
 }
 
 #[test]
-fn passes_two_hundred_writes_on(rt: HostRuntime) {
+fn passes_two_hundred_writes_on(rt: HostRuntime) -> Result<(), Fail> {
     let mut writer = Meter::new(Sink::new(rt.alloc()));
     for number in 0..200 {
-        assert_eq!(rt; (writer.calls(), writer.failures()), (number, 0));
-        assert_eq!(rt; writer.write(b"a").map_err(|e| e.kind()), Ok(1));
+        assert!(rt; writer.calls() == number && writer.failures() == 0);
+        same("a write", &kind(writer.write(b"a")), &Ok(1))?;
     }
+    assert!(rt; writer.flushes() == 0 && writer.failures() == 0);
+    let flushed = kind(writer.flush());
     let counts = (writer.calls(), writer.flushes(), writer.failures());
-    assert_eq!(rt; counts, (200, 0, 0));
-    assert_eq!(rt; writer.flush().map_err(|e| e.kind()), Ok(()));
-    assert_eq!(rt; (writer.flushes(), writer.failures()), (1, 0));
     let sink = writer.into_inner();
-    assert_eq!(rt; (sink.writes, sink.offered), (200, 200));
-    assert_eq!(rt; (sink.flushes, sink.flushed), (1, 200));
+    let writes = (sink.writes, sink.offered);
+    let found = (flushed, counts, writes, sink.flushes, sink.flushed);
+    same("calls", &found, &(Ok(()), (200, 1, 0), (200, 200), 1, 200))
 }
 
 // More bytes than an input may have.
@@ -100,22 +113,22 @@ fn long_room(alloc: Global) -> Result<Vec<u8>, AllocError> {
 }
 
 #[test]
-fn passes_long_calls_on_whole(rt: HostRuntime) -> Result<(), Fail> {
+fn passes_a_long_read_on_whole(rt: HostRuntime) -> Result<(), Fail> {
     let mut room = long_room(rt.alloc())?;
     let mut reader = Meter::new(Source::new(io::repeat(b'a')));
-    assert_eq!(rt;
-        reader.read(room.as_mut_slice()).map_err(|e| e.kind()),
-        Ok(65_537)
-    );
+    let answer = kind(reader.read(room.as_mut_slice()));
     let source = reader.into_inner();
-    assert_eq!(rt; (source.reads, source.room), (1, 65_537));
+    let found = (answer, source.reads, source.room);
+    same("a long read", &found, &(Ok(65_537), 1, 65_537))
+}
+
+#[test]
+fn passes_a_long_write_on_whole(rt: HostRuntime) -> Result<(), Fail> {
+    let room = long_room(rt.alloc())?;
     let mut writer = Meter::new(Sink::new(rt.alloc()));
-    assert_eq!(rt;
-        writer.write(room.as_slice()).map_err(|e| e.kind()),
-        Ok(65_537)
-    );
+    let answer = kind(writer.write(room.as_slice()));
     let sink = writer.into_inner();
-    assert_eq!(rt; (sink.writes, sink.offered), (1, 65_537));
-    assert!(rt; sink.taken.as_slice() == room.as_slice());
-    Ok(())
+    let is_whole = sink.taken.as_slice() == room.as_slice();
+    let found = (answer, sink.writes, sink.offered, is_whole);
+    same("a long write", &found, &(Ok(65_537), 1, 65_537, true))
 }

@@ -1,3 +1,5 @@
+//! `run`, over readers and writers that give, take and fail as they are told to.
+use super::same;
 use crate::fault::Fault;
 use crate::meter::Meter;
 use crate::run::run;
@@ -56,130 +58,185 @@ fn with_letters(alloc: Global, text: &str, count: usize) -> Result<String, Alloc
     Ok(line)
 }
 
-// What `run` over the source ends with, how many reads it made, and what it wrote.
-fn outcome<R: Read + Drop>(alloc: Global, source: Source<R>) -> (Result<(), Fault>, u64, Vec<u8>) {
+// Whether `run` over the source ends with this result, after this many reads, and wrote this output.
+fn ends<R: Read + Drop>(
+    alloc: Global,
+    case: &str,
+    source: Source<R>,
+    expected: (Result<(), Fault>, u64, &[u8]),
+) -> Result<(), Fail> {
     let mut reader = Meter::new(source);
     let mut writer = Meter::new(Vec::new(alloc));
     let result = run(alloc, &mut reader, &mut writer);
-    (result, reader.calls(), writer.into_inner())
+    let written = writer.into_inner();
+    let found = (result, reader.calls(), written.as_slice());
+    same(case, &found, &expected)
 }
+
+// An input, how many bytes a read gives at most, how many reads are made, and the output.
+const ANSWERS: [(&str, &[u8], usize, u64, &[u8]); 8] = [
+    ("no bytes", NOTHING, usize::MAX, 1, NOTHING),
+    ("six lines", SIX_LINES, usize::MAX, 2, SIX_ANSWERS),
+    ("seven bytes a read", SIX_LINES, 7, 15, SIX_ANSWERS),
+    (
+        "many fields",
+        MANY_FIELDS,
+        usize::MAX,
+        2,
+        MANY_FIELDS_ANSWERS,
+    ),
+    ("roots", ROOTS, usize::MAX, 2, ROOTS_ANSWERS),
+    ("moves", MOVES, usize::MAX, 2, MOVES_ANSWERS),
+    (
+        "moves of the page",
+        MOVES_OF_THE_PAGE,
+        usize::MAX,
+        2,
+        MOVES_OF_THE_PAGE_ANSWERS,
+    ),
+    ("two paths", TWO_PATHS, usize::MAX, 2, TWO_PATHS_ANSWERS),
+];
 
 #[test]
 fn answers_the_lines_of_an_input(rt: HostRuntime) -> Result<(), Fail> {
+    for (case, input, size, reads, output) in &ANSWERS {
+        let source = Source::new(*input).in_pieces(*size);
+        ends(rt.alloc(), case, source, (Ok(()), *reads, output))?;
+    }
+    Ok(())
+}
+
+#[test]
+fn answers_a_line_by_single_bytes(rt: HostRuntime) -> Result<(), Fail> {
     let letters = with_letters(rt.alloc(), "", MOST)?;
+    let source = Source::new(letters.as_bytes()).in_pieces(1);
+    let expected = (Ok(()), 65_537, UNKNOWN_COMMAND);
+    ends(rt.alloc(), "a byte a read", source, expected)
+}
+
+#[test]
+fn answers_the_longest_path(rt: HostRuntime) -> Result<(), Fail> {
     let longest = with_letters(rt.alloc(), "normalize\t", MOST - 10)?;
     let mut answer = with_letters(rt.alloc(), "= ", MOST - 10)?;
     answer.push('\n')?;
-    let short_reads = Source::new(SIX_LINES).in_pieces(7);
-    let single_bytes = Source::new(letters.as_bytes()).in_pieces(1);
-    let longest = Source::new(longest.as_bytes());
-    for (what, source, reads, output) in [
-        ("no bytes", Source::new(NOTHING), 1, NOTHING),
-        ("six lines", Source::new(SIX_LINES), 2, SIX_ANSWERS),
-        ("seven bytes a read", short_reads, 15, SIX_ANSWERS),
-        ("a byte a read", single_bytes, 65_537, UNKNOWN_COMMAND),
-        (
-            "many fields",
-            Source::new(MANY_FIELDS),
-            2,
-            MANY_FIELDS_ANSWERS,
-        ),
-        ("roots", Source::new(ROOTS), 2, ROOTS_ANSWERS),
-        ("moves", Source::new(MOVES), 2, MOVES_ANSWERS),
-        (
-            "moves of the page",
-            Source::new(MOVES_OF_THE_PAGE),
-            2,
-            MOVES_OF_THE_PAGE_ANSWERS,
-        ),
-        ("two paths", Source::new(TWO_PATHS), 2, TWO_PATHS_ANSWERS),
-        ("the longest path", longest, 5, answer.as_bytes()),
-    ] {
-        let (result, calls, written) = outcome(rt.alloc(), source);
-        assert_eq!(rt; result, Ok(()), "{what}");
-        assert_eq!(rt; calls, reads, "reads of {what}");
-        assert_eq!(rt; written.as_slice(), output, "output of {what}");
-    }
-    Ok(())
+    let source = Source::new(longest.as_bytes());
+    let expected = (Ok(()), 5, answer.as_bytes());
+    ends(rt.alloc(), "the longest path", source, expected)
 }
 
 #[test]
-fn tells_why_an_input_has_no_answer(rt: HostRuntime) -> Result<(), Fail> {
+fn tells_a_byte_too_many(rt: HostRuntime) -> Result<(), Fail> {
     let too_long = with_letters(rt.alloc(), "normalize\t", MOST - 9)?;
+    let source = Source::new(too_long.as_bytes());
+    let expected = (Err(Fault::InputTooLong), 5, NOTHING);
+    ends(rt.alloc(), "a byte too many", source, expected)
+}
+
+#[test]
+fn tells_too_long_before_no_text(rt: HostRuntime) -> Result<(), Fail> {
     let letters = with_letters(rt.alloc(), "", MOST)?;
     let mut bytes = Vec::from_slice(rt.alloc(), b"\xff")?;
     bytes.extend_from_slice(letters.as_bytes())?;
-    let too_long = Source::new(too_long.as_bytes());
-    let long_no_text = Source::new(bytes.as_slice());
-    let no_text = Source::new(b"\xff".as_slice());
-    let late_no_text = Source::new(b"normalize\ta/.././b/../c/d\n\xff".as_slice());
-    let pieces = Source::new(SIX_LINES).in_pieces(10);
-    let first_fails = pieces.failing_at(1, ErrorKind::Other);
-    let pieces = Source::new(SIX_LINES).in_pieces(10);
-    let interrupted = pieces.failing_at(2, ErrorKind::Interrupted);
-    for (what, source, fault, reads) in [
-        ("a byte too many", too_long, Fault::InputTooLong, 5),
-        ("too long, no text", long_no_text, Fault::InputTooLong, 5),
-        ("no text", no_text, Fault::NotText, 2),
-        ("a line, then no text", late_no_text, Fault::NotText, 2),
-        ("the first read fails", first_fails, Fault::Read, 1),
-        ("the second is interrupted", interrupted, Fault::Read, 2),
-    ] {
-        let (result, calls, written) = outcome(rt.alloc(), source);
-        assert_eq!(rt; result, Err(fault), "{what}");
-        assert_eq!(rt; calls, reads, "reads of {what}");
-        assert!(rt; written.is_empty(), "output of {what}");
+    let source = Source::new(bytes.as_slice());
+    let expected = (Err(Fault::InputTooLong), 5, NOTHING);
+    ends(rt.alloc(), "too long, no text", source, expected)
+}
+
+const NO_TEXTS: [(&str, &[u8]); 2] = [
+    ("no text", b"\xff"),
+    ("a line, then no text", b"normalize\ta/.././b/../c/d\n\xff"),
+];
+
+#[test]
+fn tells_what_is_no_text(rt: HostRuntime) -> Result<(), Fail> {
+    for (case, input) in &NO_TEXTS {
+        let expected = (Err(Fault::NotText), 2, NOTHING);
+        ends(rt.alloc(), case, Source::new(*input), expected)?;
     }
     Ok(())
 }
 
 #[test]
-fn stops_an_endless_reader(rt: HostRuntime) {
-    let source = Source::new(io::repeat(b'a')).in_pieces(1);
-    let (result, calls, written) = outcome(rt.alloc(), source);
-    assert_eq!(rt; result, Err(Fault::InputTooLong));
-    assert_eq!(rt; calls, 65_537);
-    assert!(rt; written.is_empty());
-}
-
-#[test]
-fn writes_the_whole_output(rt: HostRuntime) {
-    let slow = Sink::new(rt.alloc()).in_pieces(1);
-    let full = Sink::new(rt.alloc()).full();
-    let interrupted = Sink::new(rt.alloc()).failing_at(1, ErrorKind::Interrupted);
-    let unflushed = Sink::new(rt.alloc()).failing_to_flush(ErrorKind::Other);
-    let failed = Err(Fault::Write);
-    for (what, input, sink, result, writes, flushes, output) in [
-        ("short writes", SIX_LINES, slow, Ok(()), 87, 1, SIX_ANSWERS),
-        ("nothing is taken", SIX_LINES, full, failed, 1, 0, NOTHING),
-        ("interrupted", SIX_LINES, interrupted, failed, 1, 0, NOTHING),
-        ("the flush fails", NOTHING, unflushed, failed, 0, 1, NOTHING),
+fn tells_a_failed_read(rt: HostRuntime) -> Result<(), Fail> {
+    for (case, number, kind) in [
+        ("the first read fails", 1, ErrorKind::Other),
+        ("the second is interrupted", 2, ErrorKind::Interrupted),
     ] {
-        let mut reader = Meter::new(input);
-        let mut writer = Meter::new(sink);
-        assert_eq!(rt; run(rt.alloc(), &mut reader, &mut writer), result, "{what}");
-        assert_eq!(rt; writer.calls(), writes, "writes where {what}");
-        assert_eq!(rt; writer.flushes(), flushes, "flushes where {what}");
-        assert_eq!(rt;
-            writer.into_inner().taken.as_slice(),
-            output,
-            "output where {what}"
-        );
+        let pieces = Source::new(SIX_LINES).in_pieces(10);
+        let expected = (Err(Fault::Read), number, NOTHING);
+        ends(rt.alloc(), case, pieces.failing_at(number, kind), expected)?;
     }
+    Ok(())
 }
 
 #[test]
-fn tells_each_failed_write(rt: HostRuntime) {
+fn stops_an_endless_reader(rt: HostRuntime) -> Result<(), Fail> {
+    let source = Source::new(io::repeat(b'a')).in_pieces(1);
+    let expected = (Err(Fault::InputTooLong), 65_537, NOTHING);
+    ends(rt.alloc(), "an endless reader", source, expected)
+}
+
+// Whether `run` over the input ends with this result, after this many writes and flushes, and the sink
+// took this output.
+fn writes(
+    alloc: Global,
+    case: &str,
+    input: &[u8],
+    sink: Sink,
+    expected: (Result<(), Fault>, u64, u64, &[u8]),
+) -> Result<(), Fail> {
+    let mut reader = Meter::new(input);
+    let mut writer = Meter::new(sink);
+    let result = run(alloc, &mut reader, &mut writer);
+    let (writes, flushes) = (writer.calls(), writer.flushes());
+    let sink = writer.into_inner();
+    let found = (result, writes, flushes, sink.taken.as_slice());
+    same(case, &found, &expected)
+}
+
+#[test]
+fn writes_the_whole_output(rt: HostRuntime) -> Result<(), Fail> {
+    let sink = Sink::new(rt.alloc()).in_pieces(1);
+    let expected = (Ok(()), 87, 1, SIX_ANSWERS);
+    writes(rt.alloc(), "short writes", SIX_LINES, sink, expected)
+}
+
+#[test]
+fn tells_that_nothing_is_taken(rt: HostRuntime) -> Result<(), Fail> {
+    let sink = Sink::new(rt.alloc()).full();
+    let expected = (Err(Fault::Write), 1, 0, NOTHING);
+    writes(rt.alloc(), "nothing is taken", SIX_LINES, sink, expected)
+}
+
+#[test]
+fn tells_an_interrupted_write(rt: HostRuntime) -> Result<(), Fail> {
+    let sink = Sink::new(rt.alloc()).failing_at(1, ErrorKind::Interrupted);
+    let expected = (Err(Fault::Write), 1, 0, NOTHING);
+    writes(rt.alloc(), "interrupted", SIX_LINES, sink, expected)
+}
+
+#[test]
+fn tells_a_failed_flush(rt: HostRuntime) -> Result<(), Fail> {
+    let sink = Sink::new(rt.alloc()).failing_to_flush(ErrorKind::Other);
+    let expected = (Err(Fault::Write), 0, 1, NOTHING);
+    writes(rt.alloc(), "the flush fails", NOTHING, sink, expected)
+}
+
+#[test]
+fn tells_each_failed_write(rt: HostRuntime) -> Result<(), Fail> {
     for number in 1..=87 {
         let mut reader = Meter::new(SIX_LINES);
         let sink = Sink::new(rt.alloc()).in_pieces(1);
         let mut writer = Meter::new(sink.failing_at(number, ErrorKind::Other));
         let result = run(rt.alloc(), &mut reader, &mut writer);
-        assert_eq!(rt; result, Err(Fault::Write), "write {number}");
-        assert_eq!(rt; writer.calls(), number, "writes up to {number}");
-        assert_eq!(rt; writer.failures(), 1, "failures at write {number}");
-        assert_eq!(rt; writer.flushes(), 0, "flushes at write {number}");
+        let counts = (writer.calls(), writer.failures(), writer.flushes());
+        same(
+            "write",
+            &(result, counts),
+            &(Err(Fault::Write), (number, 1, 0)),
+        )?;
     }
+    Ok(())
 }
 
 // 4,000 empty lines have answers of 18 bytes each.
@@ -189,10 +246,14 @@ fn flushes_behind_a_long_output(rt: HostRuntime) -> Result<(), Fail> {
     let answers = "! unknown command\n".repeat(rt.alloc(), 4_000)?;
     let mut reader = Meter::new(lines.as_bytes());
     let mut writer = Meter::new(Sink::new(rt.alloc()));
-    assert_eq!(rt; run(rt.alloc(), &mut reader, &mut writer), Ok(()));
+    let result = run(rt.alloc(), &mut reader, &mut writer);
     let sink = writer.into_inner();
-    assert!(rt; sink.taken.as_slice() == answers.as_bytes(), "output");
-    assert_eq!(rt; (sink.writes, sink.flushes), (1, 1));
-    assert_eq!(rt; (sink.offered, sink.flushed), (72_000, 72_000));
-    Ok(())
+    let is_whole = sink.taken.as_slice() == answers.as_bytes();
+    let calls = (sink.writes, sink.offered, sink.flushes, sink.flushed);
+    let found = (result, is_whole, calls);
+    same(
+        "a long output",
+        &found,
+        &(Ok(()), true, (1, 72_000, 1, 72_000)),
+    )
 }

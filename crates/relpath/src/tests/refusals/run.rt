@@ -4,6 +4,7 @@ use crate::fault::Fault;
 use crate::meter::Meter;
 use crate::run::run;
 use crate::tests::run::{SIX_ANSWERS, SIX_LINES};
+use crate::tests::same;
 use std::alloc::{AllocError, Global};
 use std::test::Fail;
 
@@ -16,30 +17,31 @@ fn with_long_path(alloc: Global, text: &str, end: &str) -> Result<String, AllocE
     Ok(line)
 }
 
+// Whether `run` over the input gives this output, or nothing where it was refused memory.
+fn gives(alloc: Global, case: &str, input: &[u8], output: &[u8]) -> Result<(), Fail> {
+    let mut reader = Meter::new(input);
+    let mut writer = Meter::new(Vec::with_capacity(alloc, output.len())?);
+    begin(alloc);
+    let answer = run(alloc, &mut reader, &mut writer);
+    end(alloc, answer == Err(Fault::OutOfMemory));
+    let written = writer.into_inner();
+    if answer == Err(Fault::OutOfMemory) {
+        same(case, &written.len(), &0)
+    } else {
+        let is_output = written.as_slice() == output;
+        same(case, &(answer, is_output), &(Ok(()), true))
+    }
+}
+
 #[test]
 fn lines(rt: HostRuntime) -> Result<(), Fail> {
     let long = with_long_path(rt.alloc(), "normalize\t", "")?;
-    let answers = with_long_path(rt.alloc(), "= ", "\n")?;
-    for (input, output) in [
-        (SIX_LINES, SIX_ANSWERS),
-        (long.as_bytes(), answers.as_bytes()),
-    ] {
-        let mut reader = Meter::new(input);
-        let mut writer = Meter::new(Vec::with_capacity(rt.alloc(), output.len())?);
-        begin(rt.alloc());
-        let answer = run(rt.alloc(), &mut reader, &mut writer);
-        end(rt.alloc(), answer == Err(Fault::OutOfMemory));
-        let written = writer.into_inner();
-        if answer == Err(Fault::OutOfMemory) {
-            assert!(rt; written.is_empty());
-        } else {
-            assert_eq!(rt; answer, Ok(()));
-            assert!(rt;
-                written.as_slice() == output,
-                "output of {} bytes",
-                input.len()
-            );
-        }
-    }
-    Ok(())
+    let answer = with_long_path(rt.alloc(), "= ", "\n")?;
+    gives(rt.alloc(), "six lines", SIX_LINES, SIX_ANSWERS)?;
+    gives(
+        rt.alloc(),
+        "a long path",
+        long.as_bytes(),
+        answer.as_bytes(),
+    )
 }
