@@ -1,31 +1,32 @@
-use super::{Case, Moves, all_become, as_paths, becomes, same, text_of};
+use super::{Case, all_become, as_paths, becomes, same, text_of};
 use crate::{MoveError, MoveTable};
 use relative_path::RelativePath;
 use std::alloc::{AllocError, Global};
 use std::test::Fail;
 
-const EXCHANGE: Moves = &[("a", "b"), ("b", "a")];
-
-const SPELT: Moves = &[("./d//../p/./a.md", "q/a.md"), ("x/../img/i.png", "j.png")];
-
 const MOVED: [Case; 5] = [
     (
         "a file that moves too",
-        &[("a.md", "x/a.md"), ("b.md", "y/b.md")],
+        "a.md > x/a.md, b.md > y/b.md",
         "b.md",
         "../y/b.md",
     ),
-    ("the other of two that change places", EXCHANGE, "b", "a"),
-    ("itself, which changes places", EXCHANGE, "a", "b"),
+    (
+        "the other of two that change places",
+        "a > b, b > a",
+        "b",
+        "a",
+    ),
+    ("itself, which changes places", "a > b, b > a", "a", "b"),
     (
         "a file that moves, by its place",
-        SPELT,
+        "./d//../p/./a.md > q/a.md, x/../img/i.png > j.png",
         "../img/./i.png",
         "../j.png",
     ),
     (
         "a file that stays, by its place",
-        SPELT,
+        "./d//../p/./a.md > q/a.md, x/../img/i.png > j.png",
         "../img/k.png",
         "../img/k.png",
     ),
@@ -39,19 +40,19 @@ fn answers_where_the_target_is_now(rt: HostRuntime) -> Result<(), Fail> {
 const REFUSED: [Case; 3] = [
     (
         "the first without a file name",
-        &[("a", "b"), ("..", "c"), ("./a", "d")],
+        "a > b, .. > c, ./a > d",
         "x",
         "! move 1 lacks a file name",
     ),
     (
         "two with one old path",
-        &[("a", "b"), ("./a", "c")],
+        "a > b, ./a > c",
         "../..",
         "! moves 0 and 1 have the same old path",
     ),
     (
         "the first two with one old path",
-        &[("a", "n"), ("b", "n"), ("./b", "n"), ("x/../a", "n")],
+        "a > n, b > n, ./b > n, x/../a > n",
         "y",
         "! moves 0 and 3 have the same old path",
     ),
