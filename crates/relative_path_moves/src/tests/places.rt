@@ -1,22 +1,32 @@
 use super::{finds, same};
 use crate::{PlaceIndex, directory, has_place};
 use relative_path::RelativePath;
+use std::alloc::Global;
 use std::test::Fail;
+
+// The numbers of paths, and of the first path that leads to the same.
+const PATHS: [(usize, &str, usize); 6] = [
+    (0, "a", 0),
+    (1, "../b", 1),
+    (2, "", 2),
+    (3, "c/..", 2),
+    (4, "./a", 0),
+    (5, "x/../../b", 1),
+];
+
+// Puts these paths in, and fails where another number is answered than is expected.
+fn inserts(alloc: Global, index: &mut PlaceIndex) -> Result<(), Fail> {
+    for (number, path, first) in &PATHS {
+        let found = index.insert(alloc, RelativePath::new(path), *number)?;
+        same(path, &found, first)?;
+    }
+    Ok(())
+}
 
 #[test]
 fn finds_the_first_path_of_a_place(rt: HostRuntime) -> Result<(), Fail> {
     let mut index = PlaceIndex::new(rt.alloc());
-    for (number, path, first) in &[
-        (0, "a", 0),
-        (1, "../b", 1),
-        (2, "", 2),
-        (3, "c/..", 2),
-        (4, "./a", 0),
-        (5, "x/../../b", 1),
-    ] {
-        let found = index.insert(rt.alloc(), RelativePath::new(path), *number)?;
-        same(path, &found, first)?;
-    }
+    inserts(rt.alloc(), &mut index)?;
     finds(rt.alloc(), &index, "a/.", Some(0))?;
     finds(rt.alloc(), &index, "b", None)?;
     same(
