@@ -1,116 +1,158 @@
-use super::{as_paths, told};
-use crate::{MoveError, MoveTable, moved};
+use super::{Case, all_become, as_paths, becomes, same, text_of};
+use crate::{MoveError, MoveTable};
 use relative_path::RelativePath;
+use std::alloc::{AllocError, Global};
 use std::test::Fail;
+
+const MOVED: [Case; 5] = [
+    (
+        "a file that moves too",
+        "a.md > x/a.md, b.md > y/b.md",
+        "b.md",
+        "../y/b.md",
+    ),
+    (
+        "the other of two that change places",
+        "a > b, b > a",
+        "b",
+        "a",
+    ),
+    ("itself, which changes places", "a > b, b > a", "a", "b"),
+    (
+        "a file that moves, by its place",
+        "./d//../p/./a.md > q/a.md, x/../img/i.png > j.png",
+        "../img/./i.png",
+        "../j.png",
+    ),
+    (
+        "a file that stays, by its place",
+        "./d//../p/./a.md > q/a.md, x/../img/i.png > j.png",
+        "../img/k.png",
+        "../img/k.png",
+    ),
+];
 
 #[test]
 fn answers_where_the_target_is_now(rt: HostRuntime) -> Result<(), Fail> {
-    let moves = [("a.md", "x/a.md"), ("b.md", "y/b.md")].map(as_paths);
-    let way = moved(rt.alloc(), &moves, 0, RelativePath::new("b.md"))?;
-    assert_eq!(rt; way.as_relative_path().as_str(), "../y/b.md");
-    Ok(())
+    all_become(rt.alloc(), &MOVED)
 }
 
+const REFUSED: [Case; 3] = [
+    (
+        "the first without a file name",
+        "a > b, .. > c, ./a > d",
+        "x",
+        "! move 1 lacks a file name",
+    ),
+    (
+        "two with one old path",
+        "a > b, ./a > c",
+        "../..",
+        "! moves 0 and 1 have the same old path",
+    ),
+    (
+        "the first two with one old path",
+        "a > n, b > n, ./b > n, x/../a > n",
+        "y",
+        "! moves 0 and 3 have the same old path",
+    ),
+];
+
 #[test]
-fn answers_where_two_files_change_places(rt: HostRuntime) -> Result<(), Fail> {
-    let moves = [("a", "b"), ("b", "a")].map(as_paths);
-    for (what, reference, answer) in [("the other", "b", "a"), ("itself", "a", "b")] {
-        let way = moved(rt.alloc(), &moves, 0, RelativePath::new(reference))?;
-        assert_eq!(rt; way.as_relative_path().as_str(), answer, "{what}");
+fn refuses_moves(rt: HostRuntime) -> Result<(), Fail> {
+    all_become(rt.alloc(), &REFUSED)
+}
+
+// A thousand paths, each its number between these two texts.
+fn numbered(alloc: Global, before: &str, behind: &str) -> Result<Vec<String>, AllocError> {
+    let mut paths = Vec::new(alloc);
+    for k in 0..1_000 {
+        paths.push(format!(in alloc; "{before}{k}{behind}")?)?;
+    }
+    Ok(paths)
+}
+
+// The moves from each of these paths to the other in its place.
+fn paired<'a>(
+    alloc: Global,
+    olds: &'a [String],
+    news: &'a [String],
+) -> Result<Vec<(RelativePath<'a>, RelativePath<'a>)>, AllocError> {
+    let mut moves = Vec::new(alloc);
+    for (old, new) in olds.iter().zip(news) {
+        moves.push(as_paths((old.as_str(), new.as_str())))?;
+    }
+    Ok(moves)
+}
+
+// Asks a table for a reference of each of its files to file number 500, which is a page of its own
+// directory.
+fn refers_to_one(alloc: Global, table: &MoveTable<'_>) -> Result<(), Fail> {
+    for i in 0..table.len() {
+        let way = table.moved(alloc, i, RelativePath::new("../docs/500.md"))?;
+        let expected = if i == 500 {
+            "page.md"
+        } else {
+            "../500/page.md"
+        };
+        same("500.md", &(i, text_of(&way)), &(i, expected))?;
     }
     Ok(())
 }
 
-#[test]
-fn answers_by_places_and_not_by_texts(rt: HostRuntime) -> Result<(), Fail> {
-    let moves = [("./d//../p/./a.md", "q/a.md"), ("x/../img/i.png", "j.png")].map(as_paths);
-    for (what, reference, answer) in [
-        ("a file that moved", "../img/./i.png", "../j.png"),
-        ("a file that stays", "../img/k.png", "../img/k.png"),
-    ] {
-        let way = moved(rt.alloc(), &moves, 0, RelativePath::new(reference))?;
-        assert_eq!(rt; way.as_relative_path().as_str(), answer, "{what}");
+// Asks a table of these thousand moves for ten references of each file.
+fn refers_from_each(
+    alloc: Global,
+    moves: &[(RelativePath<'_>, RelativePath<'_>)],
+) -> Result<(), Fail> {
+    let table = MoveTable::new(alloc, moves)?;
+    same("a table", &table.len(), &1_000)?;
+    for _ in 0..10 {
+        refers_to_one(alloc, &table)?;
     }
-    Ok(())
-}
-
-#[test]
-fn refuses_the_first_move_without_a_file_name(rt: HostRuntime) -> Result<(), Fail> {
-    let moves = [("a", "b"), ("..", "c"), ("./a", "d")].map(as_paths);
-    let way = moved(rt.alloc(), &moves, 0, RelativePath::new("x"));
-    assert_eq!(rt;
-        told(rt.alloc(), way)?.as_str(),
-        "! move 1 lacks a file name"
-    );
-    Ok(())
-}
-
-#[test]
-fn refuses_the_first_two_with_one_old_path(rt: HostRuntime) -> Result<(), Fail> {
-    let two = [("a", "b"), ("./a", "c")].map(as_paths);
-    let way = moved(rt.alloc(), &two, 0, RelativePath::new("../.."));
-    assert_eq!(rt;
-        told(rt.alloc(), way)?.as_str(),
-        "! moves 0 and 1 have the same old path"
-    );
-    let four = [("a", "n"), ("b", "n"), ("./b", "n"), ("x/../a", "n")].map(as_paths);
-    let way = moved(rt.alloc(), &four, 0, RelativePath::new("y"));
-    assert_eq!(rt;
-        told(rt.alloc(), way)?.as_str(),
-        "! moves 0 and 3 have the same old path"
-    );
     Ok(())
 }
 
 #[test]
 fn answers_among_a_thousand_moves(rt: HostRuntime) -> Result<(), Fail> {
-    let alloc = rt.alloc();
-    let mut olds = Vec::new(alloc);
-    let mut news = Vec::new(alloc);
-    for k in 0..1_000 {
-        olds.push(format!(in alloc; "docs/{k}.md")?)?;
-        news.push(format!(in alloc; "{k}/page.md")?)?;
-    }
-    let mut moves = Vec::new(alloc);
-    for (old, new) in olds.iter().zip(news.iter()) {
-        moves.push((
-            RelativePath::new(old.as_str()),
-            RelativePath::new(new.as_str()),
-        ))?;
-    }
-    assert_eq!(rt; moves.len(), 1_000);
-    let way = moved(alloc, moves.as_slice(), 7, RelativePath::new("./999.md"))?;
-    assert_eq!(rt; way.as_relative_path().as_str(), "../999/page.md");
-    let table = MoveTable::new(alloc, moves.as_slice())?;
-    assert_eq!(rt; table.len(), 1_000);
-    for reference in 0..10_000 {
-        let i = reference % 1_000;
-        let way = table.moved(alloc, i, RelativePath::new("../docs/500.md"))?;
-        assert_eq!(rt;
-            way.as_relative_path().as_str(),
-            if i == 500 {
-                "page.md"
-            } else {
-                "../500/page.md"
-            },
-            "{i}"
-        );
+    let olds = numbered(rt.alloc(), "docs/", ".md")?;
+    let news = numbered(rt.alloc(), "", "/page.md")?;
+    let moves = paired(rt.alloc(), &olds, &news)?;
+    becomes(
+        rt.alloc(),
+        "file 7",
+        &moves,
+        7,
+        "./999.md",
+        "../999/page.md",
+    )?;
+    refers_from_each(rt.alloc(), &moves)
+}
+
+#[test]
+fn tells_refusals_apart() -> Result<(), Fail> {
+    for (what, refusal, other) in &[
+        (
+            "other order",
+            MoveError::SameOld(0, 1),
+            MoveError::SameOld(1, 0),
+        ),
+        (
+            "other number",
+            MoveError::NoFileName(0),
+            MoveError::NoFileName(1),
+        ),
+        ("other reason", MoveError::AboveRoot, MoveError::NoPath),
+    ] {
+        same(what, &(refusal == other), &false)?;
+        same(what, refusal, refusal)?;
     }
     Ok(())
 }
 
 #[test]
-fn tells_refusals_apart(rt: HostRuntime) {
-    assert_eq!(rt; MoveError::SameOld(0, 1), MoveError::SameOld(0, 1));
-    assert_ne!(rt; MoveError::SameOld(0, 1), MoveError::SameOld(1, 0));
-    assert_ne!(rt; MoveError::NoFileName(0), MoveError::NoFileName(1));
-    assert_ne!(rt; MoveError::AboveRoot, MoveError::NoPath);
-}
-
-#[test]
 fn refusals_print_their_words(rt: HostRuntime) -> Result<(), Fail> {
-    let alloc = rt.alloc();
-    for (refusal, words) in [
+    for (refusal, words) in &[
         (MoveError::AboveRoot, "reference climbs above the root"),
         (MoveError::NoFileName(10), "move 10 lacks a file name"),
         (
@@ -118,7 +160,8 @@ fn refusals_print_their_words(rt: HostRuntime) -> Result<(), Fail> {
             "moves 10 and 18446744073709551615 have the same old path",
         ),
     ] {
-        assert_eq!(rt; format!(in alloc; "{refusal}")?.as_str(), words);
+        let printed = format!(in rt.alloc(); "{refusal}")?;
+        same(words, &printed.as_str(), words)?;
     }
     Ok(())
 }

@@ -1,7 +1,9 @@
-use crate::tests::pages::{FRONT_PAGE, REWRITER};
+use super::pages::{FRONT_PAGE, REWRITER};
+use super::{prints, same};
 use crate::{RewriteError, rewritten};
 use relative_path::RelativePath;
 use relative_path_moves::{MoveError, MoveTable};
+use std::alloc::Global;
 use std::test::Fail;
 
 fn as_paths<'a>((old, new): (&'a str, &'a str)) -> (RelativePath<'a>, RelativePath<'a>) {
@@ -55,14 +57,36 @@ const KEPT: [&str; 9] = [
     "] (c.md) [c]\n(c.md)\r\n",
 ];
 
+// What a page becomes that the first of these moves moves.
+fn after(
+    alloc: Global,
+    moves: &[(RelativePath<'_>, RelativePath<'_>)],
+    page: &str,
+) -> Result<String, Fail> {
+    let table = MoveTable::new(alloc, moves)?;
+    if table.len() == 0 {
+        return Err(Fail::new("no moves"));
+    }
+    Ok(rewritten(alloc, page, &table, 0)?)
+}
+
+// Fails where such a page becomes another text than is expected.
+fn becomes(
+    alloc: Global,
+    case: &str,
+    moves: &[(RelativePath<'_>, RelativePath<'_>)],
+    page: &str,
+    expected: &str,
+) -> Result<(), Fail> {
+    let text = after(alloc, moves, page)?;
+    same(case, &text.as_str(), &expected)
+}
+
 #[test]
 fn moves_the_targets_of_links(rt: HostRuntime) -> Result<(), Fail> {
     let moves = MOVES.map(as_paths);
-    let table = MoveTable::new(rt.alloc(), &moves)?;
-    assert!(rt; table.len() > 0, "the moves");
-    for (page, want) in LINKED {
-        let text = rewritten(rt.alloc(), page, &table, 0)?;
-        assert_eq!(rt; text.as_str(), want, "{page}");
+    for (page, expected) in &LINKED {
+        becomes(rt.alloc(), page, &moves, page, expected)?;
     }
     Ok(())
 }
@@ -70,11 +94,39 @@ fn moves_the_targets_of_links(rt: HostRuntime) -> Result<(), Fail> {
 #[test]
 fn leaves_the_rest_as_it_is(rt: HostRuntime) -> Result<(), Fail> {
     let moves = MOVES.map(as_paths);
-    let table = MoveTable::new(rt.alloc(), &moves)?;
-    assert!(rt; table.len() > 0, "the moves");
-    for page in KEPT {
-        let text = rewritten(rt.alloc(), page, &table, 0)?;
-        assert_eq!(rt; text.as_str(), page);
+    for page in &KEPT {
+        becomes(rt.alloc(), page, &moves, page, page)?;
+    }
+    Ok(())
+}
+
+// The numbers of moves, pages, and why they are refused.
+const REFUSED: [(usize, &str, RewriteError); 3] = [
+    (
+        0,
+        "[e](../e.md)",
+        RewriteError::Link(0, MoveError::AboveRoot),
+    ),
+    (
+        0,
+        "[e](e.md) [#](#)\n[c](c.md)",
+        RewriteError::Link(2, MoveError::AboveRoot),
+    ),
+    (
+        2,
+        "[k](k) [e](e.md) [c](../c)",
+        RewriteError::Link(0, MoveError::NoPath),
+    ),
+];
+
+// Fails where the table refuses one of these pages for another reason than is expected, or doesn't.
+fn refuses(alloc: Global, table: &MoveTable<'_>) -> Result<(), Fail> {
+    for (i, page, refusal) in &REFUSED {
+        if *i >= table.len() {
+            return Err(Fail::new("no such move"));
+        }
+        let answer = rewritten(alloc, page, table, *i);
+        same(page, &answer.err(), &Some(*refusal))?;
     }
     Ok(())
 }
@@ -83,54 +135,47 @@ fn leaves_the_rest_as_it_is(rt: HostRuntime) -> Result<(), Fail> {
 fn refuses_what_the_table_refuses(rt: HostRuntime) -> Result<(), Fail> {
     let moves = [("a.md", "b.md"), ("c.md", "../c.md"), ("d.md", "../x/d.md")].map(as_paths);
     let table = MoveTable::new(rt.alloc(), &moves)?;
-    for (i, page, refusal) in [
-        (
-            0,
-            "[e](../e.md)",
-            RewriteError::Link(0, MoveError::AboveRoot),
-        ),
-        (
-            0,
-            "[e](e.md) [#](#)\n[c](c.md)",
-            RewriteError::Link(2, MoveError::AboveRoot),
-        ),
-        (
-            2,
-            "[k](k) [e](e.md) [c](../c)",
-            RewriteError::Link(0, MoveError::NoPath),
-        ),
-    ] {
-        assert!(rt; i < table.len(), "move {i}");
-        let answer = rewritten(rt.alloc(), page, &table, i);
-        assert_eq!(rt; answer.err(), Some(refusal), "{page}");
-    }
-    Ok(())
+    refuses(rt.alloc(), &table)
 }
 
 #[test]
 fn moves_a_link_in_each_line(rt: HostRuntime) -> Result<(), Fail> {
-    let moves = MOVES.map(as_paths);
-    let table = MoveTable::new(rt.alloc(), &moves)?;
-    assert!(rt; table.len() > 0, "the moves");
     let page = "- [c](c.md)\n".repeat(rt.alloc(), 5_000)?;
-    let text = rewritten(rt.alloc(), &page, &table, 0)?;
-    let want = "- [c](../../e/f.md)\n".repeat(rt.alloc(), 5_000)?;
-    assert!(rt; text.as_str() == want.as_str(), "60,000 bytes");
-    Ok(())
+    let expected = "- [c](../../e/f.md)\n".repeat(rt.alloc(), 5_000)?;
+    let moves = MOVES.map(as_paths);
+    becomes(rt.alloc(), "60,000 bytes", &moves, &page, &expected)
 }
 
 #[test]
 fn moves_the_front_page_and_back(rt: HostRuntime) -> Result<(), Fail> {
     let there = [("README.md", "docs/README.md")].map(as_paths);
-    let table = MoveTable::new(rt.alloc(), &there)?;
-    assert!(rt; table.len() > 0, "the move");
-    let moved = rewritten(rt.alloc(), FRONT_PAGE, &table, 0)?;
-    assert!(rt; moved.contains("[docs/CALLING.md](CALLING.md)"), "there");
+    let moved = after(rt.alloc(), &there, FRONT_PAGE)?;
+    let is_moved = moved.contains("[docs/CALLING.md](CALLING.md)");
+    same("there", &is_moved, &true)?;
     let back = [("docs/README.md", "README.md")].map(as_paths);
-    let table = MoveTable::new(rt.alloc(), &back)?;
-    assert!(rt; table.len() > 0, "the move back");
-    let text = rewritten(rt.alloc(), &moved, &table, 0)?;
-    assert!(rt; text.as_str() == FRONT_PAGE, "and back");
+    becomes(rt.alloc(), "and back", &back, &moved, FRONT_PAGE)
+}
+
+// Parts of the page of the docs, as it is after its moves.
+const PARTS: [&str; 11] = [
+    "| [the callers](calling.md), which move too | `calling.md` |",
+    "[the errors](calling.md#errors), with a fragment",
+    "[the decisions](../docs/DECISIONS.md \"why it is made so\")",
+    "[the front page](../README.md)",
+    "[the directory of this page](../docs)",
+    "[this page](links.md)",
+    "[a part of this page](#links-of-pages-that-move)",
+    "[a site](https://www.rust-lang.org/) and [the server's root](/docs/)",
+    "between `](` and the next closing parenthesis\non the same line",
+    "- a `](` whose line closes no parenthesis behind it,\n",
+    "[calling]: CALLING.md\n",
+];
+
+// Fails where a text lacks one of these parts.
+fn holds(text: &str, parts: &[&str]) -> Result<(), Fail> {
+    for part in parts {
+        same(part, &text.contains(*part), &true)?;
+    }
     Ok(())
 }
 
@@ -141,33 +186,20 @@ fn moves_the_page_of_the_docs(rt: HostRuntime) -> Result<(), Fail> {
         ("docs/CALLING.md", "guide/calling.md"),
     ]
     .map(as_paths);
-    let table = MoveTable::new(rt.alloc(), &moves)?;
-    assert!(rt; table.len() > 0, "the moves");
-    let text = rewritten(rt.alloc(), REWRITER, &table, 0)?;
-    for line in [
-        "| [the callers](calling.md), which move too | `calling.md` |",
-        "[the errors](calling.md#errors), with a fragment",
-        "[the decisions](../docs/DECISIONS.md \"why it is made so\")",
-        "[the front page](../README.md)",
-        "[the directory of this page](../docs)",
-        "[this page](links.md)",
-        "[a part of this page](#links-of-pages-that-move)",
-        "[a site](https://www.rust-lang.org/) and [the server's root](/docs/)",
-        "between `](` and the next closing parenthesis\non the same line",
-        "- a `](` whose line closes no parenthesis behind it,\n",
-        "[calling]: CALLING.md\n",
-    ] {
-        assert!(rt; text.contains(line), "{line}");
-    }
-    Ok(())
+    let text = after(rt.alloc(), &moves, REWRITER)?;
+    holds(&text, &PARTS)
 }
 
 #[test]
 fn refusals_print_their_words(rt: HostRuntime) -> Result<(), Fail> {
-    let alloc = rt.alloc();
-    let link = format!(in alloc; "{}", RewriteError::Link(12, MoveError::AboveRoot))?;
-    assert_eq!(rt; link.as_str(), "link 12: reference climbs above the root");
-    let memory = format!(in alloc; "{}", RewriteError::OutOfMemory)?;
-    assert_eq!(rt; memory.as_str(), "out of memory");
+    for (refusal, words) in &[
+        (
+            RewriteError::Link(12, MoveError::AboveRoot),
+            "link 12: reference climbs above the root",
+        ),
+        (RewriteError::OutOfMemory, "out of memory"),
+    ] {
+        prints(rt.alloc(), refusal, words)?;
+    }
     Ok(())
 }

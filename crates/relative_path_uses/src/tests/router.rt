@@ -1,4 +1,6 @@
+use super::same;
 use crate::served;
+use std::alloc::Global;
 use std::test::Fail;
 
 // Paths of requests, and the files that they name below `site/public`.
@@ -17,38 +19,46 @@ const SERVED: [(&str, &str); 12] = [
     ("/über/日本.html", "site/public/über/日本.html"),
 ];
 
+// Fails where another file below this root answers a request than is expected, or none.
+fn serves(alloc: Global, root: &str, request: &str, expected: Option<&str>) -> Result<(), Fail> {
+    let file = served(alloc, root, request)?;
+    let found = file.as_ref().map(String::as_str);
+    same(root, &(request, found), &(request, expected))
+}
+
 #[test]
 fn serves_what_is_below_the_root(rt: HostRuntime) -> Result<(), Fail> {
-    for (request, want) in SERVED {
-        let file = served(rt.alloc(), "site/public", request)?.ok_or(request)?;
-        assert_eq!(rt; file.as_str(), want, "{request}");
+    for (request, file) in &SERVED {
+        serves(rt.alloc(), "site/public", request, Some(*file))?;
     }
     Ok(())
 }
 
+// Roots, requests, and the files that these name.
+const ROOTS: [(&str, &str, &str); 10] = [
+    ("/srv/www", "/a/b", "/srv/www/a/b"),
+    ("/srv/www/", "/a/b", "/srv/www//a/b"),
+    ("/srv/www/", "/", "/srv/www/"),
+    ("/", "/a/b", "//a/b"),
+    ("/", "", "/"),
+    ("", "/a/b", "a/b"),
+    ("", "/", ""),
+    (".", "/a", "./a"),
+    ("../public//.", "/a", "../public//./a"),
+    ("C:\\www", "/a", "C:\\www/a"),
+];
+
 #[test]
 fn leaves_the_root_as_it_is(rt: HostRuntime) -> Result<(), Fail> {
-    for (root, request, want) in [
-        ("/srv/www", "/a/b", "/srv/www/a/b"),
-        ("/srv/www/", "/a/b", "/srv/www//a/b"),
-        ("/srv/www/", "/", "/srv/www/"),
-        ("/", "/a/b", "//a/b"),
-        ("/", "", "/"),
-        ("", "/a/b", "a/b"),
-        ("", "/", ""),
-        (".", "/a", "./a"),
-        ("../public//.", "/a", "../public//./a"),
-        ("C:\\www", "/a", "C:\\www/a"),
-    ] {
-        let file = served(rt.alloc(), root, request)?.ok_or(request)?;
-        assert_eq!(rt; file.as_str(), want, "{root} and {request}");
+    for (root, request, file) in &ROOTS {
+        serves(rt.alloc(), root, request, Some(*file))?;
     }
     Ok(())
 }
 
 #[test]
 fn refuses_what_climbs(rt: HostRuntime) -> Result<(), Fail> {
-    for request in [
+    for request in &[
         "..",
         "/../secrets",
         "/../public/index.html",
@@ -56,17 +66,14 @@ fn refuses_what_climbs(rt: HostRuntime) -> Result<(), Fail> {
         "//..//..//etc/passwd",
         "/a/b/../../../x/../../public/a",
     ] {
-        assert!(rt;
-            served(rt.alloc(), "/srv/www", request)?.is_none(),
-            "{request}"
-        );
+        serves(rt.alloc(), "/srv/www", request, None)?;
     }
     Ok(())
 }
 
 #[test]
 fn refuses_what_other_platforms_cut(rt: HostRuntime) -> Result<(), Fail> {
-    for request in [
+    for request in &[
         "/..\\..\\x",
         "/a\\..\\..\\x",
         "\\",
@@ -74,23 +81,20 @@ fn refuses_what_other_platforms_cut(rt: HostRuntime) -> Result<(), Fail> {
         "/a.html\0.png",
         "\0",
     ] {
-        assert!(rt;
-            served(rt.alloc(), "/srv/www", request)?.is_none(),
-            "{request}"
-        );
+        serves(rt.alloc(), "/srv/www", request, None)?;
     }
     Ok(())
 }
 
 #[test]
-fn answers_very_long_requests(rt: HostRuntime) -> Result<(), Fail> {
+fn refuses_a_very_long_climb(rt: HostRuntime) -> Result<(), Fail> {
     let climbs = "../".repeat(rt.alloc(), 100_000)?;
-    assert!(rt;
-        served(rt.alloc(), "/srv/www", &climbs)?.is_none(),
-        "climbs"
-    );
+    serves(rt.alloc(), "/srv/www", &climbs, None)
+}
+
+#[test]
+fn serves_a_very_long_name(rt: HostRuntime) -> Result<(), Fail> {
     let names = "/a".repeat(rt.alloc(), 100_000)?;
-    let file = served(rt.alloc(), "/srv/www", &names)?.ok_or("a file")?;
-    assert_eq!(rt; file.strip_prefix("/srv/www"), Some(names.as_str()));
-    Ok(())
+    let file = format!(in rt.alloc(); "/srv/www{names}")?;
+    serves(rt.alloc(), "/srv/www", &names, Some(&file))
 }

@@ -1,5 +1,6 @@
 //! Paths by their places.
 use super::marks::{begin, end};
+use crate::tests::{finds, same};
 use crate::{PlaceIndex, has_place};
 use relative_path::RelativePath;
 use std::test::Fail;
@@ -11,10 +12,8 @@ fn insert(rt: HostRuntime) -> Result<(), Fail> {
     begin(rt.alloc());
     let first = index.insert(rt.alloc(), RelativePath::new("b/c"), 1);
     end(rt.alloc(), first.is_err());
-    let found = index.get(rt.alloc(), RelativePath::new("b/c"))?;
-    assert_eq!(rt; found, first.ok());
-    assert_eq!(rt; index.get(rt.alloc(), RelativePath::new("a"))?, Some(0));
-    Ok(())
+    finds(rt.alloc(), &index, "b/c", first.ok())?;
+    finds(rt.alloc(), &index, "a", Some(0))
 }
 
 #[test]
@@ -24,14 +23,13 @@ fn get(rt: HostRuntime) -> Result<(), Fail> {
     begin(rt.alloc());
     let found = index.get(rt.alloc(), RelativePath::new("a//b"));
     end(rt.alloc(), found.is_err());
-    assert_eq!(rt; found.unwrap_or(Some(0)), Some(0));
-    Ok(())
+    same("get", &found.unwrap_or(Some(0)), &Some(0))
 }
 
 #[test]
-fn place(rt: HostRuntime) {
+fn place(rt: HostRuntime) -> Result<(), Fail> {
     begin(rt.alloc());
     let has = has_place(rt.alloc(), RelativePath::new("a/../b"));
     end(rt.alloc(), has.is_err());
-    assert!(rt; has.unwrap_or(true));
+    same("has_place", &has.unwrap_or(true), &true)
 }

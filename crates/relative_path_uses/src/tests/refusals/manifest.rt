@@ -1,38 +1,33 @@
 //! The manifest reader.
 use super::marks::{begin, end};
+use crate::tests::{are, same};
 use crate::{ManifestError, manifest_files};
+use relative_path::RelativePathBuf;
 use serde_json::Value;
+use std::alloc::Global;
 use std::test::Fail;
+
+// What the reader answers for a manifest, between two marks.
+fn marked(alloc: Global, manifest: &Value) -> Result<Vec<RelativePathBuf>, ManifestError> {
+    begin(alloc);
+    let answer = manifest_files(alloc, manifest);
+    let error = answer.as_ref().err();
+    end(alloc, error == Some(&ManifestError::OutOfMemory));
+    answer
+}
 
 #[test]
 fn two_files(rt: HostRuntime) -> Result<(), Fail> {
     let manifest = Value::from_str(rt.alloc(), r#"{"base": "a", "files": ["b//c", "./d"]}"#)?;
-    begin(rt.alloc());
-    let answer = manifest_files(rt.alloc(), &manifest);
-    end(
-        rt.alloc(),
-        answer.as_ref().err() == Some(&ManifestError::OutOfMemory),
-    );
-    match answer {
-        Ok(files) => {
-            assert_eq!(rt; files.len(), 2);
-            assert_eq!(rt; files[0].as_relative_path().as_str(), "a/b/c");
-            assert_eq!(rt; files[1].as_relative_path().as_str(), "a/d");
-        }
-        Err(error) => assert_eq!(rt; error, ManifestError::OutOfMemory),
+    match marked(rt.alloc(), &manifest) {
+        Ok(files) => are(&files, &["a/b/c", "a/d"]),
+        Err(error) => same("a refusal", &error, &ManifestError::OutOfMemory),
     }
-    Ok(())
 }
 
 #[test]
 fn a_manifest_without_a_base(rt: HostRuntime) -> Result<(), Fail> {
     let manifest = Value::from_str(rt.alloc(), r#"{"files": ["b"]}"#)?;
-    begin(rt.alloc());
-    let answer = manifest_files(rt.alloc(), &manifest);
-    end(
-        rt.alloc(),
-        answer.as_ref().err() == Some(&ManifestError::OutOfMemory),
-    );
-    assert_eq!(rt; answer.err(), Some(ManifestError::NoBase));
-    Ok(())
+    let error = marked(rt.alloc(), &manifest).err();
+    same("a base", &error, &Some(ManifestError::NoBase))
 }

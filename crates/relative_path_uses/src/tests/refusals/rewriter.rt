@@ -1,33 +1,44 @@
 //! The rewriter of links.
 use super::marks::{begin, end};
+use crate::tests::same;
 use crate::{RewriteError, rewritten};
 use relative_path::RelativePath;
 use relative_path_moves::MoveTable;
+use std::alloc::Global;
 use std::test::Fail;
+
+// The rewriter's call between two marks, on a page that the first move moves. It fails where memory
+// was there and the page becomes another text than is expected.
+fn marked(alloc: Global, table: &MoveTable<'_>, page: &str, expected: &str) -> Result<(), Fail> {
+    if table.len() == 0 {
+        return Err(Fail::new("no move"));
+    }
+    begin(alloc);
+    let answer = rewritten(alloc, page, table, 0);
+    end(alloc, answer.is_err());
+    match answer {
+        Ok(text) => same(page, &text.as_str(), &expected),
+        Err(error) => same(page, &error, &RewriteError::OutOfMemory),
+    }
+}
+
+// The same, where the page moves into a directory.
+fn moved_down(alloc: Global, page: &str, expected: &str) -> Result<(), Fail> {
+    let moves = [(RelativePath::new("a.md"), RelativePath::new("b/a.md"))];
+    let table = MoveTable::new(alloc, &moves)?;
+    marked(alloc, &table, page, expected)
+}
 
 #[test]
 fn two_links(rt: HostRuntime) -> Result<(), Fail> {
-    let moves = [(RelativePath::new("a.md"), RelativePath::new("b/a.md"))];
-    let table = MoveTable::new(rt.alloc(), &moves)?;
-    assert!(rt; table.len() > 0, "the move");
-    begin(rt.alloc());
-    let answer = rewritten(rt.alloc(), "[c](c.md) [d](d.md)", &table, 0);
-    end(rt.alloc(), answer.is_err());
-    match answer {
-        Ok(text) => assert_eq!(rt; text.as_str(), "[c](../c.md) [d](../d.md)"),
-        Err(error) => assert_eq!(rt; error, RewriteError::OutOfMemory),
-    }
-    Ok(())
+    moved_down(
+        rt.alloc(),
+        "[c](c.md) [d](d.md)",
+        "[c](../c.md) [d](../d.md)",
+    )
 }
 
 #[test]
 fn a_page_without_links(rt: HostRuntime) -> Result<(), Fail> {
-    let moves = [(RelativePath::new("a.md"), RelativePath::new("b/a.md"))];
-    let table = MoveTable::new(rt.alloc(), &moves)?;
-    assert!(rt; table.len() > 0, "the move");
-    begin(rt.alloc());
-    let answer = rewritten(rt.alloc(), "no link](", &table, 0);
-    end(rt.alloc(), answer.is_err());
-    assert!(rt; answer.map_or(true, |text| text.as_str() == "no link]("));
-    Ok(())
+    moved_down(rt.alloc(), "no link](", "no link](")
 }
