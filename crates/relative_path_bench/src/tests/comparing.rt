@@ -34,9 +34,8 @@ fn hash_of(path: RelativePath<'_>) -> u64 {
 fn compares_by_components() -> Result<(), Fail> {
     for (left, right, order) in &COMPARISONS {
         let (a, b) = (RelativePath::new(left), RelativePath::new(right));
-        same(left, &a.cmp(&b), order)?;
-        same(left, &(a == b), &order.is_eq())?;
-        same(left, &(hash_of(a) == hash_of(b)), &order.is_eq())?;
+        let found = (a.cmp(&b), a == b, hash_of(a) == hash_of(b));
+        same(left, &found, &(*order, order.is_eq(), order.is_eq()))?;
     }
     Ok(())
 }

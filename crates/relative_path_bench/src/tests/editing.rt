@@ -1,7 +1,6 @@
 //! Pushes and pops, file names and extensions that are set, and joins.
 use super::{same, text_of};
 use relative_path::{RelativePath, RelativePathBuf};
-use std::alloc::{AllocError, Global};
 use std::test::Fail;
 
 const PUSHES: [(&str, &str, &str); 11] = [
@@ -46,8 +45,8 @@ const POPS: [(&str, bool, &str); 11] = [
 fn pops(rt: HostRuntime) -> Result<(), Fail> {
     for (text, popped, expected) in &POPS {
         let mut buf = RelativePathBuf::from_text(rt.alloc(), text)?;
-        same(text, &buf.pop(), popped)?;
-        same(text, &text_of(&buf), expected)?;
+        let found = buf.pop();
+        same(text, &(found, text_of(&buf)), &(*popped, *expected))?;
     }
     Ok(())
 }
@@ -69,22 +68,21 @@ const FILE_NAMES: [(&str, &str, &str); 13] = [
     ("a/foo", "", "a/"),
 ];
 
-// A path with a file name, by the setter and by the call that copies.
-fn named(alloc: Global, text: &str, file_name: &str) -> Result<[RelativePathBuf; 2], AllocError> {
-    let mut buf = RelativePathBuf::from_text(alloc, text)?;
-    buf.set_file_name(file_name)?;
-    Ok([
-        buf,
-        RelativePath::new(text).with_file_name(alloc, file_name)?,
-    ])
-}
-
 #[test]
 fn sets_file_names(rt: HostRuntime) -> Result<(), Fail> {
     for (text, file_name, expected) in &FILE_NAMES {
-        for path in &named(rt.alloc(), text, file_name)? {
-            same(text, &text_of(path), expected)?;
-        }
+        let mut buf = RelativePathBuf::from_text(rt.alloc(), text)?;
+        buf.set_file_name(file_name)?;
+        same(text, &text_of(&buf), expected)?;
+    }
+    Ok(())
+}
+
+#[test]
+fn copies_with_file_names(rt: HostRuntime) -> Result<(), Fail> {
+    for (text, file_name, expected) in &FILE_NAMES {
+        let buf = RelativePath::new(text).with_file_name(rt.alloc(), file_name)?;
+        same(text, &text_of(&buf), expected)?;
     }
     Ok(())
 }
@@ -113,9 +111,16 @@ const EXTENSIONS: [(&str, &str, &str, bool); 16] = [
 fn sets_extensions(rt: HostRuntime) -> Result<(), Fail> {
     for (text, extension, expected, answer) in &EXTENSIONS {
         let mut buf = RelativePathBuf::from_text(rt.alloc(), text)?;
-        same(text, &buf.set_extension(extension)?, answer)?;
-        same(text, &text_of(&buf), expected)?;
-        buf = RelativePath::new(text).with_extension(rt.alloc(), extension)?;
+        let found = buf.set_extension(extension)?;
+        same(text, &(found, text_of(&buf)), &(*answer, *expected))?;
+    }
+    Ok(())
+}
+
+#[test]
+fn copies_with_extensions(rt: HostRuntime) -> Result<(), Fail> {
+    for (text, extension, expected, _) in &EXTENSIONS {
+        let buf = RelativePath::new(text).with_extension(rt.alloc(), extension)?;
         same(text, &text_of(&buf), expected)?;
     }
     Ok(())
@@ -144,9 +149,12 @@ const JOINS: [(&str, &str, &str, &str); 5] = [
 fn joins(rt: HostRuntime) -> Result<(), Fail> {
     for (text, path, expected, components) in &JOINS {
         let joined = RelativePath::new(text).join(rt.alloc(), RelativePath::new(path))?;
-        same(text, &text_of(&joined), expected)?;
-        let expected = RelativePath::new(components);
-        same(text, &joined.as_relative_path(), &expected)?;
+        let expected = (*expected, RelativePath::new(components));
+        same(
+            text,
+            &(text_of(&joined), joined.as_relative_path()),
+            &expected,
+        )?;
     }
     Ok(())
 }

@@ -1,10 +1,13 @@
 //! The way from one path to another, and where paths lead apart.
 use super::{same, text_of};
 use relative_path::RelativePath;
+use std::alloc::Global;
 use std::test::Fail;
 
 // A source, a target, and the way between them where there is one.
-const WAYS: [(&str, &str, Option<&str>); 12] = [
+type Way = (&'static str, &'static str, Option<&'static str>);
+
+const WAYS: [Way; 12] = [
     ("a/b/c/d", "a/b/e/f", Some("../../e/f")),
     (
         "foo/bar/bap/foo.h",
@@ -23,15 +26,32 @@ const WAYS: [(&str, &str, Option<&str>); 12] = [
     ("..", "a", None),
 ];
 
+// Fails where `relative` leads elsewhere than its row says.
+fn finds_those_of(alloc: Global, rows: &[Way]) -> Result<(), Fail> {
+    for (from, to, expected) in rows {
+        let way = RelativePath::new(from).relative(alloc, RelativePath::new(to))?;
+        same(from, &text_of(&way), &expected.unwrap_or(""))?;
+    }
+    Ok(())
+}
+
 #[test]
 fn finds_the_way(rt: HostRuntime) -> Result<(), Fail> {
-    for (from, to, expected) in &WAYS {
-        let way = RelativePath::new(from).relative(rt.alloc(), RelativePath::new(to))?;
-        same(from, &text_of(&way), &expected.unwrap_or(""))?;
-        let way = RelativePath::new(from).try_relative(rt.alloc(), RelativePath::new(to))?;
+    finds_those_of(rt.alloc(), &WAYS)
+}
+
+// Fails where `try_relative` leads elsewhere than its row says, or leads where no way does.
+fn tries_those_of(alloc: Global, rows: &[Way]) -> Result<(), Fail> {
+    for (from, to, expected) in rows {
+        let way = RelativePath::new(from).try_relative(alloc, RelativePath::new(to))?;
         same(from, &way.as_ref().map(text_of), expected)?;
     }
     Ok(())
+}
+
+#[test]
+fn tells_whether_there_is_a_way(rt: HostRuntime) -> Result<(), Fail> {
+    tries_those_of(rt.alloc(), &WAYS)
 }
 
 const APART: [(&str, &str, Option<usize>); 6] = [

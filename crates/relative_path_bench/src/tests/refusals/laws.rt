@@ -25,6 +25,21 @@ fn same_texts(
     }
 }
 
+// Fails where memory was there, and these are not the three texts.
+fn same_three(
+    answer: &Result<(RelativePathBuf, RelativePathBuf, RelativePathBuf), AllocError>,
+    expected: (&str, &str, &str),
+) -> Result<(), Fail> {
+    match answer {
+        Ok((a, b, c)) => same(
+            "three texts",
+            &(text_of(a), text_of(b), text_of(c)),
+            &expected,
+        ),
+        Err(_) => Ok(()),
+    }
+}
+
 #[test]
 fn join_law_of_two(rt: HostRuntime) -> Result<(), Fail> {
     let [path, other] = ["a/", "//b"].map(RelativePath::new);
@@ -69,13 +84,7 @@ fn unit_of_one(rt: HostRuntime) -> Result<(), Fail> {
     begin(rt.alloc());
     let answer = unit(rt.alloc(), RelativePath::new("a//b/."));
     end(rt.alloc(), answer.is_err());
-    match answer {
-        Ok((alone, behind, before)) => {
-            let texts = (text_of(&alone), text_of(&behind), text_of(&before));
-            same("three texts", &texts, &("a/b", "a/b", "a/b"))
-        }
-        Err(_) => Ok(()),
-    }
+    same_three(&answer, ("a/b", "a/b", "a/b"))
 }
 
 #[test]
@@ -149,13 +158,7 @@ fn triangle_of_three(rt: HostRuntime) -> Result<(), Fail> {
     begin(rt.alloc());
     let answer = triangle(rt.alloc(), a, b, c);
     end(rt.alloc(), answer.is_err());
-    match answer {
-        Ok((a_c, a_b, b_c)) => {
-            let ways = (text_of(&a_c), text_of(&a_b), text_of(&b_c));
-            same("three ways", &ways, &("../../c", "..", "../c"))
-        }
-        Err(_) => Ok(()),
-    }
+    same_three(&answer, ("../../c", "..", "../c"))
 }
 
 #[test]
@@ -197,25 +200,25 @@ fn relative_to_law_of_texts(rt: HostRuntime) -> Result<(), Fail> {
     }
 }
 
+const ENDS: [End; 3] = [End::Back, End::Front, End::Front];
+
+const TAKEN: [Option<Component<'static>>; 3] = [
+    Some(Component::Normal("y")),
+    Some(Component::Normal("x")),
+    Some(Component::CurDir),
+];
+
 #[test]
 fn take_in_turn_from_a_path(rt: HostRuntime) -> Result<(), Fail> {
-    let ends = [End::Back, End::Front, End::Front];
     begin(rt.alloc());
-    let answer = take_in_turn(rt.alloc(), RelativePath::new("/x//./y/"), &ends);
+    let answer = take_in_turn(rt.alloc(), RelativePath::new("/x//./y/"), &ENDS);
     end(rt.alloc(), answer.is_err());
     match answer {
-        Ok(taken) => {
-            let expected = [
-                Some(Component::Normal("y")),
-                Some(Component::Normal("x")),
-                Some(Component::CurDir),
-            ];
-            same(
-                "components",
-                &taken.components.as_slice(),
-                &expected.as_slice(),
-            )
-        }
+        Ok(taken) => same(
+            "components",
+            &taken.components.as_slice(),
+            &TAKEN.as_slice(),
+        ),
         Err(_) => Ok(()),
     }
 }
