@@ -1,6 +1,7 @@
 //! Pushes and pops, file names and extensions that are set, and joins.
 use super::{same, text_of};
 use relative_path::{RelativePath, RelativePathBuf};
+use std::alloc::Global;
 use std::test::Fail;
 
 const PUSHES: [(&str, &str, &str); 11] = [
@@ -17,12 +18,16 @@ const PUSHES: [(&str, &str, &str); 11] = [
     ("", "/", ""),
 ];
 
+fn pushes_to(alloc: Global, text: &str, pushed: &str, expected: &str) -> Result<(), Fail> {
+    let mut buf = RelativePathBuf::from_text(alloc, text)?;
+    buf.push(RelativePath::new(pushed))?;
+    same(text, &text_of(&buf), &expected)
+}
+
 #[test]
 fn pushes(rt: HostRuntime) -> Result<(), Fail> {
     for (text, pushed, expected) in &PUSHES {
-        let mut buf = RelativePathBuf::from_text(rt.alloc(), text)?;
-        buf.push(RelativePath::new(pushed))?;
-        same(text, &text_of(&buf), expected)?;
+        pushes_to(rt.alloc(), text, pushed, expected)?;
     }
     Ok(())
 }
@@ -68,21 +73,24 @@ const FILE_NAMES: [(&str, &str, &str); 13] = [
     ("a/foo", "", "a/"),
 ];
 
-#[test]
-fn sets_file_names(rt: HostRuntime) -> Result<(), Fail> {
-    for (text, file_name, expected) in &FILE_NAMES {
-        let mut buf = RelativePathBuf::from_text(rt.alloc(), text)?;
-        buf.set_file_name(file_name)?;
-        same(text, &text_of(&buf), expected)?;
-    }
-    Ok(())
+// By the setter, and by the call that copies.
+fn sets_a_file_name(
+    alloc: Global,
+    text: &str,
+    file_name: &str,
+    expected: &str,
+) -> Result<(), Fail> {
+    let mut buf = RelativePathBuf::from_text(alloc, text)?;
+    buf.set_file_name(file_name)?;
+    same(text, &text_of(&buf), &expected)?;
+    let copy = RelativePath::new(text).with_file_name(alloc, file_name)?;
+    same(text, &text_of(&copy), &expected)
 }
 
 #[test]
-fn copies_with_file_names(rt: HostRuntime) -> Result<(), Fail> {
+fn sets_file_names(rt: HostRuntime) -> Result<(), Fail> {
     for (text, file_name, expected) in &FILE_NAMES {
-        let buf = RelativePath::new(text).with_file_name(rt.alloc(), file_name)?;
-        same(text, &text_of(&buf), expected)?;
+        sets_a_file_name(rt.alloc(), text, file_name, expected)?;
     }
     Ok(())
 }
@@ -107,21 +115,24 @@ const EXTENSIONS: [(&str, &str, &str, bool); 16] = [
     ("日本/語.é", "ü", "日本/語.ü", true),
 ];
 
-#[test]
-fn sets_extensions(rt: HostRuntime) -> Result<(), Fail> {
-    for (text, extension, expected, answer) in &EXTENSIONS {
-        let mut buf = RelativePathBuf::from_text(rt.alloc(), text)?;
-        let found = buf.set_extension(extension)?;
-        same(text, &(found, text_of(&buf)), &(*answer, *expected))?;
-    }
-    Ok(())
+// By the setter, and by the call that copies.
+fn sets_an_extension(
+    alloc: Global,
+    text: &str,
+    extension: &str,
+    expected: (bool, &str),
+) -> Result<(), Fail> {
+    let mut buf = RelativePathBuf::from_text(alloc, text)?;
+    let answer = buf.set_extension(extension)?;
+    same(text, &(answer, text_of(&buf)), &expected)?;
+    let copy = RelativePath::new(text).with_extension(alloc, extension)?;
+    same(text, &text_of(&copy), &expected.1)
 }
 
 #[test]
-fn copies_with_extensions(rt: HostRuntime) -> Result<(), Fail> {
-    for (text, extension, expected, _) in &EXTENSIONS {
-        let buf = RelativePath::new(text).with_extension(rt.alloc(), extension)?;
-        same(text, &text_of(&buf), expected)?;
+fn sets_extensions(rt: HostRuntime) -> Result<(), Fail> {
+    for (text, extension, expected, answer) in &EXTENSIONS {
+        sets_an_extension(rt.alloc(), text, extension, (*answer, expected))?;
     }
     Ok(())
 }
@@ -145,16 +156,25 @@ const JOINS: [(&str, &str, &str, &str); 5] = [
     ),
 ];
 
+fn joins_to(
+    alloc: Global,
+    text: &str,
+    path: &str,
+    expected: (&str, RelativePath<'_>),
+) -> Result<(), Fail> {
+    let joined = RelativePath::new(text).join(alloc, RelativePath::new(path))?;
+    same(
+        text,
+        &(text_of(&joined), joined.as_relative_path()),
+        &expected,
+    )
+}
+
 #[test]
 fn joins(rt: HostRuntime) -> Result<(), Fail> {
     for (text, path, expected, components) in &JOINS {
-        let joined = RelativePath::new(text).join(rt.alloc(), RelativePath::new(path))?;
         let expected = (*expected, RelativePath::new(components));
-        same(
-            text,
-            &(text_of(&joined), joined.as_relative_path()),
-            &expected,
-        )?;
+        joins_to(rt.alloc(), text, path, expected)?;
     }
     Ok(())
 }

@@ -52,20 +52,18 @@ fn views_paths() -> Result<(), Fail> {
     Ok(())
 }
 
-#[test]
-fn makes_relative_paths_of_texts(rt: HostRuntime) -> Result<(), Fail> {
-    for (text, expected) in &RELATIVES {
-        let buf = unix::from_path(rt.alloc(), text)?;
-        same(text, &text_of(&buf), expected)?;
-    }
-    Ok(())
+// Of a text, and of a `Path`.
+fn makes(alloc: Global, text: &str, expected: &str) -> Result<(), Fail> {
+    let made = unix::from_path(alloc, text)?;
+    same(text, &text_of(&made), &expected)?;
+    let made = RelativePathBuf::from_path(alloc, Path::new(text))?;
+    same(text, &text_of(&made), &expected)
 }
 
 #[test]
-fn makes_relative_paths_of_paths(rt: HostRuntime) -> Result<(), Fail> {
+fn makes_relative_paths(rt: HostRuntime) -> Result<(), Fail> {
     for (text, expected) in &RELATIVES {
-        let buf = RelativePathBuf::from_path(rt.alloc(), Path::new(text))?;
-        same(text, &text_of(&buf), expected)?;
+        makes(rt.alloc(), text, expected)?;
     }
     Ok(())
 }
@@ -76,14 +74,19 @@ fn refuses_a_root<T: Drop>(case: &str, answer: Result<T, FromPathError>) -> Resu
     same(case, &refused.kind(), &FromPathErrorKind::NonRelative)
 }
 
+// By each call that makes a relative path of a platform path.
+fn refuses(alloc: Global, text: &str) -> Result<(), Fail> {
+    let path = Path::new(text);
+    refuses_a_root(text, unix::view(text))?;
+    refuses_a_root(text, RelativePath::from_path(path))?;
+    refuses_a_root(text, unix::from_path(alloc, text))?;
+    refuses_a_root(text, RelativePathBuf::from_path(alloc, path))
+}
+
 #[test]
 fn refuses_roots(rt: HostRuntime) -> Result<(), Fail> {
     for text in &["/", "/foo/bar", "///", "/."] {
-        let path = Path::new(text);
-        refuses_a_root(text, unix::view(text))?;
-        refuses_a_root(text, RelativePath::from_path(path))?;
-        refuses_a_root(text, unix::from_path(rt.alloc(), text))?;
-        refuses_a_root(text, RelativePathBuf::from_path(rt.alloc(), path))?;
+        refuses(rt.alloc(), text)?;
     }
     Ok(())
 }
@@ -99,20 +102,19 @@ const BEHIND: [(&str, &str, &str); 7] = [
     ("///", "", ""),
 ];
 
-#[test]
-fn puts_paths_behind_platform_texts(rt: HostRuntime) -> Result<(), Fail> {
-    for (text, base, expected) in &BEHIND {
-        let made = unix::to_path(rt.alloc(), RelativePath::new(text), base)?;
-        same(text, &made.as_str(), expected)?;
-    }
-    Ok(())
+// Behind a text, and behind a `Path`.
+fn puts_behind(alloc: Global, text: &str, base: &str, expected: &str) -> Result<(), Fail> {
+    let path = RelativePath::new(text);
+    let made = unix::to_path(alloc, path, base)?;
+    same(text, &made.as_str(), &expected)?;
+    let made = path.to_path(alloc, Path::new(base))?.into_string();
+    same(text, &made.as_str(), &expected)
 }
 
 #[test]
 fn puts_paths_behind_platform_paths(rt: HostRuntime) -> Result<(), Fail> {
     for (text, base, expected) in &BEHIND {
-        let made = RelativePath::new(text).to_path(rt.alloc(), Path::new(base))?;
-        same(text, &made.into_string().as_str(), expected)?;
+        puts_behind(rt.alloc(), text, base, expected)?;
     }
     Ok(())
 }
@@ -129,20 +131,19 @@ const LOGICAL: [(&str, &str, &str); 8] = [
     ("./..//x/.", "é/日本/", "é/x"),
 ];
 
-#[test]
-fn leads_from_platform_texts(rt: HostRuntime) -> Result<(), Fail> {
-    for (text, base, expected) in &LOGICAL {
-        let made = unix::to_logical_path(rt.alloc(), RelativePath::new(text), base)?;
-        same(text, &made.as_str(), expected)?;
-    }
-    Ok(())
+// From a text, and from a `Path`.
+fn leads_from(alloc: Global, text: &str, base: &str, expected: &str) -> Result<(), Fail> {
+    let path = RelativePath::new(text);
+    let made = unix::to_logical_path(alloc, path, base)?;
+    same(text, &made.as_str(), &expected)?;
+    let made = path.to_logical_path(alloc, Path::new(base))?.into_string();
+    same(text, &made.as_str(), &expected)
 }
 
 #[test]
 fn leads_from_platform_paths(rt: HostRuntime) -> Result<(), Fail> {
     for (text, base, expected) in &LOGICAL {
-        let made = RelativePath::new(text).to_logical_path(rt.alloc(), Path::new(base))?;
-        same(text, &made.into_string().as_str(), expected)?;
+        leads_from(rt.alloc(), text, base, expected)?;
     }
     Ok(())
 }

@@ -18,19 +18,20 @@ fn printed<T: Display + Debug>(alloc: Global, value: &T) -> Result<String, Alloc
     format!(in alloc; "{value}|{value:?}")
 }
 
+// As a view, by `display` and in a buffer.
+fn prints(alloc: Global, text: &str, expected: &str) -> Result<(), Fail> {
+    let path = RelativePath::new(text);
+    same("a view", &printed(alloc, &path)?.as_str(), &expected)?;
+    let display = path.display();
+    same("display", &printed(alloc, &display)?.as_str(), &expected)?;
+    let buf = RelativePathBuf::from_text(alloc, text)?;
+    same("a buffer", &printed(alloc, &buf)?.as_str(), &expected)
+}
+
 #[test]
 fn prints_the_text(rt: HostRuntime) -> Result<(), Fail> {
     for (text, expected) in &PRINTED {
-        let path = RelativePath::new(text);
-        same("a view", &printed(rt.alloc(), &path)?.as_str(), expected)?;
-        let display = path.display();
-        same(
-            "display",
-            &printed(rt.alloc(), &display)?.as_str(),
-            expected,
-        )?;
-        let buf = RelativePathBuf::from_text(rt.alloc(), text)?;
-        same("a buffer", &printed(rt.alloc(), &buf)?.as_str(), expected)?;
+        prints(rt.alloc(), text, expected)?;
     }
     Ok(())
 }

@@ -7,7 +7,7 @@ use std::test::Fail;
 // A source, a target, and the way between them where there is one.
 type Way = (&'static str, &'static str, Option<&'static str>);
 
-const WAYS: [Way; 12] = [
+const WAYS: &[Way] = &[
     ("a/b/c/d", "a/b/e/f", Some("../../e/f")),
     (
         "foo/bar/bap/foo.h",
@@ -26,32 +26,21 @@ const WAYS: [Way; 12] = [
     ("..", "a", None),
 ];
 
-// Fails where `relative` leads elsewhere than its row says.
-fn finds_those_of(alloc: Global, rows: &[Way]) -> Result<(), Fail> {
-    for (from, to, expected) in rows {
-        let way = RelativePath::new(from).relative(alloc, RelativePath::new(to))?;
-        same(from, &text_of(&way), &expected.unwrap_or(""))?;
-    }
-    Ok(())
+// By `relative`, and by `try_relative`.
+fn leads(alloc: Global, from: &str, to: &str, expected: Option<&str>) -> Result<(), Fail> {
+    let (path, target) = (RelativePath::new(from), RelativePath::new(to));
+    let way = path.relative(alloc, target)?;
+    same(from, &text_of(&way), &expected.unwrap_or(""))?;
+    let way = path.try_relative(alloc, target)?;
+    same(from, &way.as_ref().map(text_of), &expected)
 }
 
 #[test]
 fn finds_the_way(rt: HostRuntime) -> Result<(), Fail> {
-    finds_those_of(rt.alloc(), &WAYS)
-}
-
-// Fails where `try_relative` leads elsewhere than its row says, or leads where no way does.
-fn tries_those_of(alloc: Global, rows: &[Way]) -> Result<(), Fail> {
-    for (from, to, expected) in rows {
-        let way = RelativePath::new(from).try_relative(alloc, RelativePath::new(to))?;
-        same(from, &way.as_ref().map(text_of), expected)?;
+    for (from, to, expected) in WAYS {
+        leads(rt.alloc(), from, to, *expected)?;
     }
     Ok(())
-}
-
-#[test]
-fn tells_whether_there_is_a_way(rt: HostRuntime) -> Result<(), Fail> {
-    tries_those_of(rt.alloc(), &WAYS)
 }
 
 const APART: [(&str, &str, Option<usize>); 6] = [

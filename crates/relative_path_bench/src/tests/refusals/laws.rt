@@ -7,7 +7,7 @@ use crate::{
     try_law, unit,
 };
 use relative_path::{Component, RelativePath, RelativePathBuf, RelativeToErrorKind};
-use std::alloc::AllocError;
+use std::alloc::{AllocError, Global};
 use std::test::Fail;
 
 fn texts_of(pair: &(RelativePathBuf, RelativePathBuf)) -> (&str, &str) {
@@ -121,35 +121,39 @@ fn same_law_of_two(rt: HostRuntime) -> Result<(), Fail> {
     }
 }
 
-#[test]
-fn leads_back_to_a_target(rt: HostRuntime) -> Result<(), Fail> {
-    for (from, to, expected) in &[("a/b", "a/c", ("a/c", "a/c")), ("..", "a", ("..", "a"))] {
-        begin(rt.alloc());
-        let answer = leads_back(rt.alloc(), RelativePath::new(from), RelativePath::new(to));
-        end(rt.alloc(), answer.is_err());
-        same_texts(&answer, *expected)?;
-    }
-    Ok(())
+fn leads_back_of(alloc: Global, from: &str, to: &str, expected: (&str, &str)) -> Result<(), Fail> {
+    begin(alloc);
+    let answer = leads_back(alloc, RelativePath::new(from), RelativePath::new(to));
+    end(alloc, answer.is_err());
+    same_texts(&answer, expected)
 }
 
-// A source, a target, and the way between them with its end.
-const WAYS: [(&str, &str, Option<(&str, &str)>); 3] = [
-    ("a/b", "a/c", Some(("../c", "a/c"))),
-    ("..", "a", None),
-    ("a", "a/.", Some(("", "a"))),
-];
+#[test]
+fn leads_back_to_a_target(rt: HostRuntime) -> Result<(), Fail> {
+    leads_back_of(rt.alloc(), "a/b", "a/c", ("a/c", "a/c"))?;
+    leads_back_of(rt.alloc(), "..", "a", ("..", "a"))
+}
+
+fn try_law_of(
+    alloc: Global,
+    from: &str,
+    to: &str,
+    expected: Option<(&str, &str)>,
+) -> Result<(), Fail> {
+    begin(alloc);
+    let answer = try_law(alloc, RelativePath::new(from), RelativePath::new(to));
+    end(alloc, answer.is_err());
+    match answer {
+        Ok(found) => same(from, &found.as_ref().map(texts_of), &expected),
+        Err(_) => Ok(()),
+    }
+}
 
 #[test]
 fn try_law_to_a_target(rt: HostRuntime) -> Result<(), Fail> {
-    for (from, to, expected) in &WAYS {
-        begin(rt.alloc());
-        let answer = try_law(rt.alloc(), RelativePath::new(from), RelativePath::new(to));
-        end(rt.alloc(), answer.is_err());
-        if let Ok(found) = answer {
-            same(from, &found.as_ref().map(texts_of), expected)?;
-        }
-    }
-    Ok(())
+    try_law_of(rt.alloc(), "a/b", "a/c", Some(("../c", "a/c")))?;
+    try_law_of(rt.alloc(), "..", "a", None)?;
+    try_law_of(rt.alloc(), "a", "a/.", Some(("", "a")))
 }
 
 #[test]
