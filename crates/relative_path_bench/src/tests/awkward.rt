@@ -4,17 +4,22 @@ use relative_path::{Component, RelativePath};
 use std::alloc::{AllocError, Global};
 use std::test::Fail;
 
-#[test]
-fn slashes(rt: HostRuntime) -> Result<(), Fail> {
-    let text = "/".repeat(rt.alloc(), 10_000)?;
-    let path = RelativePath::new(text.as_str());
+// Fails where a text of slashes has a component, a parent with one, or a file name.
+fn is_slashes(text: &str) -> Result<(), Fail> {
+    let path = RelativePath::new(text);
     let parent = path.parent().map(RelativePath::as_str);
     let found = (path.components().next(), parent, path.file_name());
     same(
         "component, parent and name",
         &found,
         &(None, Some(""), None),
-    )?;
+    )
+}
+
+#[test]
+fn slashes(rt: HostRuntime) -> Result<(), Fail> {
+    let text = "/".repeat(rt.alloc(), 10_000)?;
+    is_slashes(text.as_str())?;
     normalizes(rt.alloc(), text.as_str(), "")
 }
 
@@ -69,20 +74,24 @@ fn ways_lead_to_names_and_climbs(rt: HostRuntime) -> Result<(), Fail> {
     same("to it", &text_of(&way), &"../..")
 }
 
-#[test]
-fn steps_on_the_spot(rt: HostRuntime) -> Result<(), Fail> {
-    let text = "./".repeat(rt.alloc(), 1_000)?;
-    let path = RelativePath::new(text.as_str());
+// Fails where a text of steps on the spot is normal, or has a parent with a component.
+fn is_steps_on_the_spot(text: &str) -> Result<(), Fail> {
+    let path = RelativePath::new(text);
     let parent = path.parent().map(RelativePath::as_str);
     let found = (path.is_normalized(), parent);
-    same("is_normalized and parent", &found, &(false, Some("")))?;
-    normalizes(rt.alloc(), text.as_str(), "")
+    same("is_normalized and parent", &found, &(false, Some("")))
 }
 
 #[test]
-fn ends_in_turn(rt: HostRuntime) -> Result<(), Fail> {
-    let text = "a/".repeat(rt.alloc(), 1_000)?;
-    let mut walk = RelativePath::new(text.as_str()).components();
+fn steps_on_the_spot(rt: HostRuntime) -> Result<(), Fail> {
+    let text = "./".repeat(rt.alloc(), 1_000)?;
+    is_steps_on_the_spot(text.as_str())?;
+    normalizes(rt.alloc(), text.as_str(), "")
+}
+
+// Takes a thousand names from either end in turn.
+fn takes_a_thousand(text: &str) -> Result<(), Fail> {
+    let mut walk = RelativePath::new(text).components();
     let names = (Some(Component::Normal("a")), Some(Component::Normal("a")));
     for _ in 0..500 {
         same("front and back", &(walk.next(), walk.next_back()), &names)?;
@@ -90,6 +99,12 @@ fn ends_in_turn(rt: HostRuntime) -> Result<(), Fail> {
     let ends = (walk.next(), walk.next_back());
     let left = walk.as_relative_path().as_str();
     same("ends and text left", &(ends, left), &((None, None), ""))
+}
+
+#[test]
+fn ends_in_turn(rt: HostRuntime) -> Result<(), Fail> {
+    let text = "a/".repeat(rt.alloc(), 1_000)?;
+    takes_a_thousand(text.as_str())
 }
 
 #[test]

@@ -5,7 +5,7 @@ use relative_path::{
     RelativeToErrorKind, unix,
 };
 use std::alloc::{AllocError, Global};
-use std::fmt::Display;
+use std::fmt::{Debug, Display};
 use std::path::{Path, PathBuf};
 use std::test::Fail;
 
@@ -276,12 +276,12 @@ fn finds_ways_to_paths(rt: HostRuntime) -> Result<(), Fail> {
 }
 
 // Fails where a refusal is not equal to its clone, or doesn't print these words.
-fn tells<T: Clone + Drop + PartialEq + Display>(
+fn tells<T: Clone + Drop + PartialEq + Debug + Display>(
     alloc: Global,
     refusal: &T,
     words: &str,
 ) -> Result<(), Fail> {
-    same(words, &(refusal.clone()? == *refusal), &true)?;
+    same(words, &refusal.clone()?, refusal)?;
     let printed = format!(in alloc; "{refusal}")?;
     same(words, &printed.as_str(), &words)
 }
