@@ -1,7 +1,7 @@
 //! Pushes and pops, file names and extensions that are set, and joins.
 use super::{same, text_of};
 use relative_path::{RelativePath, RelativePathBuf};
-use std::alloc::{AllocError, Global};
+use std::alloc::Global;
 use std::test::Fail;
 
 const PUSHES: [(&str, &str, &str); 11] = [
@@ -18,12 +18,16 @@ const PUSHES: [(&str, &str, &str); 11] = [
     ("", "/", ""),
 ];
 
+fn pushes_to(alloc: Global, text: &str, pushed: &str, expected: &str) -> Result<(), Fail> {
+    let mut buf = RelativePathBuf::from_text(alloc, text)?;
+    buf.push(RelativePath::new(pushed))?;
+    same(text, &text_of(&buf), &expected)
+}
+
 #[test]
 fn pushes(rt: HostRuntime) -> Result<(), Fail> {
     for (text, pushed, expected) in &PUSHES {
-        let mut buf = RelativePathBuf::from_text(rt.alloc(), text)?;
-        buf.push(RelativePath::new(pushed))?;
-        same(text, &text_of(&buf), expected)?;
+        pushes_to(rt.alloc(), text, pushed, expected)?;
     }
     Ok(())
 }
@@ -46,8 +50,8 @@ const POPS: [(&str, bool, &str); 11] = [
 fn pops(rt: HostRuntime) -> Result<(), Fail> {
     for (text, popped, expected) in &POPS {
         let mut buf = RelativePathBuf::from_text(rt.alloc(), text)?;
-        same(text, &buf.pop(), popped)?;
-        same(text, &text_of(&buf), expected)?;
+        let found = buf.pop();
+        same(text, &(found, text_of(&buf)), &(*popped, *expected))?;
     }
     Ok(())
 }
@@ -69,22 +73,24 @@ const FILE_NAMES: [(&str, &str, &str); 13] = [
     ("a/foo", "", "a/"),
 ];
 
-// A path with a file name, by the setter and by the call that copies.
-fn named(alloc: Global, text: &str, file_name: &str) -> Result<[RelativePathBuf; 2], AllocError> {
+// By the setter, and by the call that copies.
+fn sets_a_file_name(
+    alloc: Global,
+    text: &str,
+    file_name: &str,
+    expected: &str,
+) -> Result<(), Fail> {
     let mut buf = RelativePathBuf::from_text(alloc, text)?;
     buf.set_file_name(file_name)?;
-    Ok([
-        buf,
-        RelativePath::new(text).with_file_name(alloc, file_name)?,
-    ])
+    same(text, &text_of(&buf), &expected)?;
+    let copy = RelativePath::new(text).with_file_name(alloc, file_name)?;
+    same(text, &text_of(&copy), &expected)
 }
 
 #[test]
 fn sets_file_names(rt: HostRuntime) -> Result<(), Fail> {
     for (text, file_name, expected) in &FILE_NAMES {
-        for path in &named(rt.alloc(), text, file_name)? {
-            same(text, &text_of(path), expected)?;
-        }
+        sets_a_file_name(rt.alloc(), text, file_name, expected)?;
     }
     Ok(())
 }
@@ -109,14 +115,24 @@ const EXTENSIONS: [(&str, &str, &str, bool); 16] = [
     ("日本/語.é", "ü", "日本/語.ü", true),
 ];
 
+// By the setter, and by the call that copies.
+fn sets_an_extension(
+    alloc: Global,
+    text: &str,
+    extension: &str,
+    expected: (bool, &str),
+) -> Result<(), Fail> {
+    let mut buf = RelativePathBuf::from_text(alloc, text)?;
+    let answer = buf.set_extension(extension)?;
+    same(text, &(answer, text_of(&buf)), &expected)?;
+    let copy = RelativePath::new(text).with_extension(alloc, extension)?;
+    same(text, &text_of(&copy), &expected.1)
+}
+
 #[test]
 fn sets_extensions(rt: HostRuntime) -> Result<(), Fail> {
     for (text, extension, expected, answer) in &EXTENSIONS {
-        let mut buf = RelativePathBuf::from_text(rt.alloc(), text)?;
-        same(text, &buf.set_extension(extension)?, answer)?;
-        same(text, &text_of(&buf), expected)?;
-        buf = RelativePath::new(text).with_extension(rt.alloc(), extension)?;
-        same(text, &text_of(&buf), expected)?;
+        sets_an_extension(rt.alloc(), text, extension, (*answer, expected))?;
     }
     Ok(())
 }
@@ -140,13 +156,25 @@ const JOINS: [(&str, &str, &str, &str); 5] = [
     ),
 ];
 
+fn joins_to(
+    alloc: Global,
+    text: &str,
+    path: &str,
+    expected: (&str, RelativePath<'_>),
+) -> Result<(), Fail> {
+    let joined = RelativePath::new(text).join(alloc, RelativePath::new(path))?;
+    same(
+        text,
+        &(text_of(&joined), joined.as_relative_path()),
+        &expected,
+    )
+}
+
 #[test]
 fn joins(rt: HostRuntime) -> Result<(), Fail> {
     for (text, path, expected, components) in &JOINS {
-        let joined = RelativePath::new(text).join(rt.alloc(), RelativePath::new(path))?;
-        same(text, &text_of(&joined), expected)?;
-        let expected = RelativePath::new(components);
-        same(text, &joined.as_relative_path(), &expected)?;
+        let expected = (*expected, RelativePath::new(components));
+        joins_to(rt.alloc(), text, path, expected)?;
     }
     Ok(())
 }

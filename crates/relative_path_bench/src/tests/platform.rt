@@ -5,6 +5,7 @@ use relative_path::{
     RelativeToErrorKind, unix,
 };
 use std::alloc::{AllocError, Global};
+use std::fmt::{Debug, Display};
 use std::path::{Path, PathBuf};
 use std::test::Fail;
 
@@ -44,43 +45,48 @@ const RELATIVES: [(&str, &str); 7] = [
 #[test]
 fn views_paths() -> Result<(), Fail> {
     for (text, _) in &RELATIVES {
-        same("a text", &unix::view(text)?.as_str(), text)?;
-        let view = RelativePath::from_path(Path::new(text))?;
-        same("a path", &view.as_str(), text)?;
+        let of_text = unix::view(text)?.as_str();
+        let of_path = RelativePath::from_path(Path::new(text))?.as_str();
+        same("a text and a path", &(of_text, of_path), &(*text, *text))?;
     }
     Ok(())
 }
 
-// The relative path made of a platform path, by its text and as a `Path`.
-fn made(alloc: Global, text: &str) -> Result<[RelativePathBuf; 2], FromPathError> {
-    Ok([
-        unix::from_path(alloc, text)?,
-        RelativePathBuf::from_path(alloc, Path::new(text))?,
-    ])
+// Of a text, and of a `Path`.
+fn makes(alloc: Global, text: &str, expected: &str) -> Result<(), Fail> {
+    let made = unix::from_path(alloc, text)?;
+    same(text, &text_of(&made), &expected)?;
+    let made = RelativePathBuf::from_path(alloc, Path::new(text))?;
+    same(text, &text_of(&made), &expected)
 }
 
 #[test]
 fn makes_relative_paths(rt: HostRuntime) -> Result<(), Fail> {
     for (text, expected) in &RELATIVES {
-        for path in &made(rt.alloc(), text)? {
-            same(text, &text_of(path), expected)?;
-        }
+        makes(rt.alloc(), text, expected)?;
     }
     Ok(())
+}
+
+// Fails where this is no refusal of a root.
+fn refuses_a_root<T: Drop>(case: &str, answer: Result<T, FromPathError>) -> Result<(), Fail> {
+    let refused = answer.err().ok_or("a refusal")?;
+    same(case, &refused.kind(), &FromPathErrorKind::NonRelative)
+}
+
+// By each call that makes a relative path of a platform path.
+fn refuses(alloc: Global, text: &str) -> Result<(), Fail> {
+    let path = Path::new(text);
+    refuses_a_root(text, unix::view(text))?;
+    refuses_a_root(text, RelativePath::from_path(path))?;
+    refuses_a_root(text, unix::from_path(alloc, text))?;
+    refuses_a_root(text, RelativePathBuf::from_path(alloc, path))
 }
 
 #[test]
 fn refuses_roots(rt: HostRuntime) -> Result<(), Fail> {
     for text in &["/", "/foo/bar", "///", "/."] {
-        for refused in [
-            unix::view(text).err(),
-            RelativePath::from_path(Path::new(text)).err(),
-            unix::from_path(rt.alloc(), text).err(),
-            RelativePathBuf::from_path(rt.alloc(), Path::new(text)).err(),
-        ] {
-            let kind = refused.map(|refused| refused.kind());
-            same(text, &kind, &Some(FromPathErrorKind::NonRelative))?;
-        }
+        refuses(rt.alloc(), text)?;
     }
     Ok(())
 }
@@ -96,20 +102,19 @@ const BEHIND: [(&str, &str, &str); 7] = [
     ("///", "", ""),
 ];
 
-// A path behind a platform path, by its text and as a `Path`.
-fn behind(alloc: Global, path: RelativePath<'_>, base: &str) -> Result<[String; 2], AllocError> {
-    Ok([
-        unix::to_path(alloc, path, base)?,
-        path.to_path(alloc, Path::new(base))?.into_string(),
-    ])
+// Behind a text, and behind a `Path`.
+fn puts_behind(alloc: Global, text: &str, base: &str, expected: &str) -> Result<(), Fail> {
+    let path = RelativePath::new(text);
+    let made = unix::to_path(alloc, path, base)?;
+    same(text, &made.as_str(), &expected)?;
+    let made = path.to_path(alloc, Path::new(base))?.into_string();
+    same(text, &made.as_str(), &expected)
 }
 
 #[test]
 fn puts_paths_behind_platform_paths(rt: HostRuntime) -> Result<(), Fail> {
     for (text, base, expected) in &BEHIND {
-        for made in &behind(rt.alloc(), RelativePath::new(text), base)? {
-            same(text, &made.as_str(), expected)?;
-        }
+        puts_behind(rt.alloc(), text, base, expected)?;
     }
     Ok(())
 }
@@ -126,20 +131,19 @@ const LOGICAL: [(&str, &str, &str); 8] = [
     ("./..//x/.", "é/日本/", "é/x"),
 ];
 
-// Where a path leads from a platform path, by its text and as a `Path`.
-fn reached(alloc: Global, path: RelativePath<'_>, base: &str) -> Result<[String; 2], AllocError> {
-    Ok([
-        unix::to_logical_path(alloc, path, base)?,
-        path.to_logical_path(alloc, Path::new(base))?.into_string(),
-    ])
+// From a text, and from a `Path`.
+fn leads_from(alloc: Global, text: &str, base: &str, expected: &str) -> Result<(), Fail> {
+    let path = RelativePath::new(text);
+    let made = unix::to_logical_path(alloc, path, base)?;
+    same(text, &made.as_str(), &expected)?;
+    let made = path.to_logical_path(alloc, Path::new(base))?.into_string();
+    same(text, &made.as_str(), &expected)
 }
 
 #[test]
 fn leads_from_platform_paths(rt: HostRuntime) -> Result<(), Fail> {
     for (text, base, expected) in &LOGICAL {
-        for made in &reached(rt.alloc(), RelativePath::new(text), base)? {
-            same(text, &made.as_str(), expected)?;
-        }
+        leads_from(rt.alloc(), text, base, expected)?;
     }
     Ok(())
 }
@@ -159,15 +163,25 @@ fn shown(
     }
 }
 
-// What each form of `relative_to` answers, as a text.
-fn ways(alloc: Global, path: &str, root: &str) -> Result<[String; 3], AllocError> {
+// What `relative_to` of two `Path`s answers, as a text.
+fn way_of_paths(alloc: Global, path: &str, root: &str) -> Result<String, AllocError> {
+    shown(alloc, Path::new(path).relative_to(alloc, Path::new(root)))
+}
+
+// What `relative_to` of a `PathBuf` answers, as a text.
+fn way_of_buffers(alloc: Global, path: &str, root: &str) -> Result<String, AllocError> {
     let owned = PathBuf::from(String::from_str(alloc, path)?);
-    let root_path = Path::new(root);
-    Ok([
-        shown(alloc, unix::relative_to(alloc, path, root))?,
-        shown(alloc, Path::new(path).relative_to(alloc, root_path))?,
-        shown(alloc, owned.relative_to(alloc, root_path))?,
-    ])
+    shown(alloc, owned.relative_to(alloc, Path::new(root)))
+}
+
+// Fails where a form of `relative_to` doesn't answer this.
+fn leads(alloc: Global, path: &str, root: &str, expected: &str) -> Result<(), Fail> {
+    let way = shown(alloc, unix::relative_to(alloc, path, root))?;
+    same(path, &way.as_str(), &expected)?;
+    let way = way_of_paths(alloc, path, root)?;
+    same(path, &way.as_str(), &expected)?;
+    let way = way_of_buffers(alloc, path, root)?;
+    same(path, &way.as_str(), &expected)
 }
 
 // A path, a root, and the way from the root to the path, or the words of a refusal.
@@ -245,16 +259,31 @@ const WORKED: [Way; 9] = [
     ("foo/bar", "./x", "../foo/bar"),
 ];
 
+// Fails where a way is another than its row says.
+fn finds_those_of(alloc: Global, rows: &[Way]) -> Result<(), Fail> {
+    for (path, root, expected) in rows {
+        leads(alloc, path, root, expected)?;
+    }
+    Ok(())
+}
+
 #[test]
 fn finds_ways_to_paths(rt: HostRuntime) -> Result<(), Fail> {
     for rows in &WAYS {
-        for (path, root, expected) in *rows {
-            for way in &ways(rt.alloc(), path, root)? {
-                same(path, &way.as_str(), expected)?;
-            }
-        }
+        finds_those_of(rt.alloc(), rows)?;
     }
     Ok(())
+}
+
+// Fails where a refusal is not equal to its clone, or doesn't print these words.
+fn tells<T: Clone + Drop + PartialEq + Debug + Display>(
+    alloc: Global,
+    refusal: &T,
+    words: &str,
+) -> Result<(), Fail> {
+    same(words, &refusal.clone()?, refusal)?;
+    let printed = format!(in alloc; "{refusal}")?;
+    same(words, &printed.as_str(), &words)
 }
 
 const FROM_PATH_KINDS: [(FromPathErrorKind, &str); 4] = [
@@ -278,11 +307,16 @@ fn tells_why_a_path_is_not_relative(rt: HostRuntime) -> Result<(), Fail> {
     for (kind, words) in &FROM_PATH_KINDS {
         let error = FromPathError::from(*kind);
         same(words, &error.kind(), kind)?;
-        same(words, &error.clone()?, &error)?;
-        let printed = format!(in rt.alloc(); "{error}")?;
-        same(words, &printed.as_str(), words)?;
+        tells(rt.alloc(), &error, words)?;
+    }
+    Ok(())
+}
+
+#[test]
+fn reasons_why_a_path_is_not_relative_differ() -> Result<(), Fail> {
+    for (kind, words) in &FROM_PATH_KINDS {
         for (other, _) in &FROM_PATH_KINDS {
-            let is_same = error == FromPathError::from(*other);
+            let is_same = FromPathError::from(*kind) == FromPathError::from(*other);
             same(words, &is_same, &(kind == other))?;
         }
     }
@@ -314,11 +348,16 @@ fn tells_why_no_way_leads_to_a_path(rt: HostRuntime) -> Result<(), Fail> {
     for (kind, words) in &RELATIVE_TO_KINDS {
         let error = RelativeToError::from(*kind);
         same(words, &error.kind(), kind)?;
-        same(words, &error.clone()?, &error)?;
-        let printed = format!(in rt.alloc(); "{error}")?;
-        same(words, &printed.as_str(), words)?;
+        tells(rt.alloc(), &error, words)?;
+    }
+    Ok(())
+}
+
+#[test]
+fn reasons_why_no_way_leads_to_a_path_differ() -> Result<(), Fail> {
+    for (kind, words) in &RELATIVE_TO_KINDS {
         for (other, _) in &RELATIVE_TO_KINDS {
-            let is_same = error == RelativeToError::from(*other);
+            let is_same = RelativeToError::from(*kind) == RelativeToError::from(*other);
             same(words, &is_same, &(kind == other))?;
         }
     }

@@ -1,10 +1,13 @@
 //! The way from one path to another, and where paths lead apart.
 use super::{same, text_of};
 use relative_path::RelativePath;
+use std::alloc::Global;
 use std::test::Fail;
 
 // A source, a target, and the way between them where there is one.
-const WAYS: [(&str, &str, Option<&str>); 12] = [
+type Way = (&'static str, &'static str, Option<&'static str>);
+
+const WAYS: &[Way] = &[
     ("a/b/c/d", "a/b/e/f", Some("../../e/f")),
     (
         "foo/bar/bap/foo.h",
@@ -23,13 +26,19 @@ const WAYS: [(&str, &str, Option<&str>); 12] = [
     ("..", "a", None),
 ];
 
+// By `relative`, and by `try_relative`.
+fn leads(alloc: Global, from: &str, to: &str, expected: Option<&str>) -> Result<(), Fail> {
+    let (path, target) = (RelativePath::new(from), RelativePath::new(to));
+    let way = path.relative(alloc, target)?;
+    same(from, &text_of(&way), &expected.unwrap_or(""))?;
+    let way = path.try_relative(alloc, target)?;
+    same(from, &way.as_ref().map(text_of), &expected)
+}
+
 #[test]
 fn finds_the_way(rt: HostRuntime) -> Result<(), Fail> {
-    for (from, to, expected) in &WAYS {
-        let way = RelativePath::new(from).relative(rt.alloc(), RelativePath::new(to))?;
-        same(from, &text_of(&way), &expected.unwrap_or(""))?;
-        let way = RelativePath::new(from).try_relative(rt.alloc(), RelativePath::new(to))?;
-        same(from, &way.as_ref().map(text_of), expected)?;
+    for (from, to, expected) in WAYS {
+        leads(rt.alloc(), from, to, *expected)?;
     }
     Ok(())
 }

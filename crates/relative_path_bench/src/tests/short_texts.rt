@@ -10,17 +10,22 @@ const LETTERS: [&str; 5] = ["", "/", ".", "a", "é"];
 // More names than a text of three letters goes up.
 const DEEPEST: usize = 3;
 
-// Some of them come more than once.
-fn short_texts(alloc: Global) -> Result<Vec<String>, Fail> {
-    let mut texts = Vec::new(alloc);
-    for first in LETTERS {
-        for second in LETTERS {
-            for third in LETTERS {
-                texts.push(format!(in alloc; "{first}{second}{third}")?)?;
-            }
+// Each of these texts followed by each letter.
+fn longer(alloc: Global, texts: &[String]) -> Result<Vec<String>, AllocError> {
+    let mut found = Vec::new(alloc);
+    for text in texts {
+        for letter in &LETTERS {
+            found.push(format!(in alloc; "{text}{letter}")?)?;
         }
     }
-    Ok(texts)
+    Ok(found)
+}
+
+// Some of them come more than once.
+fn short_texts(alloc: Global) -> Result<Vec<String>, AllocError> {
+    let texts = longer(alloc, &[String::new(alloc)])?;
+    let texts = longer(alloc, &texts)?;
+    longer(alloc, &texts)
 }
 
 // The place that a path leads to from a base of some names, if there is one.
@@ -75,15 +80,20 @@ fn is_out_of_reach(
     Ok(false)
 }
 
+// Fails where the normal form of a text isn't normal, or leads elsewhere.
+fn has_a_normal_form(alloc: Global, text: &str) -> Result<(), Fail> {
+    let path = RelativePath::new(text);
+    let buf = path.normalize(alloc)?;
+    normalizes(alloc, text, text_of(&buf))?;
+    let normal = buf.as_relative_path();
+    let found = (normal.is_normalized(), parted(alloc, normal, path)?);
+    same(text, &found, &(true, None))
+}
+
 #[test]
 fn normal_forms(rt: HostRuntime) -> Result<(), Fail> {
     for text in &short_texts(rt.alloc())? {
-        let path = RelativePath::new(text.as_str());
-        let normal = path.normalize(rt.alloc())?;
-        normalizes(rt.alloc(), text.as_str(), text_of(&normal))?;
-        let normal = normal.as_relative_path();
-        same(text.as_str(), &normal.is_normalized(), &true)?;
-        same(text.as_str(), &parted(rt.alloc(), normal, path)?, &None)?;
+        has_a_normal_form(rt.alloc(), text.as_str())?;
     }
     Ok(())
 }
@@ -106,17 +116,21 @@ fn fault_of_way(
     }
 }
 
+// Fails where the way between two paths is wrong, or they lead apart elsewhere.
+fn has_a_way(alloc: Global, text: &str, other: &str) -> Result<(), Fail> {
+    let (path, other) = (RelativePath::new(text), RelativePath::new(other));
+    let fault = fault_of_way(alloc, path, other)?;
+    let apart = path.leads_apart(alloc, other)?;
+    let expected = (None, parted(alloc, path, other)?);
+    same(text, &(fault, apart), &expected)
+}
+
 #[test]
 fn pairs(rt: HostRuntime) -> Result<(), Fail> {
     let texts = short_texts(rt.alloc())?;
     for text in &texts {
-        let path = RelativePath::new(text.as_str());
         for other in &texts {
-            let other = RelativePath::new(other.as_str());
-            let fault = fault_of_way(rt.alloc(), path, other)?;
-            same(text.as_str(), &fault, &None)?;
-            let apart = path.leads_apart(rt.alloc(), other)?;
-            same(text.as_str(), &apart, &parted(rt.alloc(), path, other)?)?;
+            has_a_way(rt.alloc(), text.as_str(), other.as_str())?;
         }
     }
     Ok(())

@@ -1,5 +1,5 @@
 //! The components of a path, from either end.
-use super::decompositions::DECOMPOSITIONS;
+use super::decompositions::{DECOMPOSITIONS, Decomposition};
 use super::same;
 use relative_path::{Component, RelativePath};
 use std::test::Fail;
@@ -27,14 +27,20 @@ fn gives(path: RelativePath<'_>, texts: &[&str]) -> (bool, bool, bool) {
     )
 }
 
+// Fails where a path has other components than its row says.
+fn gives_those_of(rows: &[Decomposition]) -> Result<(), Fail> {
+    for (text, expected, _, _) in rows {
+        let path = RelativePath::new(text);
+        let found = (has_components(path, expected), gives(path, expected));
+        same(text, &found, &(true, (true, true, true)))?;
+    }
+    Ok(())
+}
+
 #[test]
 fn gives_the_components_and_their_texts() -> Result<(), Fail> {
     for rows in &DECOMPOSITIONS {
-        for (text, expected, _, _) in *rows {
-            let path = RelativePath::new(text);
-            same(text, &has_components(path, expected), &true)?;
-            same(text, &gives(path, expected), &(true, true, true))?;
-        }
+        gives_those_of(rows)?;
     }
     Ok(())
 }
@@ -87,12 +93,18 @@ fn after<'a>(text: &'a str, calls: &str) -> (&'a str, &'a str) {
     (taken.map_or("", Component::as_str), left)
 }
 
+// Fails where calls take or leave something else than their row says.
+fn takes_those_of(rows: &[Walk]) -> Result<(), Fail> {
+    for (text, calls, component, left) in rows {
+        same(calls, &after(text, calls), &(*component, *left))?;
+    }
+    Ok(())
+}
+
 #[test]
 fn takes_from_both_ends() -> Result<(), Fail> {
     for rows in &WALKS {
-        for (text, calls, component, left) in *rows {
-            same(calls, &after(text, calls), &(*component, *left))?;
-        }
+        takes_those_of(rows)?;
     }
     Ok(())
 }

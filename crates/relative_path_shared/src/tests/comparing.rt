@@ -4,7 +4,7 @@ ghost use Rattle.std.specs.Prelude.{◌+◌, ◌*◌, ◌%◌, ◌^◌, fold};
 use super::same;
 use crate::{BoxedRelativePath, CowRelativePath, RcRelativePath};
 use relative_path::{Component, RelativePath, RelativePathBuf};
-use std::alloc::{AllocError, Global};
+use std::alloc::Global;
 use std::cmp::Ordering;
 use std::collections::HashMap;
 use std::hash::{Hash, Hasher};
@@ -21,37 +21,42 @@ const COMPARISONS: [(&str, &str, Ordering); 8] = [
     ("a/./b", "a/b", Ordering::Less),
 ];
 
-// How two paths compare in boxes, behind owners, and the one borrowed and the other owned.
-fn compared(alloc: Global, left: &str, right: &str) -> Result<[Ordering; 3], AllocError> {
-    let (a, b) = (RelativePath::new(left), RelativePath::new(right));
-    let boxed = BoxedRelativePath::from_text(alloc, left)?;
-    let shared = RcRelativePath::from_path_text(alloc, a)?;
-    let borrowed = CowRelativePath::from(a);
-    Ok([
-        boxed.cmp(&BoxedRelativePath::from_text(alloc, right)?),
-        shared.cmp(&RcRelativePath::from_path_text(alloc, b)?),
-        borrowed.cmp(&CowRelativePath::from(RelativePathBuf::from_text(alloc, right)?)),
-    ])
+// Fails where two paths in these forms don't compare so.
+fn compares<T: Ord>(case: &str, left: &T, right: &T, order: Ordering) -> Result<(), Fail> {
+    let found = (left.cmp(right), left == right);
+    same(case, &found, &(order, order.is_eq()))
 }
 
-// Whether they are equal.
-fn equal(alloc: Global, left: &str, right: &str) -> Result<[bool; 3], AllocError> {
-    let (a, b) = (RelativePath::new(left), RelativePath::new(right));
+fn compares_boxes(alloc: Global, left: &str, right: &str, order: Ordering) -> Result<(), Fail> {
     let boxed = BoxedRelativePath::from_text(alloc, left)?;
-    let shared = RcRelativePath::from_path_text(alloc, a)?;
-    let borrowed = CowRelativePath::from(a);
-    Ok([
-        boxed == BoxedRelativePath::from_text(alloc, right)?,
-        shared == RcRelativePath::from_path_text(alloc, b)?,
-        borrowed == CowRelativePath::from(RelativePathBuf::from_text(alloc, right)?),
-    ])
+    let other = BoxedRelativePath::from_text(alloc, right)?;
+    compares(left, &boxed, &other, order)
+}
+
+fn compares_owners(alloc: Global, left: &str, right: &str, order: Ordering) -> Result<(), Fail> {
+    let shared = RcRelativePath::from_path_text(alloc, RelativePath::new(left))?;
+    let other = RcRelativePath::from_path_text(alloc, RelativePath::new(right))?;
+    compares(left, &shared, &other, order)
+}
+
+// The one borrowed, and the other owned.
+fn compares_either_form(
+    alloc: Global,
+    left: &str,
+    right: &str,
+    order: Ordering,
+) -> Result<(), Fail> {
+    let borrowed = CowRelativePath::from(RelativePath::new(left));
+    let owned = CowRelativePath::from(RelativePathBuf::from_text(alloc, right)?);
+    compares(left, &borrowed, &owned, order)
 }
 
 #[test]
 fn compares_by_components(rt: HostRuntime) -> Result<(), Fail> {
     for (left, right, order) in &COMPARISONS {
-        same(left, &compared(rt.alloc(), left, right)?, &[*order; 3])?;
-        same(left, &equal(rt.alloc(), left, right)?, &[order.is_eq(); 3])?;
+        compares_boxes(rt.alloc(), left, right, *order)?;
+        compares_owners(rt.alloc(), left, right, *order)?;
+        compares_either_form(rt.alloc(), left, right, *order)?;
     }
     Ok(())
 }
@@ -87,28 +92,37 @@ fn writes_of<T: Hash>(value: &T) -> [u8; 8] {
     state.finish().to_be_bytes()
 }
 
+// Fails where a form of `a//b` isn't hashed so: each component is a write, and a slash another.
+fn writes_a_and_b<T: Hash>(case: &str, value: &T) -> Result<(), Fail> {
+    same(case, &writes_of(value), b"a|/|b|/|")
+}
+
 #[test]
-fn each_component_is_a_write_and_a_slash_another(rt: HostRuntime) -> Result<(), Fail> {
+fn each_component_is_a_write_and_a_slash_another() -> Result<(), Fail> {
     let path = RelativePath::new("a//b");
-    let expected = *b"a|/|b|/|";
-    same("view", &writes_of(&path), &expected)?;
+    writes_a_and_b("view", &path)?;
+    writes_a_and_b("borrowed", &CowRelativePath::from(path))?;
+    let writes = writes_of(&Component::ParentDir);
+    same("`..` alone", &writes, b"\0\0\0..|/|")
+}
+
+#[test]
+fn boxes_write_as_views(rt: HostRuntime) -> Result<(), Fail> {
     let boxed = BoxedRelativePath::from_text(rt.alloc(), "a//b")?;
-    same("box", &writes_of(&boxed), &expected)?;
-    let shared = RcRelativePath::from_path_text(rt.alloc(), path)?;
-    same("owner", &writes_of(&shared), &expected)?;
-    same(
-        "borrowed",
-        &writes_of(&CowRelativePath::from(path)),
-        &expected,
-    )?;
-    let buf = path.to_relative_path_buf(rt.alloc())?;
-    same("buffer", &writes_of(&buf), &expected)?;
-    same("owned", &writes_of(&CowRelativePath::from(buf)), &expected)?;
-    same(
-        "`..` alone",
-        &writes_of(&Component::ParentDir),
-        &*b"\0\0\0..|/|",
-    )
+    writes_a_and_b("box", &boxed)
+}
+
+#[test]
+fn owners_write_as_views(rt: HostRuntime) -> Result<(), Fail> {
+    let shared = RcRelativePath::from_path_text(rt.alloc(), RelativePath::new("a//b"))?;
+    writes_a_and_b("owner", &shared)
+}
+
+#[test]
+fn buffers_write_as_views(rt: HostRuntime) -> Result<(), Fail> {
+    let buf = RelativePath::new("a//b").to_relative_path_buf(rt.alloc())?;
+    writes_a_and_b("buffer", &buf)?;
+    writes_a_and_b("owned", &CowRelativePath::from(buf))
 }
 
 #[test]
@@ -126,30 +140,49 @@ fn boxed_keys_are_found_however_they_are_spelled(rt: HostRuntime) -> Result<(), 
 }
 
 #[test]
-fn buffers_made_of_one_text_are_equal(rt: HostRuntime) -> Result<(), Fail> {
+fn a_buffer_of_a_string_is_equal(rt: HostRuntime) -> Result<(), Fail> {
     let buf = RelativePath::new("foo/bar").to_relative_path_buf(rt.alloc())?;
     let other = RelativePathBuf::from(String::from_str(rt.alloc(), "foo/bar")?);
-    same("From<String>", &buf, &other)?;
+    same("From<String>", &buf, &other)
+}
+
+#[test]
+fn a_buffer_of_a_text_is_equal(rt: HostRuntime) -> Result<(), Fail> {
+    let buf = RelativePath::new("foo/bar").to_relative_path_buf(rt.alloc())?;
     let other = RelativePathBuf::from_text(rt.alloc(), "foo/bar")?;
     same("from_text", &buf, &other)
 }
 
+// Fails where a form isn't equal to `foo/bar` as a view.
+fn is_foo_bar(case: &str, path: RelativePath<'_>) -> Result<(), Fail> {
+    same(case, &path, &RelativePath::new("foo/bar"))
+}
+
 #[test]
-fn forms_of_equal_paths_are_equal_as_views(rt: HostRuntime) -> Result<(), Fail> {
-    let path = RelativePath::new("foo/bar");
+fn borrowed_paths_are_equal_as_views() -> Result<(), Fail> {
+    let borrowed = CowRelativePath::from(RelativePath::new("foo/bar"));
+    is_foo_bar("borrowed", borrowed.as_relative_path())
+}
+
+#[test]
+fn boxes_are_equal_as_views(rt: HostRuntime) -> Result<(), Fail> {
     let boxed = BoxedRelativePath::from_text(rt.alloc(), "foo/bar")?;
-    same("a box", &boxed.as_relative_path(), &path)?;
-    let shared = RcRelativePath::from_path_text(rt.alloc(), path)?;
-    same("an owner", &shared.as_relative_path(), &path)?;
-    same(
-        "borrowed",
-        &CowRelativePath::from(path).as_relative_path(),
-        &path,
-    )?;
+    is_foo_bar("a box", boxed.as_relative_path())
+}
+
+#[test]
+fn owners_are_equal_as_views(rt: HostRuntime) -> Result<(), Fail> {
+    let shared = RcRelativePath::from_path_text(rt.alloc(), RelativePath::new("foo/bar"))?;
+    is_foo_bar("an owner", shared.as_relative_path())
+}
+
+#[test]
+fn pushed_buffers_are_equal_as_views(rt: HostRuntime) -> Result<(), Fail> {
     let mut buf = RelativePathBuf::new(rt.alloc());
-    buf.push(RelativePath::new("foo"))?;
-    buf.push(RelativePath::new("bar"))?;
-    same("pushed", &buf.as_relative_path(), &path)?;
+    for name in &["foo", "bar"] {
+        buf.push(RelativePath::new(name))?;
+    }
+    is_foo_bar("pushed", buf.as_relative_path())?;
     let owned = CowRelativePath::from(buf);
-    same("owned", &owned.as_relative_path(), &path)
+    is_foo_bar("owned", owned.as_relative_path())
 }

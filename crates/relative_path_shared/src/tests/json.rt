@@ -3,6 +3,7 @@ use super::{same, shows};
 use crate::{FromValueError, boxed_from_value, from_value, to_value, view_value};
 use relative_path::RelativePath;
 use serde_json::Value;
+use std::alloc::Global;
 use std::test::Fail;
 
 // JSON text of a string, and the path.
@@ -15,27 +16,39 @@ const STRINGS: [(&str, &str); 6] = [
     ("\"日本/\\t\"", "日本/\t"),
 ];
 
+// Fails where a JSON text is not this path, as a view, in a buffer and in a box.
+fn is_path(alloc: Global, json: &str, text: &str) -> Result<(), Fail> {
+    let value = Value::from_str(alloc, json)?;
+    shows("view", view_value(&value)?, text)?;
+    let buf = from_value(alloc, &value)?;
+    shows("buffer", buf.as_relative_path(), text)?;
+    let boxed = boxed_from_value(alloc, &value)?;
+    shows("box", boxed.as_relative_path(), text)
+}
+
 #[test]
 fn strings_are_paths(rt: HostRuntime) -> Result<(), Fail> {
     for (json, text) in &STRINGS {
-        let value = Value::from_str(rt.alloc(), json)?;
-        shows("view", view_value(&value)?, text)?;
-        let buf = from_value(rt.alloc(), &value)?;
-        shows("buffer", buf.as_relative_path(), text)?;
-        let boxed = boxed_from_value(rt.alloc(), &value)?;
-        shows("box", boxed.as_relative_path(), text)?;
+        is_path(rt.alloc(), json, text)?;
     }
     Ok(())
 }
 
+// Fails where a JSON text is taken for a path, as a view, in a buffer or in a box.
+fn is_refused(alloc: Global, json: &str) -> Result<(), Fail> {
+    let value = Value::from_str(alloc, json)?;
+    let found = [
+        view_value(&value).err(),
+        from_value(alloc, &value).err(),
+        boxed_from_value(alloc, &value).err(),
+    ];
+    same(json, &found, &[Some(FromValueError::NotAString); 3])
+}
+
 #[test]
 fn other_values_are_refused(rt: HostRuntime) -> Result<(), Fail> {
-    let refusal = Some(FromValueError::NotAString);
     for json in &["null", "true", "7", "[]", "[\"a/b\"]", "{}"] {
-        let value = Value::from_str(rt.alloc(), json)?;
-        same(json, &from_value(rt.alloc(), &value).err(), &refusal)?;
-        same(json, &boxed_from_value(rt.alloc(), &value).err(), &refusal)?;
-        same(json, &view_value(&value).err(), &refusal)?;
+        is_refused(rt.alloc(), json)?;
     }
     Ok(())
 }

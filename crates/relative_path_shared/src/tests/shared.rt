@@ -14,19 +14,24 @@ fn copied_boxes_show_the_text(rt: HostRuntime) -> Result<(), Fail> {
 }
 
 #[test]
-fn boxes_of_what_they_take_show_the_text(rt: HostRuntime) -> Result<(), Fail> {
+fn a_box_of_a_boxed_text_shows_it(rt: HostRuntime) -> Result<(), Fail> {
     let taken = BoxedRelativePath::from(BoxedStr::from_str(rt.alloc(), "a//b")?);
-    shows("From<BoxedStr>", taken.as_relative_path(), "a//b")?;
+    shows("From<BoxedStr>", taken.as_relative_path(), "a//b")
+}
+
+#[test]
+fn a_box_of_a_buffer_shows_the_text(rt: HostRuntime) -> Result<(), Fail> {
     let buf = RelativePathBuf::from_text(rt.alloc(), "a//b")?;
-    let boxed = BoxedRelativePath::from_buf(rt.alloc(), buf)
-        .ok()
-        .ok_or("from_buf")?;
-    shows("from_buf", boxed.as_relative_path(), "a//b")?;
+    let answer = BoxedRelativePath::from_buf(rt.alloc(), buf);
+    let boxed = answer.ok().ok_or("from_buf")?;
+    shows("from_buf", boxed.as_relative_path(), "a//b")
+}
+
+#[test]
+fn a_buffer_becomes_a_box_that_shows_the_text(rt: HostRuntime) -> Result<(), Fail> {
     let buf = RelativePathBuf::from_text(rt.alloc(), "a//b")?;
-    let boxed = buf
-        .into_boxed_relative_path(rt.alloc())
-        .ok()
-        .ok_or("BufExt")?;
+    let answer = buf.into_boxed_relative_path(rt.alloc());
+    let boxed = answer.ok().ok_or("BufExt")?;
     shows("BufExt", boxed.as_relative_path(), "a//b")
 }
 
@@ -36,15 +41,15 @@ fn owners_share_the_text(rt: HostRuntime) -> Result<(), Fail> {
     shows("from_path_text", first.as_relative_path(), "a//b")?;
     let second = first.share()?;
     drop(first);
-    shows(
-        "share, the first owner gone",
-        second.as_relative_path(),
-        "a//b",
-    )?;
+    let path = second.as_relative_path();
+    shows("share, the first owner gone", path, "a//b")
+}
+
+#[test]
+fn an_owner_of_a_buffer_shows_the_text(rt: HostRuntime) -> Result<(), Fail> {
     let buf = RelativePathBuf::from_text(rt.alloc(), "a//b")?;
-    let taken = RcRelativePath::from_buf(rt.alloc(), buf)
-        .ok()
-        .ok_or("from_buf")?;
+    let answer = RcRelativePath::from_buf(rt.alloc(), buf);
+    let taken = answer.ok().ok_or("from_buf")?;
     shows("from_buf", taken.as_relative_path(), "a//b")
 }
 

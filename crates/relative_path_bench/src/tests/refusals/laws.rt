@@ -7,7 +7,7 @@ use crate::{
     try_law, unit,
 };
 use relative_path::{Component, RelativePath, RelativePathBuf, RelativeToErrorKind};
-use std::alloc::AllocError;
+use std::alloc::{AllocError, Global};
 use std::test::Fail;
 
 fn texts_of(pair: &(RelativePathBuf, RelativePathBuf)) -> (&str, &str) {
@@ -21,6 +21,21 @@ fn same_texts(
 ) -> Result<(), Fail> {
     match answer {
         Ok(pair) => same("two texts", &texts_of(pair), &expected),
+        Err(_) => Ok(()),
+    }
+}
+
+// Fails where memory was there, and these are not the three texts.
+fn same_three(
+    answer: &Result<(RelativePathBuf, RelativePathBuf, RelativePathBuf), AllocError>,
+    expected: (&str, &str, &str),
+) -> Result<(), Fail> {
+    match answer {
+        Ok((a, b, c)) => same(
+            "three texts",
+            &(text_of(a), text_of(b), text_of(c)),
+            &expected,
+        ),
         Err(_) => Ok(()),
     }
 }
@@ -69,13 +84,7 @@ fn unit_of_one(rt: HostRuntime) -> Result<(), Fail> {
     begin(rt.alloc());
     let answer = unit(rt.alloc(), RelativePath::new("a//b/."));
     end(rt.alloc(), answer.is_err());
-    match answer {
-        Ok((alone, behind, before)) => {
-            let texts = (text_of(&alone), text_of(&behind), text_of(&before));
-            same("three texts", &texts, &("a/b", "a/b", "a/b"))
-        }
-        Err(_) => Ok(()),
-    }
+    same_three(&answer, ("a/b", "a/b", "a/b"))
 }
 
 #[test]
@@ -112,35 +121,39 @@ fn same_law_of_two(rt: HostRuntime) -> Result<(), Fail> {
     }
 }
 
-#[test]
-fn leads_back_to_a_target(rt: HostRuntime) -> Result<(), Fail> {
-    for (from, to, expected) in &[("a/b", "a/c", ("a/c", "a/c")), ("..", "a", ("..", "a"))] {
-        begin(rt.alloc());
-        let answer = leads_back(rt.alloc(), RelativePath::new(from), RelativePath::new(to));
-        end(rt.alloc(), answer.is_err());
-        same_texts(&answer, *expected)?;
-    }
-    Ok(())
+fn leads_back_of(alloc: Global, from: &str, to: &str, expected: (&str, &str)) -> Result<(), Fail> {
+    begin(alloc);
+    let answer = leads_back(alloc, RelativePath::new(from), RelativePath::new(to));
+    end(alloc, answer.is_err());
+    same_texts(&answer, expected)
 }
 
-// A source, a target, and the way between them with its end.
-const WAYS: [(&str, &str, Option<(&str, &str)>); 3] = [
-    ("a/b", "a/c", Some(("../c", "a/c"))),
-    ("..", "a", None),
-    ("a", "a/.", Some(("", "a"))),
-];
+#[test]
+fn leads_back_to_a_target(rt: HostRuntime) -> Result<(), Fail> {
+    leads_back_of(rt.alloc(), "a/b", "a/c", ("a/c", "a/c"))?;
+    leads_back_of(rt.alloc(), "..", "a", ("..", "a"))
+}
+
+fn try_law_of(
+    alloc: Global,
+    from: &str,
+    to: &str,
+    expected: Option<(&str, &str)>,
+) -> Result<(), Fail> {
+    begin(alloc);
+    let answer = try_law(alloc, RelativePath::new(from), RelativePath::new(to));
+    end(alloc, answer.is_err());
+    match answer {
+        Ok(found) => same(from, &found.as_ref().map(texts_of), &expected),
+        Err(_) => Ok(()),
+    }
+}
 
 #[test]
 fn try_law_to_a_target(rt: HostRuntime) -> Result<(), Fail> {
-    for (from, to, expected) in &WAYS {
-        begin(rt.alloc());
-        let answer = try_law(rt.alloc(), RelativePath::new(from), RelativePath::new(to));
-        end(rt.alloc(), answer.is_err());
-        if let Ok(found) = answer {
-            same(from, &found.as_ref().map(texts_of), expected)?;
-        }
-    }
-    Ok(())
+    try_law_of(rt.alloc(), "a/b", "a/c", Some(("../c", "a/c")))?;
+    try_law_of(rt.alloc(), "..", "a", None)?;
+    try_law_of(rt.alloc(), "a", "a/.", Some(("", "a")))
 }
 
 #[test]
@@ -149,13 +162,7 @@ fn triangle_of_three(rt: HostRuntime) -> Result<(), Fail> {
     begin(rt.alloc());
     let answer = triangle(rt.alloc(), a, b, c);
     end(rt.alloc(), answer.is_err());
-    match answer {
-        Ok((a_c, a_b, b_c)) => {
-            let ways = (text_of(&a_c), text_of(&a_b), text_of(&b_c));
-            same("three ways", &ways, &("../../c", "..", "../c"))
-        }
-        Err(_) => Ok(()),
-    }
+    same_three(&answer, ("../../c", "..", "../c"))
 }
 
 #[test]
@@ -197,25 +204,25 @@ fn relative_to_law_of_texts(rt: HostRuntime) -> Result<(), Fail> {
     }
 }
 
+const ENDS: [End; 3] = [End::Back, End::Front, End::Front];
+
+const TAKEN: [Option<Component<'static>>; 3] = [
+    Some(Component::Normal("y")),
+    Some(Component::Normal("x")),
+    Some(Component::CurDir),
+];
+
 #[test]
 fn take_in_turn_from_a_path(rt: HostRuntime) -> Result<(), Fail> {
-    let ends = [End::Back, End::Front, End::Front];
     begin(rt.alloc());
-    let answer = take_in_turn(rt.alloc(), RelativePath::new("/x//./y/"), &ends);
+    let answer = take_in_turn(rt.alloc(), RelativePath::new("/x//./y/"), &ENDS);
     end(rt.alloc(), answer.is_err());
     match answer {
-        Ok(taken) => {
-            let expected = [
-                Some(Component::Normal("y")),
-                Some(Component::Normal("x")),
-                Some(Component::CurDir),
-            ];
-            same(
-                "components",
-                &taken.components.as_slice(),
-                &expected.as_slice(),
-            )
-        }
+        Ok(taken) => same(
+            "components",
+            &taken.components.as_slice(),
+            &TAKEN.as_slice(),
+        ),
         Err(_) => Ok(()),
     }
 }

@@ -5,55 +5,60 @@ use crate::tests::{same, shows};
 use crate::{FromValueError, boxed_from_value, from_value, to_value};
 use relative_path::RelativePath;
 use serde_json::Value;
+use std::alloc::Global;
 use std::test::Fail;
+
+fn to_value_of_a_path_of(alloc: Global, text: &str) -> Result<(), Fail> {
+    begin(alloc);
+    let answer = to_value(alloc, RelativePath::new(text));
+    end(alloc, answer.is_err());
+    match answer {
+        Ok(value) => same("to_value", &value.as_str(), &Some(text)),
+        Err(_) => Ok(()),
+    }
+}
 
 #[test]
 fn to_value_of_a_path(rt: HostRuntime) -> Result<(), Fail> {
-    let long = long_text(rt.alloc())?;
-    for text in &["a//b", long.as_str()] {
-        begin(rt.alloc());
-        let answer = to_value(rt.alloc(), RelativePath::new(text));
-        end(rt.alloc(), answer.is_err());
-        if let Ok(value) = answer {
-            same("to_value", &value.as_str(), &Some(*text))?;
+    to_value_of_a_path_of(rt.alloc(), "a//b")?;
+    to_value_of_a_path_of(rt.alloc(), long_text(rt.alloc())?.as_str())
+}
+
+fn from_value_of_a_string_of(alloc: Global, text: &str) -> Result<(), Fail> {
+    let value = Value::try_from_str(alloc, text)?;
+    begin(alloc);
+    let answer = from_value(alloc, &value);
+    end(alloc, answer.is_err());
+    match answer {
+        Ok(buf) => {
+            let found = (buf.as_relative_path().as_str(), buf.spare());
+            same("text and room", &found, &(text, 0))
         }
+        Err(error) => same("refused", &error, &FromValueError::OutOfMemory),
     }
-    Ok(())
 }
 
 #[test]
 fn from_value_of_a_string(rt: HostRuntime) -> Result<(), Fail> {
-    let long = long_text(rt.alloc())?;
-    for text in &["a//b", long.as_str()] {
-        let value = Value::try_from_str(rt.alloc(), text)?;
-        begin(rt.alloc());
-        let answer = from_value(rt.alloc(), &value);
-        end(rt.alloc(), answer.is_err());
-        match answer {
-            Ok(buf) => {
-                let found = (buf.as_relative_path().as_str(), buf.spare());
-                same("text and room", &found, &(*text, 0))?;
-            }
-            Err(error) => same("refused", &error, &FromValueError::OutOfMemory)?,
-        }
+    from_value_of_a_string_of(rt.alloc(), "a//b")?;
+    from_value_of_a_string_of(rt.alloc(), long_text(rt.alloc())?.as_str())
+}
+
+fn boxed_from_value_of_a_string_of(alloc: Global, text: &str) -> Result<(), Fail> {
+    let value = Value::try_from_str(alloc, text)?;
+    begin(alloc);
+    let answer = boxed_from_value(alloc, &value);
+    end(alloc, answer.is_err());
+    match answer {
+        Ok(boxed) => shows("a box", boxed.as_relative_path(), text),
+        Err(error) => same("refused", &error, &FromValueError::OutOfMemory),
     }
-    Ok(())
 }
 
 #[test]
 fn boxed_from_value_of_a_string(rt: HostRuntime) -> Result<(), Fail> {
-    let long = long_text(rt.alloc())?;
-    for text in &["a//b", long.as_str()] {
-        let value = Value::try_from_str(rt.alloc(), text)?;
-        begin(rt.alloc());
-        let answer = boxed_from_value(rt.alloc(), &value);
-        end(rt.alloc(), answer.is_err());
-        match answer {
-            Ok(boxed) => shows("a box", boxed.as_relative_path(), text)?,
-            Err(error) => same("refused", &error, &FromValueError::OutOfMemory)?,
-        }
-    }
-    Ok(())
+    boxed_from_value_of_a_string_of(rt.alloc(), "a//b")?;
+    boxed_from_value_of_a_string_of(rt.alloc(), long_text(rt.alloc())?.as_str())
 }
 
 #[test]
