@@ -10,6 +10,7 @@ fn normalize(rt: HostRuntime) -> Result<(), Fail> {
     for (text, normal) in &[
         ("a", "a"),
         ("a/.././b/../c/d", "c/d"),
+        ("aaaa/bbbb/cccc/dddd/", "aaaa/bbbb/cccc/dddd"),
         (long.as_str(), long.as_str()),
         ("///", ""),
     ] {
