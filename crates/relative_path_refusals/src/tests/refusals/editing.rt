@@ -118,7 +118,8 @@ fn pop(rt: HostRuntime) -> Result<(), Fail> {
 
 #[test]
 fn asks_for_nothing(rt: HostRuntime) -> Result<(), Fail> {
-    let mut buf = RelativePathBuf::from_text(rt.alloc(), "foo/bar")?;
+    let mut buf = RelativePathBuf::with_capacity(rt.alloc(), 15)?;
+    buf.push(RelativePath::new("foo/bar"))?;
     let other = RelativePathBuf::from_text(rt.alloc(), "foo//baz")?;
     let mut state = DefaultHasher::new();
     begin(rt.alloc());
@@ -134,7 +135,7 @@ fn asks_for_nothing(rt: HostRuntime) -> Result<(), Fail> {
     buf = RelativePathBuf::from(buf.into_string());
     let text = String::from(buf);
     end(rt.alloc(), false);
-    same("sizes", &sizes, &(7, 0, 7))?;
+    same("sizes", &sizes, &(7, 8, 7))?;
     same("== and <", &compared, &(false, true))?;
     let texts = (printed.as_str(), shown.as_str(), text.as_str());
     same("texts", &texts, &("foo/bar", "\"foo//baz\"", "foo/bar"))
