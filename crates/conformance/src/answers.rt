@@ -10,56 +10,59 @@ use std::path::Path;
 pub fn answer(alloc: Global, line: &str) -> Result<String, Refusal> {
     let call = Call::parse(alloc, line)?;
     match call.command {
-        "components" => components(alloc, call.one()?),
-        "components_back" => components_back(alloc, call.one()?),
-        "walk" => walk(alloc, call.two()?),
-        "iter" => iter(alloc, call.one()?),
-        "eq" => eq(alloc, call.two()?),
-        "cmp" => cmp(alloc, call.two()?),
-        "display" => display(alloc, call.one()?),
-        "debug" => debug(alloc, call.one()?),
-        "width" => width(alloc, call.two()?),
-        "from_path" => from_path(alloc, call.one()?),
-        "from_path_owned" => from_path_owned(alloc, call.one()?),
-        "to_path" => to_path(alloc, call.two()?),
-        "to_logical_path" => to_logical_path(alloc, call.two()?),
-        "relative_to" => relative_to(alloc, call.two()?),
-        "parent" => parent(alloc, call.one()?),
-        "file_name" => file_name(alloc, call.one()?),
-        "file_stem" => file_stem(alloc, call.one()?),
-        "extension" => extension(alloc, call.one()?),
-        "strip_prefix" => strip_prefix(alloc, call.two()?),
-        "starts_with" => starts_with(alloc, call.two()?),
-        "ends_with" => ends_with(alloc, call.two()?),
-        "is_normalized" => is_normalized(alloc, call.one()?),
-        "join" => join(alloc, call.two()?),
-        "with_file_name" => with_file_name(alloc, call.two()?),
-        "with_extension" => with_extension(alloc, call.two()?),
-        "join_normalized" => join_normalized(alloc, call.two()?),
-        "normalize" => normalize(alloc, call.one()?),
-        "relative" => relative(alloc, call.two()?),
-        "push" => push(alloc, call.two()?),
-        "pop" => pop(alloc, call.one()?),
-        "set_file_name" => set_file_name(alloc, call.two()?),
-        "set_extension" => set_extension(alloc, call.two()?),
-        "extend" => extend(alloc, call.one_and_more()?),
-        "from_paths" => from_paths(alloc, call.all()),
+        "components" => components(alloc, &call),
+        "components_back" => components_back(alloc, &call),
+        "walk" => walk(alloc, &call),
+        "iter" => iter(alloc, &call),
+        "eq" => eq(alloc, &call),
+        "cmp" => cmp(alloc, &call),
+        "display" => display(alloc, &call),
+        "debug" => debug(alloc, &call),
+        "width" => width(alloc, &call),
+        "from_path" => from_path(alloc, &call),
+        "from_path_owned" => from_path_owned(alloc, &call),
+        "to_path" => to_path(alloc, &call),
+        "to_logical_path" => to_logical_path(alloc, &call),
+        "relative_to" => relative_to(alloc, &call),
+        "parent" => parent(alloc, &call),
+        "file_name" => file_name(alloc, &call),
+        "file_stem" => file_stem(alloc, &call),
+        "extension" => extension(alloc, &call),
+        "strip_prefix" => strip_prefix(alloc, &call),
+        "starts_with" => starts_with(alloc, &call),
+        "ends_with" => ends_with(alloc, &call),
+        "is_normalized" => is_normalized(alloc, &call),
+        "join" => join(alloc, &call),
+        "with_file_name" => with_file_name(alloc, &call),
+        "with_extension" => with_extension(alloc, &call),
+        "join_normalized" => join_normalized(alloc, &call),
+        "normalize" => normalize(alloc, &call),
+        "relative" => relative(alloc, &call),
+        "push" => push(alloc, &call),
+        "pop" => pop(alloc, &call),
+        "set_file_name" => set_file_name(alloc, &call),
+        "set_extension" => set_extension(alloc, &call),
+        "extend" => extend(alloc, &call),
+        "from_paths" => from_paths(alloc, &call),
         _ => Err(Refusal::UnknownCommand),
     }
 }
 
-fn components(alloc: Global, path: &str) -> Result<String, Refusal> {
+fn components(alloc: Global, call: &Call<'_>) -> Result<String, Refusal> {
+    let path = call.one()?;
     let components: Vec<Component<'_>> = RelativePath::new(path).components().collect(alloc)?;
     list(alloc, &components)
 }
 
-fn components_back(alloc: Global, path: &str) -> Result<String, Refusal> {
+fn components_back(alloc: Global, call: &Call<'_>) -> Result<String, Refusal> {
+    let path = call.one()?;
     let components: Vec<Component<'_>> = RelativePath::new(path).components().rev().collect(alloc)?;
     list(alloc, &components)
 }
 
 // After each step, `F` from the front or `B` from the back: the component, and the text that is left.
-fn walk(alloc: Global, (path, steps): (&str, &str)) -> Result<String, Refusal> {
+fn walk(alloc: Global, call: &Call<'_>) -> Result<String, Refusal> {
+    let (path, steps) = call.two()?;
     let mut components = RelativePath::new(path).components();
     let mut shown = Vec::new(alloc);
     for step in steps.chars() {
@@ -77,157 +80,187 @@ fn walk(alloc: Global, (path, steps): (&str, &str)) -> Result<String, Refusal> {
     Ok(shown.join(alloc, "\t")?)
 }
 
-fn iter(alloc: Global, path: &str) -> Result<String, Refusal> {
+fn iter(alloc: Global, call: &Call<'_>) -> Result<String, Refusal> {
+    let path = call.one()?;
     let texts: Vec<&str> = RelativePath::new(path).iter().collect(alloc)?;
     Ok(texts.join(alloc, "\t")?)
 }
 
-fn eq(alloc: Global, (path, other): (&str, &str)) -> Result<String, Refusal> {
+fn eq(alloc: Global, call: &Call<'_>) -> Result<String, Refusal> {
+    let (path, other) = call.two()?;
     let equal = RelativePath::new(path) == RelativePath::new(other);
     Ok(equal.to_string(alloc)?)
 }
 
-fn cmp(alloc: Global, (path, other): (&str, &str)) -> Result<String, Refusal> {
+fn cmp(alloc: Global, call: &Call<'_>) -> Result<String, Refusal> {
+    let (path, other) = call.two()?;
     let order = RelativePath::new(path).cmp(&RelativePath::new(other));
     Ok(format!(in alloc; "{order:?}")?)
 }
 
-fn display(alloc: Global, path: &str) -> Result<String, Refusal> {
+fn display(alloc: Global, call: &Call<'_>) -> Result<String, Refusal> {
+    let path = call.one()?;
     Ok(RelativePath::new(path).to_string(alloc)?)
 }
 
-fn debug(alloc: Global, path: &str) -> Result<String, Refusal> {
+fn debug(alloc: Global, call: &Call<'_>) -> Result<String, Refusal> {
+    let path = call.one()?;
     let path = RelativePath::new(path);
     Ok(format!(in alloc; "{path:?}")?)
 }
 
-fn width(alloc: Global, (path, width): (&str, &str)) -> Result<String, Refusal> {
+fn width(alloc: Global, call: &Call<'_>) -> Result<String, Refusal> {
+    let (path, width) = call.two()?;
     let path = RelativePath::new(path);
     let width: usize = width.parse().map_err(|_| Refusal::NotAWidth)?;
     Ok(format!(in alloc; "{path:width$}")?)
 }
 
-fn from_path(alloc: Global, path: &str) -> Result<String, Refusal> {
+fn from_path(alloc: Global, call: &Call<'_>) -> Result<String, Refusal> {
+    let path = call.one()?;
     Ok(RelativePath::from_path(Path::new(path))?.to_string(alloc)?)
 }
 
-fn from_path_owned(alloc: Global, path: &str) -> Result<String, Refusal> {
+fn from_path_owned(alloc: Global, call: &Call<'_>) -> Result<String, Refusal> {
+    let path = call.one()?;
     text_of(alloc, &RelativePathBuf::from_path(alloc, Path::new(path))?)
 }
 
-fn to_path(alloc: Global, (path, base): (&str, &str)) -> Result<String, Refusal> {
+fn to_path(alloc: Global, call: &Call<'_>) -> Result<String, Refusal> {
+    let (path, base) = call.two()?;
     let path = RelativePath::new(path).to_path(alloc, Path::new(base))?;
     Ok(path.into_string())
 }
 
-fn to_logical_path(alloc: Global, (path, base): (&str, &str)) -> Result<String, Refusal> {
+fn to_logical_path(alloc: Global, call: &Call<'_>) -> Result<String, Refusal> {
+    let (path, base) = call.two()?;
     let path = RelativePath::new(path).to_logical_path(alloc, Path::new(base))?;
     Ok(path.into_string())
 }
 
-fn relative_to(alloc: Global, (path, root): (&str, &str)) -> Result<String, Refusal> {
+fn relative_to(alloc: Global, call: &Call<'_>) -> Result<String, Refusal> {
+    let (path, root) = call.two()?;
     text_of(alloc, &Path::new(path).relative_to(alloc, Path::new(root))?)
 }
 
-fn parent(alloc: Global, path: &str) -> Result<String, Refusal> {
+fn parent(alloc: Global, call: &Call<'_>) -> Result<String, Refusal> {
+    let path = call.one()?;
     let parent = RelativePath::new(path).parent();
     maybe(alloc, parent.map(|parent| parent.as_str()))
 }
 
-fn file_name(alloc: Global, path: &str) -> Result<String, Refusal> {
+fn file_name(alloc: Global, call: &Call<'_>) -> Result<String, Refusal> {
+    let path = call.one()?;
     maybe(alloc, RelativePath::new(path).file_name())
 }
 
-fn file_stem(alloc: Global, path: &str) -> Result<String, Refusal> {
+fn file_stem(alloc: Global, call: &Call<'_>) -> Result<String, Refusal> {
+    let path = call.one()?;
     maybe(alloc, RelativePath::new(path).file_stem())
 }
 
-fn extension(alloc: Global, path: &str) -> Result<String, Refusal> {
+fn extension(alloc: Global, call: &Call<'_>) -> Result<String, Refusal> {
+    let path = call.one()?;
     maybe(alloc, RelativePath::new(path).extension())
 }
 
-fn strip_prefix(alloc: Global, (path, base): (&str, &str)) -> Result<String, Refusal> {
+fn strip_prefix(alloc: Global, call: &Call<'_>) -> Result<String, Refusal> {
+    let (path, base) = call.two()?;
     let rest = RelativePath::new(path).strip_prefix(RelativePath::new(base))?;
     Ok(rest.as_str().to_string(alloc)?)
 }
 
-fn starts_with(alloc: Global, (path, base): (&str, &str)) -> Result<String, Refusal> {
+fn starts_with(alloc: Global, call: &Call<'_>) -> Result<String, Refusal> {
+    let (path, base) = call.two()?;
     let starts = RelativePath::new(path).starts_with(RelativePath::new(base));
     Ok(starts.to_string(alloc)?)
 }
 
-fn ends_with(alloc: Global, (path, child): (&str, &str)) -> Result<String, Refusal> {
+fn ends_with(alloc: Global, call: &Call<'_>) -> Result<String, Refusal> {
+    let (path, child) = call.two()?;
     let ends = RelativePath::new(path).ends_with(RelativePath::new(child));
     Ok(ends.to_string(alloc)?)
 }
 
-fn is_normalized(alloc: Global, path: &str) -> Result<String, Refusal> {
+fn is_normalized(alloc: Global, call: &Call<'_>) -> Result<String, Refusal> {
+    let path = call.one()?;
     let normalized = RelativePath::new(path).is_normalized();
     Ok(normalized.to_string(alloc)?)
 }
 
-fn join(alloc: Global, (path, other): (&str, &str)) -> Result<String, Refusal> {
+fn join(alloc: Global, call: &Call<'_>) -> Result<String, Refusal> {
+    let (path, other) = call.two()?;
     let joined = RelativePath::new(path).join(alloc, RelativePath::new(other))?;
     text_of(alloc, &joined)
 }
 
-fn with_file_name(alloc: Global, (path, name): (&str, &str)) -> Result<String, Refusal> {
+fn with_file_name(alloc: Global, call: &Call<'_>) -> Result<String, Refusal> {
+    let (path, name) = call.two()?;
     text_of(alloc, &RelativePath::new(path).with_file_name(alloc, name)?)
 }
 
-fn with_extension(alloc: Global, (path, extension): (&str, &str)) -> Result<String, Refusal> {
+fn with_extension(alloc: Global, call: &Call<'_>) -> Result<String, Refusal> {
+    let (path, extension) = call.two()?;
     text_of(
         alloc,
         &RelativePath::new(path).with_extension(alloc, extension)?,
     )
 }
 
-fn join_normalized(alloc: Global, (path, other): (&str, &str)) -> Result<String, Refusal> {
+fn join_normalized(alloc: Global, call: &Call<'_>) -> Result<String, Refusal> {
+    let (path, other) = call.two()?;
     let normal = RelativePath::new(path).join_normalized(alloc, RelativePath::new(other))?;
     text_of(alloc, &normal)
 }
 
-fn normalize(alloc: Global, path: &str) -> Result<String, Refusal> {
+fn normalize(alloc: Global, call: &Call<'_>) -> Result<String, Refusal> {
+    let path = call.one()?;
     text_of(alloc, &RelativePath::new(path).normalize(alloc)?)
 }
 
-fn relative(alloc: Global, (from, to): (&str, &str)) -> Result<String, Refusal> {
+fn relative(alloc: Global, call: &Call<'_>) -> Result<String, Refusal> {
+    let (from, to) = call.two()?;
     let way = RelativePath::new(from).relative(alloc, RelativePath::new(to))?;
     text_of(alloc, &way)
 }
 
-fn push(alloc: Global, (base, path): (&str, &str)) -> Result<String, Refusal> {
+fn push(alloc: Global, call: &Call<'_>) -> Result<String, Refusal> {
+    let (base, path) = call.two()?;
     let mut buf = RelativePathBuf::from_text(alloc, base)?;
     buf.push(RelativePath::new(path))?;
     text_of(alloc, &buf)
 }
 
-fn pop(alloc: Global, path: &str) -> Result<String, Refusal> {
+fn pop(alloc: Global, call: &Call<'_>) -> Result<String, Refusal> {
+    let path = call.one()?;
     let mut buf = RelativePathBuf::from_text(alloc, path)?;
     let popped = buf.pop();
     told(alloc, popped, &buf)
 }
 
-fn set_file_name(alloc: Global, (path, name): (&str, &str)) -> Result<String, Refusal> {
+fn set_file_name(alloc: Global, call: &Call<'_>) -> Result<String, Refusal> {
+    let (path, name) = call.two()?;
     let mut buf = RelativePathBuf::from_text(alloc, path)?;
     buf.set_file_name(name)?;
     text_of(alloc, &buf)
 }
 
-fn set_extension(alloc: Global, (path, extension): (&str, &str)) -> Result<String, Refusal> {
+fn set_extension(alloc: Global, call: &Call<'_>) -> Result<String, Refusal> {
+    let (path, extension) = call.two()?;
     let mut buf = RelativePathBuf::from_text(alloc, path)?;
     let set = buf.set_extension(extension)?;
     told(alloc, set, &buf)
 }
 
-fn extend(alloc: Global, (path, paths): (&str, &[&str])) -> Result<String, Refusal> {
+fn extend(alloc: Global, call: &Call<'_>) -> Result<String, Refusal> {
+    let (path, paths) = call.one_and_more()?;
     let mut buf = RelativePathBuf::from_text(alloc, path)?;
     buf.extend(paths.iter().map(|path| RelativePath::new(path)))?;
     text_of(alloc, &buf)
 }
 
-fn from_paths(alloc: Global, paths: &[&str]) -> Result<String, Refusal> {
-    let paths = paths.iter().map(|path| RelativePath::new(path));
+fn from_paths(alloc: Global, call: &Call<'_>) -> Result<String, Refusal> {
+    let paths = call.all().iter().map(|path| RelativePath::new(path));
     text_of(alloc, &RelativePathBuf::from_paths(alloc, paths)?)
 }
 

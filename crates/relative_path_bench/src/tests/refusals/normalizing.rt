@@ -1,6 +1,7 @@
 //! Normal forms.
 use super::marks::{begin, end};
-use super::{gives, long_text, same, text_of};
+use super::{gives, long_text};
+use crate::tests::{same, text_of};
 use relative_path::{RelativePath, RelativePathBuf};
 use std::test::Fail;
 

@@ -1,6 +1,7 @@
 //! Platform paths, by their texts and as `Path` and `PathBuf`.
+use super::long_text;
 use super::marks::{begin, end};
-use super::{long_text, same, text_of};
+use crate::tests::{same, text_of};
 use relative_path::{
     FromPathError, FromPathErrorKind, PathExt, RelativePath, RelativePathBuf, RelativeToError,
     RelativeToErrorKind, unix,

@@ -3,7 +3,7 @@ ghost use Rattle.std.specs.Iterator.{IsFinite};
 
 use super::editing::{is_left, long_name};
 use super::marks::{begin, end};
-use super::{same, text_of};
+use crate::tests::{same, text_of};
 use relative_path::{RelativePath, RelativePathBuf};
 use std::alloc::AllocError;
 use std::test::Fail;

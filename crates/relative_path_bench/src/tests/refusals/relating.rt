@@ -1,6 +1,7 @@
 //! The way from one path to another, and where paths lead apart.
 use super::marks::{begin, end};
-use super::{gives, long_text, same, text_of};
+use super::{gives, long_text};
+use crate::tests::{same, text_of};
 use relative_path::{RelativePath, RelativePathBuf};
 use std::test::Fail;
 
