@@ -95,30 +95,44 @@ fn normalize_twice_of_one(rt: HostRuntime) -> Result<(), Fail> {
     same_texts(&answer, ("a/b", "a/b"))
 }
 
+fn normalized_law_of(alloc: Global, text: &str, expected: (bool, &str)) -> Result<(), Fail> {
+    begin(alloc);
+    let answer = normalized_law(alloc, RelativePath::new(text));
+    end(alloc, answer.is_err());
+    match answer {
+        Ok((is_normal, buf)) => same(text, &(is_normal, text_of(&buf)), &expected),
+        Err(_) => Ok(()),
+    }
+}
+
 #[test]
 fn normalized_law_of_one(rt: HostRuntime) -> Result<(), Fail> {
-    begin(rt.alloc());
-    let answer = normalized_law(rt.alloc(), RelativePath::new("foo//bar"));
-    end(rt.alloc(), answer.is_err());
+    normalized_law_of(rt.alloc(), "foo//bar", (true, "foo/bar"))?;
+    normalized_law_of(rt.alloc(), "foo/./bar", (false, "foo/bar"))
+}
+
+fn same_law_of(
+    alloc: Global,
+    path: &str,
+    other: &str,
+    expected: (&str, &str, Option<usize>),
+) -> Result<(), Fail> {
+    begin(alloc);
+    let answer = same_law(alloc, RelativePath::new(path), RelativePath::new(other));
+    end(alloc, answer.is_err());
     match answer {
-        Ok((is_normal, buf)) => same("a path", &(is_normal, text_of(&buf)), &(true, "foo/bar")),
+        Ok((buf, other_buf, apart)) => {
+            let found = (text_of(&buf), text_of(&other_buf), apart);
+            same(path, &found, &expected)
+        }
         Err(_) => Ok(()),
     }
 }
 
 #[test]
 fn same_law_of_two(rt: HostRuntime) -> Result<(), Fail> {
-    let [path, other] = ["a//b", "a/./b"].map(RelativePath::new);
-    begin(rt.alloc());
-    let answer = same_law(rt.alloc(), path, other);
-    end(rt.alloc(), answer.is_err());
-    match answer {
-        Ok((buf, other_buf, apart)) => {
-            let found = (text_of(&buf), text_of(&other_buf), apart);
-            same("two texts", &found, &("a/b", "a/b", None))
-        }
-        Err(_) => Ok(()),
-    }
+    same_law_of(rt.alloc(), "a//b", "a/./b", ("a/b", "a/b", None))?;
+    same_law_of(rt.alloc(), "..", "../..", ("..", "../..", Some(1)))
 }
 
 fn leads_back_of(alloc: Global, from: &str, to: &str, expected: (&str, &str)) -> Result<(), Fail> {
