@@ -19,31 +19,59 @@ pub fn answer(alloc: Global, line: &str) -> Result<String, Refusal> {
         "display" => display(alloc, &call),
         "debug" => debug(alloc, &call),
         "width" => width(alloc, &call),
-        "from_path" => from_path(alloc, &call),
-        "from_path_owned" => from_path_owned(alloc, &call),
-        "to_path" => to_path(alloc, &call),
-        "to_logical_path" => to_logical_path(alloc, &call),
-        "relative_to" => relative_to(alloc, &call),
-        "parent" => parent(alloc, &call),
-        "file_name" => file_name(alloc, &call),
-        "file_stem" => file_stem(alloc, &call),
-        "extension" => extension(alloc, &call),
-        "strip_prefix" => strip_prefix(alloc, &call),
-        "starts_with" => starts_with(alloc, &call),
-        "ends_with" => ends_with(alloc, &call),
-        "is_normalized" => is_normalized(alloc, &call),
-        "join" => join(alloc, &call),
-        "with_file_name" => with_file_name(alloc, &call),
-        "with_extension" => with_extension(alloc, &call),
-        "join_normalized" => join_normalized(alloc, &call),
-        "normalize" => normalize(alloc, &call),
-        "relative" => relative(alloc, &call),
-        "push" => push(alloc, &call),
-        "pop" => pop(alloc, &call),
-        "set_file_name" => set_file_name(alloc, &call),
-        "set_extension" => set_extension(alloc, &call),
-        "extend" => extend(alloc, &call),
-        "from_paths" => from_paths(alloc, &call),
+        _ => answer_of_platform_paths(alloc, &call),
+    }
+}
+
+// The calls from and to platform paths, or one of those below.
+fn answer_of_platform_paths(alloc: Global, call: &Call<'_>) -> Result<String, Refusal> {
+    match call.command {
+        "from_path" => from_path(alloc, call),
+        "from_path_owned" => from_path_owned(alloc, call),
+        "to_path" => to_path(alloc, call),
+        "to_logical_path" => to_logical_path(alloc, call),
+        "relative_to" => relative_to(alloc, call),
+        _ => answer_of_parts(alloc, call),
+    }
+}
+
+// The calls that give parts of a path or tell how it begins and ends, or one of those below.
+fn answer_of_parts(alloc: Global, call: &Call<'_>) -> Result<String, Refusal> {
+    match call.command {
+        "parent" => parent(alloc, call),
+        "file_name" => file_name(alloc, call),
+        "file_stem" => file_stem(alloc, call),
+        "extension" => extension(alloc, call),
+        "strip_prefix" => strip_prefix(alloc, call),
+        "starts_with" => starts_with(alloc, call),
+        "ends_with" => ends_with(alloc, call),
+        "is_normalized" => is_normalized(alloc, call),
+        _ => answer_of_new_paths(alloc, call),
+    }
+}
+
+// The calls that make a path of others, or one of those below.
+fn answer_of_new_paths(alloc: Global, call: &Call<'_>) -> Result<String, Refusal> {
+    match call.command {
+        "join" => join(alloc, call),
+        "with_file_name" => with_file_name(alloc, call),
+        "with_extension" => with_extension(alloc, call),
+        "join_normalized" => join_normalized(alloc, call),
+        "normalize" => normalize(alloc, call),
+        "relative" => relative(alloc, call),
+        _ => answer_of_edits(alloc, call),
+    }
+}
+
+// The calls that change a buffer.
+fn answer_of_edits(alloc: Global, call: &Call<'_>) -> Result<String, Refusal> {
+    match call.command {
+        "push" => push(alloc, call),
+        "pop" => pop(alloc, call),
+        "set_file_name" => set_file_name(alloc, call),
+        "set_extension" => set_extension(alloc, call),
+        "extend" => extend(alloc, call),
+        "from_paths" => from_paths(alloc, call),
         _ => Err(Refusal::UnknownCommand),
     }
 }
