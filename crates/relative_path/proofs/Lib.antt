@@ -2,6 +2,7 @@ pub mod StepsLemmas
 pub mod SlicesLemmas
 pub mod WalkLemmas
 pub mod NormalStepsLemmas
+pub mod ClimbingLemmas
 pub mod SlashesLemmas
 pub mod ComponentsLemmas
 pub mod EditingLemmas

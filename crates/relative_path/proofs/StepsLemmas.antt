@@ -265,6 +265,16 @@ pub spell_nonempty : (c : Step) (cs : List Step) → IsProper c → 0 < length (
 spell_nonempty c [] proper = nonempty_proper c proper
 spell_nonempty c (d ∷ cs) proper = omega (arith, length-append (step_text c) (slash ∷ spell (d ∷ cs)))
 
+length_le_total_len : (cs : List Step) → AreProper cs → length cs ≤ total_len cs
+length_le_total_len [] proper = omega arith
+length_le_total_len (c ∷ cs) proper = omega (arith, nonempty_proper c proper.0, length_le_total_len cs proper.1)
+
+-- a text has no more components than bytes
+pub length-components_le : (text : List ℕ) → length (components text) ≤ length text
+length-components_le text =
+    let each = length_le_total_len (components text) (AreProper-components text) in
+    omega (arith, each, total_len-components text, solid_len_le text)
+
 -- a text that spells proper components ends in no slash
 pub spell_end : (cs : List Step) → AreProper cs → get_or (spell cs) (length (spell cs) - 1) 0 ≢ slash
 spell_end [] proper = HasNoSlash-end [] tt

@@ -141,6 +141,7 @@ impl<'a> RelativePath<'a> {
     pub fn components(self) -> Components<'a>
         ensures text { text_left result ≡ path_text self.entry }
         ensures runs { GivesComponents }
+        ensures count { length (path_components self.entry) ≤ length (path_text self.entry) }
     {
         Components::new(self.text)
     }
@@ -154,6 +155,7 @@ impl<'a> RelativePath<'a> {
     pub fn iter(self) -> Iter<'a>
         ensures text { iter_text_left result ≡ path_text self.entry }
         ensures runs { GivesTextsOfComponents }
+        ensures count { length (path_components self.entry) ≤ length (path_text self.entry) }
     {
         Iter::new(self.text)
     }
@@ -305,6 +307,36 @@ impl<'a> RelativePath<'a> {
             }
         }
         true
+    }
+
+    /// How many names a base must have for this path to lead anywhere from it. A path whose climb is
+    /// 0 leads nowhere but below its base, or to the base itself.
+    ///
+    /// It is the number of `..` that the path's normal form begins with. It takes no memory.
+    ///
+    /// ```
+    /// assert_eq!(rt; RelativePath::new("docs/../img/a.png").climb(), 0);
+    /// assert_eq!(rt; RelativePath::new("a/../../b/../..").climb(), 2);
+    /// ```
+    pub fn climb(self) -> usize
+        ensures place { (base : List (List ℕ)) → IsSome (walk base (path_components self.entry))
+            ↔ (result ≤ length base) }
+        ensures normal { (steps : List Step) → IsNormalForm (path_components self.entry) steps
+            → result ≡ climb steps }
+        ensures below { result ≡ 0
+            → (place : List (List ℕ)) × LeadsBelow [] place (path_components self.entry) }
+    {
+        let mut climb = 0_usize;
+        let mut names = 0_usize;
+        for component in self.components() {
+            match component {
+                Component::CurDir => {}
+                Component::ParentDir if names > 0 => names -= 1,
+                Component::ParentDir => climb += 1,
+                Component::Normal(_) => names += 1,
+            }
+        }
+        climb
     }
 
     /// Whether the components of this path are `..` first, then names only. Slashes don't count.

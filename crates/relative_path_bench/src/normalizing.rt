@@ -1,6 +1,6 @@
 //! Normal forms.
 ghost use Rattle.std.specs.Prelude.{◌≡◌, ◌≤◌, ◌↔◌, List, ℕ, length, IfOk, IsTrue};
-ghost use Rattle.relative_path.specs.Normalizing.{IsNormal, IsNormalText, IsNormalTextOf};
+ghost use Rattle.relative_path.specs.Normalizing.{climb, IsNormal, IsNormalText, IsNormalTextOf};
 ghost use Rattle.relative_path.specs.RelativePath.{path_text, path_components};
 ghost use Rattle.relative_path.specs.Steps.{components};
 ghost use Rattle.relative_path.specs.Walk.{IsSame};
@@ -60,4 +60,27 @@ pub fn normalized_law(
     let is_normal = path.is_normalized();
     let normal = path.normalize(alloc)?;
     Ok((is_normal, normal))
+}
+
+/// How many names a base must have for the path to lead anywhere from it, and the path in normal
+/// form.
+///
+/// The normal form begins with as many `..`. It asks for memory for the normal form, and fails only
+/// where that is refused.
+///
+/// ```
+/// let (climb, normal) = climb_law(alloc, RelativePath::new("a/../../b"))?;
+/// assert_eq!(rt; climb, 1);
+/// assert_eq!(rt; normal.as_relative_path().as_str(), "../b");
+/// ```
+pub fn climb_law(
+    alloc: Global,
+    path: RelativePath<'_>,
+) -> Result<(usize, RelativePathBuf), AllocError>
+    ensures normal_form { IfOk result
+        (λ pair. IsNormalTextOf (path_components path.entry) pair.1.text) }
+    ensures climb { IfOk result (λ pair. pair.0 ≡ climb (components pair.1.text)) }
+{
+    let normal = path.normalize(alloc)?;
+    Ok((path.climb(), normal))
 }

@@ -1,9 +1,10 @@
 //! The callers that the page on proving shows.
 ghost use Rattle.std.specs.Prelude.{◌∷◌, []};
 ghost use Rattle.relative_path.specs.Steps.{up};
-ghost use Rattle.std.specs.Prelude.{◌++◌, ◌↔◌, IfOk, IfSome, IsNone};
+ghost use Rattle.std.specs.Prelude.{◌++◌, ◌↔◌, ◌≡◌, IfOk, IfSome, IsNone, IsSome, IsTrue, length};
 ghost use Rattle.relative_path.specs.RelativePath.{path_components};
 ghost use Rattle.relative_path.specs.Relating.{IsReachable, IsShortestText};
+ghost use Rattle.relative_path.specs.Walk.{walk};
 
 use relative_path::{RelativePath, RelativePathBuf};
 use std::alloc::{AllocError, Global};
@@ -61,6 +62,20 @@ pub fn relink(
     Ok(copied)
 }
 
+/// Whether a path has a place below every base.
+pub fn stays_below(path: RelativePath<'_>) -> bool
+    ensures { IsTrue result ↔ IsSome (walk [] (path_components path.entry)) }
+{
+    path.climb() == 0
+}
+
+/// How many components a path has.
+pub fn depth(path: RelativePath<'_>) -> usize
+    ensures { result ≡ length (path_components path.entry) }
+{
+    path.components().count()
+}
+
 #[test]
 fn carries_a_link(rt: HostRuntime) -> Result<(), std::test::Fail> {
     let [docs, link, archive] = ["docs/guide", "../img/a.png", "archive"].map(RelativePath::new);
@@ -82,5 +97,13 @@ fn links_from_a_copy(rt: HostRuntime) -> Result<(), std::test::Fail> {
     let [page, link, archive] = ["docs/guide.md", "img/a.png", "old/2024"].map(RelativePath::new);
     let copied = relink(rt.alloc(), page, link, archive)?;
     assert_eq!(rt; copied.as_relative_path().as_str(), "../../docs/img/a.png");
+    Ok(())
+}
+
+#[test]
+fn refuses_what_climbs(rt: HostRuntime) -> Result<(), std::test::Fail> {
+    let [inside, outside] = ["img/../docs", "img/../../docs"].map(RelativePath::new);
+    assert_eq!(rt; (stays_below(inside), stays_below(outside)), (true, false));
+    assert_eq!(rt; (depth(inside), depth(outside)), (3, 4));
     Ok(())
 }
