@@ -75,13 +75,13 @@ impl RelativePathBuf {
         }
     }
 
-    /// The empty path, with room for `capacity` bytes.
+    /// The empty path, with room for just `capacity` bytes.
     ///
     /// It asks for memory once, if there is to be room, and fails only where that is refused.
     ///
     /// ```
     /// let buf = RelativePathBuf::with_capacity(alloc, 15)?;
-    /// assert!(rt; buf.spare() >= 15);
+    /// assert_eq!(rt; buf.spare(), 15);
     /// ```
     pub fn with_capacity(alloc: Global, capacity: usize) -> Result<RelativePathBuf, AllocError>
         ensures empty { IfOk result (λ buf. buf.text ≡ []) }
@@ -128,8 +128,8 @@ impl RelativePathBuf {
     /// The paths that the iterator gives, pushed in order onto the empty path. The iterator has to
     /// end.
     ///
-    /// It asks for memory where a push does, at each path that doesn't fit. A refusal gives up what was pushed, and takes no
-    /// further path.
+    /// It asks for memory where a push does, at each path that doesn't fit. A refusal gives up what
+    /// was pushed, and takes no further path.
     ///
     /// ```
     /// let paths = ["a", "/b", "", "c"].map(RelativePath::new);
@@ -394,8 +394,8 @@ impl RelativePathBuf {
 
     /// Pushes each path that the iterator gives, in order. The iterator has to end.
     ///
-    /// It asks for memory where a push does, at each path that doesn't fit. A refusal leaves the text after the pushes before it,
-    /// and takes no further path: an iterator that is lent by `&mut` still has them.
+    /// It asks for memory where a push does, at each path that doesn't fit. A refusal leaves what was
+    /// pushed before, and takes no further path: an iterator that is lent by `&mut` still has them.
     ///
     /// ```
     /// let mut buf = RelativePathBuf::from_text(alloc, "x")?;

@@ -174,11 +174,11 @@ impl<'a> RelativePath<'a> {
         RelativePathBuf::from_text(alloc, self.text)
     }
 
-    /// A platform path with the components of this path behind it, each as its text, with a slash
+    /// A platform path with the components of this path after it, each as its text, with a slash
     /// before each unless nothing stands before it.
     ///
-    /// It asks for memory once, for at most the bytes of both and one more, and fails only where
-    /// that is refused.
+    /// It asks for memory once, for the bytes of both and one more, and fails only where that is
+    /// refused.
     ///
     /// ```
     /// let path = RelativePath::new("/bar//..").to_path(alloc, Path::new("foo"))?;
@@ -195,8 +195,8 @@ impl<'a> RelativePath<'a> {
     /// [`unix::parent_text`] does, and a name is added behind a slash, unless nothing stands before
     /// it.
     ///
-    /// It asks for memory once, for at most the bytes of both and one more, and fails only where
-    /// that is refused.
+    /// It asks for memory once, for the bytes of both and one more, and fails only where that is
+    /// refused.
     ///
     /// ```
     /// let path = RelativePath::new("../baz").to_logical_path(alloc, Path::new("foo/bar"))?;

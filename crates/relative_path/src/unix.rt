@@ -90,11 +90,11 @@ pub fn from_path(alloc: Global, text: &str) -> Result<RelativePathBuf, FromPathE
     Ok(path.into())
 }
 
-/// The platform path with the components of a relative path behind it, each as its text, with a
+/// The platform path with the components of a relative path after it, each as its text, with a
 /// slash before each unless nothing stands before it.
 ///
-/// It asks for memory once, for at most the bytes of both and one more, and fails only where that
-/// is refused.
+/// It asks for memory once, for the bytes of both and one more, and fails only where that is
+/// refused.
 ///
 /// ```
 /// let path = unix::to_path(alloc, RelativePath::new("../bar//baz"), "/foo")?;
@@ -113,8 +113,8 @@ pub fn to_path(alloc: Global, path: RelativePath<'_>, base: &str) -> Result<Stri
 /// The platform path to which a relative path leads from another one: `.` stays, `..` goes up as
 /// [`parent_text`] does, and a name is added behind a slash, unless nothing stands before it.
 ///
-/// It asks for memory once, for at most the bytes of both and one more, and fails only where that
-/// is refused.
+/// It asks for memory once, for the bytes of both and one more, and fails only where that is
+/// refused.
 ///
 /// ```
 /// let path = unix::to_logical_path(alloc, RelativePath::new("../bar//baz"), "/foo")?;
@@ -142,9 +142,8 @@ pub fn to_logical_path(
     Ok(text)
 }
 
-/// The relative path from one platform path, the root, to another. What both begin with is dropped;
-/// a `..` for each name of the place where what is left of the root leads stands before what is
-/// left of the path.
+/// The relative path from one platform path, the root, to another: without what both begin with, one
+/// `..` for each directory that the rest of the root goes down, followed by the rest of the path.
 ///
 /// It is refused where only one of the texts begins with a slash, and else where what is left of
 /// the root climbs above what both begin with. These refusals come before any memory is asked for.

@@ -44,7 +44,8 @@ impl PlaceIndex {
     /// to the same from every base: `number`, where none did so far.
     ///
     /// It takes memory for the path's normal form, and for a place in the index where the path is
-    /// the first. It fails only where that is refused, and then the index stays as it was.
+    /// the first. It fails only where that is refused, and then the index has the
+    /// paths that it had.
     ///
     /// ```
     /// let mut index = PlaceIndex::new(alloc);
