@@ -62,7 +62,7 @@ pub fn relink(
     Ok(copied)
 }
 
-/// Whether a path has a place below every base.
+/// Whether a path never leads above its base: it has a place even from the top.
 pub fn stays_below(path: RelativePath<'_>) -> bool
     ensures { IsTrue result ↔ IsSome (walk [] (path_components path.entry)) }
 {
