@@ -1,10 +1,10 @@
 //! The callers that the page on proving shows.
-ghost use Rattle.std.specs.Prelude.{◌∷◌, []};
+ghost use Rattle.std.specs.Prelude.{◌∷◌, [], ◌≡◌, IsSome, IsTrue, length};
 ghost use Rattle.relative_path.specs.Steps.{up};
-ghost use Rattle.std.specs.Prelude.{◌++◌, ◌↔◌, ◌≡◌, IfOk, IfSome, IsNone, IsSome, IsTrue, length};
+ghost use Rattle.relative_path.specs.Walk.{walk};
+ghost use Rattle.std.specs.Prelude.{◌++◌, ◌↔◌, IfOk, IfSome, IsNone};
 ghost use Rattle.relative_path.specs.RelativePath.{path_components};
 ghost use Rattle.relative_path.specs.Relating.{IsReachable, IsShortestText};
-ghost use Rattle.relative_path.specs.Walk.{walk};
 
 use relative_path::{RelativePath, RelativePathBuf};
 use std::alloc::{AllocError, Global};
