@@ -1,11 +1,14 @@
 //! Equality, order and hash.
+ghost use Rattle.std.specs.Prelude.{◌+◌, ◌*◌, ◌%◌, ◌^◌, fold};
+
 use super::same;
-use relative_path::{RelativePath, RelativePathBuf};
+use relative_path::{Component, RelativePath, RelativePathBuf};
+use std::alloc::Global;
 use std::cmp::Ordering;
 use std::hash::{DefaultHasher, Hash, Hasher};
 use std::test::Fail;
 
-const COMPARISONS: [(&str, &str, Ordering); 15] = [
+const COMPARISONS: [(&str, &str, Ordering); 19] = [
     ("", "", Ordering::Equal),
     ("foo", "", Ordering::Greater),
     ("", "foo", Ordering::Less),
@@ -20,22 +23,107 @@ const COMPARISONS: [(&str, &str, Ordering); 15] = [
     ("a/b", "a.b", Ordering::Less),
     ("..", "!", Ordering::Less),
     (".", "..", Ordering::Less),
+    (".", "!", Ordering::Less),
+    ("a/.", "a", Ordering::Greater),
+    ("a/./b", "a/b", Ordering::Less),
+    ("a/B", "a/b", Ordering::Less),
     ("z", "é", Ordering::Less),
 ];
 
-fn hash_of(path: RelativePath<'_>) -> u64 {
+fn hash_of<T: Hash>(value: &T) -> u64 {
     let mut state = DefaultHasher::new();
-    path.hash(&mut state);
+    value.hash(&mut state);
     state.finish()
+}
+
+// The order of two values, whether they are equal, and whether their hashes are.
+fn compared<T: Ord + Hash>(left: &T, right: &T) -> (Ordering, bool, bool) {
+    let has_one_hash = hash_of(left) == hash_of(right);
+    (left.cmp(right), left == right, has_one_hash)
+}
+
+// Two views, a buffer's view and a view, and two buffers. A buffer is hashed as its view.
+fn compares(alloc: Global, left: &str, right: &str, order: Ordering) -> Result<(), Fail> {
+    let expected = (order, order.is_eq(), order.is_eq());
+    let (a, b) = (RelativePath::new(left), RelativePath::new(right));
+    same(left, &compared(&a, &b), &expected)?;
+    let x = RelativePathBuf::from_text(alloc, left)?;
+    same(left, &hash_of(&x), &hash_of(&a))?;
+    same(left, &compared(&x.as_relative_path(), &b), &expected)?;
+    let y = RelativePathBuf::from_text(alloc, right)?;
+    same(left, &compared(&x, &y), &expected)
 }
 
 // That unequal paths hash differently holds under this hasher.
 #[test]
-fn compares_by_components() -> Result<(), Fail> {
+fn compares_by_components(rt: HostRuntime) -> Result<(), Fail> {
     for (left, right, order) in &COMPARISONS {
-        let (a, b) = (RelativePath::new(left), RelativePath::new(right));
-        let found = (a.cmp(&b), a == b, hash_of(a) == hash_of(b));
-        same(left, &found, &(*order, order.is_eq(), order.is_eq()))?;
+        compares(rt.alloc(), left, right, *order)?;
+    }
+    Ok(())
+}
+
+// The least first.
+const COMPONENTS: [Component<'static>; 7] = [
+    Component::CurDir,
+    Component::ParentDir,
+    Component::Normal("!"),
+    Component::Normal("..."),
+    Component::Normal("a"),
+    Component::Normal("aa"),
+    Component::Normal("b"),
+];
+
+#[test]
+fn orders_components() -> Result<(), Fail> {
+    for (place, left) in COMPONENTS.iter().enumerate() {
+        for (other, right) in COMPONENTS.iter().enumerate() {
+            let found = (left.cmp(right), left == right);
+            same(left.as_str(), &found, &(place.cmp(&other), place == other))?;
+        }
+    }
+    Ok(())
+}
+
+// A hasher that shows its last writes, in eight bytes: a `|`, which is 124, ends each.
+#[derive(Drop)]
+struct Writes(u64);
+
+impl Hasher for Writes {
+    ghost write = { λ state bytes. record {
+      0 =
+          ((fold (λ shown byte. ((shown * 256) % 2 ^ 64 + byte) % 2 ^ 64) state.0 bytes * 256) % 2 ^ 64
+          + 124) % 2 ^ 64;
+    } };
+
+    ghost finish = { λ state. state.0 };
+
+    fn finish(&self) -> u64 {
+        self.0
+    }
+
+    fn write(&mut self, bytes: &[u8]) {
+        for byte in bytes {
+            self.0 = self.0.wrapping_mul(256).wrapping_add(u64::from(*byte));
+        }
+        self.0 = self.0.wrapping_mul(256).wrapping_add(124);
+    }
+}
+
+fn writes_of<T: Hash>(value: &T) -> [u8; 8] {
+    let mut state = Writes(0);
+    value.hash(&mut state);
+    state.finish().to_be_bytes()
+}
+
+// Each component is a write, and a slash another.
+#[test]
+fn feeds_a_hasher_component_by_component(rt: HostRuntime) -> Result<(), Fail> {
+    for text in &["a/b", "a//b"] {
+        let view = RelativePath::new(text);
+        same(text, &writes_of(&view), b"a|/|b|/|")?;
+        let buf = RelativePathBuf::from_text(rt.alloc(), text)?;
+        same(text, &writes_of(&buf), b"a|/|b|/|")?;
     }
     Ok(())
 }

@@ -95,24 +95,44 @@ fn sets_file_names(rt: HostRuntime) -> Result<(), Fail> {
     Ok(())
 }
 
-// A text, an extension, the text that setting it leaves, and the answer.
-const EXTENSIONS: [(&str, &str, &str, bool); 16] = [
-    ("foo", "txt", "foo.txt", true),
-    ("foo.bar", "txt", "foo.txt", true),
-    ("foo.bar.baz", "txt", "foo.bar.txt", true),
-    (".test", "txt", ".test.txt", true),
-    ("foo.txt", "", "foo", true),
-    ("foo", "", "foo", true),
-    ("foo/", "bar", "foo.bar", true),
-    ("", "foo", "", false),
-    (".", "foo", ".", false),
-    ("..", "foo", "..", false),
-    ("/", "foo", "/", false),
-    ("foo/.", "bar", "foo.bar", true),
-    ("...", "", "..", true),
-    ("....", "", "...", true),
-    ("foo/..", "bar", "foo/..", false),
-    ("日本/語.é", "ü", "日本/語.ü", true),
+// A text, an extension, the text that setting it leaves, the answer, and the file name then.
+type Extended = (
+    &'static str,
+    &'static str,
+    &'static str,
+    bool,
+    Option<&'static str>,
+);
+
+const EXTENSIONS: [&[Extended]; 2] = [&FILES, &DOTS];
+
+const FILES: [Extended; 8] = [
+    ("foo", "txt", "foo.txt", true, Some("foo.txt")),
+    ("foo.bar", "txt", "foo.txt", true, Some("foo.txt")),
+    (
+        "foo.bar.baz",
+        "txt",
+        "foo.bar.txt",
+        true,
+        Some("foo.bar.txt"),
+    ),
+    (".test", "txt", ".test.txt", true, Some(".test.txt")),
+    ("foo.txt", "", "foo", true, Some("foo")),
+    ("foo", "", "foo", true, Some("foo")),
+    ("foo/", "bar", "foo.bar", true, Some("foo.bar")),
+    ("日本/語.é", "ü", "日本/語.ü", true, Some("語.ü")),
+];
+
+const DOTS: [Extended; 9] = [
+    ("", "foo", "", false, None),
+    (".", "foo", ".", false, None),
+    ("..", "foo", "..", false, None),
+    ("..", "x", "..", false, None),
+    ("/", "foo", "/", false, None),
+    ("foo/.", "bar", "foo.bar", true, Some("foo.bar")),
+    ("...", "", "..", true, None),
+    ("....", "", "...", true, Some("...")),
+    ("foo/..", "bar", "foo/..", false, None),
 ];
 
 // By the setter, and by the call that copies.
@@ -120,19 +140,28 @@ fn sets_an_extension(
     alloc: Global,
     text: &str,
     extension: &str,
-    expected: (bool, &str),
+    expected: (bool, &str, Option<&str>),
 ) -> Result<(), Fail> {
     let mut buf = RelativePathBuf::from_text(alloc, text)?;
     let answer = buf.set_extension(extension)?;
-    same(text, &(answer, text_of(&buf)), &expected)?;
+    let path = buf.as_relative_path();
+    same(text, &(answer, path.as_str(), path.file_name()), &expected)?;
     let copy = RelativePath::new(text).with_extension(alloc, extension)?;
     same(text, &text_of(&copy), &expected.1)
 }
 
+// Fails where an extension is set otherwise than its row says.
+fn sets_those_of(alloc: Global, rows: &[Extended]) -> Result<(), Fail> {
+    for (text, extension, expected, answer, file_name) in rows {
+        sets_an_extension(alloc, text, extension, (*answer, expected, *file_name))?;
+    }
+    Ok(())
+}
+
 #[test]
 fn sets_extensions(rt: HostRuntime) -> Result<(), Fail> {
-    for (text, extension, expected, answer) in &EXTENSIONS {
-        sets_an_extension(rt.alloc(), text, extension, (*answer, expected))?;
+    for rows in &EXTENSIONS {
+        sets_those_of(rt.alloc(), rows)?;
     }
     Ok(())
 }

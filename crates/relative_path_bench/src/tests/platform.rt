@@ -187,7 +187,15 @@ fn leads(alloc: Global, path: &str, root: &str, expected: &str) -> Result<(), Fa
 // A path, a root, and the way from the root to the path, or the words of a refusal.
 type Way = (&'static str, &'static str, &'static str);
 
-const WAYS: [&[Way]; 6] = [&NAMES, &CLIMBS, &ROOTS, &THEMSELVES, &ENDS, &WORKED];
+const WAYS: [&[Way]; 7] = [
+    &NAMES,
+    &CLIMBS,
+    &ROOTS,
+    &THEMSELVES,
+    &ENDS,
+    &WORKED,
+    &OWN_RULES,
+];
 
 const NAMES: [Way; 8] = [
     ("foo", "bar", "../foo"),
@@ -244,19 +252,28 @@ const ENDS: [Way; 12] = [
     ("foo/bar/baz/", "foo/bar/baz/", ""),
 ];
 
-// The last four by the rules here: the original crate climbs once for each component of the root, `.` and `..` too, where
-// the path has nothing left of its own, and it puts the path's first component before the climb where the root's own part
-// begins with `.`.
-const WORKED: [Way; 9] = [
+const WORKED: [Way; 5] = [
     ("some/path", "some/foo/bar/../baz/path", "../../../path"),
     (".", "foo", "../."),
     (".", "a/../..", AMBIGUOUS),
     ("/foo/bar/baz", "/foo/bar/qux", "../baz"),
     ("é/ü", "é/日本//.", "../ü"),
+];
+
+// Here the original crate answers something else: it climbs once for each component of the root, `.` and `..` too, where
+// the path has nothing left of its own, and it puts the path's first component before the climb where the root's own part
+// begins with `.`.
+const OWN_RULES: [Way; 10] = [
     ("", ".", ""),
+    ("", "./a", ".."),
+    ("", "..", AMBIGUOUS),
     ("", "../..", AMBIGUOUS),
     ("foo", "foo/..", AMBIGUOUS),
+    ("foo", "foo/a/..", ""),
+    ("/", "/a/../b", ".."),
     ("foo/bar", "./x", "../foo/bar"),
+    ("a/b/c", "./x/y", "../../a/b/c"),
+    ("a", "./x/..", "a"),
 ];
 
 // Fails where a way is another than its row says.

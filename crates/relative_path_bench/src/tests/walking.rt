@@ -108,3 +108,27 @@ fn takes_from_both_ends() -> Result<(), Fail> {
     }
     Ok(())
 }
+
+#[test]
+fn copies_go_their_own_way() -> Result<(), Fail> {
+    let path = RelativePath::new("a/./b");
+    let mut walk = path.components();
+    let copy = walk.clone()?;
+    let found = (walk == copy, walk.next(), walk == copy);
+    let expected = (true, Some(Component::Normal("a")), false);
+    same("equal, taken, equal", &found, &expected)?;
+    let mut texts = path.iter();
+    let mut copy = texts.clone()?;
+    let found = (texts.next(), copy.next_back(), copy.next());
+    same("texts", &found, &(Some("a"), Some("b"), Some("a")))
+}
+
+#[test]
+fn a_component_is_a_path() -> Result<(), Fail> {
+    for text in &[".", "..", "...", "c:"] {
+        let path = component(text).as_relative_path();
+        let found = (path.as_str(), has_components(path, &[text]));
+        same(text, &found, &(*text, true))?;
+    }
+    Ok(())
+}

@@ -4,7 +4,7 @@ ghost use Rattle.std.specs.Prelude.{◌+◌, ◌*◌, ◌%◌, ◌^◌, fold};
 use super::same;
 use crate::{BoxedRelativePath, CowRelativePath, RcRelativePath};
 use relative_path::{Component, RelativePath, RelativePathBuf};
-use std::alloc::Global;
+use std::alloc::{AllocError, Global};
 use std::cmp::Ordering;
 use std::collections::HashMap;
 use std::hash::{Hash, Hasher};
@@ -153,36 +153,60 @@ fn a_buffer_of_a_text_is_equal(rt: HostRuntime) -> Result<(), Fail> {
     same("from_text", &buf, &other)
 }
 
-// Fails where a form isn't equal to `foo/bar` as a view.
-fn is_foo_bar(case: &str, path: RelativePath<'_>) -> Result<(), Fail> {
-    same(case, &path, &RelativePath::new("foo/bar"))
+// Fails where two of these aren't equal.
+fn are_equal(paths: &[RelativePath<'_>]) -> Result<(), Fail> {
+    for left in paths {
+        for right in paths {
+            same(left.as_str(), left, right)?;
+        }
+    }
+    Ok(())
+}
+
+// `foo/bar`, by pushes.
+fn pushed(alloc: Global) -> Result<RelativePathBuf, AllocError> {
+    let mut buf = RelativePathBuf::new(alloc);
+    buf.push(RelativePath::new("foo"))?;
+    buf.push(RelativePath::new("bar"))?;
+    Ok(buf)
 }
 
 #[test]
-fn borrowed_paths_are_equal_as_views() -> Result<(), Fail> {
-    let borrowed = CowRelativePath::from(RelativePath::new("foo/bar"));
-    is_foo_bar("borrowed", borrowed.as_relative_path())
+fn views_buffers_and_either_form_are_equal(rt: HostRuntime) -> Result<(), Fail> {
+    let path = RelativePath::new("foo/bar");
+    let borrowed = CowRelativePath::from(path);
+    let buf = pushed(rt.alloc())?;
+    let owned = CowRelativePath::from(pushed(rt.alloc())?);
+    are_equal(&[
+        path,
+        buf.as_relative_path(),
+        borrowed.as_relative_path(),
+        owned.as_relative_path(),
+    ])
 }
 
 #[test]
 fn boxes_are_equal_as_views(rt: HostRuntime) -> Result<(), Fail> {
-    let boxed = BoxedRelativePath::from_text(rt.alloc(), "foo/bar")?;
-    is_foo_bar("a box", boxed.as_relative_path())
+    let buf = RelativePath::new("foo/bar").to_relative_path_buf(rt.alloc())?;
+    let copied = BoxedRelativePath::from_text(rt.alloc(), "foo/bar")?;
+    let answer = BoxedRelativePath::from_buf(rt.alloc(), pushed(rt.alloc())?);
+    let taken = answer.ok().ok_or("from_buf")?;
+    are_equal(&[
+        buf.as_relative_path(),
+        copied.as_relative_path(),
+        taken.as_relative_path(),
+    ])
 }
 
 #[test]
 fn owners_are_equal_as_views(rt: HostRuntime) -> Result<(), Fail> {
-    let shared = RcRelativePath::from_path_text(rt.alloc(), RelativePath::new("foo/bar"))?;
-    is_foo_bar("an owner", shared.as_relative_path())
-}
-
-#[test]
-fn pushed_buffers_are_equal_as_views(rt: HostRuntime) -> Result<(), Fail> {
-    let mut buf = RelativePathBuf::new(rt.alloc());
-    for name in &["foo", "bar"] {
-        buf.push(RelativePath::new(name))?;
-    }
-    is_foo_bar("pushed", buf.as_relative_path())?;
-    let owned = CowRelativePath::from(buf);
-    is_foo_bar("owned", owned.as_relative_path())
+    let buf = RelativePath::new("foo/bar").to_relative_path_buf(rt.alloc())?;
+    let copied = RcRelativePath::from_path_text(rt.alloc(), buf.as_relative_path())?;
+    let answer = RcRelativePath::from_buf(rt.alloc(), pushed(rt.alloc())?);
+    let taken = answer.ok().ok_or("from_buf")?;
+    are_equal(&[
+        buf.as_relative_path(),
+        copied.as_relative_path(),
+        taken.as_relative_path(),
+    ])
 }

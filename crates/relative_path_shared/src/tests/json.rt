@@ -45,9 +45,21 @@ fn is_refused(alloc: Global, json: &str) -> Result<(), Fail> {
     same(json, &found, &[Some(FromValueError::NotAString); 3])
 }
 
+const OTHER_VALUES: [&str; 9] = [
+    "null",
+    "true",
+    "false",
+    "7",
+    "0.5",
+    "[]",
+    "[\"a/b\"]",
+    "{}",
+    "{\"a\":\"b\"}",
+];
+
 #[test]
 fn other_values_are_refused(rt: HostRuntime) -> Result<(), Fail> {
-    for json in &["null", "true", "7", "[]", "[\"a/b\"]", "{}"] {
+    for json in &OTHER_VALUES {
         is_refused(rt.alloc(), json)?;
     }
     Ok(())
