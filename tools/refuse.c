@@ -67,15 +67,17 @@ static int is_mark(size bytes) {
   return 1;
 }
 
+/* The mark of a refused call is refused too: by this its test sees that memory was refused to it. */
 static int is_granted(size bytes) {
-  if (is_mark(bytes) || !counts) return 1;
+  if (is_mark(bytes)) return bytes != END_REFUSED;
+  if (!counts) return 1;
   seen++;
   int is_refused = refused && (seen == refused || (and_on && seen > refused));
   tell(is_refused ? 'x' : '.', (long)bytes);
   return !is_refused;
 }
 
-/* The mark that begins a call is a block too, given back behind it. */
+/* The mark that begins a call is a block too, given back after it. */
 void *malloc(size bytes) {
   if (!is_granted(bytes)) return 0;
   held += counts;

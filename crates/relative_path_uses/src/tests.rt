@@ -25,10 +25,12 @@ fn same<T: PartialEq + Debug>(case: &str, found: &T, expected: &T) -> Result<(),
     }
 }
 
-// Fails where a value prints other words than these.
+// Fails where a value prints other words than these, as it is and in a width and a precision that
+// hold them.
 fn prints<T: Display>(alloc: Global, value: &T, words: &str) -> Result<(), Fail> {
-    let printed = format!(in alloc; "{value}")?;
-    same(words, &printed.as_str(), &words)
+    let printed = format!(in alloc; "{value}|{value:5.99}")?;
+    let expected = format!(in alloc; "{words}|{words}")?;
+    same(words, &printed, &expected)
 }
 
 // Fails where other files are there than are expected.

@@ -292,15 +292,17 @@ fn finds_ways_to_paths(rt: HostRuntime) -> Result<(), Fail> {
     Ok(())
 }
 
-// Fails where a refusal is not equal to its clone, or doesn't print these words.
+// Fails where a refusal is not equal to its clone, or doesn't print these words, as it is and in a
+// width and a precision that hold them.
 fn tells<T: Clone + Drop + PartialEq + Debug + Display>(
     alloc: Global,
     refusal: &T,
     words: &str,
 ) -> Result<(), Fail> {
     same(words, &refusal.clone()?, refusal)?;
-    let printed = format!(in alloc; "{refusal}")?;
-    same(words, &printed.as_str(), &words)
+    let printed = format!(in alloc; "{refusal}|{refusal:5.99}")?;
+    let expected = format!(in alloc; "{words}|{words}")?;
+    same(words, &printed, &expected)
 }
 
 const FROM_PATH_KINDS: [(FromPathErrorKind, &str); 4] = [

@@ -33,7 +33,9 @@ fn prints_the_text(rt: HostRuntime) -> Result<(), Fail> {
     for (text, expected) in &PRINTED {
         prints(rt.alloc(), text, expected)?;
     }
-    Ok(())
+    let long = "ä".repeat(rt.alloc(), 500)?;
+    let expected = format!(in rt.alloc(); "{long}|\"{long}\"")?;
+    prints(rt.alloc(), long.as_str(), expected.as_str())
 }
 
 // Fails where this is not what `é/b` prints in these widths.
@@ -49,4 +51,21 @@ fn fills_a_width_as_a_text_does(rt: HostRuntime) -> Result<(), Fail> {
     fills(rt.alloc(), "display", &path.display())?;
     let buf = RelativePathBuf::from_text(rt.alloc(), "é/b")?;
     fills(rt.alloc(), "a buffer", &buf)
+}
+
+// Fails where 1,000 letters don't print so in a width and in a precision.
+fn fills_a_long_width<T: Display>(alloc: Global, case: &str, value: &T) -> Result<(), Fail> {
+    let printed = format!(in alloc; "{value:>1001}|{value:.999}")?;
+    let letters = "a".repeat(alloc, 999)?;
+    let expected = format!(in alloc; " {letters}a|{letters}")?;
+    same(case, &printed, &expected)
+}
+
+#[test]
+fn fills_a_width_of_a_thousand(rt: HostRuntime) -> Result<(), Fail> {
+    let buf = RelativePathBuf::from("a".repeat(rt.alloc(), 1_000)?);
+    let path = buf.as_relative_path();
+    fills_a_long_width(rt.alloc(), "a view", &path)?;
+    fills_a_long_width(rt.alloc(), "display", &path.display())?;
+    fills_a_long_width(rt.alloc(), "a buffer", &buf)
 }

@@ -63,10 +63,15 @@ fn refuses_moves(rt: HostRuntime) -> Result<(), Fail> {
     all_become(rt.alloc(), &REFUSED)
 }
 
-// A thousand paths, each its number between these two texts.
-fn numbered(alloc: Global, before: &str, behind: &str) -> Result<Vec<String>, AllocError> {
+// So many paths, each its number between these two texts.
+fn numbered(
+    alloc: Global,
+    count: usize,
+    before: &str,
+    behind: &str,
+) -> Result<Vec<String>, AllocError> {
     let mut paths = Vec::new(alloc);
-    for k in 0..1_000 {
+    for k in 0..count {
         paths.push(format!(in alloc; "{before}{k}{behind}")?)?;
     }
     Ok(paths)
@@ -115,8 +120,8 @@ fn refers_from_each(
 
 #[test]
 fn answers_among_a_thousand_moves(rt: HostRuntime) -> Result<(), Fail> {
-    let olds = numbered(rt.alloc(), "docs/", ".md")?;
-    let news = numbered(rt.alloc(), "", "/page.md")?;
+    let olds = numbered(rt.alloc(), 1_000, "docs/", ".md")?;
+    let news = numbered(rt.alloc(), 1_000, "", "/page.md")?;
     let moves = paired(rt.alloc(), &olds, &news)?;
     becomes(
         rt.alloc(),
@@ -127,6 +132,13 @@ fn answers_among_a_thousand_moves(rt: HostRuntime) -> Result<(), Fail> {
         "../999/page.md",
     )?;
     refers_from_each(rt.alloc(), &moves)
+}
+
+#[test]
+fn makes_a_table_of_a_hundred_thousand_moves(rt: HostRuntime) -> Result<(), Fail> {
+    let paths = numbered(rt.alloc(), 100_000, "", ".md")?;
+    let moves = paired(rt.alloc(), &paths, &paths)?;
+    becomes(rt.alloc(), "file 7", &moves, 7, "99999.md", "99999.md")
 }
 
 #[test]
@@ -154,14 +166,17 @@ fn tells_refusals_apart() -> Result<(), Fail> {
 fn refusals_print_their_words(rt: HostRuntime) -> Result<(), Fail> {
     for (refusal, words) in &[
         (MoveError::AboveRoot, "reference climbs above the root"),
-        (MoveError::NoFileName(10), "move 10 lacks a file name"),
+        (MoveError::NoPath, "no path"),
+        (MoveError::OutOfMemory, "out of memory"),
+        (MoveError::NoFileName(1_000), "move 1000 lacks a file name"),
         (
             MoveError::SameOld(10, usize::MAX),
             "moves 10 and 18446744073709551615 have the same old path",
         ),
     ] {
-        let printed = format!(in rt.alloc(); "{refusal}")?;
-        same(words, &printed.as_str(), words)?;
+        let printed = format!(in rt.alloc(); "{refusal}|{refusal:5.99}")?;
+        let expected = format!(in rt.alloc(); "{words}|{words}")?;
+        same(words, &printed, &expected)?;
     }
     Ok(())
 }

@@ -79,7 +79,9 @@ const ERRORS: [(FromValueError, &str); 2] = [
 #[test]
 fn errors_print_their_text(rt: HostRuntime) -> Result<(), Fail> {
     for (error, text) in &ERRORS {
-        same(text, &format!(in rt.alloc(); "{error}")?.as_str(), text)?;
+        let printed = format!(in rt.alloc(); "{error}|{error:5.99}")?;
+        let expected = format!(in rt.alloc(); "{text}|{text}")?;
+        same(text, &printed, &expected)?;
     }
     Ok(())
 }

@@ -96,12 +96,18 @@ fn refusals_print_their_words(rt: HostRuntime) -> Result<(), Fail> {
     for (refusal, words) in &[
         (ManifestError::NoBase, "no base directory"),
         (ManifestError::NoFiles, "no list of files"),
-        (ManifestError::NotAString(0), "file 0 is no string"),
         (
-            ManifestError::ClimbsAbove(12),
-            "file 12 climbs above the base",
+            ManifestError::NotAString(1_000),
+            "file 1000 is no string",
         ),
-        (ManifestError::LeadsToBase(7), "file 7 leads to the base"),
+        (
+            ManifestError::ClimbsAbove(1_000),
+            "file 1000 climbs above the base",
+        ),
+        (
+            ManifestError::LeadsToBase(1_000),
+            "file 1000 leads to the base",
+        ),
         (ManifestError::OutOfMemory, "out of memory"),
     ] {
         prints(rt.alloc(), refusal, words)?;

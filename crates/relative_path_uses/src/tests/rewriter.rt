@@ -194,8 +194,8 @@ fn moves_the_page_of_the_docs(rt: HostRuntime) -> Result<(), Fail> {
 fn refusals_print_their_words(rt: HostRuntime) -> Result<(), Fail> {
     for (refusal, words) in &[
         (
-            RewriteError::Link(12, MoveError::AboveRoot),
-            "link 12: reference climbs above the root",
+            RewriteError::Link(1_000, MoveError::AboveRoot),
+            "link 1000: reference climbs above the root",
         ),
         (RewriteError::OutOfMemory, "out of memory"),
     ] {

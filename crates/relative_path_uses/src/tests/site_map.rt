@@ -168,7 +168,10 @@ fn takes_no_pages(rt: HostRuntime) -> Result<(), Fail> {
 #[test]
 fn refusals_print_their_words(rt: HostRuntime) -> Result<(), Fail> {
     for (refusal, words) in &[
-        (SiteMapError::NoFileName(12), "page 12 lacks a file name"),
+        (
+            SiteMapError::NoFileName(1_000),
+            "page 1000 lacks a file name",
+        ),
         (SiteMapError::OutOfMemory, "out of memory"),
     ] {
         prints(rt.alloc(), refusal, words)?;

@@ -11,11 +11,14 @@ fn kind<T>(answer: io::Result<T>) -> Result<T, ErrorKind> {
     answer.map_err(|e| e.kind())
 }
 
-#[test]
-fn passes_each_read_on_once() -> Result<(), Fail> {
+// Kinds of errors after which some callers try again.
+const KINDS: [ErrorKind; 2] = [ErrorKind::Interrupted, ErrorKind::WouldBlock];
+
+// Whether each of five reads is passed on once; the second fails so.
+fn reads_once(failure: ErrorKind) -> Result<(), Fail> {
     let mut buf = [0; 4];
     let source = Source::new(b"abc".as_slice()).in_pieces(2);
-    let mut reader = Meter::new(source.failing_at(2, ErrorKind::Interrupted));
+    let mut reader = Meter::new(source.failing_at(2, failure));
     let short = (kind(reader.read(&mut buf)), buf);
     let failed = kind(reader.read(&mut buf));
     let last = (kind(reader.read(&mut buf[..3])), buf);
@@ -25,7 +28,7 @@ fn passes_each_read_on_once() -> Result<(), Fail> {
         &(short, failed, last, ended),
         &(
             (Ok(2), *b"ab\0\0"),
-            Err(ErrorKind::Interrupted),
+            Err(failure),
             (Ok(1), *b"cb\0\0"),
             (Ok(0), Ok(0)),
         ),
@@ -37,9 +40,17 @@ fn passes_each_read_on_once() -> Result<(), Fail> {
 }
 
 #[test]
-fn passes_each_write_on_once(rt: HostRuntime) -> Result<(), Fail> {
-    let sink = Sink::new(rt.alloc()).in_pieces(2);
-    let mut writer = Meter::new(sink.failing_at(3, ErrorKind::Interrupted));
+fn passes_each_read_on_once() -> Result<(), Fail> {
+    for failure in KINDS {
+        reads_once(failure)?;
+    }
+    Ok(())
+}
+
+// Whether each of four writes and a flush is passed on once; the third write fails so.
+fn writes_once(alloc: Global, failure: ErrorKind) -> Result<(), Fail> {
+    let sink = Sink::new(alloc).in_pieces(2);
+    let mut writer = Meter::new(sink.failing_at(3, failure));
     let answers = [
         kind(writer.write(b"abc")),
         kind(writer.write(b"")),
@@ -47,14 +58,21 @@ fn passes_each_write_on_once(rt: HostRuntime) -> Result<(), Fail> {
         kind(writer.write(b"cd")),
     ];
     let flushed = kind(writer.flush());
-    let failed = Err(ErrorKind::Interrupted);
-    let expected = ([Ok(2), Ok(0), failed, Ok(2)], Ok(()));
+    let expected = ([Ok(2), Ok(0), Err(failure), Ok(2)], Ok(()));
     same("writes, then a flush", &(answers, flushed), &expected)?;
     let counts = (writer.calls(), writer.flushes(), writer.failures());
     let sink = writer.into_inner();
     let calls = (sink.writes, sink.offered, sink.flushes);
     let found = (counts, calls, sink.taken.as_slice());
     same("counts", &found, &((4, 1, 1), (4, 6, 1), b"abcd"))
+}
+
+#[test]
+fn passes_each_write_on_once(rt: HostRuntime) -> Result<(), Fail> {
+    for failure in KINDS {
+        writes_once(rt.alloc(), failure)?;
+    }
+    Ok(())
 }
 
 #[test]
@@ -83,6 +101,7 @@ fn passes_each_flush_on_once(rt: HostRuntime) -> Result<(), Fail> {
     flushes_twice("fine", Sink::new(rt.alloc()), Ok(()))?;
     for (case, kind) in [
         ("interrupted", ErrorKind::Interrupted),
+        ("blocking", ErrorKind::WouldBlock),
         ("broken", ErrorKind::BrokenPipe),
     ] {
         let sink = Sink::new(rt.alloc()).failing_to_flush(kind);
@@ -107,9 +126,9 @@ fn passes_two_hundred_writes_on(rt: HostRuntime) -> Result<(), Fail> {
     same("calls", &found, &(Ok(()), (200, 1, 0), (200, 200), 1, 200))
 }
 
-// More bytes than an input may have.
+// 200,000 bytes, more than an input may have.
 fn long_room(alloc: Global) -> Result<Vec<u8>, AllocError> {
-    vec![in alloc; 0; 65_537]
+    vec![in alloc; 0; 200_000]
 }
 
 #[test]
@@ -119,7 +138,7 @@ fn passes_a_long_read_on_whole(rt: HostRuntime) -> Result<(), Fail> {
     let answer = kind(reader.read(room.as_mut_slice()));
     let source = reader.into_inner();
     let found = (answer, source.reads, source.room);
-    same("a long read", &found, &(Ok(65_537), 1, 65_537))
+    same("a long read", &found, &(Ok(200_000), 1, 200_000))
 }
 
 #[test]
@@ -130,5 +149,5 @@ fn passes_a_long_write_on_whole(rt: HostRuntime) -> Result<(), Fail> {
     let sink = writer.into_inner();
     let is_whole = sink.taken.as_slice() == room.as_slice();
     let found = (answer, sink.writes, sink.offered, is_whole);
-    same("a long write", &found, &(Ok(65_537), 1, 65_537, true))
+    same("a long write", &found, &(Ok(200_000), 1, 200_000, true))
 }

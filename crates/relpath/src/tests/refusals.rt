@@ -1,4 +1,5 @@
 //! Each call that takes memory, between two marks. tools/refusals runs each of these tests with each
-//! request between its marks refused in turn, so each takes a refusal as well as an answer.
+//! request between its marks refused in turn, so each takes a refusal as well as an answer;
+//! without that script it takes only the answer.
 mod marks;
 mod run;

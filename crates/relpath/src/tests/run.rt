@@ -239,11 +239,11 @@ fn tells_each_failed_write(rt: HostRuntime) -> Result<(), Fail> {
     Ok(())
 }
 
-// 4,000 empty lines have answers of 18 bytes each.
+// 32,768 empty lines have answers of 18 bytes each.
 #[test]
-fn flushes_behind_a_long_output(rt: HostRuntime) -> Result<(), Fail> {
-    let lines = "\n".repeat(rt.alloc(), 4_000)?;
-    let answers = "! unknown command\n".repeat(rt.alloc(), 4_000)?;
+fn flushes_after_a_long_output(rt: HostRuntime) -> Result<(), Fail> {
+    let lines = "\n".repeat(rt.alloc(), 32_768)?;
+    let answers = "! unknown command\n".repeat(rt.alloc(), 32_768)?;
     let mut reader = Meter::new(lines.as_bytes());
     let mut writer = Meter::new(Sink::new(rt.alloc()));
     let result = run(rt.alloc(), &mut reader, &mut writer);
@@ -254,6 +254,6 @@ fn flushes_behind_a_long_output(rt: HostRuntime) -> Result<(), Fail> {
     same(
         "a long output",
         &found,
-        &(Ok(()), true, (1, 72_000, 1, 72_000)),
+        &(Ok(()), true, (1, 589_824, 1, 589_824)),
     )
 }

@@ -4,28 +4,31 @@ use super::{gives, long_text};
 use crate::tests::{same, text_of};
 use relative_path::{RelativePath, RelativePathBuf};
 use std::alloc::{AllocError, Global};
+use std::cmp::Ordering;
 use std::fmt::InlineText;
 use std::hash::{DefaultHasher, Hash, Hasher};
 use std::test::Fail;
 
+// A text of ten bytes.
+const SHORT: &str = "//a/b/./c/";
+
 #[test]
 fn from_text(rt: HostRuntime) -> Result<(), Fail> {
     let long = long_text(rt.alloc())?;
-    for text in &["//a/", long.as_str()] {
+    for text in &[SHORT, long.as_str()] {
         begin(rt.alloc());
         let answer = RelativePathBuf::from_text(rt.alloc(), text);
-        end(rt.alloc(), answer.is_err());
-        gives(&answer, text)?;
+        gives(rt.alloc(), &answer, text)?;
     }
     Ok(())
 }
 
 #[test]
 fn with_capacity(rt: HostRuntime) -> Result<(), Fail> {
-    for capacity in &[15, 10_000] {
+    for capacity in &[10, 1_048_576] {
         begin(rt.alloc());
         let answer = RelativePathBuf::with_capacity(rt.alloc(), *capacity);
-        end(rt.alloc(), answer.is_err());
+        end(rt.alloc(), answer.is_err())?;
         if let Ok(buf) = answer {
             same(
                 "length and room",
@@ -40,12 +43,11 @@ fn with_capacity(rt: HostRuntime) -> Result<(), Fail> {
 #[test]
 fn clone(rt: HostRuntime) -> Result<(), Fail> {
     let long = long_text(rt.alloc())?;
-    for text in &["//a/", long.as_str()] {
+    for text in &[SHORT, long.as_str()] {
         let buf = RelativePathBuf::from_text(rt.alloc(), text)?;
         begin(rt.alloc());
         let answer = buf.clone();
-        end(rt.alloc(), answer.is_err());
-        gives(&answer, text)?;
+        gives(rt.alloc(), &answer, text)?;
     }
     Ok(())
 }
@@ -53,11 +55,10 @@ fn clone(rt: HostRuntime) -> Result<(), Fail> {
 #[test]
 fn to_relative_path_buf(rt: HostRuntime) -> Result<(), Fail> {
     let long = long_text(rt.alloc())?;
-    for text in &["//a/", long.as_str()] {
+    for text in &[SHORT, long.as_str()] {
         begin(rt.alloc());
         let answer = RelativePath::new(text).to_relative_path_buf(rt.alloc());
-        end(rt.alloc(), answer.is_err());
-        gives(&answer, text)?;
+        gives(rt.alloc(), &answer, text)?;
     }
     Ok(())
 }
@@ -66,13 +67,12 @@ fn to_relative_path_buf(rt: HostRuntime) -> Result<(), Fail> {
 fn join(rt: HostRuntime) -> Result<(), Fail> {
     let long = long_text(rt.alloc())?;
     for (text, more, joined) in &[
-        ("foo", "/bar", "foo/bar"),
+        ("foo/bar", "/az", "foo/bar/az"),
         ("", long.as_str(), long.as_str()),
     ] {
         begin(rt.alloc());
         let answer = RelativePath::new(text).join(rt.alloc(), RelativePath::new(more));
-        end(rt.alloc(), answer.is_err());
-        gives(&answer, joined)?;
+        gives(rt.alloc(), &answer, joined)?;
     }
     Ok(())
 }
@@ -80,11 +80,11 @@ fn join(rt: HostRuntime) -> Result<(), Fail> {
 #[test]
 fn push(rt: HostRuntime) -> Result<(), Fail> {
     let long = long_text(rt.alloc())?;
-    for more in &["bar", long.as_str()] {
+    for more in &["barbaz", long.as_str()] {
         let mut buf = RelativePathBuf::from_text(rt.alloc(), "foo")?;
         begin(rt.alloc());
         let answer = buf.push(RelativePath::new(more));
-        end(rt.alloc(), answer.is_err());
+        end(rt.alloc(), answer.is_err())?;
         match answer {
             Ok(()) => same("pushed", &text_of(&buf).strip_prefix("foo/"), &Some(*more))?,
             Err(_) => same("refused", &text_of(&buf), &"foo")?,
@@ -99,47 +99,63 @@ fn fits(rt: HostRuntime) -> Result<(), Fail> {
     let mut buf = RelativePathBuf::with_capacity(rt.alloc(), 15)?;
     begin(rt.alloc());
     let pushed = buf.push(RelativePath::new("foo"));
-    end(rt.alloc(), pushed.is_err());
+    end(rt.alloc(), pushed.is_err())?;
     same("push", &text_of(&buf), &"foo")?;
     let paths = ["bar", "baz", "qux"].map(RelativePath::new);
     begin(rt.alloc());
     let extended = buf.extend(paths);
-    end(rt.alloc(), extended.is_err());
+    end(rt.alloc(), extended.is_err())?;
     same("extend", &text_of(&buf), &"foo/bar/baz/qux")
 }
 
+// A long name goes.
 #[test]
 fn pop(rt: HostRuntime) -> Result<(), Fail> {
+    let long = "b".repeat(rt.alloc(), 1_048_576)?;
     let mut buf = RelativePathBuf::from_text(rt.alloc(), "foo/bar")?;
+    buf.push(RelativePath::new(long.as_str()))?;
     begin(rt.alloc());
-    let popped = buf.pop();
-    end(rt.alloc(), false);
-    same("pop", &(popped, text_of(&buf)), &(true, "foo"))
+    let popped = (buf.pop(), buf.pop());
+    end(rt.alloc(), false)?;
+    same("pop", &(popped, text_of(&buf)), &((true, true), "foo"))
 }
 
-#[test]
-fn asks_for_nothing(rt: HostRuntime) -> Result<(), Fail> {
-    let mut buf = RelativePathBuf::with_capacity(rt.alloc(), 15)?;
-    buf.push(RelativePath::new("foo/bar"))?;
-    let other = RelativePathBuf::from_text(rt.alloc(), "foo//baz")?;
+// The calls of a buffer that take no memory: of one with this text and with room to spare.
+fn asks_for_nothing_of(alloc: Global, text: &str) -> Result<(), Fail> {
+    let mut roomy = String::with_capacity(alloc, text.len().saturating_add(8))?;
+    roomy.push_str(text)?;
+    let mut buf = RelativePathBuf::from(roomy);
+    let other = RelativePathBuf::from_text(alloc, text)?;
     let mut state = DefaultHasher::new();
-    begin(rt.alloc());
+    begin(alloc);
+    let empty = RelativePathBuf::new(alloc);
     let sizes = (
         buf.len(),
         buf.spare(),
         buf.as_relative_path().as_str().len(),
     );
-    let compared = (buf == other, buf < other);
+    let compared = (buf == other, buf < other, buf.cmp(&other));
     buf.hash(&mut state);
     let printed = InlineText::<32>::of(&buf);
     let shown = InlineText::<32>::of(&format_args!("{other:?}"));
     buf = RelativePathBuf::from(buf.into_string());
-    let text = String::from(buf);
-    end(rt.alloc(), false);
-    same("sizes", &sizes, &(7, 8, 7))?;
-    same("== and <", &compared, &(false, true))?;
-    let texts = (printed.as_str(), shown.as_str(), text.as_str());
-    same("texts", &texts, &("foo/bar", "\"foo//baz\"", "foo/bar"))
+    let taken = String::from(buf);
+    end(alloc, false)?;
+    same("sizes", &sizes, &(text.len(), 8, text.len()))?;
+    same("compared", &compared, &(true, false, Ordering::Equal))?;
+    let lens = (printed.as_str().len(), shown.as_str().len());
+    same(
+        "printed",
+        &lens,
+        &(32.min(text.len()), 32.min(text.len() + 2)),
+    )?;
+    same("texts", &(text_of(&empty), taken.as_str()), &("", text))
+}
+
+#[test]
+fn asks_for_nothing(rt: HostRuntime) -> Result<(), Fail> {
+    asks_for_nothing_of(rt.alloc(), SHORT)?;
+    asks_for_nothing_of(rt.alloc(), long_text(rt.alloc())?.as_str())
 }
 
 #[test]
@@ -152,7 +168,7 @@ fn from_paths(rt: HostRuntime) -> Result<(), Fail> {
         let paths = texts.map(RelativePath::new);
         begin(rt.alloc());
         let answer = RelativePathBuf::from_paths(rt.alloc(), paths);
-        end(rt.alloc(), answer.is_err());
+        end(rt.alloc(), answer.is_err())?;
         if let Ok(buf) = answer {
             same("from_paths", &text_of(&buf), text)?;
         }
@@ -160,21 +176,21 @@ fn from_paths(rt: HostRuntime) -> Result<(), Fail> {
     Ok(())
 }
 
-/// A slash and 9,999 letters.
+/// A slash and 4,096 letters.
 pub fn long_name(alloc: Global) -> Result<String, AllocError> {
     let mut name = "/".to_string(alloc)?;
-    name.push_str("b".repeat(alloc, 9_999)?.as_str())?;
+    name.push_str("b".repeat(alloc, 4_096)?.as_str())?;
     Ok(name)
 }
 
-/// Whether an `extend` of `x` by `a`, the long name and `c` may leave this text, and this path to
-/// take: the pushes before the refused one are done, and the paths behind it are still there.
+/// Whether an `extend` of the empty path by `a`, the long name and `c` may leave this text, and this
+/// path to take: the pushes before the refused one are done, and the paths after it are still there.
 pub fn is_left(answer: Result<(), AllocError>, text: &str, name: &str, left: Option<&str>) -> bool {
     match (answer, text) {
-        (Err(_), "x") => left == Some(name),
-        (Err(_), "x/a") => left == Some("c"),
-        (Err(_), text) => left.is_none() && text.strip_prefix("x/a") == Some(name),
-        (Ok(()), text) => left.is_none() && text.len() == name.len() + 5,
+        (Err(_), "") => left == Some(name),
+        (Err(_), "a") => left == Some("c"),
+        (Err(_), text) => left.is_none() && text.strip_prefix("a") == Some(name),
+        (Ok(()), text) => left.is_none() && text.len() == name.len() + 3,
     }
 }
 
@@ -183,10 +199,10 @@ fn extend(rt: HostRuntime) -> Result<(), Fail> {
     let name = long_name(rt.alloc())?;
     let paths = ["a", name.as_str(), "c"].map(RelativePath::new);
     let mut lent = paths.iter().copied();
-    let mut buf = RelativePathBuf::from_text(rt.alloc(), "x")?;
+    let mut buf = RelativePathBuf::new(rt.alloc());
     begin(rt.alloc());
     let answer = buf.extend(&mut lent);
-    end(rt.alloc(), answer.is_err());
+    end(rt.alloc(), answer.is_err())?;
     let left = lent.next().map(RelativePath::as_str);
     let is_right = is_left(answer, text_of(&buf), name.as_str(), left);
     same("extend", &is_right, &true)

@@ -14,22 +14,26 @@ fn texts_of(pair: &(RelativePathBuf, RelativePathBuf)) -> (&str, &str) {
     (text_of(&pair.0), text_of(&pair.1))
 }
 
-// Fails where memory was there, and these are not both texts.
+// The mark after a law. It fails where these are not both texts.
 fn same_texts(
+    alloc: Global,
     answer: &Result<(RelativePathBuf, RelativePathBuf), AllocError>,
     expected: (&str, &str),
 ) -> Result<(), Fail> {
+    end(alloc, answer.is_err())?;
     match answer {
         Ok(pair) => same("two texts", &texts_of(pair), &expected),
         Err(_) => Ok(()),
     }
 }
 
-// Fails where memory was there, and these are not the three texts.
+// The same of three texts.
 fn same_three(
+    alloc: Global,
     answer: &Result<(RelativePathBuf, RelativePathBuf, RelativePathBuf), AllocError>,
     expected: (&str, &str, &str),
 ) -> Result<(), Fail> {
+    end(alloc, answer.is_err())?;
     match answer {
         Ok((a, b, c)) => same(
             "three texts",
@@ -45,7 +49,7 @@ fn join_law_of_two(rt: HostRuntime) -> Result<(), Fail> {
     let [path, other] = ["a/", "//b"].map(RelativePath::new);
     begin(rt.alloc());
     let answer = join_law(rt.alloc(), path, other);
-    end(rt.alloc(), answer.is_err());
+    end(rt.alloc(), answer.is_err())?;
     match answer {
         Ok(buf) => same("a join", &text_of(&buf), &"a//b"),
         Err(_) => Ok(()),
@@ -57,8 +61,7 @@ fn from_paths_law_of_four(rt: HostRuntime) -> Result<(), Fail> {
     let paths = ["a", "/b", "", "c"].map(RelativePath::new);
     begin(rt.alloc());
     let answer = from_paths_law(rt.alloc(), &paths);
-    end(rt.alloc(), answer.is_err());
-    same_texts(&answer, ("a/b/c", "a/b/c"))
+    same_texts(rt.alloc(), &answer, ("a/b/c", "a/b/c"))
 }
 
 #[test]
@@ -66,8 +69,7 @@ fn join_normalized_law_of_two(rt: HostRuntime) -> Result<(), Fail> {
     let [path, other] = ["x/y", "../z"].map(RelativePath::new);
     begin(rt.alloc());
     let answer = join_normalized_law(rt.alloc(), path, other);
-    end(rt.alloc(), answer.is_err());
-    same_texts(&answer, ("x/z", "x/z"))
+    same_texts(rt.alloc(), &answer, ("x/z", "x/z"))
 }
 
 #[test]
@@ -75,30 +77,27 @@ fn associative_of_three(rt: HostRuntime) -> Result<(), Fail> {
     let [a, b, c] = ["a", "../..", "b"].map(RelativePath::new);
     begin(rt.alloc());
     let answer = associative(rt.alloc(), a, b, c);
-    end(rt.alloc(), answer.is_err());
-    same_texts(&answer, ("../b", "../b"))
+    same_texts(rt.alloc(), &answer, ("../b", "../b"))
 }
 
 #[test]
 fn unit_of_one(rt: HostRuntime) -> Result<(), Fail> {
     begin(rt.alloc());
     let answer = unit(rt.alloc(), RelativePath::new("a//b/."));
-    end(rt.alloc(), answer.is_err());
-    same_three(&answer, ("a/b", "a/b", "a/b"))
+    same_three(rt.alloc(), &answer, ("a/b", "a/b", "a/b"))
 }
 
 #[test]
 fn normalize_twice_of_one(rt: HostRuntime) -> Result<(), Fail> {
     begin(rt.alloc());
     let answer = normalize_twice(rt.alloc(), RelativePath::new("a/./b"));
-    end(rt.alloc(), answer.is_err());
-    same_texts(&answer, ("a/b", "a/b"))
+    same_texts(rt.alloc(), &answer, ("a/b", "a/b"))
 }
 
 fn normalized_law_of(alloc: Global, text: &str, expected: (bool, &str)) -> Result<(), Fail> {
     begin(alloc);
     let answer = normalized_law(alloc, RelativePath::new(text));
-    end(alloc, answer.is_err());
+    end(alloc, answer.is_err())?;
     match answer {
         Ok((is_normal, buf)) => same(text, &(is_normal, text_of(&buf)), &expected),
         Err(_) => Ok(()),
@@ -119,7 +118,7 @@ fn same_law_of(
 ) -> Result<(), Fail> {
     begin(alloc);
     let answer = same_law(alloc, RelativePath::new(path), RelativePath::new(other));
-    end(alloc, answer.is_err());
+    end(alloc, answer.is_err())?;
     match answer {
         Ok((buf, other_buf, apart)) => {
             let found = (text_of(&buf), text_of(&other_buf), apart);
@@ -138,8 +137,7 @@ fn same_law_of_two(rt: HostRuntime) -> Result<(), Fail> {
 fn leads_back_of(alloc: Global, from: &str, to: &str, expected: (&str, &str)) -> Result<(), Fail> {
     begin(alloc);
     let answer = leads_back(alloc, RelativePath::new(from), RelativePath::new(to));
-    end(alloc, answer.is_err());
-    same_texts(&answer, expected)
+    same_texts(alloc, &answer, expected)
 }
 
 #[test]
@@ -156,7 +154,7 @@ fn try_law_of(
 ) -> Result<(), Fail> {
     begin(alloc);
     let answer = try_law(alloc, RelativePath::new(from), RelativePath::new(to));
-    end(alloc, answer.is_err());
+    end(alloc, answer.is_err())?;
     match answer {
         Ok(found) => same(from, &found.as_ref().map(texts_of), &expected),
         Err(_) => Ok(()),
@@ -175,8 +173,7 @@ fn triangle_of_three(rt: HostRuntime) -> Result<(), Fail> {
     let [a, b, c] = ["a/b", "a", "c"].map(RelativePath::new);
     begin(rt.alloc());
     let answer = triangle(rt.alloc(), a, b, c);
-    end(rt.alloc(), answer.is_err());
-    same_three(&answer, ("../../c", "..", "../c"))
+    same_three(rt.alloc(), &answer, ("../../c", "..", "../c"))
 }
 
 #[test]
@@ -184,7 +181,7 @@ fn strip_law_of_a_base(rt: HostRuntime) -> Result<(), Fail> {
     let [path, base] = ["//foo/bar/", "foo"].map(RelativePath::new);
     begin(rt.alloc());
     let answer = strip_law(rt.alloc(), path, base);
-    end(rt.alloc(), answer.is_err());
+    end(rt.alloc(), answer.is_err())?;
     if let Ok(found) = answer {
         let (rest, buf) = found.ok_or("a rest")?;
         same(
@@ -200,7 +197,7 @@ fn strip_law_of_a_base(rt: HostRuntime) -> Result<(), Fail> {
 fn extension_law_of_a_file(rt: HostRuntime) -> Result<(), Fail> {
     begin(rt.alloc());
     let answer = extension_law(rt.alloc(), RelativePath::new("..."), "x");
-    end(rt.alloc(), answer.is_err());
+    end(rt.alloc(), answer.is_err())?;
     match answer {
         Ok(found) => same("a file", &found.as_ref().map(text_of), &Some("...x")),
         Err(_) => Ok(()),
@@ -211,7 +208,7 @@ fn extension_law_of_a_file(rt: HostRuntime) -> Result<(), Fail> {
 fn relative_to_law_of_texts(rt: HostRuntime) -> Result<(), Fail> {
     begin(rt.alloc());
     let answer = relative_to_law(rt.alloc(), "foo/bar", "./x");
-    end(rt.alloc(), answer.is_err());
+    end(rt.alloc(), answer.is_err())?;
     match answer {
         Ok(buf) => same("a way", &text_of(&buf), &"../foo/bar"),
         Err(error) => same("a way", &error.kind(), &RelativeToErrorKind::OutOfMemory),
@@ -230,7 +227,7 @@ const TAKEN: [Option<Component<'static>>; 3] = [
 fn take_in_turn_from_a_path(rt: HostRuntime) -> Result<(), Fail> {
     begin(rt.alloc());
     let answer = take_in_turn(rt.alloc(), RelativePath::new("/x//./y/"), &ENDS);
-    end(rt.alloc(), answer.is_err());
+    end(rt.alloc(), answer.is_err())?;
     match answer {
         Ok(taken) => same(
             "components",

@@ -3,19 +3,19 @@ use super::marks::{begin, end};
 use super::{gives, long_text};
 use crate::tests::{same, text_of};
 use relative_path::{RelativePath, RelativePathBuf};
+use std::alloc::Global;
 use std::test::Fail;
 
 #[test]
 fn with_file_name(rt: HostRuntime) -> Result<(), Fail> {
     let long = long_text(rt.alloc())?;
     for (text, file_name, named) in &[
-        ("tmp/foo.txt", "bar.txt", "tmp/bar.txt"),
+        ("tmp/foo.txt", "bar.rs", "tmp/bar.rs"),
         (long.as_str(), "aa", long.as_str()),
     ] {
         begin(rt.alloc());
         let answer = RelativePath::new(text).with_file_name(rt.alloc(), file_name);
-        end(rt.alloc(), answer.is_err());
-        gives(&answer, named)?;
+        gives(rt.alloc(), &answer, named)?;
     }
     Ok(())
 }
@@ -24,34 +24,45 @@ fn with_file_name(rt: HostRuntime) -> Result<(), Fail> {
 fn with_extension(rt: HostRuntime) -> Result<(), Fail> {
     let long = long_text(rt.alloc())?;
     for (text, extension, extended) in &[
-        ("foo.rs", "txt", "foo.txt"),
+        ("foobar.rs", "txt", "foobar.txt"),
         (long.as_str(), "", long.as_str()),
     ] {
         begin(rt.alloc());
         let answer = RelativePath::new(text).with_extension(rt.alloc(), extension);
-        end(rt.alloc(), answer.is_err());
-        gives(&answer, extended)?;
+        gives(rt.alloc(), &answer, extended)?;
     }
     Ok(())
 }
 
+// Sets the file name of `f/b`, which a refusal leaves.
+fn set_file_name_of(alloc: Global, file_name: &str) -> Result<(), Fail> {
+    let mut buf = RelativePathBuf::from_text(alloc, "f/b")?;
+    begin(alloc);
+    let answer = buf.set_file_name(file_name);
+    end(alloc, answer.is_err())?;
+    let left = if answer.is_ok() { file_name } else { "b" };
+    same("a name", &text_of(&buf).strip_prefix("f/"), &Some(left))
+}
+
 #[test]
 fn set_file_name(rt: HostRuntime) -> Result<(), Fail> {
-    let letters = "b".repeat(rt.alloc(), 9_996)?;
+    set_file_name_of(rt.alloc(), "barbarba")?;
+    set_file_name_of(rt.alloc(), "b".repeat(rt.alloc(), 1_048_574)?.as_str())
+}
+
+#[test]
+fn set_a_long_file_name(rt: HostRuntime) -> Result<(), Fail> {
+    let letters = "b".repeat(rt.alloc(), 4_096)?;
     let mut buf = RelativePathBuf::from_text(rt.alloc(), "foo/bar")?;
     begin(rt.alloc());
     let answer = buf.set_file_name(letters.as_str());
-    end(rt.alloc(), answer.is_err());
-    let left = if answer.is_ok() {
+    end(rt.alloc(), answer.is_err())?;
+    let name = if answer.is_ok() {
         letters.as_str()
     } else {
         "bar"
     };
-    same(
-        "set_file_name",
-        &text_of(&buf).strip_prefix("foo/"),
-        &Some(left),
-    )
+    same("a name", &text_of(&buf).strip_prefix("foo/"), &Some(name))
 }
 
 #[test]
@@ -59,24 +70,24 @@ fn set_file_name_that_fits(rt: HostRuntime) -> Result<(), Fail> {
     let mut buf = RelativePathBuf::from_text(rt.alloc(), "foo/bar")?;
     begin(rt.alloc());
     let answer = buf.set_file_name("baz");
-    end(rt.alloc(), answer.is_err());
+    end(rt.alloc(), answer.is_err())?;
     same("set_file_name", &text_of(&buf), &"foo/baz")
 }
 
 #[test]
 fn set_extension(rt: HostRuntime) -> Result<(), Fail> {
-    let long = long_text(rt.alloc())?;
-    for (text, front) in &[("foo/.", "foo"), (long.as_str(), long.as_str())] {
-        let mut buf = RelativePathBuf::from_text(rt.alloc(), text)?;
+    let letters = "b".repeat(rt.alloc(), 1_048_574)?;
+    for extension in &["barbarba", letters.as_str()] {
+        let mut buf = RelativePathBuf::from_text(rt.alloc(), "f/.")?;
         begin(rt.alloc());
-        let answer = buf.set_extension("bar");
-        end(rt.alloc(), answer.is_err());
+        let answer = buf.set_extension(extension);
+        end(rt.alloc(), answer.is_err())?;
         match answer {
             Ok(is_set) => {
-                let added = text_of(&buf).strip_prefix(*front);
-                same("set_extension", &(is_set, added), &(true, Some(".bar")))?;
+                let added = text_of(&buf).strip_prefix("f.");
+                same("set_extension", &(is_set, added), &(true, Some(*extension)))?;
             }
-            Err(_) => same("refused", &text_of(&buf), text)?,
+            Err(_) => same("refused", &text_of(&buf), &"f/.")?,
         }
     }
     Ok(())
@@ -97,7 +108,7 @@ fn set_extension_that_fits(rt: HostRuntime) -> Result<(), Fail> {
         buf.push(RelativePath::new(text))?;
         begin(rt.alloc());
         let answer = buf.set_extension(extension);
-        end(rt.alloc(), answer.is_err());
+        end(rt.alloc(), answer.is_err())?;
         same(text, &answer.ok(), &Some(*is_set))?;
         same(text, &text_of(&buf), left)?;
     }

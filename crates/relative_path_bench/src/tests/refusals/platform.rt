@@ -10,14 +10,14 @@ use std::alloc::{AllocError, Global};
 use std::path::{Path, PathBuf};
 use std::test::Fail;
 
-// The mark behind a call, which fails where memory was there and the answer has another text.
+// The mark after a call, which fails where memory was there and the answer has another text.
 fn end_with_path(
     alloc: Global,
     answer: Result<RelativePathBuf, FromPathError>,
     text: &str,
 ) -> Result<(), Fail> {
     let kind = answer.as_ref().err().map(FromPathError::kind);
-    end(alloc, kind == Some(FromPathErrorKind::OutOfMemory));
+    end(alloc, kind == Some(FromPathErrorKind::OutOfMemory))?;
     match answer {
         Ok(path) => same("a path", &text_of(&path), &text),
         Err(_) => same("a kind", &kind, &Some(FromPathErrorKind::OutOfMemory)),
@@ -31,7 +31,7 @@ fn end_with_way(
     text: &str,
 ) -> Result<(), Fail> {
     let kind = answer.as_ref().err().map(RelativeToError::kind);
-    end(alloc, kind == Some(RelativeToErrorKind::OutOfMemory));
+    end(alloc, kind == Some(RelativeToErrorKind::OutOfMemory))?;
     match answer {
         Ok(way) => same("a way", &(text_of(&way), way.spare()), &(text, 0)),
         Err(_) => same("a kind", &kind, &Some(RelativeToErrorKind::OutOfMemory)),
@@ -44,7 +44,7 @@ fn end_with_text(
     answer: Result<String, AllocError>,
     text: &str,
 ) -> Result<(), Fail> {
-    end(alloc, answer.is_err());
+    end(alloc, answer.is_err())?;
     match answer {
         Ok(found) => same("a text", &found.as_str(), &text),
         Err(_) => Ok(()),
@@ -69,7 +69,7 @@ fn from_path_of_a_root(rt: HostRuntime) -> Result<(), Fail> {
     begin(rt.alloc());
     let as_path = RelativePathBuf::from_path(rt.alloc(), Path::new("/"));
     let as_text = unix::from_path(rt.alloc(), "/");
-    end(rt.alloc(), false);
+    end(rt.alloc(), false)?;
     for answer in [as_path, as_text] {
         let kind = answer.err().map(|error| error.kind());
         same("a root", &kind, &Some(FromPathErrorKind::NonRelative))?;
@@ -138,7 +138,7 @@ fn relative_to_another_prefix(rt: HostRuntime) -> Result<(), Fail> {
     begin(rt.alloc());
     let as_path = Path::new("foo").relative_to(rt.alloc(), Path::new("/bar"));
     let as_text = unix::relative_to(rt.alloc(), "foo", "/bar");
-    end(rt.alloc(), false);
+    end(rt.alloc(), false)?;
     for answer in [as_path, as_text] {
         let kind = answer.err().map(|error| error.kind());
         same("foo", &kind, &Some(RelativeToErrorKind::PrefixMismatch))?;
@@ -151,7 +151,7 @@ fn relative_to_what_climbs(rt: HostRuntime) -> Result<(), Fail> {
     begin(rt.alloc());
     let as_path = Path::new(".").relative_to(rt.alloc(), Path::new("a/../.."));
     let as_text = unix::relative_to(rt.alloc(), ".", "a/../..");
-    end(rt.alloc(), false);
+    end(rt.alloc(), false)?;
     for answer in [as_path, as_text] {
         let kind = answer.err().map(|error| error.kind());
         same(".", &kind, &Some(RelativeToErrorKind::AmbiguousTraversal))?;

@@ -20,7 +20,7 @@ fn set_file_name(rt: HostRuntime) -> Result<(), Fail> {
     let mut buf = RelativePathBuf::from_text(rt.alloc(), "foo/bar")?;
     begin(rt.alloc());
     let answer = cut_and_push(&mut buf, letters.as_str());
-    end(rt.alloc(), answer.is_err());
+    end(rt.alloc(), answer.is_err())?;
     let left = if answer.is_ok() {
         letters.as_str()
     } else {
@@ -55,10 +55,10 @@ fn extend(rt: HostRuntime) -> Result<(), Fail> {
     let name = long_name(rt.alloc())?;
     let paths = ["a", name.as_str(), "c"].map(RelativePath::new);
     let mut lent = paths.iter().copied();
-    let mut buf = RelativePathBuf::from_text(rt.alloc(), "x")?;
+    let mut buf = RelativePathBuf::new(rt.alloc());
     begin(rt.alloc());
     let answer = push_or_restore(&mut buf, &mut lent);
-    end(rt.alloc(), answer.is_err());
+    end(rt.alloc(), answer.is_err())?;
     let left = lent.next().map(RelativePath::as_str);
     let is_right = is_left(answer, text_of(&buf), name.as_str(), left);
     same("extend", &is_right, &true)

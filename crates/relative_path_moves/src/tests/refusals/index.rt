@@ -1,35 +1,52 @@
 //! Paths by their places.
+use super::long_text;
 use super::marks::{begin, end};
 use crate::tests::{finds, same};
 use crate::{PlaceIndex, has_place};
 use relative_path::RelativePath;
+use std::alloc::Global;
 use std::test::Fail;
 
-#[test]
-fn insert(rt: HostRuntime) -> Result<(), Fail> {
-    let mut index = PlaceIndex::new(rt.alloc());
-    index.insert(rt.alloc(), RelativePath::new("a"), 0)?;
-    begin(rt.alloc());
-    let first = index.insert(rt.alloc(), RelativePath::new("b/c"), 1);
-    end(rt.alloc(), first.is_err());
-    finds(rt.alloc(), &index, "b/c", first.ok())?;
-    finds(rt.alloc(), &index, "a", Some(0))
+fn insert_of(alloc: Global, text: &str) -> Result<(), Fail> {
+    let mut index = PlaceIndex::new(alloc);
+    index.insert(alloc, RelativePath::new("b"), 0)?;
+    begin(alloc);
+    let first = index.insert(alloc, RelativePath::new(text), 1);
+    end(alloc, first.is_err())?;
+    finds(alloc, &index, text, first.ok())?;
+    finds(alloc, &index, "b", Some(0))
 }
 
 #[test]
-fn get(rt: HostRuntime) -> Result<(), Fail> {
-    let mut index = PlaceIndex::new(rt.alloc());
-    index.insert(rt.alloc(), RelativePath::new("a/b"), 0)?;
-    begin(rt.alloc());
-    let found = index.get(rt.alloc(), RelativePath::new("a//b"));
-    end(rt.alloc(), found.is_err());
+fn insert(rt: HostRuntime) -> Result<(), Fail> {
+    insert_of(rt.alloc(), "b/c")?;
+    insert_of(rt.alloc(), long_text(rt.alloc())?.as_str())
+}
+
+fn get_of(alloc: Global, text: &str) -> Result<(), Fail> {
+    let mut index = PlaceIndex::new(alloc);
+    index.insert(alloc, RelativePath::new(text), 0)?;
+    begin(alloc);
+    let found = index.get(alloc, RelativePath::new(text));
+    end(alloc, found.is_err())?;
     same("get", &found.unwrap_or(Some(0)), &Some(0))
 }
 
 #[test]
-fn place(rt: HostRuntime) -> Result<(), Fail> {
-    begin(rt.alloc());
-    let has = has_place(rt.alloc(), RelativePath::new("a/../b"));
-    end(rt.alloc(), has.is_err());
+fn get(rt: HostRuntime) -> Result<(), Fail> {
+    get_of(rt.alloc(), "a//b")?;
+    get_of(rt.alloc(), long_text(rt.alloc())?.as_str())
+}
+
+fn place_of(alloc: Global, text: &str) -> Result<(), Fail> {
+    begin(alloc);
+    let has = has_place(alloc, RelativePath::new(text));
+    end(alloc, has.is_err())?;
     same("has_place", &has.unwrap_or(true), &true)
+}
+
+#[test]
+fn place(rt: HostRuntime) -> Result<(), Fail> {
+    place_of(rt.alloc(), "a/../b")?;
+    place_of(rt.alloc(), long_text(rt.alloc())?.as_str())
 }

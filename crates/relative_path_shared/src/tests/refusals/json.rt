@@ -11,7 +11,7 @@ use std::test::Fail;
 fn to_value_of_a_path_of(alloc: Global, text: &str) -> Result<(), Fail> {
     begin(alloc);
     let answer = to_value(alloc, RelativePath::new(text));
-    end(alloc, answer.is_err());
+    end(alloc, answer.is_err())?;
     match answer {
         Ok(value) => same("to_value", &value.as_str(), &Some(text)),
         Err(_) => Ok(()),
@@ -28,7 +28,7 @@ fn from_value_of_a_string_of(alloc: Global, text: &str) -> Result<(), Fail> {
     let value = Value::try_from_str(alloc, text)?;
     begin(alloc);
     let answer = from_value(alloc, &value);
-    end(alloc, answer.is_err());
+    end(alloc, answer.is_err())?;
     match answer {
         Ok(buf) => {
             let found = (buf.as_relative_path().as_str(), buf.spare());
@@ -48,7 +48,7 @@ fn boxed_from_value_of_a_string_of(alloc: Global, text: &str) -> Result<(), Fail
     let value = Value::try_from_str(alloc, text)?;
     begin(alloc);
     let answer = boxed_from_value(alloc, &value);
-    end(alloc, answer.is_err());
+    end(alloc, answer.is_err())?;
     match answer {
         Ok(boxed) => shows("a box", boxed.as_relative_path(), text),
         Err(error) => same("refused", &error, &FromValueError::OutOfMemory),
@@ -65,7 +65,7 @@ fn boxed_from_value_of_a_string(rt: HostRuntime) -> Result<(), Fail> {
 fn from_value_of_null(rt: HostRuntime) -> Result<(), Fail> {
     begin(rt.alloc());
     let error = from_value(rt.alloc(), &Value::Null).err();
-    end(rt.alloc(), error == Some(FromValueError::OutOfMemory));
+    end(rt.alloc(), error == Some(FromValueError::OutOfMemory))?;
     same("null", &error, &Some(FromValueError::NotAString))
 }
 
@@ -73,6 +73,6 @@ fn from_value_of_null(rt: HostRuntime) -> Result<(), Fail> {
 fn boxed_from_value_of_null(rt: HostRuntime) -> Result<(), Fail> {
     begin(rt.alloc());
     let error = boxed_from_value(rt.alloc(), &Value::Null).err();
-    end(rt.alloc(), error == Some(FromValueError::OutOfMemory));
+    end(rt.alloc(), error == Some(FromValueError::OutOfMemory))?;
     same("null", &error, &Some(FromValueError::NotAString))
 }

@@ -1,4 +1,5 @@
 //! The rewriter of links.
+use super::long_text;
 use super::marks::{begin, end};
 use crate::tests::same;
 use crate::{RewriteError, rewritten};
@@ -15,7 +16,7 @@ fn marked(alloc: Global, table: &MoveTable<'_>, page: &str, expected: &str) -> R
     }
     begin(alloc);
     let answer = rewritten(alloc, page, table, 0);
-    end(alloc, answer.is_err());
+    end(alloc, answer.is_err())?;
     match answer {
         Ok(text) => same(page, &text.as_str(), &expected),
         Err(error) => same(page, &error, &RewriteError::OutOfMemory),
@@ -36,6 +37,14 @@ fn two_links(rt: HostRuntime) -> Result<(), Fail> {
         "[c](c.md) [d](d.md)",
         "[c](../c.md) [d](../d.md)",
     )
+}
+
+#[test]
+fn a_long_link(rt: HostRuntime) -> Result<(), Fail> {
+    let long = long_text(rt.alloc())?;
+    let page = format!(in rt.alloc(); "[c]({long})")?;
+    let expected = format!(in rt.alloc(); "[c](../{long})")?;
+    moved_down(rt.alloc(), page.as_str(), expected.as_str())
 }
 
 #[test]

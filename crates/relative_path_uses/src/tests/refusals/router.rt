@@ -1,40 +1,44 @@
 //! The router of static files.
+use super::long_text;
 use super::marks::{begin, end};
 use crate::served;
 use crate::tests::same;
 use std::alloc::{AllocError, Global};
 use std::test::Fail;
 
-// The mark behind a call, which fails where memory was there and the answer is another.
+// The mark after a call, which fails where memory was there and the answer is another.
 fn end_with_file(
     alloc: Global,
     answer: Result<Option<String>, AllocError>,
     expected: Option<&str>,
 ) -> Result<(), Fail> {
-    end(alloc, answer.is_err());
+    end(alloc, answer.is_err())?;
     match answer {
         Ok(file) => same("a file", &file.as_ref().map(String::as_str), &expected),
         Err(_) => Ok(()),
     }
 }
 
+fn served_of(alloc: Global, request: &str, expected: Option<&str>) -> Result<(), Fail> {
+    begin(alloc);
+    let answer = served(alloc, "/srv/www", request);
+    end_with_file(alloc, answer, expected)
+}
+
 #[test]
 fn a_file(rt: HostRuntime) -> Result<(), Fail> {
-    begin(rt.alloc());
-    let answer = served(rt.alloc(), "/srv/www", "/css//../a.css");
-    end_with_file(rt.alloc(), answer, Some("/srv/www/a.css"))
+    served_of(rt.alloc(), "/css//../a.css", Some("/srv/www/a.css"))?;
+    let long = long_text(rt.alloc())?;
+    let file = format!(in rt.alloc(); "/srv/www/{long}")?;
+    served_of(rt.alloc(), long.as_str(), Some(file.as_str()))
 }
 
 #[test]
 fn a_request_that_climbs(rt: HostRuntime) -> Result<(), Fail> {
-    begin(rt.alloc());
-    let answer = served(rt.alloc(), "/srv/www", "/../secrets");
-    end_with_file(rt.alloc(), answer, None)
+    served_of(rt.alloc(), "/../secrets", None)
 }
 
 #[test]
 fn an_empty_request(rt: HostRuntime) -> Result<(), Fail> {
-    begin(rt.alloc());
-    let answer = served(rt.alloc(), "/srv/www", "");
-    end_with_file(rt.alloc(), answer, Some("/srv/www"))
+    served_of(rt.alloc(), "", Some("/srv/www"))
 }

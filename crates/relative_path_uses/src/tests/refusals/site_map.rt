@@ -1,4 +1,5 @@
 //! The site map.
+use super::long_text;
 use super::marks::{begin, end};
 use crate::tests::{same, text_of};
 use crate::{SiteMap, SiteMapError};
@@ -13,7 +14,7 @@ fn three_pages(rt: HostRuntime) -> Result<(), Fail> {
     let pages = PAGES.map(RelativePath::new);
     begin(rt.alloc());
     let answer = SiteMap::new(rt.alloc(), &pages);
-    end(rt.alloc(), answer.is_err());
+    end(rt.alloc(), answer.is_err())?;
     match answer {
         Ok(site) => same("three pages", &site.len(), &3),
         Err(error) => same("a refusal", &error, &SiteMapError::OutOfMemory),
@@ -26,54 +27,66 @@ fn a_page_without_a_file_name(rt: HostRuntime) -> Result<(), Fail> {
     begin(rt.alloc());
     let answer = SiteMap::new(rt.alloc(), &pages);
     let error = answer.err();
-    end(rt.alloc(), error == Some(SiteMapError::OutOfMemory));
+    end(rt.alloc(), error == Some(SiteMapError::OutOfMemory))?;
     same("a name", &error, &Some(SiteMapError::NoFileName(1)))
+}
+
+fn find_of(alloc: Global, page: &str) -> Result<(), Fail> {
+    let pages = ["a/b.html", page].map(RelativePath::new);
+    let site = SiteMap::new(alloc, &pages)?;
+    begin(alloc);
+    let answer = site.find(alloc, RelativePath::new(page));
+    end(alloc, answer.is_err())?;
+    same("find", &answer.unwrap_or(Some(1)), &Some(1))
 }
 
 #[test]
 fn find(rt: HostRuntime) -> Result<(), Fail> {
-    let pages = PAGES.map(RelativePath::new);
-    let site = SiteMap::new(rt.alloc(), &pages)?;
-    begin(rt.alloc());
-    let answer = site.find(rt.alloc(), RelativePath::new("./d.html"));
-    end(rt.alloc(), answer.is_err());
-    same("find", &answer.unwrap_or(Some(2)), &Some(2))
+    find_of(rt.alloc(), "./d.html")?;
+    find_of(rt.alloc(), long_text(rt.alloc())?.as_str())
 }
 
-// Fails where memory is there and the site has another link from its first page to its last. The
+// Fails where memory is there and the site has another link from its first page to its second. The
 // marks stand around the site's call.
-fn links(alloc: Global, site: &SiteMap<'_>) -> Result<(), Fail> {
-    if site.len() < 3 {
+fn links(alloc: Global, site: &SiteMap<'_>, expected: &str) -> Result<(), Fail> {
+    if site.len() < 2 {
         return Err(Fail::new("the pages"));
     }
     begin(alloc);
-    let answer = site.link(alloc, 0, 2);
-    end(alloc, answer.is_err());
+    let answer = site.link(alloc, 0, 1);
+    end(alloc, answer.is_err())?;
     match answer {
-        Ok(link) => same("link", &link.as_ref().map(text_of), &Some("../d.html")),
+        Ok(link) => same("link", &link.as_ref().map(text_of), &Some(expected)),
         Err(_) => Ok(()),
     }
 }
 
 #[test]
 fn link(rt: HostRuntime) -> Result<(), Fail> {
-    let pages = PAGES.map(RelativePath::new);
-    let site = SiteMap::new(rt.alloc(), &pages)?;
-    links(rt.alloc(), &site)
+    let long = long_text(rt.alloc())?;
+    for (page, link) in &[
+        ("d.html", "../d.html"),
+        (long.as_str(), long.strip_prefix("a/").unwrap_or("")),
+    ] {
+        let pages = ["a/index.html", *page].map(RelativePath::new);
+        let site = SiteMap::new(rt.alloc(), &pages)?;
+        links(rt.alloc(), &site, link)?;
+    }
+    Ok(())
 }
 
-// The same of the reference from its first page to its second.
-fn refers(alloc: Global, site: &SiteMap<'_>) -> Result<(), Fail> {
-    if site.len() < 3 {
+// The same of the reference.
+fn refers(alloc: Global, site: &SiteMap<'_>, expected: &str) -> Result<(), Fail> {
+    if site.len() < 2 {
         return Err(Fail::new("the pages"));
     }
     begin(alloc);
     let answer = site.href(alloc, 0, 1);
-    end(alloc, answer.is_err());
+    end(alloc, answer.is_err())?;
     match answer {
         Ok(href) => {
             let found = href.as_ref().map(String::as_str);
-            same("href", &found, &Some("./b:c.html"))
+            same("href", &found, &Some(expected))
         }
         Err(_) => Ok(()),
     }
@@ -83,5 +96,5 @@ fn refers(alloc: Global, site: &SiteMap<'_>) -> Result<(), Fail> {
 fn href(rt: HostRuntime) -> Result<(), Fail> {
     let pages = PAGES.map(RelativePath::new);
     let site = SiteMap::new(rt.alloc(), &pages)?;
-    refers(rt.alloc(), &site)
+    refers(rt.alloc(), &site, "./b:c.html")
 }

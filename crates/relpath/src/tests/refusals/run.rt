@@ -23,7 +23,7 @@ fn gives(alloc: Global, case: &str, input: &[u8], output: &[u8]) -> Result<(), F
     let mut writer = Meter::new(Vec::with_capacity(alloc, output.len())?);
     begin(alloc);
     let answer = run(alloc, &mut reader, &mut writer);
-    end(alloc, answer == Err(Fault::OutOfMemory));
+    end(alloc, answer == Err(Fault::OutOfMemory))?;
     let written = writer.into_inner();
     if answer == Err(Fault::OutOfMemory) {
         same(case, &written.len(), &0)
@@ -43,5 +43,13 @@ fn lines(rt: HostRuntime) -> Result<(), Fail> {
         "a long path",
         long.as_bytes(),
         answer.as_bytes(),
+    )?;
+    let lines = "\n".repeat(rt.alloc(), 32_768)?;
+    let answers = "! unknown command\n".repeat(rt.alloc(), 32_768)?;
+    gives(
+        rt.alloc(),
+        "answers longer than half a MiB",
+        lines.as_bytes(),
+        answers.as_bytes(),
     )
 }
