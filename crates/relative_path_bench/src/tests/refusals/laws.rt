@@ -2,9 +2,9 @@
 use super::marks::{begin, end};
 use crate::tests::{same, text_of};
 use crate::{
-    End, associative, extension_law, from_paths_law, join_law, join_normalized_law, leads_back,
-    normalize_twice, normalized_law, relative_to_law, same_law, strip_law, take_in_turn, triangle,
-    try_law, unit,
+    End, associative, climb_law, extension_law, from_paths_law, join_law, join_normalized_law,
+    leads_back, normalize_twice, normalized_law, relative_to_law, same_law, strip_law,
+    take_in_turn, triangle, try_law, unit,
 };
 use relative_path::{Component, RelativePath, RelativePathBuf, RelativeToErrorKind};
 use std::alloc::{AllocError, Global};
@@ -108,6 +108,17 @@ fn normalized_law_of(alloc: Global, text: &str, expected: (bool, &str)) -> Resul
 fn normalized_law_of_one(rt: HostRuntime) -> Result<(), Fail> {
     normalized_law_of(rt.alloc(), "foo//bar", (true, "foo/bar"))?;
     normalized_law_of(rt.alloc(), "foo/./bar", (false, "foo/bar"))
+}
+
+#[test]
+fn climb_law_of_one(rt: HostRuntime) -> Result<(), Fail> {
+    begin(rt.alloc());
+    let answer = climb_law(rt.alloc(), RelativePath::new("a/../../b"));
+    end(rt.alloc(), answer.is_err())?;
+    match answer {
+        Ok((climb, buf)) => same("a climb", &(climb, text_of(&buf)), &(1, "../b")),
+        Err(_) => Ok(()),
+    }
 }
 
 fn same_law_of(
