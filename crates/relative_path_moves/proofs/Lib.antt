@@ -1,7 +1,6 @@
 pub mod PlacesLemmas
 pub mod PlaceIndexLemmas
 pub mod MovesLemmas
-pub mod MoveErrorLemmas
 pub mod MoveTableLemmas
 pub mod PairsLemmas
 pub mod ReferenceLemmas

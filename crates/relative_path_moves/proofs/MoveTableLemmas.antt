@@ -1,20 +1,26 @@
 -- The one target of a reference, and the way to it or what is refused of it.
-use Rattle.std.proofs.Common.{◌≡◌, ◌≢◌, ℕ, ◌<◌, List, length, None, Result, Ok, Err, IfOk, IfErr, inl, inr, [], refl, sym, ap, ◌∙◌, arith}
+use Rattle.std.proofs.Common.{◌≡◌, ◌≢◌, ◌↔◌, ℕ, ◌<◌, List, length, Option, Some, None, IsNone, IfSome, Result, Ok, Err, IfOk, inl, inr, [], ◌++◌, refl, sym, ap, ◌∙◌, arith}
 use Rattle.std.proofs.lemmas.List.{length-map}
 use Rattle.relative_path.specs.Steps.{Step}
 use Rattle.relative_path.specs.Walk.{walk, IsSame}
-use Rattle.relative_path.specs.Relating.{IsReachable, IsShortestText}
+use Rattle.relative_path.specs.Relating.{Leads, IsReachable, IsShortestText}
 use Rattle.relative_path.specs.RelativePathBuf.{Buffer}
-use Rattle.relative_path_moves.specs.declared.move_error.MoveError.{MoveError}
-use Rattle.relative_path_moves.specs.declared.move_error.MoveError.TheVariants.{NoFileName, SameOld, AboveRoot, NoPath, OutOfMemory}
+use Rattle.relative_path_moves.specs.declared.move_error.ReferenceError.{ReferenceError}
+use Rattle.relative_path_moves.specs.declared.move_error.ReferenceError.TheVariants.{AboveRoot, NoPath, OutOfMemory}
 use Rattle.relative_path_moves.specs.Places.{place_of, directory}
 use Rattle.relative_path_moves.specs.PlaceIndex.{IsFirstAt, IsNoneAt}
-use Rattle.relative_path_moves.specs.Moves.{Move, move_at, meant, MovesFrom, AreApart, IsTarget, OfTarget, ClimbsAbove, BelowTop, IsBeyond, IsMovedText}
+use Rattle.relative_path_moves.specs.Moves.{Move, move_at, MovesFrom, AreApart, IsTarget, After, OfLink, ClimbsAbove, BelowTop}
 use Rattle.relative_path_moves.specs.MovesLaws.{IsTarget-only}
-use Rattle.relative_path_moves.specs.MoveError.{Refuses, IsOfReference}
-use Rattle.relative_path_moves.specs.MoveTable.{olds_of, LeadToTarget, IsWay}
+use Rattle.relative_path_moves.specs.MoveError.{Refuses}
+use Rattle.relative_path_moves.specs.MoveTable.{olds_of, LeadToTarget, IsWay, IsShortestBuffer, IsLink}
 use Rattle.relative_path_moves.proofs.MovesLemmas.{old_at}
-use Rattle.relative_path_moves.proofs.MoveErrorLemmas.{Refuses-this, Refuses-other, Refuses-memory}
+
+-- the new path of the file at a place
+pub IsTarget-found : (moves : List Move) (place : List Step) (j : ℕ) → IsFirstAt (olds_of moves) place j
+    → IsTarget moves place (move_at moves j).new
+IsTarget-found moves place j first =
+    let within : j < length moves = omega (arith, first.within, length-map moves (λ move. move.old)) in
+    inl (j, record { within = within; same = rw (old_at moves j within) at first.same }, refl)
 
 -- a target that what leads there is led to
 LeadToTarget-is : (moves : List Move) (place target cs : List Step) → AreApart moves → IsTarget moves place target
@@ -30,21 +36,21 @@ LeadToTarget-is moves place target cs apart is same = record {
 pub LeadToTarget-found : (moves : List Move) (place cs : List Step) (j : ℕ) → AreApart moves
     → IsFirstAt (olds_of moves) place j → cs ≡ (move_at moves j).new → LeadToTarget moves place cs
 LeadToTarget-found moves place cs j apart first new =
-    let within : j < length moves = omega (arith, first.within, length-map moves (λ move. move.old)) in
-    let from : MovesFrom moves place j =
-    record { within = within; same = rw (old_at moves j within) at first.same } in
-    LeadToTarget-is moves place (move_at moves j).new cs apart (inl (j, from, refl))
+    LeadToTarget-is moves place (move_at moves j).new cs apart (IsTarget-found moves place j first)
     (record { everywhere = λ base. ap (walk base) (sym new) })
 
--- from another place no file moved
+-- from a place that is no old path's no file moved
+pub IsTarget-kept : (moves : List Move) (place : List Step) → IsNoneAt (olds_of moves) place → IsTarget moves place place
+IsTarget-kept moves place none = inr (stays, refl) where
+  stays : (j : ℕ) → ¬ MovesFrom moves place j
+  stays j from =
+      none j (omega (arith, from.within, length-map moves (λ move. move.old)))
+      (rw (old_at moves j from.within) from.same)
+
 pub LeadToTarget-kept : (moves : List Move) (place cs : List Step) → AreApart moves → IsNoneAt (olds_of moves) place
     → IsSame place cs → LeadToTarget moves place cs
 LeadToTarget-kept moves place cs apart none same =
-    LeadToTarget-is moves place place cs apart (inr (stays, refl)) same where
-      stays : (j : ℕ) → ¬ MovesFrom moves place j
-      stays j from =
-          none j (omega (arith, from.within, length-map moves (λ move. move.old)))
-          (rw (old_at moves j from.within) from.same)
+    LeadToTarget-is moves place place cs apart (IsTarget-kept moves place none) same
 
 -- nothing above the top leads where the target has a place
 place_kept : (target cs : List Step) → IsSame target cs → place_of cs ≢ None → place_of target ≢ None
@@ -62,89 +68,166 @@ IsShortestText-to_same f t u text same way = record {
   };
 }
 
--- a list that leads to what leads to the same leads to the components
-IsReachable-to_same : (f t u : List Step) → IsSame u t → IsReachable f u → IsReachable f t
+-- a list that leads to the components leads to what leads to the same
+IsReachable-to_same : (f t u : List Step) → IsSame t u → IsReachable f u → IsReachable f t
 IsReachable-to_same f t u same (r, leads) =
-    (r, record { everywhere = λ base. leads.everywhere base ∙ same.everywhere base })
+    (r, record { everywhere = λ base. leads.everywhere base ∙ sym (same.everywhere base) })
 
-module _ (moves : List Move) (i : ℕ) (reference cs : List Step)
-    (lead : LeadToTarget moves (meant moves i reference) cs)
+module _ (moves : List Move) (place from cs : List Step) (lead : LeadToTarget moves place cs)
   where
     -- what holds of all that leads where the components do holds of the target
-    OfTarget-all : (P : List Step → Type 0) → ((target : List Step) → IsSame target cs → P target)
-        → OfTarget moves i reference P
-    OfTarget-all P holds = (lead.target, lead.is, holds lead.target lead.same)
+    pub After-all : (P : List Step → Type 0) → ((target : List Step) → IsSame target cs → P target)
+        → After moves place P
+    After-all P holds = (lead.target, lead.is, holds lead.target lead.same)
 
     -- what holds of nothing that leads where the components do doesn't hold of the target
-    OfTarget-none : (P : List Step → Type 0) → ((target : List Step) → IsSame target cs → ¬ P target)
-        → ¬ OfTarget moves i reference P
-    OfTarget-none P none (other, is, holds) = none lead.target lead.same (rw (lead.only other is) at holds)
+    pub After-none : (P : List Step → Type 0) → ((target : List Step) → IsSame target cs → ¬ P target)
+        → ¬ After moves place P
+    After-none P none (other, is, holds) = none lead.target lead.same (rw (lead.only other is) at holds)
+
+    -- a list of components leads to the target exactly if it leads to them
+    pub After-leads : (r : List Step) → After moves place (Leads from r) ↔ Leads from r cs
+    After-leads r = (
+      λ (target, is, leads). record {
+        everywhere = λ base. (rw (lead.only target is) at leads).everywhere base ∙ lead.same.everywhere base;
+      },
+      λ leads. After-all (Leads from r) (λ target same. record {
+        everywhere = λ base. leads.everywhere base ∙ sym (same.everywhere base);
+      }),
+    )
 
     -- the target climbs above the top
-    climbs : place_of cs ≡ None → OfTarget moves i reference ClimbsAbove
-    climbs none = OfTarget-all ClimbsAbove (λ target same. same.everywhere [] ∙ none)
+    climbs : place_of cs ≡ None → After moves place ClimbsAbove
+    climbs none = After-all ClimbsAbove (λ target same. same.everywhere [] ∙ none)
 
     -- then nothing is told of the way to it
-    not_below : place_of cs ≡ None → (P : List Step → Type 0) → ¬ OfTarget moves i reference (BelowTop P)
-    not_below none P = OfTarget-none (BelowTop P) (λ target same holds. holds.0 (same.everywhere [] ∙ none))
+    not_below : place_of cs ≡ None → (P : List Step → Type 0) → ¬ After moves place (BelowTop P)
+    not_below none P = After-none (BelowTop P) (λ target same holds. holds.0 (same.everywhere [] ∙ none))
 
     -- the target has a place from the top
-    not_above : place_of cs ≢ None → ¬ OfTarget moves i reference ClimbsAbove
-    not_above some = OfTarget-none ClimbsAbove (λ target same. place_kept target cs same some)
+    not_above : place_of cs ≢ None → ¬ After moves place ClimbsAbove
+    not_above some = After-none ClimbsAbove (λ target same. place_kept target cs same some)
 
     -- no list leads to the target
-    beyond : place_of cs ≢ None → (¬ IsReachable (directory (move_at moves i).new) cs)
-        → OfTarget moves i reference (BelowTop (IsBeyond moves i))
-    beyond some none = OfTarget-all (BelowTop (IsBeyond moves i)) (λ target same. (
-      place_kept target cs same some,
-      λ reach. none (IsReachable-to_same _ cs target same reach),
-    ))
+    abbrev IsBeyond : List Step → Type 0
+    IsBeyond target = ¬ IsReachable from target
 
-    -- the shortest way to the components is the shortest to the target
-    shortest : (text : List ℕ) → place_of cs ≢ None → IsShortestText (directory (move_at moves i).new) cs text
-        → OfTarget moves i reference (BelowTop (IsMovedText moves i text))
-    shortest text some way = OfTarget-all (BelowTop (IsMovedText moves i text)) (λ target same. (
+    beyond : place_of cs ≢ None → (¬ IsReachable from cs) → After moves place (BelowTop IsBeyond)
+    beyond some none = After-all (BelowTop IsBeyond) (λ target same. (
       place_kept target cs same some,
-      IsShortestText-to_same _ cs target text same way,
+      λ reach. none (IsReachable-to_same _ cs target (record { everywhere = λ base. sym (same.everywhere base) }) reach),
     ))
 
     -- a list leads to the target
-    not_beyond : (text : List ℕ) → IsShortestText (directory (move_at moves i).new) cs text
-        → ¬ OfTarget moves i reference (BelowTop (IsBeyond moves i))
-    not_beyond text way = OfTarget-none (BelowTop (IsBeyond moves i))
-        (λ target same holds. holds.1 (_, (IsShortestText-to_same _ cs target text same way).shortest.leads))
+    not_beyond : IsReachable from cs → ¬ After moves place (BelowTop IsBeyond)
+    not_beyond reach = After-none (BelowTop IsBeyond)
+        (λ target same holds. holds.1 (IsReachable-to_same _ target cs same reach))
 
-    pub above_root-way : (result : Result Buffer MoveError) → IsWay (directory (move_at moves i).new) cs result
-        → Refuses result AboveRoot (OfTarget moves i reference ClimbsAbove)
-    above_root-way (Ok way) (some, leads) = Refuses-other (Ok way) AboveRoot _ (λ e. omega (arith, e)) (not_above some)
-    above_root-way (Err (NoFileName k)) never = absurd never
-    above_root-way (Err (SameOld j k)) never = absurd never
-    above_root-way (Err AboveRoot) none = Refuses-this AboveRoot _ (climbs none)
-    above_root-way (Err NoPath) (some, none) =
-        Refuses-other (Err NoPath) AboveRoot _ (λ e. omega (arith, e)) (not_above some)
-    above_root-way (Err OutOfMemory) _ = Refuses-memory AboveRoot _ (λ e. omega (arith, e))
+    -- the shortest way to the components is the shortest to the target
+    pub After-shortest : (text : List ℕ) → place_of cs ≢ None → IsShortestText from cs text
+        → After moves place (BelowTop (λ target. IsShortestText from target text))
+    After-shortest text some way = After-all (BelowTop (λ target. IsShortestText from target text))
+        (λ target same. (place_kept target cs same some, IsShortestText-to_same _ cs target text same way))
 
-    pub no_path-way : (result : Result Buffer MoveError) → IsWay (directory (move_at moves i).new) cs result
-        → Refuses result NoPath (OfTarget moves i reference (BelowTop (IsBeyond moves i)))
-    no_path-way (Ok way) (some, leads) =
-        Refuses-other (Ok way) NoPath _ (λ e. omega (arith, e)) (not_beyond way.text leads)
-    no_path-way (Err (NoFileName k)) never = absurd never
-    no_path-way (Err (SameOld j k)) never = absurd never
-    no_path-way (Err AboveRoot) none =
-        Refuses-other (Err AboveRoot) NoPath _ (λ e. omega (arith, e)) (not_below none (IsBeyond moves i))
-    no_path-way (Err NoPath) (some, none) = Refuses-this NoPath _ (beyond some none)
-    no_path-way (Err OutOfMemory) _ = Refuses-memory NoPath _ (λ e. omega (arith, e))
+    pub above_root-way : {T : Type 0} (P : T → Type 0) (result : Result T ReferenceError) → IsWay from cs P result
+        → Refuses result AboveRoot OutOfMemory (After moves place ClimbsAbove)
+    above_root-way P (Ok way) (some, is) =
+        record { only = λ e. absurd (cc e); always = λ holds. absurd (not_above some holds) }
+    above_root-way P (Err AboveRoot) none = record { only = λ e. climbs none; always = λ holds. inl refl }
+    above_root-way P (Err NoPath) (some, none) =
+        record { only = λ e. absurd (cc e); always = λ holds. absurd (not_above some holds) }
+    above_root-way P (Err OutOfMemory) _ = record { only = λ e. absurd (cc e); always = λ holds. inr refl }
 
-    pub shortest-way : (result : Result Buffer MoveError) → IsWay (directory (move_at moves i).new) cs result
-        → IfOk result (λ way. OfTarget moves i reference (BelowTop (IsMovedText moves i way.text)))
-    shortest-way (Ok way) (some, leads) = shortest way.text some leads
+    pub no_path-way : {T : Type 0} (P : T → Type 0) (result : Result T ReferenceError)
+        → ((way : T) → P way → IsReachable from cs) → IsWay from cs P result
+        → Refuses result NoPath OutOfMemory (After moves place (BelowTop IsBeyond))
+    no_path-way P (Ok way) reach (some, is) =
+        record { only = λ e. absurd (cc e); always = λ holds. absurd (not_beyond (reach way is) holds) }
+    no_path-way P (Err AboveRoot) reach none =
+        record { only = λ e. absurd (cc e); always = λ holds. absurd (not_below none IsBeyond holds) }
+    no_path-way P (Err NoPath) reach (some, none) =
+        record { only = λ e. beyond some none; always = λ holds. inl refl }
+    no_path-way P (Err OutOfMemory) reach _ = record { only = λ e. absurd (cc e); always = λ holds. inr refl }
+
+    pub shortest-way : (result : Result Buffer ReferenceError)
+        → IsWay from cs (IsShortestBuffer from cs) result
+        → IfOk result (λ way. After moves place (BelowTop (λ target. IsShortestText from target way.text)))
+    shortest-way (Ok way) (some, leads) = After-shortest way.text some leads
     shortest-way (Err e) _ = tt
 
-pub refusals-way : (dir cs : List Step) (result : Result Buffer MoveError) → IsWay dir cs result
-    → IfErr result IsOfReference
-refusals-way dir cs (Ok way) _ = tt
-refusals-way dir cs (Err (NoFileName k)) never = never
-refusals-way dir cs (Err (SameOld j k)) never = never
-refusals-way dir cs (Err AboveRoot) _ = tt
-refusals-way dir cs (Err NoPath) _ = tt
-refusals-way dir cs (Err OutOfMemory) _ = tt
+-- the one path of a file after the moves
+pub IsTarget-is : (moves : List Move) (file now target : List Step) → AreApart moves → IsTarget moves file now
+    → IsTarget moves file target ↔ (target ≡ now)
+IsTarget-is moves file now target apart is =
+    (IsTarget-only moves file now target apart is, λ e. rw e is)
+
+-- of a link holds what holds of its target and the directory where the page is now
+pub OfLink-now : (moves : List Move) (page reference now : List Step) (P : List Step → List Step → Type 0)
+    → ((target : List Step) → IsTarget moves page target ↔ (target ≡ now))
+    → OfLink moves page reference P ↔ After moves (directory page ++ reference) (P (directory now))
+OfLink-now moves page reference now P is = (
+  λ (other, is_other, holds). rw ((is other).0 is_other) at holds,
+  λ holds. (now, (is now).1 refl, holds),
+)
+
+-- the shortest list leads
+pub reach-way : (directory cs : List Step) (way : Buffer) → IsShortestBuffer directory cs way
+    → IsReachable directory cs
+reach-way directory cs way is = (_, is.shortest.leads)
+
+-- a reference that leads, or the shortest list
+pub reach-link : (directory reference cs : List Step) (way : Option Buffer) → IsLink directory reference cs way
+    → IsReachable directory cs
+reach-link directory reference cs None same = (reference, same)
+reach-link directory reference cs (Some way) (other, is) = (_, is.shortest.leads)
+
+-- what is answered of a reference in a page that is now at this path, its target being where the components lead
+module _ (moves : List Move) (page reference now cs : List Step)
+    (is : (target : List Step) → IsTarget moves page target ↔ (target ≡ now))
+    (lead : LeadToTarget moves (directory page ++ reference) cs)
+  where
+    pub above_root-in : (result : Result (Option Buffer) ReferenceError)
+        → IsWay (directory now) cs (IsLink (directory now) reference cs) result
+        → Refuses result AboveRoot OutOfMemory (OfLink moves page reference (λ _. ClimbsAbove))
+    above_root-in result link =
+        let same = OfLink-now moves page reference now (λ _. ClimbsAbove) is in
+        let refuses =
+        above_root-way moves (directory page ++ reference) (directory now) cs lead (IsLink (directory now) reference cs)
+        result link in
+        record { only = λ e. same.1 (refuses.only e); always = λ holds. refuses.always (same.0 holds) }
+
+    pub no_path-in : (result : Result (Option Buffer) ReferenceError)
+        → IsWay (directory now) cs (IsLink (directory now) reference cs) result
+        → Refuses result NoPath OutOfMemory
+        (OfLink moves page reference (λ from. BelowTop (λ target. ¬ IsReachable from target)))
+    no_path-in result link =
+        let same = OfLink-now moves page reference now (λ from. BelowTop (λ target. ¬ IsReachable from target)) is in
+        let refuses =
+        no_path-way moves (directory page ++ reference) (directory now) cs lead (IsLink (directory now) reference cs)
+        result (reach-link (directory now) reference cs) link in
+        record { only = λ e. same.1 (refuses.only e); always = λ holds. refuses.always (same.0 holds) }
+
+    pub stays-in : (result : Result (Option Buffer) ReferenceError)
+        → IsWay (directory now) cs (IsLink (directory now) reference cs) result
+        → IfOk result (λ way. IsNone way ↔ OfLink moves page reference (λ from. Leads from reference))
+    stays-in (Ok None) (some, same) = (λ _. leads, λ _. refl) where
+      leads : OfLink moves page reference (λ from. Leads from reference)
+      leads =
+          (OfLink-now moves page reference now (λ from. Leads from reference) is).1
+          ((After-leads moves (directory page ++ reference) (directory now) cs lead reference).1 same)
+    stays-in (Ok (Some way)) (some, (other, way_is)) = (λ none. absurd (cc none), λ holds. absurd (other (led holds))) where
+      led : OfLink moves page reference (λ from. Leads from reference) → IsSame (directory now ++ reference) cs
+      led holds =
+          (After-leads moves (directory page ++ reference) (directory now) cs lead reference).0
+          ((OfLink-now moves page reference now (λ from. Leads from reference) is).0 holds)
+    stays-in (Err e) _ = tt
+
+    pub shortest-in : (result : Result (Option Buffer) ReferenceError)
+        → IsWay (directory now) cs (IsLink (directory now) reference cs) result
+        → IfOk result (λ way. IfSome way (λ way.
+        OfLink moves page reference (λ from. BelowTop (λ target. IsShortestText from target way.text))))
+    shortest-in (Ok None) _ = tt
+    shortest-in (Ok (Some way)) (some, (other, way_is)) =
+        (OfLink-now moves page reference now (λ from. BelowTop (λ target. IsShortestText from target way.text)) is).1
+        (After-shortest moves (directory page ++ reference) (directory now) cs lead way.text some way_is)
+    shortest-in (Err e) _ = tt

@@ -1,42 +1,118 @@
 -- What a call says of its moves and a reference, by what the table of the moves says.
-use Rattle.std.proofs.Common.{◌⊎◌, ◌↔◌, ℕ, Result, Ok, Err, IfOk, IsErrOf, List, subst, inr, refl, ap}
+use Rattle.std.proofs.Common.{◌≡◌, ◌≢◌, ◌⊎◌, ◌↔◌, ℕ, Result, Ok, Err, IsErrAnd, IsErrOf, List, inl, inr, refl, ap}
 use Rattle.relative_path_moves.specs.declared.move_error.MoveError.{MoveError}
 use Rattle.relative_path_moves.specs.declared.move_error.MoveError.TheVariants.{NoFileName, SameOld, AboveRoot, NoPath, OutOfMemory}
+use Rattle.relative_path_moves.specs.declared.move_error.MovesError.{MovesError}
+use Rattle.relative_path_moves.specs.declared.move_error.MovesError.TheVariants as moves_error
+use Rattle.relative_path_moves.specs.declared.move_error.ReferenceError.{ReferenceError}
+use Rattle.relative_path_moves.specs.declared.move_error.ReferenceError.TheVariants as reference_error
 use Rattle.relative_path_moves.specs.Moves.{Move, AreNamed, AreApart, IsFirstNameless, IsFirstPair}
-use Rattle.relative_path_moves.specs.MoveError.{Refuses, IsOfMoves}
-use Rattle.relative_path_moves.proofs.MoveErrorLemmas.{error_or}
+use Rattle.relative_path_moves.specs.MoveError.{Refuses, of_moves, of_reference}
 
--- where the moves are refused, no reference is
-pub Refuses-of_moves : {S T : Type 0} (moves : List Move) (e f : MoveError) (P : Type 0)
-    → (¬ IsOfMoves f) → IsOfMoves e
-    → ((k : ℕ) → IsErrOf {T = S} (Err e) (NoFileName k) ↔ IsFirstNameless moves k)
-    → ((j k : ℕ) → Refuses {T = S} (Err e) (SameOld j k) (AreNamed moves × IsFirstPair moves j k))
-    → Refuses {T = T} (Err e) f (AreNamed moves × AreApart moves × P)
-Refuses-of_moves {S = S} {T = T} moves e f P other of_moves lacks pair = record {
-  only = λ is. absurd (other (subst IsOfMoves (ap (error_or e) is) of_moves));
-  always = λ holds. inr (tell e of_moves lacks pair holds);
+-- the error of a result that is a refusal
+pub is_err_of : {T E : Type 0} (r : Result T E) (e : E) → IsErrAnd r (λ f. f ≡ e) → r ≡ Err e
+is_err_of (Ok x) e is = absurd is
+is_err_of (Err f) e is = ap Err is
+
+-- ---- the moves are refused
+
+-- the move without a file name is the same
+pub no_file_name-moves : {S T : Type 0} (moves : List Move) (e : MovesError) (k : ℕ)
+    → IsErrOf {T = S} (Err e) (moves_error.NoFileName k) ↔ IsFirstNameless moves k
+    → IsErrOf {T = T} (Err (of_moves e)) (NoFileName k) ↔ IsFirstNameless moves k
+no_file_name-moves moves (moves_error.NoFileName j) k lacks = (λ is. lacks.0 (cc is), λ first. cc (lacks.1 first))
+no_file_name-moves moves (moves_error.SameOld i j) k lacks =
+    (λ is. absurd (cc is), λ first. absurd (cc (lacks.1 first)))
+no_file_name-moves moves moves_error.OutOfMemory k lacks =
+    (λ is. absurd (cc is), λ first. absurd (cc (lacks.1 first)))
+
+-- the moves with one old path are the same
+pub same_old-moves : {S T : Type 0} (e : MovesError) (j k : ℕ) (case : Type 0)
+    → Refuses {T = S} (Err e) (moves_error.SameOld j k) moves_error.OutOfMemory case
+    → Refuses {T = T} (Err (of_moves e)) (SameOld j k) OutOfMemory case
+same_old-moves {S = S} {T = T} e j k case refuses =
+    record { only = λ is. refuses.only (back e is); always = λ holds. forth e (refuses.always holds) } where
+      back : (e : MovesError) → IsErrOf {T = T} (Err (of_moves e)) (SameOld j k)
+          → IsErrOf {T = S} (Err e) (moves_error.SameOld j k)
+      back (moves_error.NoFileName i) is = absurd (cc is)
+      back (moves_error.SameOld a b) is = cc is
+      back moves_error.OutOfMemory is = absurd (cc is)
+
+      forth : (e : MovesError)
+          → IsErrOf {T = S} (Err e) (moves_error.SameOld j k) ⊎ IsErrOf {T = S} (Err e) moves_error.OutOfMemory
+          → IsErrOf {T = T} (Err (of_moves e)) (SameOld j k) ⊎ IsErrOf {T = T} (Err (of_moves e)) OutOfMemory
+      forth e (inl is) = inl (cc is)
+      forth e (inr is) = inr (cc is)
+
+-- no reference is refused, and none is led to
+pub Refuses-moves : {S T : Type 0} (moves : List Move) (e : MovesError) (refusal : MoveError) (P : Type 0)
+    → of_moves e ≢ refusal
+    → ((k : ℕ) → IsErrOf {T = S} (Err e) (moves_error.NoFileName k) ↔ IsFirstNameless moves k)
+    → ((j k : ℕ) → Refuses {T = S} (Err e) (moves_error.SameOld j k) moves_error.OutOfMemory
+    (AreNamed moves × IsFirstPair moves j k))
+    → Refuses {T = T} (Err (of_moves e)) refusal OutOfMemory (AreNamed moves × AreApart moves × P)
+Refuses-moves {S = S} {T = T} moves e refusal P other lacks pair =
+    record { only = λ is. absurd (other (cc is)); always = λ holds. inr (tell e lacks pair holds) } where
+      tell : (e : MovesError)
+          → ((k : ℕ) → IsErrOf {T = S} (Err e) (moves_error.NoFileName k) ↔ IsFirstNameless moves k)
+          → ((j k : ℕ) → Refuses {T = S} (Err e) (moves_error.SameOld j k) moves_error.OutOfMemory
+          (AreNamed moves × IsFirstPair moves j k))
+          → AreNamed moves × AreApart moves × P → IsErrOf {T = T} (Err (of_moves e)) OutOfMemory
+      tell (moves_error.NoFileName k) lacks pair (all_named, apart, holds) =
+          let first = (lacks k).0 refl in absurd (all_named k first.within first.lacks)
+      tell (moves_error.SameOld j k) lacks pair (all_named, apart, holds) =
+          absurd (apart j k ((pair j k).only refl).1.pair)
+      tell moves_error.OutOfMemory lacks pair holds = refl
+
+-- ---- the reference is refused, where the moves have their names and are apart
+
+-- what the table refuses so is refused so
+pub Refuses-reference : {S T : Type 0} (moves : List Move) (e f : ReferenceError) (P : Type 0)
+    → AreNamed moves → AreApart moves → Refuses {T = S} (Err e) f reference_error.OutOfMemory P
+    → Refuses {T = T} (Err (of_reference e)) (of_reference f) OutOfMemory (AreNamed moves × AreApart moves × P)
+Refuses-reference {S = S} {T = T} moves e f P all_named apart refuses = record {
+  only = λ is. (all_named, apart, refuses.only (back e f is));
+  always = λ (all_named_2, apart_2, holds). elim (refuses.always holds) [
+    | inl is ↦ inl (cc is)
+    | inr is ↦ inr (cc is)
+  ];
 } where
-  tell : (e : MoveError) → IsOfMoves e
-      → ((k : ℕ) → IsErrOf {T = S} (Err e) (NoFileName k) ↔ IsFirstNameless moves k)
-      → ((j k : ℕ) → Refuses {T = S} (Err e) (SameOld j k) (AreNamed moves × IsFirstPair moves j k))
-      → AreNamed moves × AreApart moves × P → IsErrOf {T = T} (Err e) OutOfMemory
-  tell (NoFileName k) of_moves lacks pair (all_named, apart, holds) =
-      let first = (lacks k).0 refl in absurd (all_named k first.within first.lacks)
-  tell (SameOld j k) of_moves lacks pair (all_named, apart, holds) =
-      absurd (apart j k ((pair j k).only refl).1.pair)
-  tell AboveRoot of_moves lacks pair holds = absurd of_moves
-  tell NoPath of_moves lacks pair holds = absurd of_moves
-  tell OutOfMemory of_moves lacks pair holds = refl
+  back : (e f : ReferenceError) → IsErrOf {T = T} (Err (of_reference e)) (of_reference f) → IsErrOf {T = S} (Err e) f
+  back reference_error.AboveRoot reference_error.AboveRoot is = refl
+  back reference_error.AboveRoot reference_error.NoPath is = absurd (cc is)
+  back reference_error.AboveRoot reference_error.OutOfMemory is = absurd (cc is)
+  back reference_error.NoPath reference_error.AboveRoot is = absurd (cc is)
+  back reference_error.NoPath reference_error.NoPath is = refl
+  back reference_error.NoPath reference_error.OutOfMemory is = absurd (cc is)
+  back reference_error.OutOfMemory reference_error.AboveRoot is = absurd (cc is)
+  back reference_error.OutOfMemory reference_error.NoPath is = absurd (cc is)
+  back reference_error.OutOfMemory reference_error.OutOfMemory is = refl
 
--- what is known of a table that was made holds of its moves
-pub Refuses-sound : {T : Type 0} (moves : List Move) (r : Result T MoveError) (f : MoveError) (P : Type 0)
-    → AreNamed moves → AreApart moves → Refuses r f P → Refuses r f (AreNamed moves × AreApart moves × P)
-Refuses-sound moves r f P all_named apart refuses =
-    record { only = λ is. (all_named, apart, refuses.only is); always = always } where
-      always : AreNamed moves × AreApart moves × P → IsErrOf r f ⊎ IsErrOf r OutOfMemory
-      always (all_named_2, apart_2, holds) = refuses.always holds
+-- what the table doesn't refuse isn't refused
+pub Refuses-ok : {T : Type 0} (moves : List Move) (way : T) (f : ReferenceError) (P : Type 0)
+    → Refuses (Ok way) f reference_error.OutOfMemory P
+    → Refuses (Ok way) (of_reference f) OutOfMemory (AreNamed moves × AreApart moves × P)
+Refuses-ok moves way f P refuses = record {
+  only = λ is. absurd (cc is);
+  always = λ (all_named, apart, holds). elim (refuses.always holds) [
+    | inl is ↦ absurd (cc is)
+    | inr is ↦ absurd (cc is)
+  ];
+}
 
-pub IfOk-sound : {T : Type 0} (moves : List Move) (r : Result T MoveError) (P : T → Type 0)
-    → AreNamed moves → AreApart moves → IfOk r P → IfOk r (λ way. AreNamed moves × AreApart moves × P way)
-IfOk-sound moves (Ok way) P all_named apart holds = (all_named, apart, holds)
-IfOk-sound moves (Err e) P all_named apart holds = tt
+-- no move lacks a name
+pub no_file_name-ok : {T : Type 0} (moves : List Move) (way : T) (k : ℕ) → AreNamed moves
+    → IsErrOf (Ok way) (NoFileName k) ↔ IsFirstNameless moves k
+no_file_name-ok moves way k all_named =
+    (λ is. absurd (cc is), λ first. absurd (all_named k first.within first.lacks))
+
+-- the moves aren't refused as a reference is
+pub not_above : (e : MovesError) → of_moves e ≢ AboveRoot
+not_above (moves_error.NoFileName k) is = cc is
+not_above (moves_error.SameOld j k) is = cc is
+not_above moves_error.OutOfMemory is = cc is
+
+pub not_beyond : (e : MovesError) → of_moves e ≢ NoPath
+not_beyond (moves_error.NoFileName k) is = cc is
+not_beyond (moves_error.SameOld j k) is = cc is
+not_beyond moves_error.OutOfMemory is = cc is

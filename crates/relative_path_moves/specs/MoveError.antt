@@ -1,28 +1,28 @@
--- Why a reference has no answer: of which calls a refusal comes, in which case, and what is printed of it.
-use Rattle.std.specs.Prelude.{◌⊎◌, ℕ, List, ◌++◌, codes, decimal, Result, IsErrOf, ⊤}
+-- Why a reference has no answer: in which case a call refuses, and what is printed of it.
+use Rattle.std.specs.Prelude.{◌⊎◌, ℕ, List, ◌++◌, codes, decimal, Result, IsErrOf}
 use Rattle.relative_path_moves.specs.declared.move_error.MoveError.{MoveError}
 use Rattle.relative_path_moves.specs.declared.move_error.MoveError.TheVariants.{NoFileName, SameOld, AboveRoot, NoPath, OutOfMemory}
+use Rattle.relative_path_moves.specs.declared.move_error.MovesError.{MovesError}
+use Rattle.relative_path_moves.specs.declared.move_error.MovesError.TheVariants as moves
+use Rattle.relative_path_moves.specs.declared.move_error.ReferenceError.{ReferenceError}
+use Rattle.relative_path_moves.specs.declared.move_error.ReferenceError.TheVariants as reference
 
--- the result is this refusal only in this case; and in this case it is, unless memory was refused
-pub record Refuses {T : Type 0} (result : Result T MoveError) (refusal : MoveError) (case : Type 0) : Type 0 where
+-- the result is this refusal only in this case; and in this case it is, unless it is the refusal of memory
+pub record Refuses {T E : Type 0} (result : Result T E) (refusal memory : E) (case : Type 0) : Type 0 where
   pub only : IsErrOf result refusal → case
-  pub always : case → IsErrOf result refusal ⊎ IsErrOf result OutOfMemory
+  pub always : case → IsErrOf result refusal ⊎ IsErrOf result memory
 
--- a refusal of the moves, whatever the reference
-abbrev pub IsOfMoves : MoveError → Type 0
-IsOfMoves (NoFileName k) = ⊤
-IsOfMoves (SameOld j k) = ⊤
-IsOfMoves AboveRoot = ⊥
-IsOfMoves NoPath = ⊥
-IsOfMoves OutOfMemory = ⊤
+-- a refusal of the moves, as one of a reference and its moves
+abbrev pub of_moves : MovesError → MoveError
+of_moves (moves.NoFileName k) = NoFileName k
+of_moves (moves.SameOld j k) = SameOld j k
+of_moves moves.OutOfMemory = OutOfMemory
 
--- a refusal of a reference, whatever else the moves are
-abbrev pub IsOfReference : MoveError → Type 0
-IsOfReference (NoFileName k) = ⊥
-IsOfReference (SameOld j k) = ⊥
-IsOfReference AboveRoot = ⊤
-IsOfReference NoPath = ⊤
-IsOfReference OutOfMemory = ⊤
+-- a refusal of the reference, as one of a reference and its moves
+abbrev pub of_reference : ReferenceError → MoveError
+of_reference reference.AboveRoot = AboveRoot
+of_reference reference.NoPath = NoPath
+of_reference reference.OutOfMemory = OutOfMemory
 
 -- what is printed of a refusal
 abbrev pub refusal_text : MoveError → List ℕ

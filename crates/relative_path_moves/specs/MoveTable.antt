@@ -1,11 +1,11 @@
 -- What a table of moves holds, and the way that it gives to a target.
-use Rattle.std.specs.Prelude.{◌≡◌, ◌≢◌, List, map, Result, Ok, Err, None, ⊤}
+use Rattle.std.specs.Prelude.{◌≡◌, ◌≢◌, List, ◌++◌, map, Result, Ok, Err, Option, Some, None, ⊤}
 use Rattle.relative_path.specs.Steps.{Step}
 use Rattle.relative_path.specs.Walk.{IsSame}
 use Rattle.relative_path.specs.Relating.{IsReachable, IsShortestText}
 use Rattle.relative_path.specs.RelativePathBuf.{Buffer}
-use Rattle.relative_path_moves.specs.declared.move_error.MoveError.{MoveError}
-use Rattle.relative_path_moves.specs.declared.move_error.MoveError.TheVariants.{NoFileName, SameOld, AboveRoot, NoPath, OutOfMemory}
+use Rattle.relative_path_moves.specs.declared.move_error.ReferenceError.{ReferenceError}
+use Rattle.relative_path_moves.specs.declared.move_error.ReferenceError.TheVariants.{AboveRoot, NoPath, OutOfMemory}
 use Rattle.relative_path_moves.specs.declared.place_index.PlaceIndex.{PlaceIndex}
 use Rattle.relative_path_moves.specs.Places.{place_of}
 use Rattle.relative_path_moves.specs.PlaceIndex.{Indexes}
@@ -28,12 +28,19 @@ pub record LeadToTarget (moves : List Move) (place cs : List Step) : Type 0 wher
   pub only : (other : List Step) → IsTarget moves place other → other ≡ target
   pub same : IsSame target cs
 
--- what the components lead to where this is the way to them from a directory; an allocation failure tells
--- nothing
-abbrev pub IsWay : List Step → List Step → Result Buffer MoveError → Type 0
-IsWay directory cs (Ok way) = (place_of cs ≢ None) × IsShortestText directory cs way.text
-IsWay directory cs (Err (NoFileName k)) = ⊥
-IsWay directory cs (Err (SameOld j k)) = ⊥
-IsWay directory cs (Err AboveRoot) = place_of cs ≡ None
-IsWay directory cs (Err NoPath) = (place_of cs ≢ None) × ¬ IsReachable directory cs
-IsWay directory cs (Err OutOfMemory) = ⊤
+-- what the components are to a directory where this is the way to them, of which P holds, or why there is none; an
+-- allocation failure tells nothing
+abbrev pub IsWay : {T : Type 0} → List Step → List Step → (T → Type 0) → Result T ReferenceError → Type 0
+IsWay directory cs P (Ok way) = (place_of cs ≢ None) × P way
+IsWay directory cs P (Err AboveRoot) = place_of cs ≡ None
+IsWay directory cs P (Err NoPath) = (place_of cs ≢ None) × ¬ IsReachable directory cs
+IsWay directory cs P (Err OutOfMemory) = ⊤
+
+-- the buffer spells the shortest list that leads to the components from a directory
+abbrev pub IsShortestBuffer : List Step → List Step → Buffer → Type 0
+IsShortestBuffer directory cs way = IsShortestText directory cs way.text
+
+-- nothing, where the reference leads to the components from the directory; and else the shortest way to them
+abbrev pub IsLink : List Step → List Step → List Step → Option Buffer → Type 0
+IsLink directory reference cs None = IsSame (directory ++ reference) cs
+IsLink directory reference cs (Some way) = (¬ IsSame (directory ++ reference) cs) × IsShortestBuffer directory cs way

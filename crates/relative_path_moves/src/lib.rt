@@ -5,13 +5,13 @@
 //!     │
 //! move_table                  many references, with one table
 //!     │
-//! move_error   place_index    why a reference has no answer; paths by the places they lead to
+//! move_error   place_index    what is refused of moves and references; paths by the places they lead to
 //!                  │
 //!               places        a file's directory; whether a path has a place from the top
 //! ```
 #![tactic(auto)]
 
-pub use self::move_error::MoveError;
+pub use self::move_error::{MoveError, MovesError, ReferenceError};
 pub use self::move_table::MoveTable;
 pub use self::place_index::PlaceIndex;
 pub use self::places::{directory, has_place};

@@ -1,11 +1,92 @@
-//! Why a reference has no answer.
+//! Why moves are refused, and why a reference has no answer.
 ghost use Rattle.std.specs.Prelude.{◌≡◌, Some};
+ghost use Rattle.relative_path_moves.specs.MoveError.{of_moves, of_reference, refusal_text};
 
 use std::alloc::AllocError;
 use std::error::Error;
 use std::fmt;
 
-/// Why a reference has no answer. Moves are told by their numbers, counted from 0.
+/// Why moves are refused, whatever the reference. Moves are told by their numbers, counted from 0.
+///
+/// A refusal prints its words.
+///
+/// ```
+/// let refusal = MovesError::SameOld(0, 3);
+/// assert_eq!(rt;
+///     refusal.to_string(alloc)?.as_str(),
+///     "moves 0 and 3 have the same old path"
+/// );
+/// ```
+#[derive(Clone, Copy, Debug, PartialEq, Eq)]
+pub enum MovesError {
+    /// The first move whose old or new path has no file name.
+    NoFileName(usize),
+    /// The lexicographically first two moves whose old paths lead to the same from every base.
+    SameOld(usize, usize),
+    /// Memory was refused, after each move was seen to have its file names.
+    OutOfMemory,
+}
+
+impl fmt::Display for MovesError {
+    ghost output = { λ refusal. Some (refusal_text (of_moves refusal)) };
+
+    fn fmt<W: fmt::Write>(&self, f: &mut fmt::Formatter<W>) -> fmt::Result {
+        MoveError::from(*self).fmt(f)
+    }
+}
+
+impl Error for MovesError {}
+
+impl From<AllocError> for MovesError {
+    ghost use Rattle.relative_path_moves.specs.declared.move_error.MovesError.TheVariants.{OutOfMemory};
+
+    ghost from_gives = { λ _ refusal. refusal ≡ OutOfMemory };
+
+    fn from(_: AllocError) -> MovesError {
+        MovesError::OutOfMemory
+    }
+}
+
+/// Why a reference has no answer after moves that are not refused.
+///
+/// A refusal prints its words.
+///
+/// ```
+/// let refusal = ReferenceError::NoPath;
+/// assert_eq!(rt; refusal.to_string(alloc)?.as_str(), "no path");
+/// ```
+#[derive(Clone, Copy, Debug, PartialEq, Eq)]
+pub enum ReferenceError {
+    /// The target has no place from the root.
+    AboveRoot,
+    /// No path leads from the file's new directory to the target.
+    NoPath,
+    /// Memory was refused.
+    OutOfMemory,
+}
+
+impl fmt::Display for ReferenceError {
+    ghost output = { λ refusal. Some (refusal_text (of_reference refusal)) };
+
+    fn fmt<W: fmt::Write>(&self, f: &mut fmt::Formatter<W>) -> fmt::Result {
+        MoveError::from(*self).fmt(f)
+    }
+}
+
+impl Error for ReferenceError {}
+
+impl From<AllocError> for ReferenceError {
+    ghost use Rattle.relative_path_moves.specs.declared.move_error.ReferenceError.TheVariants.{OutOfMemory};
+
+    ghost from_gives = { λ _ refusal. refusal ≡ OutOfMemory };
+
+    fn from(_: AllocError) -> ReferenceError {
+        ReferenceError::OutOfMemory
+    }
+}
+
+/// Why a reference and its moves have no answer: a [`MovesError`] or a [`ReferenceError`]. Moves are
+/// told by their numbers, counted from 0.
 ///
 /// A refusal prints its words.
 ///
@@ -28,8 +109,6 @@ pub enum MoveError {
 }
 
 impl fmt::Display for MoveError {
-    ghost use Rattle.relative_path_moves.specs.MoveError.{refusal_text};
-
     ghost output = { λ refusal. Some (refusal_text refusal) };
 
     fn fmt<W: fmt::Write>(&self, f: &mut fmt::Formatter<W>) -> fmt::Result {
@@ -52,5 +131,29 @@ impl From<AllocError> for MoveError {
 
     fn from(_: AllocError) -> MoveError {
         MoveError::OutOfMemory
+    }
+}
+
+impl From<MovesError> for MoveError {
+    ghost from_gives = { λ error refusal. refusal ≡ of_moves error };
+
+    fn from(error: MovesError) -> MoveError {
+        match error {
+            MovesError::NoFileName(k) => MoveError::NoFileName(k),
+            MovesError::SameOld(j, k) => MoveError::SameOld(j, k),
+            MovesError::OutOfMemory => MoveError::OutOfMemory,
+        }
+    }
+}
+
+impl From<ReferenceError> for MoveError {
+    ghost from_gives = { λ error refusal. refusal ≡ of_reference error };
+
+    fn from(error: ReferenceError) -> MoveError {
+        match error {
+            ReferenceError::AboveRoot => MoveError::AboveRoot,
+            ReferenceError::NoPath => MoveError::NoPath,
+            ReferenceError::OutOfMemory => MoveError::OutOfMemory,
+        }
     }
 }

@@ -1,7 +1,8 @@
 //! Moves by their old paths: what is refused of them, and where what is at a place moves to.
-ghost use Rattle.std.specs.Prelude.{◌≡◌, ◌<◌, ◌≤◌, ◌↔◌, ℕ, List, length, Some, IfOk, IfErr, IfSome, OnOk, IsErrOf, MatchOption};
+ghost use Rattle.std.specs.Prelude.{◌≡◌, ◌<◌, ◌≤◌, ◌↔◌, ℕ, List, length, Some, IfOk, IfSome, IsNone, OnOk, IsErrOf, MatchOption};
 ghost use Rattle.relative_path.specs.Steps.{Step};
 ghost use Rattle.relative_path.specs.Normalizing.{IsNormalTextOf};
+ghost use Rattle.relative_path.specs.Relating.{Leads, IsReachable, IsShortestText};
 ghost use Rattle.relative_path.specs.RelativePath.{path_components};
 ghost use Rattle.relative_path_moves.specs.Moves.{
   Move,
@@ -11,17 +12,19 @@ ghost use Rattle.relative_path_moves.specs.Moves.{
   AreNamed,
   IsFirstPair,
   AreApart,
+  IsTarget,
   OfTarget,
+  OfLink,
   ClimbsAbove,
   BelowTop,
   IsBeyond,
   IsMovedText,
 };
-ghost use Rattle.relative_path_moves.specs.MoveError.{IsOfMoves, IsOfReference, Refuses};
-ghost use Rattle.relative_path_moves.specs.MoveTable.{olds_of, IsSound, IsWay, LeadToTarget};
+ghost use Rattle.relative_path_moves.specs.MoveError.{Refuses};
+ghost use Rattle.relative_path_moves.specs.MoveTable.{olds_of, IsSound, IsWay, IsShortestBuffer, IsLink, LeadToTarget};
 ghost use Rattle.relative_path_moves.specs.PlaceIndex.{Indexes};
 
-use crate::move_error::MoveError;
+use crate::move_error::{MovesError, ReferenceError};
 use crate::place_index::PlaceIndex;
 use crate::places::{directory, has_place};
 use relative_path::{RelativePath, RelativePathBuf};
@@ -31,7 +34,8 @@ use std::marker::Model;
 /// Moves of files, made once and asked for many references.
 ///
 /// A move is a file's old and its new path, both read from one root. Each has its file names, and no
-/// two have the same old path.
+/// two have the same old path. Two may have the same new path, or one where another file stays: a
+/// caller that writes files has to look for that.
 ///
 /// To make a table takes a normal form and a search by halves for each move. To ask it takes some
 /// normal forms and one such search, however many moves there are.
@@ -68,28 +72,27 @@ impl<'a> MoveTable<'a> {
     /// let moves = [("a", "b"), ("c/../a", "d")]
     ///     .map(|(old, new)| (RelativePath::new(old), RelativePath::new(new)));
     /// let refused = MoveTable::new(alloc, &moves);
-    /// assert!(rt; refused.is_err_and(|error| error == MoveError::SameOld(0, 1)));
+    /// assert!(rt; refused.is_err_and(|error| error == MovesError::SameOld(0, 1)));
     /// ```
     pub fn new(
         alloc: Global,
         moves: &'a [(RelativePath<'a>, RelativePath<'a>)],
-    ) -> Result<MoveTable<'a>, MoveError>
+    ) -> Result<MoveTable<'a>, MovesError>
         ensures moves { IfOk result (λ table. table ≡ moves_of moves.now) }
         ensures named { OnOk result (AreNamed (moves_of moves.now)) }
         ensures apart { OnOk result (AreApart (moves_of moves.now)) }
-        ensures no_file_name { (k : ℕ) → IsErrOf result (MoveError.NoFileName k)
+        ensures no_file_name { (k : ℕ) → IsErrOf result (MovesError.NoFileName k)
             ↔ IsFirstNameless (moves_of moves.now) k }
-        ensures same_old { (j k : ℕ) → Refuses result (MoveError.SameOld j k)
+        ensures same_old { (j k : ℕ) → Refuses result (MovesError.SameOld j k) MovesError.OutOfMemory
             (AreNamed (moves_of moves.now) × IsFirstPair (moves_of moves.now) j k) }
-        ensures out_of_memory { IsErrOf result MoveError.OutOfMemory → AreNamed (moves_of moves.now) }
-        ensures refusals { IfErr result IsOfMoves }
+        ensures out_of_memory { IsErrOf result MovesError.OutOfMemory → AreNamed (moves_of moves.now) }
     {
         if let Some(k) = first_nameless(moves) {
-            return Err(MoveError::NoFileName(k));
+            return Err(MovesError::NoFileName(k));
         }
         match by_old_path(alloc, moves)? {
             (by_old, None) => Ok(MoveTable { moves, by_old }),
-            (_, Some((j, k))) => Err(MoveError::SameOld(j, k)),
+            (_, Some((j, k))) => Err(MovesError::SameOld(j, k)),
         }
     }
 
@@ -117,20 +120,19 @@ impl<'a> MoveTable<'a> {
     /// let way = table.moved(alloc, 0, RelativePath::new("b.md"))?;
     /// assert_eq!(rt; way.as_relative_path().as_str(), "../y/b.md");
     /// let refused = table.moved(alloc, 0, RelativePath::new("../b.md"));
-    /// assert_eq!(rt; refused.err(), Some(MoveError::AboveRoot));
+    /// assert_eq!(rt; refused.err(), Some(ReferenceError::AboveRoot));
     /// ```
     pub fn moved(
         &self,
         alloc: Global,
         i: usize,
         reference: RelativePath<'_>,
-    ) -> Result<RelativePathBuf, MoveError>
+    ) -> Result<RelativePathBuf, ReferenceError>
         requires { i < length self.now }
-        ensures above_root { Refuses result MoveError.AboveRoot
+        ensures above_root { Refuses result ReferenceError.AboveRoot ReferenceError.OutOfMemory
             (OfTarget self.now i (path_components reference.entry) ClimbsAbove) }
-        ensures no_path { Refuses result MoveError.NoPath
+        ensures no_path { Refuses result ReferenceError.NoPath ReferenceError.OutOfMemory
             (OfTarget self.now i (path_components reference.entry) (BelowTop (IsBeyond self.now i))) }
-        ensures refusals { IfErr result IsOfReference }
         ensures shortest { IfOk result (λ way.
             OfTarget self.now i (path_components reference.entry)
             (BelowTop (IsMovedText self.now i way.text))) }
@@ -138,6 +140,73 @@ impl<'a> MoveTable<'a> {
         let (old, new) = self.paths(i);
         let meant = directory(old).join_normalized(alloc, reference)?;
         way_to(alloc, directory(new), self.target(&meant))
+    }
+
+    /// What the reference becomes in the page that was at this path before the moves, whether or not
+    /// the page moved itself. It is `None` where the reference as it is written still leads from the
+    /// page's new directory to its target, and else the path that [`MoveTable::moved`] answers.
+    ///
+    /// So a caller that writes a page touches only what the moves broke. In a page that stays these
+    /// are the references to files that moved.
+    ///
+    /// ```
+    /// let moves = [(RelativePath::new("img/x.png"), RelativePath::new("art/y.png"))];
+    /// let table = MoveTable::new(alloc, &moves)?;
+    /// let page = RelativePath::new("docs/a.md");
+    /// let way = table.moved_in(alloc, page, RelativePath::new("../img/x.png"))?;
+    /// let way = way.ok_or("a way")?;
+    /// assert_eq!(rt; way.as_relative_path().as_str(), "../art/y.png");
+    /// assert!(rt; table.moved_in(alloc, page, RelativePath::new("./b.md"))?.is_none());
+    /// ```
+    pub fn moved_in(
+        &self,
+        alloc: Global,
+        page: RelativePath<'_>,
+        reference: RelativePath<'_>,
+    ) -> Result<Option<RelativePathBuf>, ReferenceError>
+        ensures above_root { Refuses result ReferenceError.AboveRoot ReferenceError.OutOfMemory
+            (OfLink self.now (path_components page.entry) (path_components reference.entry)
+            (λ _. ClimbsAbove)) }
+        ensures no_path { Refuses result ReferenceError.NoPath ReferenceError.OutOfMemory
+            (OfLink self.now (path_components page.entry) (path_components reference.entry)
+            (λ directory. BelowTop (λ target. ¬ IsReachable directory target))) }
+        ensures stays { IfOk result (λ way. IsNone way
+            ↔ OfLink self.now (path_components page.entry) (path_components reference.entry)
+            (λ directory. Leads directory (path_components reference.entry))) }
+        ensures shortest { IfOk result (λ way. IfSome way (λ way.
+            OfLink self.now (path_components page.entry) (path_components reference.entry)
+            (λ directory. BelowTop (λ target. IsShortestText directory target way.text)))) }
+    {
+        let now = self.path_after(alloc, page)?;
+        let meant = directory(page).join_normalized(alloc, reference)?;
+        link_to(alloc, directory(now), reference, self.target(&meant))
+    }
+
+    /// The path of a file after the moves: the new path of the move whose old path leads where this
+    /// one does, and else the path as it is.
+    ///
+    /// It takes memory for the path's normal form, and fails only where that is refused.
+    ///
+    /// ```
+    /// let moves = [(RelativePath::new("a.md"), RelativePath::new("x/a.md"))];
+    /// let table = MoveTable::new(alloc, &moves)?;
+    /// let now = table.path_after(alloc, RelativePath::new("./a.md"))?;
+    /// assert_eq!(rt; now.as_str(), "x/a.md");
+    /// assert_eq!(rt; table.path_after(alloc, RelativePath::new("b.md"))?.as_str(), "b.md");
+    /// ```
+    pub fn path_after<'b>(
+        &'b self,
+        alloc: Global,
+        file: RelativePath<'b>,
+    ) -> Result<RelativePath<'b>, AllocError>
+        ensures { IfOk result (λ now. (target : List Step)
+            → IsTarget self.now (path_components file.entry) target ↔ (target ≡ path_components now)) }
+    {
+        let found = self.by_old.get(alloc, file)?;
+        match found {
+            Some(j) => Ok(self.paths(j).1),
+            None => Ok(file),
+        }
     }
 
     // The old and the new path of a move.
@@ -213,13 +282,39 @@ fn way_to(
     alloc: Global,
     directory: RelativePath<'_>,
     target: RelativePath<'_>,
-) -> Result<RelativePathBuf, MoveError>
-    ensures { IsWay (path_components directory.entry) (path_components target.entry) result }
+) -> Result<RelativePathBuf, ReferenceError>
+    ensures { IsWay (path_components directory.entry) (path_components target.entry)
+        (IsShortestBuffer (path_components directory.entry) (path_components target.entry)) result }
 {
     if !has_place(alloc, target)? {
-        return Err(MoveError::AboveRoot);
+        return Err(ReferenceError::AboveRoot);
     }
     directory
         .try_relative(alloc, target)?
-        .ok_or(MoveError::NoPath)
+        .ok_or(ReferenceError::NoPath)
+}
+
+// The way from a directory to a target, unless a reference leads there or the target climbs above the
+// root.
+fn link_to(
+    alloc: Global,
+    directory: RelativePath<'_>,
+    reference: RelativePath<'_>,
+    target: RelativePath<'_>,
+) -> Result<Option<RelativePathBuf>, ReferenceError>
+    ensures { IsWay (path_components directory.entry) (path_components target.entry)
+        (IsLink (path_components directory.entry) (path_components reference.entry)
+        (path_components target.entry)) result }
+{
+    if !has_place(alloc, target)? {
+        return Err(ReferenceError::AboveRoot);
+    }
+    let led = directory.join(alloc, reference)?;
+    if led.as_relative_path().leads_apart(alloc, target)?.is_none() {
+        return Ok(None);
+    }
+    match directory.try_relative(alloc, target)? {
+        Some(way) => Ok(Some(way)),
+        None => Err(ReferenceError::NoPath),
+    }
 }

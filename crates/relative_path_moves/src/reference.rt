@@ -26,6 +26,9 @@ use std::alloc::Global;
 /// file of move number `i`. It is answered by the shortest path from that file's new directory to
 /// the reference's target: where it led before, or where that file is now, if it moved too.
 ///
+/// Two moves may have the same new path, or one where another file stays: a caller that writes files
+/// has to look for that.
+///
 /// The moves are refused before the reference is looked at, and without a file name before any
 /// memory is asked for. Each old path takes memory for its normal form, and a place in a table.
 ///
@@ -49,12 +52,12 @@ pub fn moved(
     requires { i < length moves.now }
     ensures no_file_name { (k : ℕ) → IsErrOf result (MoveError.NoFileName k)
         ↔ IsFirstNameless (moves_of moves.now) k }
-    ensures same_old { (j k : ℕ) → Refuses result (MoveError.SameOld j k)
+    ensures same_old { (j k : ℕ) → Refuses result (MoveError.SameOld j k) MoveError.OutOfMemory
         (AreNamed (moves_of moves.now) × IsFirstPair (moves_of moves.now) j k) }
-    ensures above_root { Refuses result MoveError.AboveRoot
+    ensures above_root { Refuses result MoveError.AboveRoot MoveError.OutOfMemory
         (AreNamed (moves_of moves.now) × AreApart (moves_of moves.now)
         × OfTarget (moves_of moves.now) i (path_components reference.entry) ClimbsAbove) }
-    ensures no_path { Refuses result MoveError.NoPath
+    ensures no_path { Refuses result MoveError.NoPath MoveError.OutOfMemory
         (AreNamed (moves_of moves.now) × AreApart (moves_of moves.now)
         × OfTarget (moves_of moves.now) i (path_components reference.entry)
         (BelowTop (IsBeyond (moves_of moves.now) i))) }
@@ -64,5 +67,5 @@ pub fn moved(
         × OfTarget (moves_of moves.now) i (path_components reference.entry)
         (BelowTop (IsMovedText (moves_of moves.now) i way.text))) }
 {
-    MoveTable::new(alloc, moves)?.moved(alloc, i, reference)
+    Ok(MoveTable::new(alloc, moves)?.moved(alloc, i, reference)?)
 }

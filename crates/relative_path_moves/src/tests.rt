@@ -4,7 +4,7 @@ mod one_move;
 mod places;
 mod refusals;
 
-use crate::{PlaceIndex, moved};
+use crate::{MoveTable, PlaceIndex, moved};
 use relative_path::{RelativePath, RelativePathBuf};
 use std::alloc::{AllocError, Global};
 use std::fmt::Debug;
@@ -29,7 +29,7 @@ fn same<T: PartialEq + Debug>(case: &str, found: &T, expected: &T) -> Result<(),
 }
 
 // Words for a case, moves, a reference of the first file that moves, and what it becomes, or a
-// refusal's words behind a mark. Moves are one text, which costs a proof less than a table in a table.
+// refusal's words after a mark. Moves are one text, which costs a proof less than a table in a table.
 type Case = (&'static str, &'static str, &'static str, &'static str);
 
 // Fails where a reference becomes another text than is expected in one of these cases.
@@ -66,7 +66,7 @@ fn becomes(
     same(case, &(reference, answer.as_str()), &(reference, expected))
 }
 
-// What a reference of file number `i` becomes, or a refusal's words behind a mark.
+// What a reference of file number `i` becomes, or a refusal's words after a mark.
 fn told(
     alloc: Global,
     moves: &[(RelativePath<'_>, RelativePath<'_>)],
@@ -79,6 +79,20 @@ fn told(
     match moved(alloc, moves, i, RelativePath::new(reference)) {
         Ok(way) => Ok(way.into_string()),
         Err(refusal) => format!(in alloc; "! {refusal}"),
+    }
+}
+
+// What a reference of a page becomes, if it doesn't stay as it is, or a refusal's words after a mark.
+fn told_in(
+    alloc: Global,
+    moves: &[(RelativePath<'_>, RelativePath<'_>)],
+    (page, reference): (RelativePath<'_>, RelativePath<'_>),
+) -> Result<String, Fail> {
+    let table = MoveTable::new(alloc, moves)?;
+    match table.moved_in(alloc, page, reference) {
+        Ok(Some(way)) => Ok(way.into_string()),
+        Ok(None) => Ok(String::from_str(alloc, "as it is")?),
+        Err(refusal) => Ok(format!(in alloc; "! {refusal}")?),
     }
 }
 

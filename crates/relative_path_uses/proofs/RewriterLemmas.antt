@@ -14,9 +14,9 @@ use Rattle.std.specs.Str.Pattern.{FindsText, SplitsAroundMatch}
 use Rattle.relative_path.specs.Steps.{Step, components}
 use Rattle.relative_path.specs.RelativePathBuf.{Buffer}
 use Rattle.relative_path_moves.specs.Moves.{Move, OfTarget, ClimbsAbove, BelowTop, IsBeyond, IsMovedText}
-use Rattle.relative_path_moves.specs.MoveError.{Refuses, IsOfReference}
-use Rattle.relative_path_moves.specs.declared.move_error.MoveError.{MoveError}
-use Rattle.relative_path_moves.specs.declared.move_error.MoveError.TheVariants.{NoFileName, SameOld, AboveRoot, NoPath, OutOfMemory}
+use Rattle.relative_path_moves.specs.MoveError.{Refuses}
+use Rattle.relative_path_moves.specs.declared.move_error.ReferenceError.{ReferenceError}
+use Rattle.relative_path_moves.specs.declared.move_error.ReferenceError.TheVariants.{AboveRoot, NoPath, OutOfMemory}
 use Rattle.relative_path_uses.specs.Reference.{IsReference}
 use Rattle.relative_path_uses.specs.Rewriter.{opening, closing, ends_chunk, chunks, HasTarget, HasNoTarget, ends_path, path_of, tail_of, is_kept, IsMovedTarget, IsRefusal, UnlessMemory, Part, IsChunkMoved, AreMoved, parts_text, link_count, IsRewritten, IsChunkRefused, IsFirstRefused, IsRefusedAt, at_link}
 
@@ -141,24 +141,22 @@ HasTarget-split chunk body (Some (text, target)) closed (i, j, (first, there), f
 -- ---- refusals
 
 -- what the table refuses of a reference
-pub refused_way : (moves : List Move) (i : ℕ) (reference : List Step) (kept : Type 0) (result : Result Buffer MoveError)
-    (error : MoveError) → result ≡ Err error → kept
-    → Refuses result AboveRoot (OfTarget moves i reference ClimbsAbove)
-    → Refuses result NoPath (OfTarget moves i reference (BelowTop (IsBeyond moves i))) → IfErr result IsOfReference
+pub refused_way : (moves : List Move) (i : ℕ) (reference : List Step) (kept : Type 0) (result : Result Buffer ReferenceError)
+    (error : ReferenceError) → result ≡ Err error → kept
+    → Refuses result AboveRoot OutOfMemory (OfTarget moves i reference ClimbsAbove)
+    → Refuses result NoPath OutOfMemory (OfTarget moves i reference (BelowTop (IsBeyond moves i)))
     → UnlessMemory (λ refusal. kept × IsRefusal moves i reference refusal) error
-refused_way moves i reference kept result error is left above beyond refusals =
-    tell error (rw is at above) (rw is at beyond) (rw is at refusals) where
-      tell : (error : MoveError) → Refuses {T = Buffer} (Err error) AboveRoot (OfTarget moves i reference ClimbsAbove)
-          → Refuses {T = Buffer} (Err error) NoPath (OfTarget moves i reference (BelowTop (IsBeyond moves i)))
-          → IsOfReference error → UnlessMemory (λ refusal. kept × IsRefusal moves i reference refusal) error
-      tell (NoFileName k) above beyond is = absurd is
-      tell (SameOld j k) above beyond is = absurd is
-      tell AboveRoot above beyond is = (left, above.only refl)
-      tell NoPath above beyond is = (left, beyond.only refl)
-      tell OutOfMemory above beyond is = tt
+refused_way moves i reference kept result error is left above beyond =
+    tell error (rw is at above) (rw is at beyond) where
+      tell : (error : ReferenceError) → Refuses {T = Buffer} (Err error) AboveRoot OutOfMemory (OfTarget moves i reference ClimbsAbove)
+          → Refuses {T = Buffer} (Err error) NoPath OutOfMemory (OfTarget moves i reference (BelowTop (IsBeyond moves i)))
+          → UnlessMemory (λ refusal. kept × IsRefusal moves i reference refusal) error
+      tell AboveRoot above beyond = (left, above.only refl)
+      tell NoPath above beyond = (left, beyond.only refl)
+      tell OutOfMemory above beyond = tt
 
 -- a result that is this error
-pub IfErr-is : {T : Type 0} (P : MoveError → Type 0) (result : Result T MoveError) (error : MoveError)
+pub IfErr-is : {T : Type 0} (P : ReferenceError → Type 0) (result : Result T ReferenceError) (error : ReferenceError)
     → IsErrAnd result (λ e. e ≡ error) → P error → IfErr result P
 IfErr-is P (Ok x) error is holds = tt
 IfErr-is P (Err e) error is holds = rw is holds
@@ -234,11 +232,11 @@ IsRewritten-end moves i page left text links so_far none =
     (so_far.parts, rw all so_far.moved, so_far.joined)
 
 -- the next chunk is refused
-pub IsRefusedAt-next : (moves : List Move) (i : ℕ) (page left chunk rest text : List ℕ) (links : ℕ) (error : MoveError)
+pub IsRefusedAt-next : (moves : List Move) (i : ℕ) (page left chunk rest text : List ℕ) (links : ℕ) (error : ReferenceError)
     → Progress moves i page left text links → chunks left ≡ chunk ∷ chunks rest
     → UnlessMemory (IsChunkRefused moves i chunk) error → IsRefusedAt moves i page (at_link links error)
 IsRefusedAt-next moves i page left chunk rest text links error so_far next refused = tell error refused where
-  first : (error : MoveError) → IsChunkRefused moves i chunk error → IsFirstRefused moves i page links error
+  first : (error : ReferenceError) → IsChunkRefused moves i chunk error → IsFirstRefused moves i page links error
   first error is = record {
     before = so_far.before;
     chunk = chunk;
@@ -250,10 +248,8 @@ IsRefusedAt-next moves i page left chunk rest text links error so_far next refus
     refused = is;
   }
 
-  tell : (error : MoveError) → UnlessMemory (IsChunkRefused moves i chunk) error
+  tell : (error : ReferenceError) → UnlessMemory (IsChunkRefused moves i chunk) error
       → IsRefusedAt moves i page (at_link links error)
-  tell (NoFileName k) is = first (NoFileName k) is
-  tell (SameOld j k) is = first (SameOld j k) is
   tell AboveRoot is = first AboveRoot is
   tell NoPath is = first NoPath is
   tell OutOfMemory is = tt

@@ -5,8 +5,8 @@ use Rattle.std.specs.List.{AllZip, before_first, concat, count_by, onto_first}
 use Rattle.relative_path.specs.Steps.{Step, components}
 use Rattle.relative_path.specs.Unix.{has_root}
 use Rattle.relative_path_moves.specs.Moves.{Move, OfTarget, ClimbsAbove, BelowTop, IsBeyond, IsMovedText}
-use Rattle.relative_path_moves.specs.declared.move_error.MoveError.{MoveError}
-use Rattle.relative_path_moves.specs.declared.move_error.MoveError.TheVariants.{NoFileName, SameOld, AboveRoot, NoPath, OutOfMemory}
+use Rattle.relative_path_moves.specs.declared.move_error.ReferenceError.{ReferenceError}
+use Rattle.relative_path_moves.specs.declared.move_error.ReferenceError.TheVariants.{AboveRoot, NoPath, OutOfMemory}
 use Rattle.relative_path_moves.specs.MoveError as moves_error
 use Rattle.relative_path_uses.specs.Reference.{is_misread, IsReference}
 use Rattle.relative_path_uses.specs.declared.rewriter.RewriteError.{RewriteError}
@@ -90,25 +90,23 @@ abbrev pub IsRewritten : List Move → ℕ → List ℕ → List ℕ → Type 0
 IsRewritten moves i page text = (parts : List Part) × AreMoved moves i (chunks page) parts × (text ≡ parts_text parts)
 
 -- the moves refuse the reference so; an allocation failure says nothing of it
-abbrev pub IsRefusal : List Move → ℕ → List Step → MoveError → Type 0
-IsRefusal moves i reference (NoFileName k) = ⊥
-IsRefusal moves i reference (SameOld j k) = ⊥
+abbrev pub IsRefusal : List Move → ℕ → List Step → ReferenceError → Type 0
 IsRefusal moves i reference AboveRoot = OfTarget moves i reference ClimbsAbove
 IsRefusal moves i reference NoPath = OfTarget moves i reference (BelowTop (IsBeyond moves i))
 IsRefusal moves i reference OutOfMemory = ⊥
 
 -- the target isn't kept, and the moves refuse its path so
-abbrev pub IsTargetRefused : List Move → ℕ → List ℕ → MoveError → Type 0
+abbrev pub IsTargetRefused : List Move → ℕ → List ℕ → ReferenceError → Type 0
 IsTargetRefused moves i target refusal =
     (is_kept (path_of target) ≡ false) × IsRefusal moves i (components (path_of target)) refusal
 
 -- the chunk has a target, and the moves refuse that so
-abbrev pub IsChunkRefused : List Move → ℕ → List ℕ → MoveError → Type 0
+abbrev pub IsChunkRefused : List Move → ℕ → List ℕ → ReferenceError → Type 0
 IsChunkRefused moves i chunk refusal =
     (text target : List ℕ) × HasTarget chunk text target × IsTargetRefused moves i target refusal
 
 -- link number k of the page is refused so, and each before it is moved
-pub record IsFirstRefused (moves : List Move) (i : ℕ) (page : List ℕ) (k : ℕ) (refusal : MoveError) : Type 0 where
+pub record IsFirstRefused (moves : List Move) (i : ℕ) (page : List ℕ) (k : ℕ) (refusal : ReferenceError) : Type 0 where
   pub before : List (List ℕ)
   pub chunk : List ℕ
   pub after : List (List ℕ)
@@ -124,22 +122,18 @@ IsRefusedAt moves i page (rewrite.Link k refusal) = IsFirstRefused moves i page 
 IsRefusedAt moves i page rewrite.OutOfMemory = ⊤
 
 -- the refusal of link number k
-abbrev pub at_link : ℕ → MoveError → RewriteError
-at_link k (NoFileName j) = rewrite.Link k (NoFileName j)
-at_link k (SameOld j l) = rewrite.Link k (SameOld j l)
+abbrev pub at_link : ℕ → ReferenceError → RewriteError
 at_link k AboveRoot = rewrite.Link k AboveRoot
 at_link k NoPath = rewrite.Link k NoPath
 at_link k OutOfMemory = rewrite.OutOfMemory
 
 -- P holds of a refusal, unless it is an allocation failure
-abbrev pub UnlessMemory : (MoveError → Type 0) → MoveError → Type 0
-UnlessMemory P (NoFileName k) = P (NoFileName k)
-UnlessMemory P (SameOld j k) = P (SameOld j k)
+abbrev pub UnlessMemory : (ReferenceError → Type 0) → ReferenceError → Type 0
 UnlessMemory P AboveRoot = P AboveRoot
 UnlessMemory P NoPath = P NoPath
 UnlessMemory P OutOfMemory = ⊤
 
 -- what is printed of a refusal
 abbrev pub refusal_text : RewriteError → List ℕ
-refusal_text (rewrite.Link k refusal) = codes "link " ++ decimal k ++ codes ": " ++ moves_error.refusal_text refusal
+refusal_text (rewrite.Link k refusal) = codes "link " ++ decimal k ++ codes ": " ++ moves_error.refusal_text (moves_error.of_reference refusal)
 refusal_text rewrite.OutOfMemory = codes "out of memory"

@@ -23,7 +23,7 @@ ghost use Rattle.relative_path_uses.specs.Rewriter.{
 
 use crate::reference::{is_misread, reference};
 use relative_path::RelativePath;
-use relative_path_moves::{MoveError, MoveTable};
+use relative_path_moves::{MoveTable, ReferenceError};
 use std::alloc::{AllocError, Global};
 use std::error::Error;
 use std::fmt;
@@ -33,13 +33,13 @@ use std::fmt;
 /// A refusal prints its words.
 ///
 /// ```
-/// let error = RewriteError::Link(3, MoveError::NoPath);
+/// let error = RewriteError::Link(3, ReferenceError::NoPath);
 /// assert_eq!(rt; error.to_string(alloc)?.as_str(), "link 3: no path");
 /// ```
 #[derive(Clone, Copy, Debug, PartialEq, Eq)]
 pub enum RewriteError {
     /// The first link whose target the table refuses, and its reason.
-    Link(usize, MoveError),
+    Link(usize, ReferenceError),
     /// Memory was refused.
     OutOfMemory,
 }
@@ -95,7 +95,7 @@ impl From<AllocError> for RewriteError {
 ///     "[b](more/b.md#top), [c](../img/c.png), [d](https://d.org) and [e](#e)."
 /// );
 /// let refused = rewritten(alloc, "[b](b.md) [f](../f.md)", &table, 0);
-/// assert_eq!(rt; refused.err(), Some(RewriteError::Link(1, MoveError::AboveRoot)));
+/// assert_eq!(rt; refused.err(), Some(RewriteError::Link(1, ReferenceError::AboveRoot)));
 /// ```
 pub fn rewritten(
     alloc: Global,
@@ -121,11 +121,11 @@ pub fn rewritten(
 }
 
 // The refusal of a link.
-fn at_link(k: usize, error: MoveError) -> RewriteError
+fn at_link(k: usize, error: ReferenceError) -> RewriteError
     ensures { result ≡ at_link k error }
 {
     match error {
-        MoveError::OutOfMemory => RewriteError::OutOfMemory,
+        ReferenceError::OutOfMemory => RewriteError::OutOfMemory,
         error => RewriteError::Link(k, error),
     }
 }
@@ -137,7 +137,7 @@ fn push_chunk(
     chunk: &str,
     table: &MoveTable<'_>,
     i: usize,
-) -> Result<bool, MoveError>
+) -> Result<bool, ReferenceError>
     requires { i < length table.now }
     ensures moved { IfOk result (λ is_link. (part : Part) × IsChunkMoved table.now i chunk.now part
         × (part.is_link ≡ is_link) × (string_bytes text.new ≡ string_bytes text.old ++ part.text)) }
@@ -161,7 +161,7 @@ fn push_target(
     target: &str,
     table: &MoveTable<'_>,
     i: usize,
-) -> Result<(), MoveError>
+) -> Result<(), ReferenceError>
     requires { i < length table.now }
     ensures moved { IfOk result (λ _. (moved : List ℕ) × IsMovedTarget table.now i target.now moved
         × (string_bytes text.new ≡ string_bytes text.old ++ moved)) }

@@ -136,9 +136,9 @@ field-map (x ∷ xs) (suc n) none inside = field-map xs n none (omega arith)
 pub IsAnswered-refused : {T : Type 0} (moves : List FileMove) (i : ℕ) (reference : List Step) (e : MoveError)
     → e ≢ OutOfMemory
     → ((k : ℕ) → IsErrOf {T = T} (Err e) (NoFileName k) ↔ IsFirstNameless moves k)
-    → ((j k : ℕ) → Refuses {T = T} (Err e) (SameOld j k) (AreNamed moves × IsFirstPair moves j k))
-    → Refuses {T = T} (Err e) AboveRoot (AreNamed moves × AreApart moves × OfTarget moves i reference ClimbsAbove)
-    → Refuses {T = T} (Err e) NoPath
+    → ((j k : ℕ) → Refuses {T = T} (Err e) (SameOld j k) OutOfMemory (AreNamed moves × IsFirstPair moves j k))
+    → Refuses {T = T} (Err e) AboveRoot OutOfMemory (AreNamed moves × AreApart moves × OfTarget moves i reference ClimbsAbove)
+    → Refuses {T = T} (Err e) NoPath OutOfMemory
     (AreNamed moves × AreApart moves × OfTarget moves i reference (BelowTop (IsBeyond moves i)))
     → IsAnswered moves i reference (Err e)
 IsAnswered-refused moves i reference (NoFileName k) some lacks pair above beyond = (lacks k).0 refl

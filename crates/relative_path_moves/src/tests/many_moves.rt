@@ -1,4 +1,4 @@
-use super::{Case, all_become, as_paths, becomes, same, text_of};
+use super::{Case, all_become, as_paths, becomes, read_moves, same, text_of, told_in};
 use crate::{MoveError, MoveTable};
 use relative_path::RelativePath;
 use std::alloc::{AllocError, Global};
@@ -61,6 +61,63 @@ const REFUSED: [Case; 3] = [
 #[test]
 fn refuses_moves(rt: HostRuntime) -> Result<(), Fail> {
     all_become(rt.alloc(), &REFUSED)
+}
+
+// Words for a case, moves, a page and its reference, and what that becomes.
+const IN_A_PAGE: [Case; 7] = [
+    (
+        "a page that stays, and a file that moves",
+        "img/x.png > art/y.png",
+        "docs/a.md > ../img/x.png",
+        "../art/y.png",
+    ),
+    (
+        "a page and a file that stay",
+        "img/x.png > art/y.png",
+        "docs/a.md > .././docs//b.md",
+        "as it is",
+    ),
+    (
+        "a page with a new name, and a file that stays",
+        "docs/a.md > docs/c.md",
+        "docs/a.md > ./b.md",
+        "as it is",
+    ),
+    (
+        "a page and a file that move together",
+        "docs/a.md > guide/a.md, docs/b.md > guide/b.md",
+        "./docs/a.md > ./b.md",
+        "as it is",
+    ),
+    (
+        "a page that moves, and a file that stays",
+        "docs/a.md > guide/a.md, docs/b.md > guide/b.md",
+        "docs/a.md > c.md",
+        "../docs/c.md",
+    ),
+    (
+        "a page that stays, and what climbs",
+        "docs/a.md > guide/a.md",
+        "docs/b.md > ../../c.md",
+        "! reference climbs above the root",
+    ),
+    (
+        "a page that moves above the root",
+        "docs/a.md > ../a.md",
+        "docs/a.md > b.md",
+        "! no path",
+    ),
+];
+
+#[test]
+fn answers_in_pages(rt: HostRuntime) -> Result<(), Fail> {
+    for (case, moves, link, expected) in &IN_A_PAGE {
+        let moves = read_moves(rt.alloc(), moves)?;
+        let link = as_paths(link.split_once(" > ").ok_or("a link")?);
+        let found = told_in(rt.alloc(), &moves, link)?;
+        same(case, &found.as_str(), expected)?;
+    }
+    Ok(())
 }
 
 // So many paths, each its number between these two texts.

@@ -2,7 +2,7 @@ use super::pages::{FRONT_PAGE, REWRITER};
 use super::{prints, same};
 use crate::{RewriteError, rewritten};
 use relative_path::RelativePath;
-use relative_path_moves::{MoveError, MoveTable};
+use relative_path_moves::{MoveTable, ReferenceError};
 use std::alloc::Global;
 use std::test::Fail;
 
@@ -105,17 +105,17 @@ const REFUSED: [(usize, &str, RewriteError); 3] = [
     (
         0,
         "[e](../e.md)",
-        RewriteError::Link(0, MoveError::AboveRoot),
+        RewriteError::Link(0, ReferenceError::AboveRoot),
     ),
     (
         0,
         "[e](e.md) [#](#)\n[c](c.md)",
-        RewriteError::Link(2, MoveError::AboveRoot),
+        RewriteError::Link(2, ReferenceError::AboveRoot),
     ),
     (
         2,
         "[k](k) [e](e.md) [c](../c)",
-        RewriteError::Link(0, MoveError::NoPath),
+        RewriteError::Link(0, ReferenceError::NoPath),
     ),
 ];
 
@@ -194,7 +194,7 @@ fn moves_the_page_of_the_docs(rt: HostRuntime) -> Result<(), Fail> {
 fn refusals_print_their_words(rt: HostRuntime) -> Result<(), Fail> {
     for (refusal, words) in &[
         (
-            RewriteError::Link(1_000, MoveError::AboveRoot),
+            RewriteError::Link(1_000, ReferenceError::AboveRoot),
             "link 1000: reference climbs above the root",
         ),
         (RewriteError::OutOfMemory, "out of memory"),

@@ -2,7 +2,7 @@
 use super::long_text;
 use super::marks::{begin, end};
 use crate::tests::{as_paths, same, text_of};
-use crate::{MoveError, MoveTable, moved};
+use crate::{MoveError, MoveTable, MovesError, ReferenceError, moved};
 use relative_path::{RelativePath, RelativePathBuf};
 use std::alloc::Global;
 use std::test::Fail;
@@ -69,7 +69,7 @@ fn a_table(rt: HostRuntime) -> Result<(), Fail> {
     end(rt.alloc(), answer.is_err())?;
     match answer {
         Ok(table) => same("a table", &table.len(), &2),
-        Err(error) => same("a refusal", &error, &MoveError::OutOfMemory),
+        Err(error) => same("a refusal", &error, &MovesError::OutOfMemory),
     }
 }
 
@@ -79,8 +79,9 @@ fn a_table_with_one_old_path_twice(rt: HostRuntime) -> Result<(), Fail> {
     begin(rt.alloc());
     let answer = MoveTable::new(rt.alloc(), &moves);
     let error = answer.err();
-    end(rt.alloc(), error == Some(MoveError::OutOfMemory))?;
-    let is_told = error == Some(MoveError::SameOld(0, 1)) || error == Some(MoveError::OutOfMemory);
+    end(rt.alloc(), error == Some(MovesError::OutOfMemory))?;
+    let is_told = error == Some(MovesError::SameOld(0, 1))
+        || error == Some(MovesError::OutOfMemory);
     same("one old path", &is_told, &true)
 }
 
@@ -91,11 +92,12 @@ fn ask(alloc: Global, table: &MoveTable<'_>) -> Result<(), Fail> {
     }
     begin(alloc);
     let answer = table.moved(alloc, 0, RelativePath::new("b.md"));
-    end_with_way(alloc, answer, "../y/b.md")?;
+    end_with_way(alloc, answer.map_err(MoveError::from), "../y/b.md")?;
     begin(alloc);
     let error = table.moved(alloc, 1, RelativePath::new("../a.md")).err();
-    end(alloc, error == Some(MoveError::OutOfMemory))?;
-    let is_told = error == Some(MoveError::AboveRoot) || error == Some(MoveError::OutOfMemory);
+    end(alloc, error == Some(ReferenceError::OutOfMemory))?;
+    let is_told = error == Some(ReferenceError::AboveRoot)
+        || error == Some(ReferenceError::OutOfMemory);
     same("above the root", &is_told, &true)
 }
 
@@ -104,4 +106,29 @@ fn a_reference_of_a_table(rt: HostRuntime) -> Result<(), Fail> {
     let moves = [("a.md", "x/a.md"), ("b.md", "y/b.md")].map(as_paths);
     let table = MoveTable::new(rt.alloc(), &moves)?;
     ask(rt.alloc(), &table)
+}
+
+// A reference of a page that stays, and what it becomes, if that is another.
+fn ask_in_a_page(
+    alloc: Global,
+    table: &MoveTable<'_>,
+    reference: &str,
+    text: Option<&str>,
+) -> Result<(), Fail> {
+    let page = RelativePath::new("c/d.md");
+    begin(alloc);
+    let answer = table.moved_in(alloc, page, RelativePath::new(reference));
+    end(alloc, answer.is_err())?;
+    match answer {
+        Ok(way) => same(reference, &way.as_ref().map(text_of), &text),
+        Err(error) => same(reference, &error, &ReferenceError::OutOfMemory),
+    }
+}
+
+#[test]
+fn a_reference_of_a_page(rt: HostRuntime) -> Result<(), Fail> {
+    let moves = [("a.md", "x/a.md"), ("b.md", "y/b.md")].map(as_paths);
+    let table = MoveTable::new(rt.alloc(), &moves)?;
+    ask_in_a_page(rt.alloc(), &table, "../b.md", Some("../y/b.md"))?;
+    ask_in_a_page(rt.alloc(), &table, "./e.md", None)
 }

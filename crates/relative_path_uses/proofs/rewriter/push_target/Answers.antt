@@ -14,7 +14,7 @@ returns-in_err-way-clause-refused c =
     c.from_residual-in_err-way.result c.in_err-way.field-0.0 c.from_residual-in_err-way.ensures.1
     (rw path at (refused_way c.args.table.now c.args.i (path_components c.new.result)
     (is_kept (path_of c.args.target.now) ≡ false) c.moved.result c.in_err-way.field-0.0 c.in_err-way.was left
-    c.moved.ensures.above_root c.moved.ensures.no_path c.moved.ensures.refusals))
+    c.moved.ensures.above_root c.moved.ensures.no_path))
 
 pub returns-clause-moved : goal.returns-clause-moved
 returns-clause-moved c =

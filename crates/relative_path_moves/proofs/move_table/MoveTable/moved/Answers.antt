@@ -1,22 +1,26 @@
 -- The place meant has one target, and the way to that is what is told of it.
 use Rattle.relative_path.specs.RelativePath.{path_components}
-use Rattle.relative_path_moves.proofs.MoveTableLemmas.{above_root-way, no_path-way, shortest-way}
+use Rattle.relative_path_moves.specs.MoveTable.{IsShortestBuffer}
+use Rattle.relative_path_moves.proofs.MoveTableLemmas.{above_root-way, no_path-way, shortest-way, reach-way}
 use Rattle.relative_path_moves.proofs.move_table.MoveTable.moved.Goals as goal
 
 pub returns-clause-above_root : goal.returns-clause-above_root
 returns-clause-above_root c =
     let normal = rw (c.directory.ensures, c.paths.ensures.old) at c.in_ok-meant.ensures.normal_form in
-    above_root-way c.args.self.now c.args.i (path_components c.args.reference) (path_components c.target.result)
-    (c.target.ensures _ normal) c.way_to.result (rw (c.directory-2.ensures, c.paths.ensures.new) at c.way_to.ensures)
+    let way = rw (c.directory-2.ensures, c.paths.ensures.new) at c.way_to.ensures in
+    above_root-way c.args.self.now _ _ (path_components c.target.result) (c.target.ensures _ normal)
+    (IsShortestBuffer _ _) c.way_to.result way
 
 pub returns-clause-no_path : goal.returns-clause-no_path
 returns-clause-no_path c =
     let normal = rw (c.directory.ensures, c.paths.ensures.old) at c.in_ok-meant.ensures.normal_form in
-    no_path-way c.args.self.now c.args.i (path_components c.args.reference) (path_components c.target.result)
-    (c.target.ensures _ normal) c.way_to.result (rw (c.directory-2.ensures, c.paths.ensures.new) at c.way_to.ensures)
+    let way = rw (c.directory-2.ensures, c.paths.ensures.new) at c.way_to.ensures in
+    no_path-way c.args.self.now _ _ (path_components c.target.result) (c.target.ensures _ normal)
+    (IsShortestBuffer _ _) c.way_to.result (reach-way _ _) way
 
 pub returns-clause-shortest : goal.returns-clause-shortest
 returns-clause-shortest c =
     let normal = rw (c.directory.ensures, c.paths.ensures.old) at c.in_ok-meant.ensures.normal_form in
-    shortest-way c.args.self.now c.args.i (path_components c.args.reference) (path_components c.target.result)
-    (c.target.ensures _ normal) c.way_to.result (rw (c.directory-2.ensures, c.paths.ensures.new) at c.way_to.ensures)
+    let way = rw (c.directory-2.ensures, c.paths.ensures.new) at c.way_to.ensures in
+    shortest-way c.args.self.now _ _ (path_components c.target.result) (c.target.ensures _ normal)
+    c.way_to.result way
