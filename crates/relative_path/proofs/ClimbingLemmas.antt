@@ -22,7 +22,8 @@ climb_after_ge climbed (suc names) (up ∷ cs) = climb_after_ge climbed names cs
 climb_after_ge climbed names (name n ∷ cs) = climb_after_ge climbed (suc names) cs
 
 -- where no steps are left the climb so far is all of it
-pub climb_after-nil : (names : ℕ) {climbed n : ℕ} {cs : List Step} → cs ≡ [] → climb_after climbed names cs ≡ n → climbed ≡ n
+pub climb_after-nil : (names : ℕ) {climbed n : ℕ} {cs : List Step} → cs ≡ [] → climb_after climbed names cs ≡ n
+    → climbed ≡ n
 climb_after-nil names none comes_to = rw none at comes_to
 
 -- steps lead anywhere from such a place exactly if the base of it has as many names
