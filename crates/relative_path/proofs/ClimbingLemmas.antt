@@ -1,5 +1,5 @@
 -- How many names a base must have for a list of steps to lead anywhere from it.
-use Rattle.std.proofs.Common.{◌≡◌, ◌↔◌, ℕ, zero, suc, ◌+◌, ◌<◌, ◌≤◌, List, [], ◌∷◌, ◌++◌, length, take, replicate, Option, Some, None, IsSome, refl, sym, arith}
+use Rattle.std.proofs.Common.{◌≡◌, ◌↔◌, ℕ, zero, suc, ◌+◌, ◌≤◌, List, [], ◌∷◌, ◌++◌, length, take, replicate, Option, Some, None, IsSome, refl, arith}
 use Rattle.std.proofs.lemmas.List.{length_push, length-replicate, length-take-le}
 use Rattle.relative_path.specs.Steps.{Step, cur, up, name}
 use Rattle.relative_path.specs.Walk.{walk, IsSame, LeadsBelow}
