@@ -96,10 +96,7 @@ fn refusals_print_their_words(rt: HostRuntime) -> Result<(), Fail> {
     for (refusal, words) in &[
         (ManifestError::NoBase, "no base directory"),
         (ManifestError::NoFiles, "no list of files"),
-        (
-            ManifestError::NotAString(1_000),
-            "file 1000 is no string",
-        ),
+        (ManifestError::NotAString(1_000), "file 1000 is no string"),
         (
             ManifestError::ClimbsAbove(1_000),
             "file 1000 climbs above the base",

@@ -183,11 +183,11 @@ pub fn long_name(alloc: Global) -> Result<String, AllocError> {
     Ok(name)
 }
 
-/// Whether an `extend` of the empty path by `a`, the long name and `c` may leave this text, and this
-/// path to take: the pushes before the refused one are done, and the paths after it are still there.
+/// Whether an `extend` of the empty path, with room for `a`, by `a`, the long name and `c` may leave
+/// this text, and this path to take: the pushes before the refused one are done, and the paths after
+/// it are still there.
 pub fn is_left(answer: Result<(), AllocError>, text: &str, name: &str, left: Option<&str>) -> bool {
     match (answer, text) {
-        (Err(_), "") => left == Some(name),
         (Err(_), "a") => left == Some("c"),
         (Err(_), text) => left.is_none() && text.strip_prefix("a") == Some(name),
         (Ok(()), text) => left.is_none() && text.len() == name.len() + 3,
@@ -199,7 +199,7 @@ fn extend(rt: HostRuntime) -> Result<(), Fail> {
     let name = long_name(rt.alloc())?;
     let paths = ["a", name.as_str(), "c"].map(RelativePath::new);
     let mut lent = paths.iter().copied();
-    let mut buf = RelativePathBuf::new(rt.alloc());
+    let mut buf = RelativePathBuf::with_capacity(rt.alloc(), 1)?;
     begin(rt.alloc());
     let answer = buf.extend(&mut lent);
     end(rt.alloc(), answer.is_err())?;

@@ -55,7 +55,7 @@ fn extend(rt: HostRuntime) -> Result<(), Fail> {
     let name = long_name(rt.alloc())?;
     let paths = ["a", name.as_str(), "c"].map(RelativePath::new);
     let mut lent = paths.iter().copied();
-    let mut buf = RelativePathBuf::new(rt.alloc());
+    let mut buf = RelativePathBuf::with_capacity(rt.alloc(), 1)?;
     begin(rt.alloc());
     let answer = push_or_restore(&mut buf, &mut lent);
     end(rt.alloc(), answer.is_err())?;

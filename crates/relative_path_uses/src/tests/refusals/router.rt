@@ -34,8 +34,9 @@ fn a_file(rt: HostRuntime) -> Result<(), Fail> {
 }
 
 #[test]
-fn a_request_that_climbs(rt: HostRuntime) -> Result<(), Fail> {
-    served_of(rt.alloc(), "/../secrets", None)
+fn a_refused_request(rt: HostRuntime) -> Result<(), Fail> {
+    served_of(rt.alloc(), "/../secrets", None)?;
+    served_of(rt.alloc(), r"a\b", None)
 }
 
 #[test]
