@@ -61,16 +61,24 @@ fn a_move_without_a_file_name(rt: HostRuntime) -> Result<(), Fail> {
     same("a name", &error, &Some(MoveError::NoFileName(1)))
 }
 
-#[test]
-fn a_table(rt: HostRuntime) -> Result<(), Fail> {
-    let moves = [("a.md", "x/a.md"), ("b.md", "y/b.md")].map(as_paths);
-    begin(rt.alloc());
-    let answer = MoveTable::new(rt.alloc(), &moves);
-    end(rt.alloc(), answer.is_err())?;
+fn makes(alloc: Global, moves: &[(RelativePath<'_>, RelativePath<'_>)]) -> Result<(), Fail> {
+    begin(alloc);
+    let answer = MoveTable::new(alloc, moves);
+    end(alloc, answer.is_err())?;
     match answer {
-        Ok(table) => same("a table", &table.len(), &2),
+        Ok(table) => same("a table", &table.len(), &moves.len()),
         Err(error) => same("a refusal", &error, &MovesError::OutOfMemory),
     }
+}
+
+#[test]
+fn a_table(rt: HostRuntime) -> Result<(), Fail> {
+    makes(
+        rt.alloc(),
+        &[("a.md", "x/a.md"), ("b.md", "y/b.md")].map(as_paths),
+    )?;
+    let long = long_text(rt.alloc())?;
+    makes(rt.alloc(), &[as_paths((long.as_str(), "b"))])
 }
 
 #[test]
@@ -85,8 +93,8 @@ fn a_table_with_one_old_path_twice(rt: HostRuntime) -> Result<(), Fail> {
     same("one old path", &is_told, &true)
 }
 
-// A reference of the first file of a table of two, and one that climbs above the root.
-fn ask(alloc: Global, table: &MoveTable<'_>) -> Result<(), Fail> {
+// References of the first file of a table of two, and one that climbs above the root.
+fn ask(alloc: Global, table: &MoveTable<'_>, long: &str) -> Result<(), Fail> {
     if table.len() < 2 {
         return Err(Fail::new("two moves"));
     }
@@ -98,14 +106,43 @@ fn ask(alloc: Global, table: &MoveTable<'_>) -> Result<(), Fail> {
     end(alloc, error == Some(ReferenceError::OutOfMemory))?;
     let is_told = error == Some(ReferenceError::AboveRoot)
         || error == Some(ReferenceError::OutOfMemory);
-    same("above the root", &is_told, &true)
+    same("above the root", &is_told, &true)?;
+    begin(alloc);
+    let answer = table.moved(
+        alloc,
+        0,
+        RelativePath::new(long.strip_prefix("../").unwrap_or("")),
+    );
+    end_with_way(alloc, answer.map_err(MoveError::from), long)
 }
 
 #[test]
 fn a_reference_of_a_table(rt: HostRuntime) -> Result<(), Fail> {
     let moves = [("a.md", "x/a.md"), ("b.md", "y/b.md")].map(as_paths);
     let table = MoveTable::new(rt.alloc(), &moves)?;
-    ask(rt.alloc(), &table)
+    let mut long = "../".to_string(rt.alloc())?;
+    long.push_str(long_text(rt.alloc())?.as_str())?;
+    ask(rt.alloc(), &table, long.as_str())
+}
+
+// Where a file is after the moves.
+fn ask_of_a_file(alloc: Global, table: &MoveTable<'_>, file: &str, now: &str) -> Result<(), Fail> {
+    begin(alloc);
+    let answer = table.path_after(alloc, RelativePath::new(file));
+    end(alloc, answer.is_err())?;
+    match answer {
+        Ok(path) => same("a file", &path.as_str(), &now),
+        Err(_) => Ok(()),
+    }
+}
+
+#[test]
+fn the_path_of_a_file(rt: HostRuntime) -> Result<(), Fail> {
+    let moves = [("a.md", "x/a.md"), ("b.md", "y/b.md")].map(as_paths);
+    let table = MoveTable::new(rt.alloc(), &moves)?;
+    ask_of_a_file(rt.alloc(), &table, "./a.md", "x/a.md")?;
+    let long = long_text(rt.alloc())?;
+    ask_of_a_file(rt.alloc(), &table, long.as_str(), long.as_str())
 }
 
 // A reference of a page that stays, and what it becomes, if that is another.
@@ -130,5 +167,6 @@ fn a_reference_of_a_page(rt: HostRuntime) -> Result<(), Fail> {
     let moves = [("a.md", "x/a.md"), ("b.md", "y/b.md")].map(as_paths);
     let table = MoveTable::new(rt.alloc(), &moves)?;
     ask_in_a_page(rt.alloc(), &table, "../b.md", Some("../y/b.md"))?;
-    ask_in_a_page(rt.alloc(), &table, "./e.md", None)
+    ask_in_a_page(rt.alloc(), &table, "./e.md", None)?;
+    ask_in_a_page(rt.alloc(), &table, long_text(rt.alloc())?.as_str(), None)
 }

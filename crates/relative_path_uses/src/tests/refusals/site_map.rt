@@ -4,21 +4,26 @@ use super::marks::{begin, end};
 use crate::tests::{same, text_of};
 use crate::{SiteMap, SiteMapError};
 use relative_path::RelativePath;
-use std::alloc::Global;
+use std::alloc::{AllocError, Global};
 use std::test::Fail;
 
 const PAGES: [&str; 3] = ["a/index.html", "a/b:c.html", "d.html"];
 
-#[test]
-fn three_pages(rt: HostRuntime) -> Result<(), Fail> {
-    let pages = PAGES.map(RelativePath::new);
-    begin(rt.alloc());
-    let answer = SiteMap::new(rt.alloc(), &pages);
-    end(rt.alloc(), answer.is_err())?;
+fn maps(alloc: Global, pages: &[RelativePath<'_>]) -> Result<(), Fail> {
+    begin(alloc);
+    let answer = SiteMap::new(alloc, pages);
+    end(alloc, answer.is_err())?;
     match answer {
-        Ok(site) => same("three pages", &site.len(), &3),
+        Ok(site) => same("pages", &site.len(), &pages.len()),
         Err(error) => same("a refusal", &error, &SiteMapError::OutOfMemory),
     }
+}
+
+#[test]
+fn three_pages(rt: HostRuntime) -> Result<(), Fail> {
+    maps(rt.alloc(), &PAGES.map(RelativePath::new))?;
+    let long = long_text(rt.alloc())?;
+    maps(rt.alloc(), &[RelativePath::new(long.as_str())])
 }
 
 #[test]
@@ -92,9 +97,21 @@ fn refers(alloc: Global, site: &SiteMap<'_>, expected: &str) -> Result<(), Fail>
     }
 }
 
+// The long text after these few bytes.
+fn long_after(alloc: Global, front: &str) -> Result<String, AllocError> {
+    let mut text = front.to_string(alloc)?;
+    text.push_str(long_text(alloc)?.as_str())?;
+    Ok(text)
+}
+
 #[test]
 fn href(rt: HostRuntime) -> Result<(), Fail> {
     let pages = PAGES.map(RelativePath::new);
     let site = SiteMap::new(rt.alloc(), &pages)?;
-    refers(rt.alloc(), &site, "./b:c.html")
+    refers(rt.alloc(), &site, "./b:c.html")?;
+    let page = long_after(rt.alloc(), "a/c:")?;
+    let href = long_after(rt.alloc(), "./c:")?;
+    let pages = ["a/index.html", page.as_str()].map(RelativePath::new);
+    let site = SiteMap::new(rt.alloc(), &pages)?;
+    refers(rt.alloc(), &site, href.as_str())
 }
