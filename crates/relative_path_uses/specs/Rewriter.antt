@@ -135,5 +135,6 @@ UnlessMemory P OutOfMemory = ⊤
 
 -- what is printed of a refusal
 abbrev pub refusal_text : RewriteError → List ℕ
-refusal_text (rewrite.Link k refusal) = codes "link " ++ decimal k ++ codes ": " ++ moves_error.refusal_text (moves_error.of_reference refusal)
+refusal_text (rewrite.Link k refusal) =
+    codes "link " ++ decimal k ++ codes ": " ++ moves_error.refusal_text (moves_error.of_reference refusal)
 refusal_text rewrite.OutOfMemory = codes "out of memory"
