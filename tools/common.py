@@ -100,7 +100,7 @@ def masked(code):
 
 
 def closing(mask, at):
-    """The place behind the bracket that closes the one here, in code where nothing is quoted."""
+    """The place after the bracket that closes the one here, in code where nothing is quoted."""
     depth = 0
     while True:
         depth += (mask[at] in "{([") - (mask[at] in "})]")

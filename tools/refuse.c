@@ -1,10 +1,10 @@
 /* Preloaded by tools/refusals: refuses requests for memory, and tells of each that it counts.
  *
- * REFUSE is N, for request number N alone, or N.., for that and all behind it. REFUSE_MARKED is
+ * REFUSE is N, for request number N alone, or N.., for that and all after it. REFUSE_MARKED is
  * set for a test: then the requests between its marks are counted, else those of the whole program.
  *
  * To the file descriptor REFUSE_TELLS it writes a character and the number of bytes for each
- * request: `.24` if 24 bytes were granted, `x24` if they were refused. For the mark behind a call,
+ * request: `.24` if 24 bytes were granted, `x24` if they were refused. For the mark after a call,
  * and at the end of a whole program, it writes `!` if the call was refused memory and else `=`, and
  * how many blocks more are held than at the beginning: `=1` of a call that answers a text.
  *
@@ -23,7 +23,7 @@ enum { BEGIN = 1000003, END_REFUSED = 1000033, END_ANSWERED = 1000037 };
 
 static int to;                /* where it tells */
 static unsigned long refused; /* the number of the first request that is refused */
-static int and_on;            /* whether those behind it are refused too */
+static int and_on;            /* whether those after it are refused too */
 static int counts;            /* whether requests are counted now */
 static unsigned long seen;    /* how many were counted */
 static long held;             /* how many blocks more are held than at the beginning */
@@ -39,7 +39,7 @@ static void tell(char what, long number) {
   (void)!write(to, at, (size)(text + sizeof text - at));
 }
 
-/* Reads a number, and leaves the text at what stands behind it. */
+/* Reads a number, and leaves the text at what stands after it. */
 static unsigned long number(const char **at) {
   unsigned long read = 0;
   while (**at >= '0' && **at <= '9') read = read * 10 + (unsigned long)(*(*at)++ - '0');

@@ -5,7 +5,7 @@ use std::fmt::Display;
 use std::io::{self, BufWriter, Write};
 use std::path::Path;
 
-/// What stands behind `= `, or behind `! `.
+/// What stands after `= `, or after `! `.
 type Answer = Result<String, String>;
 
 /// A call, by the arguments that it takes.

@@ -35,7 +35,7 @@ impl<'a> Call<'a> {
         }
     }
 
-    /// The first argument and those behind it, if there is one.
+    /// The first argument and those after it, if there is one.
     pub fn one_and_more(&self) -> Result<(&'a str, &[&'a str]), Refusal> {
         match self.arguments.split_first() {
             Some((first, more)) => Ok((*first, more)),

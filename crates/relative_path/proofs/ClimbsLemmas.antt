@@ -1,4 +1,4 @@
--- Climbs as text: some of them at once, or one behind another.
+-- Climbs as text: some of them at once, or one after another.
 use Rattle.std.proofs.Common.{◌≡◌, ℕ, zero, suc, ◌+◌, ◌-◌, ◌*◌, ◌<◌, ◌≤◌, List, [], ◌∷◌, length, get_or, take, map, fold, replicate, sym, refl, ap, ◌∙◌, append-nil, arith}
 use Rattle.std.specs.List.{slice_range}
 use Rattle.std.specs.Str.{IsCharBoundary}
@@ -11,7 +11,7 @@ use Rattle.relative_path.proofs.NormalFormLemmas.{length-with_pieces_le, with_pi
 
 -- ---- the table that climbs are cut out of
 
--- a text of some `..`, with a slash behind each
+-- a text of some `..`, with a slash after each
 abbrev pub climbs : ℕ → List ℕ
 climbs zero = []
 climbs (suc n) = dot ∷ dot ∷ slash ∷ climbs n
@@ -49,9 +49,9 @@ climbs_cut n m run some few cut =
     cut ∙ ap (λ k. take k (climbs m)) index ∙ climbs_front (n - 1) m (omega (arith, some, few))
     ∙ ap (λ k. spell (replicate k up)) count
 
--- ---- climbs behind a text
+-- ---- climbs after a text
 
--- one behind another they are spelled
+-- one after another they are spelled
 pub with_pieces-climb : (n : ℕ) → fold with_piece [] (replicate n (step_text up)) ≡ spell (replicate n up)
 with_pieces-climb n = with_pieces-climbed n [] tt ∙ ap spell (append-nil (replicate n up))
 
@@ -59,7 +59,7 @@ pub map_step_text-ups : (n : ℕ) → map step_text (replicate n up) ≡ replica
 map_step_text-ups zero = refl
 map_step_text-ups (suc n) = ap (λ ps. step_text up ∷ ps) (map_step_text-ups n)
 
--- at once, or one behind another
+-- at once, or one after another
 with_piece-climb : (text : List ℕ) (n : ℕ) → 0 < n
     → with_piece text (spell (replicate n up)) ≡ fold with_piece text (replicate n (step_text up))
 with_piece-climb text zero some = absurd (omega (arith, some))

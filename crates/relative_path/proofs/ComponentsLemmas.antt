@@ -63,7 +63,7 @@ pub TakesFirst-none : (text trimmed : List ℕ) → IsTrimmedStart text trimmed 
 TakesFirst-none text trimmed trim empty =
     let none = sym trim.same ∙ ap components empty ∙ components-nil in (none, IsRest-none text trimmed none empty)
 
--- the component that stands first is the piece before the first slash, and the rest what stands behind it
+-- the component that stands first is the piece before the first slash, and the rest what stands after it
 module _ (text trimmed piece rest left : List ℕ) (trim : IsTrimmedStart text trimmed)
     (whole : All (λ b. b ≢ slash) piece) (trim' : IsTrimmedStart rest left) where
   first_nonempty : (trimmed ≡ piece ++ slash ∷ rest) ⊎ ((trimmed ≡ piece) × (rest ≡ [])) → trimmed ≢ [] → piece ≢ []
@@ -104,7 +104,7 @@ pub record IsTrimmedEnd (text trimmed : List ℕ) : Type 0 where
   pub end : get_or trimmed (length trimmed - 1) 0 ≢ slash
   pub same : components trimmed ≡ components text
 
--- a slash put behind a text ends it
+-- a slash put after a text ends it
 pub ends_in_slash : (xs : List ℕ) → get_or (xs ++ slash ∷ []) (length (xs ++ slash ∷ []) - 1) 0 ≡ slash
 ends_in_slash xs =
     let index : length (xs ++ slash ∷ []) - 1 ≡ length xs = omega (arith, length-append xs (slash ∷ [])) in
@@ -115,7 +115,7 @@ pub TakesLast-none : (text trimmed : List ℕ) → IsTrimmedEnd text trimmed →
 TakesLast-none text trimmed trim empty =
     let none = sym trim.same ∙ ap components empty ∙ components-nil in (none, IsFront-none text trimmed none empty)
 
--- the component that stands last is the piece behind the last slash, and the front what stands before it
+-- the component that stands last is the piece after the last slash, and the front what stands before it
 module _ (text trimmed piece front left : List ℕ) (trim : IsTrimmedEnd text trimmed)
     (whole : All (λ b. b ≢ slash) piece) (trim' : IsTrimmedEnd front left) where
   last_nonempty : (trimmed ≡ front ++ slash ∷ piece) ⊎ ((trimmed ≡ piece) × (front ≡ [])) → trimmed ≢ [] → piece ≢ []

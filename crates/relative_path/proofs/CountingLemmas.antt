@@ -25,7 +25,7 @@ length-filter-onto_first : (b : ℕ) (ps : List (List ℕ))
 length-filter-onto_first b [] = refl
 length-filter-onto_first b (p ∷ ps) = omega arith
 
--- behind a slash each piece with a byte begins; behind another byte the first one has begun
+-- after a slash each piece with a byte begins; after another byte the first one has begun
 begun-split : (bs : List ℕ)
     → (begun true bs ≡ length (filter is_not_empty (slice_split is_slash bs)))
     × (begun false bs ≡ later (slice_split is_slash bs))
@@ -52,7 +52,7 @@ pub begun-components : (bs : List ℕ) → begun true bs ≡ length (components 
 unfolding components pieces
 begun-components bs = (begun-split bs).0 ∙ sym (length-map (pieces bs) classed)
 
--- the first byte, and those behind it
+-- the first byte, and those after it
 pub begun-start : (bytes : List ℕ) → 0 < length bytes
     → begun true bytes ≡ cond (not (is_slash (get_or bytes 0 0))) 1 0 + begun (is_slash (get_or bytes 0 0)) (drop 1 bytes)
 begun-start [] some = absurd (omega arith)

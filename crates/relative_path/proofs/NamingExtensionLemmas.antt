@@ -47,7 +47,7 @@ named_step cur n is = absurd (cc)
 named_step up n is = absurd (cc)
 named_step (name m) n is = cc
 
--- the file name is the component behind those that a parent keeps
+-- the file name is the component after those that a parent keeps
 pub slice_get-last_name : (cs : List Step) (n : List ℕ) → last_name cs ≡ Some n
     → slice_get cs (kept_len cs) ≡ Some (name n)
 slice_get-last_name cs n named = elim (ends_in cs) [

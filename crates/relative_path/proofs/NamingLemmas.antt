@@ -25,7 +25,7 @@ use Rattle.relative_path.proofs.EditingLemmas.{LosesCurs, IsPopped-none, IsPoppe
 abbrev no_dot : ℕ → Bool
 no_dot b = not (is_dot b)
 
--- the bytes behind the last dot are no dots
+-- the bytes after the last dot are no dots
 behind_dot : (xs ys : List ℕ) → All (λ b. b ≢ dot) ys → (k : ℕ) → length xs + 1 ≤ k → k < length (xs ++ dot ∷ ys)
     → no_dot (get_or (xs ++ dot ∷ ys) k 0) ≡ true
 behind_dot xs ys other k from below =
@@ -279,7 +279,7 @@ pub IsExtended-stem : (text head n : List ℕ) → file_name_of text ≡ Some n
     → IsCut text (kept_len (components text) + 1) (head ++ n) → IsExtended text [] (head ++ stem_of n)
 IsExtended-stem text head n named cut = rw named (head, cut, sym (append-nil (head ++ stem_of n)))
 
--- an extension behind it gives the extended text
+-- an extension after it gives the extended text
 pub IsExtended-push : (text e front : List ℕ) → IsSome (file_name_of text) → IsExtended text [] front
     → IsExtended text e (front ++ dotted e)
 IsExtended-push text e front found extended = push (file_name_of text) found extended

@@ -159,7 +159,7 @@ pub IsNormalFormOf-form : (cs : List Step) (form : NormalForm) → Reduces cs (f
 IsNormalFormOf-form cs form reduces =
     IsNormalFormOf-Reduces cs form.climb (form_names form) reduces (AreProper-names_of_form form)
 
--- ---- writing pieces one behind another
+-- ---- writing pieces one after another
 
 -- two pieces with a slash between, at once or in turn
 with_piece-joined : (text p q : List ℕ) → 0 < length p
@@ -209,7 +209,7 @@ module _ (sources : Sources) where
             (sym (with_piece-through sources text run next first.is_run here same beside));
       }
 
--- what is left to write: a run and the names behind it, if there are any
+-- what is left to write: a run and the names after it, if there are any
 abbrev pub Left : Type 0
 Left = Option (Span × Bor (List Span))
 
@@ -230,7 +230,7 @@ module _ (sources : Sources) where
   IsCutLeft left = IfSome left (λ found. IsRun sources found.0 × All (CutsName sources) found.1.now)
 
   module _ (names : List Span) where
-    -- the names as a run and those behind it
+    -- the names as a run and those after it
     abbrev pub AreLeft : Left → Type 0
     AreLeft left = MatchOption left (names ≡ []) (λ found. IsFirstRun sources names found.0 found.1.now)
 
@@ -286,7 +286,7 @@ with_pieces-solid b bs c (d ∷ cs) =
     with_pieces-solid b (bs ++ slash ∷ step_text c) d cs
     ∙ append_assoc (b ∷ bs) (slash ∷ step_text c) (slash ∷ spell (d ∷ cs))
 
--- the texts of proper components one behind another spell them
+-- the texts of proper components one after another spell them
 pub with_pieces-spell : (cs : List Step) → AreProper cs → fold with_piece [] (map step_text cs) ≡ spell cs
 with_pieces-spell [] proper = refl
 with_pieces-spell (c ∷ []) proper = refl
@@ -305,7 +305,7 @@ map_step_text-climbed : (climb : ℕ) (names : List (List ℕ))
 map_step_text-climbed zero names = map_step_text-names names
 map_step_text-climbed (suc climb) names = ap (λ ps. step_text up ∷ ps) (map_step_text-climbed climb names)
 
--- climbs, and behind them names
+-- climbs, and after them names
 pub with_pieces-climbed : (climb : ℕ) (names : List (List ℕ)) → AllByRecursion (λ n. IsProper (name n)) names
     → fold with_piece (fold with_piece [] (replicate climb (step_text up))) names ≡ spell (climbed climb names)
 with_pieces-climbed climb names proper =

@@ -189,7 +189,7 @@ length-spell-drop_one (e ∷ es) (d ∷ ds) c =
 
 -- ---- a test of a normal list
 
--- behind a name only names are normal
+-- after a name only names are normal
 abbrev pub IsNormalBehind : Bool → List Step → Type 0
 IsNormalBehind false cs = IsNormal cs
 IsNormalBehind true cs = AreNames cs

@@ -76,7 +76,7 @@ Normalizes-cur source limit text left h = record {
   fits = let shorter = length-spell-drop_one (components text) left cur in let fits = h.fits in omega arith;
 }
 
--- a component pushed behind the text that spells others
+-- a component pushed after the text that spells others
 pushed-spell : (cs : List Step) (c : Step) → AreProper cs → IsProper c
     → pushed (spell cs) (step_text c) ≡ spell (cs ++ c ∷ [])
 pushed-spell cs c propers proper = ap (λ x. with_separator (spell cs) ++ x) solid ∙ behind cs propers

@@ -169,7 +169,7 @@ module _ (bytes : List ℕ) (start mask : ℕ)
 
 -- ---- cut
 
--- a text may be cut before its first slash, or at its end, and behind that slash
+-- a text may be cut before its first slash, or at its end, and after that slash
 pub IsCharBoundary-piece : (text : List ℕ) (n : ℕ) → n ≤ length text → (n < length text → get_or text n 0 ≡ slash)
     → IsCharBoundary text n
 IsCharBoundary-piece text n inside at = elim (eq-or-lt_of_le inside) [
@@ -177,7 +177,7 @@ IsCharBoundary-piece text n inside at = elim (eq-or-lt_of_le inside) [
   | inr more ↦ IsCharBoundary-before_ascii text n more (omega (arith, at more))
 ]
 
--- a text may be cut behind a slash
+-- a text may be cut after a slash
 pub IsCharBoundary-behind : (text : List ℕ) (n : ℕ) → IsUtf8 text → 0 < n → n ≤ length text
     → get_or text (n - 1) 0 ≡ slash → IsCharBoundary text n
 IsCharBoundary-behind text n utf8 some inside at =
@@ -193,7 +193,7 @@ IsCharBoundary-before text n m utf8 inside at is =
     subst (IsCharBoundary text) front (IsCharBoundary-start text utf8))
     (cases_lt 0 n)
 
--- the text is what stands before its last slash, that slash and what stands behind it
+-- the text is what stands before its last slash, that slash and what stands after it
 pub joined_last : (text : List ℕ) (n m : ℕ) → n ≤ length text → (0 < n → get_or text (n - 1) 0 ≡ slash) → m ≡ n - 1
     → (text ≡ take m text ++ slash ∷ drop n text) ⊎ ((text ≡ drop n text) × (take m text ≡ []))
 joined_last text n m inside at is =

@@ -15,7 +15,7 @@ use Rattle.relative_path.proofs.SlashesLemmas.{IsCharBoundary-piece}
 
 -- ---- the first component
 
--- the text is what stands before its first slash, and that slash and what stands behind it, or nothing
+-- the text is what stands before its first slash, and that slash and what stands after it, or nothing
 cut_first : (text : List ℕ) → (p : List ℕ) × (rest : List ℕ) × (text ≡ p ++ rest) × HasNoSlash p
     × ((rest ≡ []) ⊎ ((more : List ℕ) × (rest ≡ slash ∷ more)))
 cut_first [] = ([], [], refl, tt, inl refl)
@@ -26,7 +26,7 @@ cut_first (b ∷ bs) =
     (b ∷ p, rest, ap (λ x. b ∷ x) joined, (e, whole), behind))
     (cases_Bool (is_slash b))
 
--- a text that begins with no slash begins with the text of its first component, and behind it stands a slash, or nothing
+-- a text that begins with no slash begins with the text of its first component, and after it stands a slash, or nothing
 begins : (text : List ℕ) (c : Step) (cs : List Step) → components text ≡ c ∷ cs → get_or text 0 0 ≢ slash
     → (rest : List ℕ) × (text ≡ step_text c ++ rest) × ((rest ≡ []) ⊎ ((more : List ℕ) × (rest ≡ slash ∷ more)))
 begins text c cs first start = let (p, rest, joined, whole, behind) = cut_first text in cut p rest joined whole behind
@@ -107,7 +107,7 @@ slice_through text i j k b first second inside between =
     ∙ ap (λ x. take (j - i) left ++ take (k - j) x) (rest ∙ drop_more text j 0 (omega arith))
     ∙ ap₂ (λ n x. take (j - i) left ++ take n (x ∷ drop (j + 1) text)) one between
 
--- a run that stands a byte behind another one is joined to it by a slash
+-- a run that stands a byte after another one is joined to it by a slash
 pub span_text-through : (sources : Sources) (run span : Span) → IsRun sources run → IsRun sources span
     → span.source ≡ run.source → span.start ≡ run.end + 1
     → span_text sources (through run span) ≡ span_text sources run ++ slash ∷ span_text sources span

@@ -1,4 +1,4 @@
--- The components that count under the Unix rules: their parts, and texts cut behind them.
+-- The components that count under the Unix rules: their parts, and texts cut after them.
 use Rattle.std.proofs.Common.{◌≡◌, ◌≢◌, ◌⊎◌, ℕ, suc, ◌+◌, ◌-◌, ◌<◌, Bool, true, false, not, List, [], ◌∷◌, ◌++◌, length, get_or, drop, sym, refl, ap, ap₂, ◌∙◌, inl, inr, ⊎_elim, append-nil, arith, length-append, Option, Some, None, true≢false}
 use Rattle.std.specs.Option.{option_eq}
 use Rattle.std.specs.Ordering.{on}
@@ -37,7 +37,7 @@ unshared-both cs ds cs' ds' c d first second same =
 
 -- ---- the components that count
 
--- whether a `.` behind these components does not count
+-- whether a `.` after these components does not count
 abbrev pub after : Bool → List Step → Bool
 after rooted [] = rooted
 after rooted (c ∷ cs) = true
@@ -69,7 +69,7 @@ nil_from_components : (text front : List ℕ) (cs : List Step) → IsShortestPre
 nil_from_components text front cs cut none =
     nil_from_length front (let short = cut.shortest 0 (components-nil ∙ sym none) in omega arith)
 
--- a `.` behind others, or under a root, does not count
+-- a `.` after others, or under a root, does not count
 counted_idle : (rooted : Bool) (cs : List Step) → (rooted ≡ true) ⊎ (cs ≢ [])
     → counted rooted (cs ++ cur ∷ []) ≡ counted rooted cs
 counted_idle true [] idle = refl

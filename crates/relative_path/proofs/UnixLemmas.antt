@@ -57,7 +57,7 @@ components-behind rest = elim (first_slash rest) [
   )
 ]
 
--- what stands behind the front adds components, or makes its last one longer
+-- what stands after the front adds components, or makes its last one longer
 abbrev Continues : List ℕ → List ℕ → Type 0
 Continues front rest =
     ((ds : List Step) × (components (front ++ rest) ≡ components front ++ ds))

@@ -87,7 +87,7 @@ pub AreProper-ups : (n : ℕ) → AreProper (replicate n up)
 AreProper-ups zero = tt
 AreProper-ups (suc n) = (IsProper-up, AreProper-ups n)
 
--- behind climbs they are spelled
+-- after climbs they are spelled
 pub onto-ups : (n : ℕ) (cs : List Step) → AreProper cs
     → onto (fold with_piece [] (replicate n (step_text up))) cs ≡ spell (replicate n up ++ cs)
 onto-ups n cs proper =

@@ -27,7 +27,7 @@ steps_eq = pointwise step_eq
 abbrev pub steps_cmp : List Step → List Step → Ordering
 steps_cmp = slice_cmp step_cmp
 
--- a write of each component's text, and a write of one slash behind each
+-- a write of each component's text, and a write of one slash after each
 abbrev pub fed : List Step → List (List ℕ)
 fed [] = []
 fed (c ∷ cs) = step_text c ∷ (slash ∷ []) ∷ fed cs

@@ -11,7 +11,7 @@ use Rattle.relative_path.specs.Spans.{span_text}
 abbrev pub climbed : ℕ → List (List ℕ) → List Step
 climbed climb names = replicate climb up ++ map name names
 
--- how many bytes the components have, with a slash behind each
+-- how many bytes the components have, with a slash after each
 abbrev pub padded_len : List Step → ℕ
 padded_len [] = 0
 padded_len (c ∷ cs) = length (step_text c) + 1 + padded_len cs

@@ -19,7 +19,7 @@ source_text sources Second = sources.second.now
 abbrev pub span_text : Sources → Span → List ℕ
 span_text sources span = slice_range (source_text sources span.source) span.start span.end
 
--- the span cuts a text out of its source: some bytes between two ends of characters, behind which a slash stands, or
+-- the span cuts a text out of its source: some bytes between two ends of characters, after which a slash stands, or
 -- nothing
 pub record IsRun (sources : Sources) (span : Span) : Type 0 where
   pub not_empty : span.start < span.end
@@ -42,17 +42,17 @@ CutsName sources span = Cuts sources span (name (span_text sources span))
 abbrev pub IsOrdered : Span → Type 0
 IsOrdered span = span.start ≤ span.end
 
--- how many bytes the spans have, with a slash behind each
+-- how many bytes the spans have, with a slash after each
 abbrev pub spans_len : List Span → ℕ
 spans_len [] = 0
 spans_len (span ∷ spans) = span.end - span.start + 1 + spans_len spans
 
--- the same of a run and the spans behind it, if there is one
+-- the same of a run and the spans after it, if there is one
 abbrev pub rest_len : Option (Span × Bor (List Span)) → ℕ
 rest_len None = 0
 rest_len (Some (run, behind)) = run.end - run.start + 1 + spans_len behind.now
 
--- the names are a run, which some of them in front make that stand beside each other, and those behind it
+-- the names are a run, which some of them in front make that stand beside each other, and those after it
 pub record IsFirstRun (sources : Sources) (names : List Span) (run : Span) (behind : List Span) : Type 0 where
   pub is_run : IsRun sources run
   pub cut : All (CutsName sources) behind

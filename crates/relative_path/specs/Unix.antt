@@ -19,11 +19,11 @@ abbrev pub without_inner_curs : List Step → List Step
 without_inner_curs [] = []
 without_inner_curs (c ∷ cs) = c ∷ without_curs cs
 
--- the components that count: behind a root, or at the start of a path without one
+-- the components that count: after a root, or at the start of a path without one
 abbrev pub counted : (rooted : Bool) → List Step → List Step
 counted rooted cs = if rooted then without_curs cs else without_inner_curs cs
 
--- the components of the text under the Unix rules, behind its root if it has one
+-- the components of the text under the Unix rules, after its root if it has one
 abbrev pub unix_components : List ℕ → List Step
 unix_components text = counted (has_root text) (components text)
 
@@ -41,7 +41,7 @@ pub record IsAbove (text p : List ℕ) : Type 0 where
   pub shortest : unix_components text ≢ [] → (k : ℕ) → has_root (take k text) ≡ has_root text
       → unix_components (take k text) ≡ unix_components p → length p ≤ k
 
--- the root with the text of each component added in turn, behind a slash unless nothing stands before it
+-- the root with the text of each component added in turn, after a slash unless nothing stands before it
 abbrev pub onto : List ℕ → List Step → List ℕ
 onto root [] = root
 onto root (c ∷ cs) = onto (with_piece root (step_text c)) cs
@@ -61,7 +61,7 @@ way_back from to = option_map (λ place. replicate (length place) up ++ to) (wal
 abbrev pub shared_len : List Step → List Step → ℕ
 shared_len = common_prefix_len step_eq
 
--- the way from the root to the path, behind the components that both begin with; none where the root climbs above those
+-- the way from the root to the path, after the components that both begin with; none where the root climbs above those
 abbrev pub way_to : (path root : List ℕ) → Option (List Step)
 way_to path root =
     let shared = shared_len (unix_components path) (unix_components root) in

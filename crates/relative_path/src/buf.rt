@@ -206,7 +206,7 @@ impl RelativePathBuf {
         self.text.capacity() - self.text.len()
     }
 
-    /// Adds a path behind this one: a slash, unless the text is empty or ends in one, and the path
+    /// Adds a path after this one: a slash, unless the text is empty or ends in one, and the path
     /// without one slash at its start.
     ///
     /// It asks for memory once, and only where the result doesn't fit the room there is. A refusal
@@ -233,7 +233,7 @@ impl RelativePathBuf {
         Ok(())
     }
 
-    // Adds a path behind this one, within the room there is.
+    // Adds a path after this one, within the room there is.
     pub(crate) fn push_reserved(&mut self, path: RelativePath<'_>)
         requires { length (pushed self.old.text (path_text path)) ≤ self.old.room }
         ensures text { self.new.text ≡ pushed self.old.text (path_text path.entry) }

@@ -9,7 +9,7 @@ use crate::editing::add_piece;
 // The most climbs that are written at once.
 const MOST: usize = 24;
 
-// As many `..` as that, with a slash behind each.
+// As many `..` as that, with a slash after each.
 const CLIMBS: &str = "../../../../../../../../../../../../../../../../../../../../../../../../";
 
 // Adds `climb` times `..`.

@@ -6,7 +6,7 @@ ghost use Rattle.relative_path.specs.Steps.{components, is_slash};
 use crate::slashes::{BLOCK, slashes_in};
 
 // How many components a text has. It counts where they begin: at a first byte that is no slash, and at each byte that
-// is none and stands behind one.
+// is none and stands after one.
 pub(crate) fn component_count(text: &str) -> usize
     ensures count { result ≡ length (components text.now) }
     ensures bound { result ≤ length text.now }
@@ -23,7 +23,7 @@ pub(crate) fn component_count(text: &str) -> usize
     begun + usize::from(*first != b'/')
 }
 
-// How many components begin behind the first byte, block by block. The last block may begin within the one before it.
+// How many components begin after the first byte, block by block. The last block may begin within the one before it.
 fn begun_by_blocks(bytes: &[u8]) -> usize
     requires { BLOCK < length bytes.now }
     ensures count { result ≡ begun (is_slash (slice_index bytes.now 0)) (drop 1 bytes.now) }
@@ -53,7 +53,7 @@ fn begun_in(bytes: &[u8], start: usize, skipped: usize) -> usize
     (begun >> skipped).count_ones() as usize
 }
 
-// How many components begin behind the first byte, byte by byte.
+// How many components begin after the first byte, byte by byte.
 fn begun_by_one(bytes: &[u8]) -> usize
     requires { 0 < length bytes.now }
     ensures count { result ≡ begun (is_slash (slice_index bytes.now 0)) (drop 1 bytes.now) }

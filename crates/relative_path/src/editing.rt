@@ -37,7 +37,7 @@ pub(crate) fn strip_slash(text: &str) -> &str
     text.strip_prefix('/').unwrap_or(text)
 }
 
-// Adds a piece to a text with room for it: behind a slash, or alone to the empty text.
+// Adds a piece to a text with room for it: after a slash, or alone to the empty text.
 pub(crate) fn add_piece(text: &mut String, piece: &str)
     requires { length (with_piece (string_bytes text.old) piece.now) ≤ string_capacity text.old }
     ensures text { string_bytes text.new ≡ with_piece (string_bytes text.old) piece.now }

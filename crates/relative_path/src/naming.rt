@@ -47,7 +47,7 @@ pub(crate) fn last_component(text: &str) -> LastComponent<'_>
     }
 }
 
-// The text without its last component that is no `.`, and what stands behind what is left.
+// The text without its last component that is no `.`, and what stands after what is left.
 pub(crate) fn parent_of(text: &str) -> &str
     ensures { IsPopped text.now result.now }
 {

@@ -210,7 +210,7 @@ impl<'a> NormalForm<'a> {
     }
 }
 
-// The run that the names in front make as far as they stand beside each other, and the names behind
+// The run that the names in front make as far as they stand beside each other, and the names after
 // it.
 fn first_run(names: &[Span]) -> Option<(Span, &[Span])>
     ensures { (sources : Sources) → All (CutsName sources) names.now → MatchOption result (names.now ≡ [])
@@ -228,7 +228,7 @@ fn first_run(names: &[Span]) -> Option<(Span, &[Span])>
     Some((run, left))
 }
 
-// How many bytes `climb` times `..`, a run and the names behind it have, with single slashes between.
+// How many bytes `climb` times `..`, a run and the names after it have, with single slashes between.
 fn spelled_len(climb: usize, names: Option<(Span, &[Span])>) -> Option<usize>
     requires ordered { IfSome names (λ found. (found.0.start ≤ found.0.end) × All IsOrdered found.1.now) }
     requires bound { rest_len names ≤ 2 ^ 64 }
@@ -242,7 +242,7 @@ fn spelled_len(climb: usize, names: Option<(Span, &[Span])>) -> Option<usize>
     }
 }
 
-// How many bytes the names have, with a slash behind each.
+// How many bytes the names have, with a slash after each.
 fn padded_len(names: &[Span]) -> usize
     requires ordered { All IsOrdered names.now }
     requires bound { spans_len names.now < 2 ^ 64 }

@@ -156,7 +156,7 @@ pub(crate) fn split_last(text: &str) -> (&str, &str)
     (&text[..start.saturating_sub(1)], &text[start..])
 }
 
-// Where the piece behind the last slash begins.
+// Where the piece after the last slash begins.
 #[inline(always)]
 fn last_piece_start(text: &str) -> usize
     ensures bound { result ≤ length text.now }
@@ -178,7 +178,7 @@ fn last_piece_start(text: &str) -> usize
     start
 }
 
-// The same, where no slash is in the last block. The first block may end within the one behind it.
+// The same, where no slash is in the last block. The first block may end within the one after it.
 #[inline(never)]
 fn far_last_piece_start(bytes: &[u8]) -> usize
     requires block { BLOCK ≤ length bytes.now }

@@ -45,7 +45,7 @@ pub(crate) struct Span {
 }
 
 impl Span {
-    // Whether the other span begins a byte behind this one's end, in the same source.
+    // Whether the other span begins a byte after this one's end, in the same source.
     #[inline]
     pub(crate) fn is_beside(self, other: Span) -> bool
         ensures { IsTrue result ↔ ((other.source ≡ self.source) × (other.start ≡ self.end + 1)) }

@@ -111,7 +111,7 @@ pub fn to_path(alloc: Global, path: RelativePath<'_>, base: &str) -> Result<Stri
 }
 
 /// The platform path to which a relative path leads from another one: `.` stays, `..` goes up as
-/// [`parent_text`] does, and a name is added behind a slash, unless nothing stands before it.
+/// [`parent_text`] does, and a name is added after a slash, unless nothing stands before it.
 ///
 /// It asks for memory once, for the bytes of both and one more, and fails only where that is
 /// refused.

@@ -16,12 +16,12 @@ use crate::slashes::without_trailing_slashes;
 pub(crate) struct UnixComponents<'a> {
     // What is left of the path.
     left: &'a str,
-    // Whether a `.` counts no more: behind a root, and behind the first component.
+    // Whether a `.` counts no more: after a root, and after the first component.
     drops_cur: bool,
 }
 
 impl<'a> UnixComponents<'a> {
-    // The iterator over a whole path, behind its root.
+    // The iterator over a whole path, after its root.
     pub(crate) fn new(text: &'a str) -> UnixComponents<'a>
         ensures { unix_left result ≡ unix_components text.now }
     {
@@ -64,7 +64,7 @@ impl<'a> Iterator for UnixComponents<'a> {
     }
 }
 
-// What is left of two paths behind the components that both begin with.
+// What is left of two paths after the components that both begin with.
 pub(crate) fn without_shared<'a, 'b>(
     path: &'a str,
     root: &'b str,

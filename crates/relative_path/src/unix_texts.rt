@@ -10,7 +10,7 @@ use crate::editing::add_piece;
 use crate::unix_components::UnixComponents;
 use std::alloc::{AllocError, Global};
 
-// The text, with room for a path behind it. It asks for memory once.
+// The text, with room for a path after it. It asks for memory once.
 pub(crate) fn base_with_room(alloc: Global, base: &str, path: &str) -> Result<String, AllocError>
     ensures text { IfOk result (λ text. string_bytes text ≡ base.now) }
     ensures room { IfOk result
@@ -21,7 +21,7 @@ pub(crate) fn base_with_room(alloc: Global, base: &str, path: &str) -> Result<St
     Ok(text)
 }
 
-// How many bytes `climb` times `..` and the components behind them have, with single slashes between;
+// How many bytes `climb` times `..` and the components after them have, with single slashes between;
 // none where no text can have as many.
 pub(crate) fn climbed_len(climb: usize, components: UnixComponents<'_>) -> Option<usize>
     ensures { MatchOption result
@@ -35,7 +35,7 @@ pub(crate) fn climbed_len(climb: usize, components: UnixComponents<'_>) -> Optio
     Some(len.saturating_sub(1))
 }
 
-// The text of `climb` times `..` and the components behind them. It asks for memory once, for just this text.
+// The text of `climb` times `..` and the components after them. It asks for memory once, for just this text.
 pub(crate) fn climbed(
     alloc: Global,
     climb: usize,

@@ -31,7 +31,7 @@ same_brackets cs ds es first last left right from_left from_right onto_left onto
           of.same.everywhere base ∙ onto_right.everywhere base ∙ sym three ∙ sym (onto_left.everywhere base);
     })
 
--- the empty path behind a normal text changes nothing
+-- the empty path after a normal text changes nothing
 pub same_empty_behind : (text other : List ℕ) → IsNormalText text
     → IsNormalTextOf (components text ++ components []) other → other ≡ text
 unfolding components pieces

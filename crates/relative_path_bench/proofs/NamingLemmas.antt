@@ -1,4 +1,4 @@
--- A parent and the file name behind it.
+-- A parent and the file name after it.
 use Rattle.std.proofs.Common.{◌≡◌, ◌≢◌, ℕ, ◌+◌, ◌-◌, ◌<◌, true, true≢false, List, [], ◌∷◌, ◌++◌, length, take, get_or, reverse, Some, ⊎_elim, sym, ap, ◌∙◌, arith}
 use Rattle.std.specs.List.{suffix_len}
 use Rattle.std.specs.Prelude.{slice_get}
@@ -26,7 +26,7 @@ cur_first cs d all some =
     let there = get_or-reverse cs (length cs - 1) d (omega arith) ∙ ap (λ i. get_or cs i d) index in
     ap is_cur (sym there) ∙ prefix_len_passes is_cur (reverse cs) (length cs - 1) d (omega (arith, all, some))
 
--- what a parent keeps, and the name behind it, is all but the last `.`s
+-- what a parent keeps, and the name after it, is all but the last `.`s
 pub without_last_curs-kept : (cs front : List Step) (n : List ℕ) → front ≡ take (kept_len cs) cs
     → slice_get cs (kept_len cs) ≡ Some (name n) → front ++ name n ∷ [] ≡ without_last_curs cs
 without_last_curs-kept cs front n kept placed =

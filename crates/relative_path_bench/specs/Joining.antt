@@ -3,7 +3,7 @@ use Rattle.std.specs.Prelude.{ℕ, List, ◌++◌}
 use Rattle.relative_path.specs.Steps.{Step, components}
 use Rattle.relative_path.specs.Normalizing.{IsNormalTextOf}
 
--- first cs and ds, and then es behind them
+-- first cs and ds, and then es after them
 abbrev pub IsJoinedFromTheLeft : (cs ds es : List Step) → List ℕ → Type 0
 IsJoinedFromTheLeft cs ds es text =
     (first : List ℕ) × IsNormalTextOf (cs ++ ds) first × IsNormalTextOf (components first ++ es) text

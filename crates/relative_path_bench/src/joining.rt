@@ -123,7 +123,7 @@ pub fn associative(
     Ok((from_the_left, from_the_right))
 }
 
-/// The path in normal form, the empty path joined behind that in normal form, and before it.
+/// The path in normal form, the empty path joined after that in normal form, and before it.
 ///
 /// All three have the same text. It asks for memory for these, and fails only where that is
 /// refused.

@@ -2,5 +2,6 @@ pub mod PlacesLemmas
 pub mod RouterLemmas
 pub mod ManifestLemmas
 pub mod ReferenceLemmas
+pub mod UrlPathLemmas
 pub mod SiteMapLemmas
 pub mod RewriterLemmas

@@ -1,5 +1,5 @@
 -- The files of a manifest's entries, one after the other, and the first that is refused.
-use Rattle.std.proofs.Common.{◌≡◌, ◌≢◌, ◌<◌, ◌+◌, ℕ, List, [], ◌∷◌, ◌++◌, map, length, take, get_or, Some, codes, option_map, option_and_then, refl, ap, ◌∙◌}
+use Rattle.std.proofs.Common.{◌≡◌, ◌≢◌, ◌<◌, ◌+◌, ℕ, List, [], ◌∷◌, ◌++◌, map, length, take, get_or, Some, false, codes, option_map, option_and_then, refl, ap, ◌∙◌}
 use Rattle.std.proofs.lemmas.List.{get_or-map, length-map, take_more}
 use Rattle.std.proofs.lemmas.Slice.Zip.{all_zipped_more}
 use Rattle.serde_json.specs.Data.{Data, null}
@@ -11,23 +11,28 @@ use Rattle.relative_path.specs.Walk.{LeadsBelow}
 use Rattle.relative_path.specs.Normalizing.{IsNormalTextOf}
 use Rattle.relative_path.specs.RelativePathBuf.{Buffer}
 use Rattle.relative_path_uses.specs.declared.manifest.ManifestError.{ManifestError}
-use Rattle.relative_path_uses.specs.declared.manifest.ManifestError.TheVariants.{NoBase, NoFiles, NotAString, ClimbsAbove, LeadsToBase, OutOfMemory}
+use Rattle.relative_path_uses.specs.declared.manifest.ManifestError.TheVariants.{NoBase, NoFiles, NotAString, ClimbsAbove, LeadsToBase, Foreign, ForeignBase, OutOfMemory}
 use Rattle.relative_path_moves.specs.Places.{place_of}
 use Rattle.relative_path_uses.specs.Places.{SpellsPlace}
+use Rattle.std.specs.List.{list_any}
+use Rattle.relative_path_uses.specs.Names.{is_unportable_step}
 use Rattle.relative_path_uses.proofs.PlacesLemmas.{SpellsPlace-some}
+use Rattle.relative_path_uses.proofs.RouterLemmas.{All-IsPlainName}
 use Rattle.relative_path_uses.specs.Manifest.{base_of, item_list, entries_of, OfManifest, Refuses, IsFileOf, AreFiles, IsRefusedFor, file_text}
 
 -- the file of an entry whose path has a place with a name
 pub IsFileOf-place : (base : List Step) (entry : Data) (path place file : List ℕ) → as_str entry ≡ Some path
-    → SpellsPlace (components path) place → place ≢ [] → IsNormalTextOf (base ++ components path) file
+    → SpellsPlace (components path) place → place ≢ [] → list_any is_unportable_step (components place) ≡ false
+    → IsNormalTextOf (base ++ components path) file
     → ((place : List (List ℕ)) → place_of (components path) ≡ Some place → LeadsBelow base place (components file))
     → IsFileOf base entry file
-IsFileOf-place base entry path place file string spells some normal below = record {
+IsFileOf-place base entry path place file string spells some portable normal below = record {
   path = path;
   place = spells.place;
   string = string;
   named = spells.named;
   not_base = SpellsPlace-some (components path) place spells some;
+  plain = All-IsPlainName (components path) place spells portable;
   normal = normal;
   below = below spells.place spells.named;
 }
@@ -67,6 +72,8 @@ Refuses-entries manifest base entries NoFiles based listed is = absurd is
 Refuses-entries manifest base entries (NotAString k) based listed is = (base, entries, based, listed, is)
 Refuses-entries manifest base entries (ClimbsAbove k) based listed is = (base, entries, based, listed, is)
 Refuses-entries manifest base entries (LeadsToBase k) based listed is = (base, entries, based, listed, is)
+Refuses-entries manifest base entries (Foreign k) based listed is = (base, entries, based, listed, is)
+Refuses-entries manifest base entries ForeignBase based listed is = absurd is
 Refuses-entries manifest base entries OutOfMemory based listed is = tt
 
 -- the list of entries that are these values

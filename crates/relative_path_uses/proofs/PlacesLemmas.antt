@@ -1,9 +1,8 @@
 -- The place that a normal text names.
-use Rattle.std.proofs.Common.{◌≡◌, ◌≢◌, ℕ, List, [], ◌∷◌, ◌++◌, map, length, codes, Some, None, refl, sym, ap, ◌∙◌, arith, append-nil, append_assoc}
+use Rattle.std.proofs.Common.{◌≡◌, ◌≢◌, ℕ, List, [], ◌∷◌, ◌++◌, map, length, codes, Some, IsSome, refl, sym, ap, subst, ◌∙◌, arith, append-nil, append_assoc, true≢false}
 use Rattle.relative_path.specs.Steps.{Step, cur, up, name, pieces, components, spell}
 use Rattle.relative_path.specs.Walk.{walk}
 use Rattle.relative_path.specs.Normalizing.{AreNames, IsNormal, IsNormalTextOf}
-use Rattle.relative_path.specs.Prefixing.{StartsWith}
 use Rattle.relative_path_moves.specs.Places.{place_of}
 use Rattle.relative_path_uses.specs.Places.{SpellsPlace}
 
@@ -25,32 +24,26 @@ names_lead (name n ∷ cs) are =
       λ base. leads (base ++ n ∷ []) ∙ ap Some (append_assoc base (n ∷ []) place),
     )
 
--- a normal text that doesn't begin with `..` spells the place
-pub SpellsPlace-normal : (cs ups : List Step) (text : List ℕ) → IsNormalTextOf cs text → ups ≡ up ∷ []
-    → (StartsWith (components text) ups → ⊥) → SpellsPlace cs text
-SpellsPlace-normal cs ups text normal e inside =
-    tell (components text) refl normal.normal_text.normal (rw e at inside) where
-      spells : (ds : List Step) → components text ≡ ds → AreNames ds → SpellsPlace cs text
-      spells ds is are =
-          let (place, named, leads) = names_lead ds are in
-          record {
-            place = place;
-            named = normal.same.everywhere [] ∙ ap (walk []) is ∙ leads [];
-            names = is ∙ named;
-            spelled = normal.normal_text.spelled ∙ ap spell (is ∙ named);
-          }
+-- a normal text of what leads to a place spells it
+pub SpellsPlace-normal : (cs : List Step) (text : List ℕ) → IsNormalTextOf cs text → IsSome (place_of cs)
+    → SpellsPlace cs text
+SpellsPlace-normal cs text normal found = tell (components text) refl normal.normal_text.normal where
+  spells : (ds : List Step) → components text ≡ ds → AreNames ds → SpellsPlace cs text
+  spells ds is are =
+      let (place, named, leads) = names_lead ds are in
+      record {
+        place = place;
+        named = normal.same.everywhere [] ∙ ap (walk []) is ∙ leads [];
+        names = is ∙ named;
+        spelled = normal.normal_text.spelled ∙ ap spell (is ∙ named);
+      }
 
-      tell : (ds : List Step) → components text ≡ ds → IsNormal ds → (StartsWith ds (up ∷ []) → ⊥) → SpellsPlace cs text
-      tell [] is normal inside = spells [] is tt
-      tell (cur ∷ ds) is normal inside = absurd normal
-      tell (up ∷ ds) is normal inside = absurd (inside (ds, refl))
-      tell (name n ∷ ds) is normal inside = spells (name n ∷ ds) is normal
-
--- a normal text that begins with `..` leads from the top to no place
-pub place_of-climbs : (cs ups : List Step) (text : List ℕ) → IsNormalTextOf cs text → ups ≡ up ∷ []
-    → StartsWith (components text) ups → place_of cs ≡ None
-place_of-climbs cs ups text normal e (rest, is) =
-    normal.same.everywhere [] ∙ ap (walk []) (is ∙ ap (λ ups. ups ++ rest) e)
+  tell : (ds : List Step) → components text ≡ ds → IsNormal ds → SpellsPlace cs text
+  tell [] is normal' = spells [] is tt
+  tell (cur ∷ ds) is normal' = absurd normal'
+  tell (up ∷ ds) is normal' =
+      absurd (true≢false (sym (subst (λ place. IsSome place) (normal.same.everywhere [] ∙ ap (walk []) is) found)))
+  tell (name n ∷ ds) is normal' = spells (name n ∷ ds) is normal'
 
 -- the empty text spells the top
 pub SpellsPlace-empty : (cs : List Step) (text : List ℕ) → length text ≡ 0 → SpellsPlace cs text

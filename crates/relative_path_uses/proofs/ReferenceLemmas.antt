@@ -1,15 +1,15 @@
--- A link behind `./`.
+-- A link after `./`.
 use Rattle.std.proofs.Common.{◌≡◌, ℕ, true, List, ◌++◌, codes, cond, refl, sym, ap}
 use Rattle.relative_path.specs.Steps.{pieces, components}
 use Rattle.relative_path.specs.Walk.{IsSame}
 use Rattle.relative_path_uses.specs.Reference.{is_misread, IsReference}
 
--- behind `./` a link has one component more, a `.`
+-- after `./` a link has one component more, a `.`
 same_dotted : (link : List ℕ) → IsSame (components link) (components (codes "./" ++ link))
 unfolding components pieces
 same_dotted link = record { everywhere = λ base. refl }
 
--- a link that would be misread, behind `./`
+-- a link that would be misread, after `./`
 pub IsReference-dotted : (link text : List ℕ) → is_misread link ≡ true → text ≡ codes "./" ++ link
     → IsReference link text
 IsReference-dotted link text misread is = rw is (record {

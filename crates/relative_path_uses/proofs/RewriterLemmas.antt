@@ -27,7 +27,7 @@ position_some : (p : ℕ → Bool) (text : List ℕ) (k : ℕ) → position p te
     → (k ≡ position_or_len p text) × (k < length text)
 position_some p text k is = grind arith
 
--- the place behind all bytes, where none passes
+-- the place after all bytes, where none passes
 position_none : (p : ℕ → Bool) (text : List ℕ) → position p text ≡ None → length text ≤ position_or_len p text
 position_none p text is = grind arith
 
@@ -37,7 +37,7 @@ ends_chunk-ascii b is = grind arith
 ends_path-ascii : (b : ℕ) → ends_path b ≡ true → b < 128
 ends_path-ascii b is = grind arith
 
--- behind the end of the first chunk a character begins
+-- after the end of the first chunk a character begins
 pub boundary_behind : (text : List ℕ) (k : ℕ) → IsUtf8 text → position ends_chunk text ≡ Some k
     → IsCharBoundary text (k + 1)
 boundary_behind text k utf8 is =

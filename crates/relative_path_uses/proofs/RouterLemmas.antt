@@ -1,15 +1,15 @@
--- The names of a place are plain, and a text that spells them holds NUL or a backslash exactly if one of them does.
-use Rattle.std.proofs.Common.{◌≡◌, ◌≢◌, ◌↔◌, ℕ, Bool, true, false, List, [], ◌∷◌, map, codes, ◌||◌, IsTrue, cond, refl, sym, ap, ◌∙◌, true≢false}
+-- The names of a place are plain, and its text is the one that stands after a root.
+use Rattle.std.proofs.Common.{◌≡◌, ◌≢◌, ◌↔◌, ℕ, Bool, true, false, List, [], ◌∷◌, ◌++◌, map, codes, ◌||◌, IsTrue, cond, refl, sym, ap, ◌∙◌, true≢false}
 use Rattle.std.proofs.lemmas.List.Elements.{All-from_recursion}
-use Rattle.std.proofs.lemmas.List.Folds.{list_any-append}
 use Rattle.std.proofs.lemmas.Slice.Eq.{bytes_eq-Decides}
 use Rattle.std.specs.Bool.{⊤}
-use Rattle.std.specs.List.{AllByRecursion, filter, slice_split, onto_first, list_any}
+use Rattle.std.specs.List.{All, AllByRecursion, filter, slice_split, onto_first, list_any}
 use Rattle.std.specs.Str.{bytes_eq}
-use Rattle.relative_path.specs.Steps.{Step, cur, up, name, slash, is_slash, is_not_empty, pieces, classed, components, spell}
-use Rattle.relative_path.specs.Unix.{onto}
+use Rattle.relative_path.specs.Steps.{Step, cur, up, name, is_slash, is_not_empty, pieces, classed, components, spell}
+use Rattle.relative_path.specs.Editing.{with_separator, unslashed}
 use Rattle.relative_path_uses.specs.Places.{SpellsPlace}
-use Rattle.relative_path_uses.specs.Router.{is_foreign, holds_foreign, IsRefused, IsPlainName, IsServed}
+use Rattle.relative_path_uses.specs.Names.{is_unportable, is_unportable_step, IsPlainName}
+use Rattle.relative_path_uses.specs.Router.{IsRefused, below, added, IsServed}
 
 -- the text has no slash
 abbrev HasNoSlash : List ℕ → Type 0
@@ -60,51 +60,81 @@ plain-components : (text : List ℕ) → AllByRecursion IsPlainStep (components 
 unfolding components pieces
 plain-components text = plain-classed (slice_split is_slash text) (HasNoSlash-slice_split text)
 
--- the text that spells names holds NUL or a backslash if one of them does
-pub foreign-spell : (place : List (List ℕ))
-    → list_any is_foreign (spell (map name place)) ≡ list_any holds_foreign place
-foreign-spell [] = refl
-foreign-spell (n ∷ []) = or_false (holds_foreign n) where
-  or_false : (b : Bool) → b ≡ (b || false)
-  or_false true = refl
-  or_false false = refl
-foreign-spell (n ∷ m ∷ more) =
-    list_any-append is_foreign n (slash ∷ spell (map name (m ∷ more)))
-    ∙ ap (λ others. holds_foreign n || others) (foreign-spell (m ∷ more))
+-- a component that is a name is read otherwise exactly if the name is
+unportable-names : (place : List (List ℕ)) → list_any is_unportable_step (map name place) ≡ list_any is_unportable place
+unportable-names [] = refl
+unportable-names (n ∷ place) = ap (λ others. is_unportable n || others) (unportable-names place)
 
--- plain steps that are names, none of which holds NUL or a backslash
+-- plain steps that are names, none of which is read otherwise
 plain_names : (place : List (List ℕ)) → AllByRecursion IsPlainStep (map name place)
-    → list_any holds_foreign place ≡ false → AllByRecursion IsPlainName place
+    → list_any is_unportable place ≡ false → AllByRecursion IsPlainName place
 plain_names [] plain none = tt
 plain_names (n ∷ place) ((some, not_here, not_above, no_slash), plain) none =
-    tell (holds_foreign n) refl none (plain_names place plain) where
-      tell : (holds : Bool) → holds_foreign n ≡ holds → (holds || list_any holds_foreign place) ≡ false
-          → (list_any holds_foreign place ≡ false → AllByRecursion IsPlainName place)
+    tell (is_unportable n) refl none (plain_names place plain) where
+      tell : (here : Bool) → is_unportable n ≡ here → (here || list_any is_unportable place) ≡ false
+          → (list_any is_unportable place ≡ false → AllByRecursion IsPlainName place)
           → IsPlainName n × AllByRecursion IsPlainName place
       tell true is none more = absurd (true≢false none)
       tell false is none more = (
-        record { not_empty = some; not_here = not_here; not_above = not_above; no_slash = no_slash; no_foreign = is },
+        record { not_empty = some; not_here = not_here; not_above = not_above; no_slash = no_slash; portable = is },
         more none,
       )
 
--- the root with the names of the place behind it, where the place's text holds no NUL and no backslash
-pub IsServed-onto : (root : List ℕ) (request : List Step) (text file : List ℕ) → SpellsPlace request text
-    → list_any is_foreign text ≡ false → file ≡ onto root (components text) → IsServed root request file
-IsServed-onto root request text file spells none is = record {
-  place = spells.place;
-  named = spells.named;
-  plain =
-      All-from_recursion IsPlainName spells.place
-      (plain_names spells.place (rw spells.names at (plain-components text))
-      (sym (foreign-spell spells.place) ∙ sym (ap (list_any is_foreign) spells.spelled) ∙ none));
-  text = is ∙ ap (onto root) spells.names;
-}
+-- a text that begins with no slash has none to drop
+unslashed-solid : (b : ℕ) (bs : List ℕ) → list_any is_slash (b ∷ bs) ≡ false → unslashed (b ∷ bs) ≡ b ∷ bs
+unslashed-solid b bs none = tell (is_slash b) refl none where
+  tell : (here : Bool) → is_slash b ≡ here → (here || list_any is_slash bs) ≡ false
+      → cond here bs (b ∷ bs) ≡ b ∷ bs
+  tell true is none = absurd (true≢false none)
+  tell false is none = refl
 
--- a request with a place is refused exactly if the place's text holds NUL or a backslash
+-- the text of plain names is pushed as it is
+added-spell : (root : List ℕ) (place : List (List ℕ)) → AllByRecursion IsPlainStep (map name place)
+    → added root (spell (map name place)) ≡ below root place
+added-spell root [] plain = refl
+added-spell root ([] ∷ place) plain = absurd (plain.0.0 refl)
+added-spell root ((b ∷ bs) ∷ []) plain = ap (λ path. with_separator root ++ path) (unslashed-solid b bs plain.0.3)
+added-spell root ((b ∷ bs) ∷ m ∷ place) plain =
+    ap (λ path. with_separator root ++ path) (solid b bs _ plain.0.3) where
+      solid : (b : ℕ) (bs more : List ℕ) → list_any is_slash (b ∷ bs) ≡ false
+          → unslashed (b ∷ (bs ++ more)) ≡ b ∷ (bs ++ more)
+      solid b bs more none = tell (is_slash b) refl none where
+        tell : (here : Bool) → is_slash b ≡ here → (here || list_any is_slash bs) ≡ false
+            → cond here (bs ++ more) (b ∷ (bs ++ more)) ≡ b ∷ (bs ++ more)
+        tell true is none = absurd (true≢false none)
+        tell false is none = refl
+
+-- the names of a place are plain, where no platform reads a component of its text otherwise
+pub All-IsPlainName : (cs : List Step) (text : List ℕ) (spells : SpellsPlace cs text)
+    → list_any is_unportable_step (components text) ≡ false → All IsPlainName spells.place
+All-IsPlainName cs text spells none =
+    All-from_recursion IsPlainName spells.place
+    (plain_names spells.place (rw spells.names at (plain-components text))
+    (sym (unportable-names spells.place) ∙ sym (ap (list_any is_unportable_step) spells.names) ∙ none))
+
+-- a place has a name that is read otherwise, where its text has such a component
+pub any-unportable : (cs : List Step) (text : List ℕ) (spells : SpellsPlace cs text)
+    → list_any is_unportable_step (components text) ≡ list_any is_unportable spells.place
+any-unportable cs text spells = ap (list_any is_unportable_step) spells.names ∙ unportable-names spells.place
+
+-- the root with the names of the place after it, where no platform reads one otherwise
+pub IsServed-added : (root : List ℕ) (request : List Step) (text file : List ℕ) → SpellsPlace request text
+    → list_any is_unportable_step (components text) ≡ false → file ≡ added root text → IsServed root request file
+IsServed-added root request text file spells none is =
+    let plain : AllByRecursion IsPlainStep (map name spells.place) = rw spells.names at (plain-components text) in
+    record {
+      place = spells.place;
+      named = spells.named;
+      plain = All-IsPlainName request text spells none;
+      text = is ∙ ap (added root) spells.spelled ∙ added-spell root spells.place plain;
+    }
+
+-- a request with a place is refused exactly if some platform reads a component of the place's text otherwise
 pub IsRefused-text : (request : List Step) (text : List ℕ) → SpellsPlace request text
-    → IsRefused request ↔ IsTrue (list_any is_foreign text)
+    → IsRefused request ↔ IsTrue (list_any is_unportable_step (components text))
 IsRefused-text request text spells = (
-  λ refused. ap (list_any is_foreign) spells.spelled ∙ foreign-spell spells.place ∙ (rw spells.named at refused),
+  λ refused. ap (list_any is_unportable_step) spells.names ∙ unportable-names spells.place
+      ∙ (rw spells.named at refused),
   λ holds. rw spells.named
-      (sym (foreign-spell spells.place) ∙ sym (ap (list_any is_foreign) spells.spelled) ∙ holds),
+      (sym (unportable-names spells.place) ∙ sym (ap (list_any is_unportable_step) spells.names) ∙ holds),
 )

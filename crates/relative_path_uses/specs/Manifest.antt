@@ -1,6 +1,6 @@
 -- A manifest in JSON, the files that it names, and why it is refused.
-use Rattle.std.specs.Prelude.{◌≡◌, ◌≢◌, ◌<◌, ℕ, List, [], ◌∷◌, ◌++◌, length, take, codes, decimal, Option, Some, None, slice_index_or, option_and_then, ⊤}
-use Rattle.std.specs.List.{AllZip}
+use Rattle.std.specs.Prelude.{◌≡◌, ◌≢◌, ◌<◌, ℕ, List, [], ◌∷◌, ◌++◌, length, take, codes, decimal, Option, Some, None, slice_index_or, option_and_then, IsTrue, ⊤}
+use Rattle.std.specs.List.{All, AllZip, list_any}
 use Rattle.std.specs.Option.{option_map}
 use Rattle.serde_json.specs.Data.{Data, null, Items, no_items, item}
 use Rattle.serde_json.specs.Find.{get, as_str, as_array}
@@ -8,8 +8,9 @@ use Rattle.relative_path.specs.Steps.{Step, components}
 use Rattle.relative_path.specs.Walk.{LeadsBelow}
 use Rattle.relative_path.specs.Normalizing.{IsNormalTextOf}
 use Rattle.relative_path.specs.RelativePathBuf.{Buffer}
+use Rattle.relative_path_uses.specs.Names.{is_unportable, is_unportable_step, IsPlainName}
 use Rattle.relative_path_uses.specs.declared.manifest.ManifestError.{ManifestError}
-use Rattle.relative_path_uses.specs.declared.manifest.ManifestError.TheVariants.{NoBase, NoFiles, NotAString, ClimbsAbove, LeadsToBase, OutOfMemory}
+use Rattle.relative_path_uses.specs.declared.manifest.ManifestError.TheVariants.{NoBase, NoFiles, NotAString, ClimbsAbove, LeadsToBase, Foreign, ForeignBase, OutOfMemory}
 use Rattle.relative_path_moves.specs.Places.{place_of}
 
 -- the text of the member `base`, if it is a string
@@ -25,14 +26,15 @@ item_list (item d ds) = d ∷ item_list ds
 abbrev pub entries_of : Data → Option (List Data)
 entries_of manifest = option_map item_list (option_and_then as_array (get (codes "files") manifest))
 
--- the entry is a path with a place from the top that has a name, and the file is the normal text of where `base` and
--- entry lead in turn: from every base at that place, below the directory that the member `base` names
+-- the entry is a path with a place from the top that has a name, all its names plain, and the file is the normal text of
+-- where `base` and entry lead in turn: from every base at that place, below the directory that the member `base` names
 pub record IsFileOf (base : List Step) (entry : Data) (file : List ℕ) : Type 0 where
   pub path : List ℕ
   pub place : List (List ℕ)
   pub string : as_str entry ≡ Some path
   pub named : place_of (components path) ≡ Some place
   pub not_base : place ≢ []
+  pub plain : All IsPlainName place
   pub normal : IsNormalTextOf (base ++ components path) file
   pub below : LeadsBelow base place (components file)
 
@@ -47,6 +49,15 @@ Climbs entry = (path : List ℕ) × (as_str entry ≡ Some path) × (place_of (c
 -- the entry is a path that leads to where it starts
 abbrev pub LeadsToStart : Data → Type 0
 LeadsToStart entry = (path : List ℕ) × (as_str entry ≡ Some path) × (place_of (components path) ≡ Some [])
+
+-- the entry is a path with a name in its place that some platform reads otherwise
+abbrev pub IsForeign : Data → Type 0
+IsForeign entry = (path : List ℕ) × (place : List (List ℕ)) × (as_str entry ≡ Some path)
+    × (place_of (components path) ≡ Some place) × IsTrue (list_any is_unportable place)
+
+-- a component of the base is a name that some platform reads otherwise
+abbrev pub IsForeignBase : List Step → List Data → Type 0
+IsForeignBase base entries = IsTrue (list_any is_unportable_step base)
 
 -- entry number k is in this case, and each before it has its file
 pub record IsFirst (Case : Data → Type 0) (base : List Step) (entries : List Data) (k : ℕ) : Type 0 where
@@ -70,6 +81,8 @@ IsRefusedFor NoFiles base entries = ⊥
 IsRefusedFor (NotAString k) base entries = IsFirst IsNoString base entries k
 IsRefusedFor (ClimbsAbove k) base entries = IsFirst Climbs base entries k
 IsRefusedFor (LeadsToBase k) base entries = IsFirst LeadsToStart base entries k
+IsRefusedFor (Foreign k) base entries = IsFirst IsForeign base entries k
+IsRefusedFor ForeignBase base entries = ⊥
 IsRefusedFor OutOfMemory base entries = ⊤
 
 -- what the manifest is where it is refused so
@@ -79,6 +92,8 @@ Refuses manifest NoFiles = (base_of manifest ≢ None) × (entries_of manifest �
 Refuses manifest (NotAString k) = OfManifest manifest (IsRefusedFor (NotAString k))
 Refuses manifest (ClimbsAbove k) = OfManifest manifest (IsRefusedFor (ClimbsAbove k))
 Refuses manifest (LeadsToBase k) = OfManifest manifest (IsRefusedFor (LeadsToBase k))
+Refuses manifest (Foreign k) = OfManifest manifest (IsRefusedFor (Foreign k))
+Refuses manifest ForeignBase = OfManifest manifest IsForeignBase
 Refuses manifest OutOfMemory = ⊤
 
 -- what the entry with this number is where it is refused so
@@ -88,6 +103,8 @@ IsEntryRefused entry k NoFiles = ⊥
 IsEntryRefused entry k (NotAString j) = (j ≡ k) × IsNoString entry
 IsEntryRefused entry k (ClimbsAbove j) = (j ≡ k) × Climbs entry
 IsEntryRefused entry k (LeadsToBase j) = (j ≡ k) × LeadsToStart entry
+IsEntryRefused entry k (Foreign j) = (j ≡ k) × IsForeign entry
+IsEntryRefused entry k ForeignBase = ⊥
 IsEntryRefused entry k OutOfMemory = ⊤
 
 -- the text of a file
@@ -101,4 +118,6 @@ refusal_text NoFiles = codes "no list of files"
 refusal_text (NotAString k) = codes "file " ++ decimal k ++ codes " is no string"
 refusal_text (ClimbsAbove k) = codes "file " ++ decimal k ++ codes " climbs above the base"
 refusal_text (LeadsToBase k) = codes "file " ++ decimal k ++ codes " leads to the base"
+refusal_text (Foreign k) = codes "file " ++ decimal k ++ codes " has a name that isn't portable"
+refusal_text ForeignBase = codes "the base has a name that isn't portable"
 refusal_text OutOfMemory = codes "out of memory"

@@ -21,7 +21,7 @@ has_scheme text = list_any is_colon (before_first is_slash text)
 abbrev pub is_misread : List ℕ → Bool
 is_misread text = not (is_not_empty text) || has_scheme text
 
--- the reference is the link, behind `./` where that would be misread; it leads to the same, and is read as a path
+-- the reference is the link, after `./` where that would be misread; it leads to the same, and is read as a path
 pub record IsReference (link reference : List ℕ) : Type 0 where
   pub text : reference ≡ (if is_misread link then codes "./" ++ link else link)
   pub same : IsSame (components link) (components reference)

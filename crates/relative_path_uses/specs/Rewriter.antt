@@ -16,7 +16,7 @@ use Rattle.relative_path_uses.specs.declared.rewriter.RewriteError.TheVariants a
 abbrev pub opening : List ℕ
 opening = codes "]("
 
--- `)`, which stands behind it
+-- `)`, which stands after it
 abbrev pub closing : List ℕ
 closing = codes ")"
 
@@ -24,7 +24,7 @@ closing = codes ")"
 abbrev pub ends_chunk : ℕ → Bool
 ends_chunk b = b == 41 || b == 10
 
--- the page cut behind each `)` and each line feed
+-- the page cut after each `)` and each line feed
 abbrev pub chunks : List ℕ → List (List ℕ)
 chunks [] = []
 chunks (b ∷ bs) = if ends_chunk b then (b ∷ []) ∷ chunks bs else onto_first b (chunks bs)
@@ -46,7 +46,7 @@ ends_path b = b == 35 || b == 63 || b == 32
 abbrev pub path_of : List ℕ → List ℕ
 path_of target = before_first ends_path target
 
--- what stands behind the path
+-- what stands after the path
 abbrev pub tail_of : List ℕ → List ℕ
 tail_of target = drop (length (path_of target)) target
 
@@ -55,7 +55,7 @@ abbrev pub is_kept : List ℕ → Bool
 is_kept path = is_misread path || has_root path
 
 -- moved is the target in the file of move number i after the moves: the target itself where that is kept, and else its
--- path as the reference of what the path has to be, and what stands behind the path
+-- path as the reference of what the path has to be, and what stands after the path
 abbrev pub IsMovedTarget : List Move → ℕ → List ℕ → List ℕ → Type 0
 IsMovedTarget moves i target moved = MatchBool (is_kept (path_of target)) (moved ≡ target)
     ((way reference : List ℕ) × OfTarget moves i (components (path_of target)) (BelowTop (IsMovedText moves i way))

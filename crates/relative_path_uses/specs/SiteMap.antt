@@ -1,8 +1,8 @@
 -- The pages of a site, and the links from one to another.
-use Rattle.std.specs.Prelude.{◌≡◌, ◌≢◌, ◌<◌, ℕ, List, [], ◌∷◌, ◌++◌, length, codes, decimal, None, Option, MatchOption}
-use Rattle.relative_path.specs.Steps.{Step, up}
+use Rattle.std.specs.Prelude.{◌≡◌, ◌≢◌, ◌<◌, ◌⊎◌, ℕ, List, [], ◌∷◌, ◌++◌, length, codes, decimal, None, Option, MatchOption}
+use Rattle.relative_path.specs.Steps.{Step, up, name, components, spell}
 use Rattle.relative_path.specs.Naming.{last_name}
-use Rattle.relative_path.specs.Relating.{IsReachable, IsShortestText}
+use Rattle.relative_path.specs.Relating.{Leads, IsReachable, IsShortestText}
 use Rattle.relative_path_moves.specs.PlaceIndex.{path_at}
 use Rattle.relative_path_uses.specs.Reference.{IsReference}
 use Rattle.relative_path_uses.specs.declared.site_map.SiteMapError.{SiteMapError}
@@ -26,10 +26,22 @@ above_page page = page ++ up ∷ []
 abbrev pub IsLink : List Step → List Step → Option (List ℕ) → Type 0
 IsLink from to found = MatchOption found (¬ IsReachable (above_page from) to) (IsShortestText (above_page from) to)
 
--- found is such a link as a reference, or nothing, where no list leads there
+-- the list ends in a name
+abbrev pub EndsInName : List Step → Type 0
+EndsInName cs = (front : List Step) × (n : List ℕ) × (cs ≡ front ++ name n ∷ [])
+
+-- the text spells the list that leads from f to t and ends in a name, and every other list that does is longer
+pub record IsShortestNamed (f t : List Step) (text : List ℕ) : Type 0 where
+  pub spelled : text ≡ spell (components text)
+  pub named : EndsInName (components text)
+  pub leads : Leads f (components text) t
+  pub shortest : (s : List Step) → Leads f s t → EndsInName s
+      → (length (components text) < length s) ⊎ (s ≡ components text)
+
+-- found is the shortest link that ends in a name, as a reference, or nothing, where no list leads there
 abbrev pub IsHref : List Step → List Step → Option (List ℕ) → Type 0
 IsHref from to found = MatchOption found (¬ IsReachable (above_page from) to)
-    (λ href. (link : List ℕ) × IsShortestText (above_page from) to link × IsReference link href)
+    (λ href. (link : List ℕ) × IsShortestNamed (above_page from) to link × IsReference link href)
 
 -- what is printed of a refusal
 abbrev pub refusal_text : SiteMapError → List ℕ

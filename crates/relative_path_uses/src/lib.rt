@@ -7,6 +7,7 @@ pub use self::router::served;
 pub use self::site_map::{SiteMap, SiteMapError};
 
 mod manifest;
+mod names;
 mod places;
 mod reference;
 mod rewriter;

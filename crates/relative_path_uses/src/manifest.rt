@@ -2,8 +2,9 @@
 ghost use Rattle.std.specs.Prelude.{◌≡◌, ◌≢◌, ◌↔◌, map, IfErr, IfOk, IsErrOf, None, Some};
 ghost use Rattle.relative_path.specs.RelativePath.{path_components};
 ghost use Rattle.serde_json.specs.View.{view};
-ghost use Rattle.relative_path_uses.specs.Manifest.{base_of, entries_of, file_text, AreFiles, IsEntryRefused, IsFileOf, IsRefusedFor, OfManifest, Refuses};
+ghost use Rattle.relative_path_uses.specs.Manifest.{base_of, entries_of, file_text, AreFiles, IsEntryRefused, IsFileOf, IsForeignBase, IsRefusedFor, OfManifest, Refuses};
 
+use crate::names::has_unportable_name;
 use crate::places::place_from_top;
 use relative_path::{RelativePath, RelativePathBuf};
 use relative_path_shared::view_value;
@@ -32,6 +33,10 @@ pub enum ManifestError {
     ClimbsAbove(usize),
     /// The first file to be refused leads to the directory itself, which is no file.
     LeadsToBase(usize),
+    /// The first file to be refused has a name that some platform reads otherwise.
+    Foreign(usize),
+    /// There are a directory and a list, but the directory has such a name.
+    ForeignBase,
     /// Memory was refused.
     OutOfMemory,
 }
@@ -48,6 +53,8 @@ impl fmt::Display for ManifestError {
             ManifestError::NotAString(k) => write!(f, "file {k} is no string"),
             ManifestError::ClimbsAbove(k) => write!(f, "file {k} climbs above the base"),
             ManifestError::LeadsToBase(k) => write!(f, "file {k} leads to the base"),
+            ManifestError::Foreign(k) => write!(f, "file {k} has a name that isn't portable"),
+            ManifestError::ForeignBase => f.write_str("the base has a name that isn't portable"),
             ManifestError::OutOfMemory => f.write_str("out of memory"),
         }
     }
@@ -77,14 +84,18 @@ impl<T: Drop> From<AllocFailed<T>> for ManifestError {
 
 /// The files of a manifest, each as the normal path of its directory, the member `base`, and the file.
 ///
-/// The first file that is no string, climbs above the directory or leads to the directory itself
-/// refuses the manifest. So each file is below the directory: one name or more stand behind it. A
-/// file that leaves the directory and comes back climbs above it too, and a slash at its start
-/// counts nothing: `/a` is `a`. Where the directory itself leads is the caller's own business: one
-/// that climbs stands in front of each file as it climbs. What other members the manifest has
-/// doesn't count.
+/// The first file that is no string, climbs above the directory, leads to the directory itself or has
+/// a name that some platform reads otherwise refuses the manifest. So each file is below the
+/// directory, and its names are those that [`crate::served`] serves. A file that leaves the directory
+/// and comes back climbs above it too.
 ///
-/// It asks for memory at most three times for each file, and for the list as it grows.
+/// The directory, as it is written, may hold no such name either. Where the directory leads is
+/// the caller's own business: one that climbs stands in front of each file as it climbs. Slashes at
+/// the start count nothing: `/etc` is `etc`, and `/a` is `a`. Two entries may name one file, and one
+/// may be a directory. What other members the manifest has doesn't count.
+///
+/// It asks for memory at most three times for each file, and for the list as it grows. For a file that
+/// climbs it asks for none.
 ///
 /// ```
 /// let manifest = json!(in alloc; {"base": "assets", "files": ["img/x.png", "./css/../js/a.js"]})?;
@@ -102,12 +113,18 @@ pub fn manifest_files(
     ensures no_base { IsErrOf result ManifestError.NoBase ↔ (base_of (view manifest.now) ≡ None) }
     ensures no_files { IsErrOf result ManifestError.NoFiles
         ↔ (base_of (view manifest.now) ≢ None) × (entries_of (view manifest.now) ≡ None) }
+    ensures foreign_base { IsErrOf result ManifestError.ForeignBase
+        ↔ OfManifest (view manifest.now) IsForeignBase }
 {
     let base = manifest.get("base").and_then(Value::as_str);
     let base = base.ok_or(ManifestError::NoBase)?;
     let files = manifest.get("files").and_then(Value::as_array);
     let files = files.ok_or(ManifestError::NoFiles)?;
-    files_below(alloc, RelativePath::new(base), files)
+    let base = RelativePath::new(base);
+    if has_unportable_name(base) {
+        return Err(ManifestError::ForeignBase);
+    }
+    files_below(alloc, base, files)
 }
 
 // Each of the files as the normal path of the directory and the file.
@@ -145,6 +162,9 @@ fn file_below(
     let place = place_from_top(alloc, file)?.ok_or(ManifestError::ClimbsAbove(k))?;
     if place.len() == 0 {
         return Err(ManifestError::LeadsToBase(k));
+    }
+    if has_unportable_name(place.as_relative_path()) {
+        return Err(ManifestError::Foreign(k));
     }
     Ok(base.join_normalized(alloc, file)?)
 }

@@ -8,7 +8,7 @@ use relative_path::{RelativePath, RelativePathBuf};
 use std::alloc::{AllocError, Global};
 
 // The place that a path leads to from the top, as its names with single slashes between; `None`
-// where it climbs above the top. It asks for memory once, if the path isn't empty.
+// where it climbs above the top. It asks for memory once, unless the path climbs or is empty.
 pub(crate) fn place_from_top(
     alloc: Global,
     path: RelativePath<'_>,
@@ -17,11 +17,10 @@ pub(crate) fn place_from_top(
     ensures some { IfOk result (λ found. IfSome found
         (λ place. SpellsPlace (path_components path.entry) place.text)) }
 {
-    let mut place = RelativePathBuf::with_capacity(alloc, path.as_str().len())?;
-    path.normalize_into(&mut place);
-    let up = RelativePath::new("..");
-    if place.as_relative_path().starts_with(up) {
+    if path.climb() > 0 {
         return Ok(None);
     }
+    let mut place = RelativePathBuf::with_capacity(alloc, path.as_str().len())?;
+    path.normalize_into(&mut place);
     Ok(Some(place))
 }

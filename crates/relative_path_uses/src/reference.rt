@@ -5,7 +5,7 @@ ghost use Rattle.relative_path_uses.specs.Reference.{is_misread, has_scheme, IsR
 use relative_path::RelativePathBuf;
 use std::alloc::{AllocError, Global};
 
-// The link as a reference: behind `./` where it would be misread. It asks for memory there
+// The link as a reference: after `./` where it would be misread. It asks for memory there
 // alone, once.
 pub(crate) fn reference(alloc: Global, link: RelativePathBuf) -> Result<String, AllocError>
     ensures { IfOk result (λ reference. IsReference link.text (string_bytes reference)) }

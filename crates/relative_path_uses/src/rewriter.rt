@@ -75,9 +75,9 @@ impl From<AllocError> for RewriteError {
 ///
 /// A target stands between `](` and the next `)` on the same line; without that, `](` is text. It
 /// stays as it is where it begins with a slash, `#` or `?`, where it is empty, and where a colon
-/// before its first slash ends a scheme. What stands behind its path, from the first `#`, `?` or
+/// before its first slash ends a scheme. What stands after its path, from the first `#`, `?` or
 /// space on (a fragment, a query, a title), is kept. A path that would then be misread, as it is
-/// empty or its first name holds a colon, stands behind `./`. Nothing else of the page is read: also
+/// empty or its first name holds a colon, stands after `./`. Nothing else of the page is read: also
 /// a link in a block of code is moved, references with a name (`[a]: b.md`) and targets in `<>`
 /// aren't understood, and nothing is encoded or decoded: percent signs are names' own, and a new
 /// path with a space, `#`, `?` or `)` is written as it is.
@@ -179,7 +179,7 @@ fn push_target(
     Ok(())
 }
 
-// The first chunk of a text, up to a `)` or a line feed, and what stands behind it.
+// The first chunk of a text, up to a `)` or a line feed, and what stands after it.
 fn first_chunk(text: &str) -> Option<(&str, &str)>
     ensures none { IfNone result (chunks text.now ≡ []) }
     ensures some { IfSome result (λ parts. chunks text.now ≡ parts.0.now ∷ chunks parts.1.now) }
@@ -209,7 +209,7 @@ fn target_of(chunk: &str) -> Option<(&str, &str)>
     Some(parts)
 }
 
-// The path of a target, and what stands behind it.
+// The path of a target, and what stands after it.
 fn split_path(target: &str) -> (&str, &str)
     ensures path { result.0.now ≡ path_of target.now }
     ensures tail { result.1.now ≡ tail_of target.now }
@@ -220,7 +220,7 @@ fn split_path(target: &str) -> (&str, &str)
     }
 }
 
-// Where the path of a target ends, if something stands behind it.
+// Where the path of a target ends, if something stands after it.
 fn path_end(target: &str) -> Option<usize>
     ensures { result ≡ position ends_path target.now }
 {

@@ -1,37 +1,41 @@
 //! A router of static files: the file that a request names below a root.
 ghost use Rattle.std.specs.Prelude.{◌≡◌, ◌↔◌, IfOk, IfSome, IsNone, string_bytes};
 ghost use Rattle.relative_path.specs.Steps.{components};
-ghost use Rattle.relative_path_uses.specs.Router.{holds_foreign, IsRefused, IsServed};
+ghost use Rattle.relative_path.specs.RelativePath.{path_text};
+ghost use Rattle.relative_path_uses.specs.Router.{added, IsRefused, IsServed};
 
+use crate::names::has_unportable_name;
 use crate::places::place_from_top;
-use relative_path::{RelativePath, unix};
+use relative_path::RelativePath;
 use std::alloc::{AllocError, Global};
 
 /// The platform path of the file below `root` that a request's path names: the root as it is, and
-/// each name of the place where the request leads from the top, behind a slash.
+/// the names of the place where the request leads from the top, single slashes between.
 ///
-/// `None` where the request climbs above the top, even if it comes back, and where a name of its
-/// place holds NUL, at which platforms end a path, or a backslash, at which some cut it. Behind the
-/// root stand names alone, none of them `.`, `..` or empty. Slashes at the start of a request and
-/// double ones count nothing, so `//x` is `x`, and a request that leads to the top is answered by
-/// the root itself.
+/// `None` where the request climbs above the top, even if it comes back, and where some platform
+/// reads a name of its place otherwise. Such a name holds a byte below 32, a backslash or a colon, ends
+/// in a dot or a space, or is one of Windows' devices (`CON`, `PRN`, `AUX`, `NUL`, `COM0` to `COM9`,
+/// `LPT0` to `LPT9`, in any case, alone or before a dot). Slashes at the start of a request, double
+/// ones and one at its end count nothing, so `//x/` is `x`: a caller that tells a directory by its
+/// slash asks the request. A request that leads to the top is answered by the root itself.
 ///
-/// The root may be absolute or not, and nothing of it is checked or changed: behind one that ends
-/// in a slash stand two, and behind the empty one the first name stands alone.
+/// The root may be absolute or not, and nothing of it is checked or changed. A root that ends in a
+/// slash gets no second one, and after the empty root the first name stands alone.
 ///
-/// Before the call, cut off the query at its `?` and decode percent signs, once. Never decode the
-/// answer: `%2e%2e` is a name here. What a text can't tell is left to the caller: where links in
-/// the file system lead, which names a platform reserves (`C:`, `nul`), and whether it tells upper
-/// from lower case.
+/// Before the call, cut off the query at its `?`, decode percent signs, once, and refuse what is no
+/// UTF-8 then. Never decode the answer: `%2e%2e` is a name here. What a text can't tell is left to the
+/// caller: where links in the file system lead, whether it tells upper from lower case, and whether a
+/// name that begins with a dot is to be served.
 ///
-/// It asks for memory twice: for the place, unless the request is empty, and for the answer. Where
-/// it answers `None`, it asks once.
+/// A request that climbs is refused before any memory is asked for. Else it asks twice: for the place,
+/// unless the request is empty, and for the answer. Where a name is refused, it asks once.
 ///
 /// ```
 /// let file = served(alloc, "/srv/www", "/css/./../a.css")?;
 /// assert!(rt; file.is_some_and(|file| file.as_str() == "/srv/www/a.css"));
 /// assert!(rt; served(alloc, "/srv/www", "/../secrets")?.is_none());
 /// assert!(rt; served(alloc, "/srv/www", r"/..\..\secrets")?.is_none());
+/// assert!(rt; served(alloc, "/srv/www", "/aux.txt")?.is_none());
 /// ```
 pub fn served(alloc: Global, root: &str, request: &str) -> Result<Option<String>, AllocError>
     ensures refused { IfOk result (λ found. IsNone found ↔ IsRefused (components request.now)) }
@@ -42,15 +46,18 @@ pub fn served(alloc: Global, root: &str, request: &str) -> Result<Option<String>
         return Ok(None);
     };
     let place = place.as_relative_path();
-    if holds_foreign(place.as_str()) {
+    if has_unportable_name(place) {
         return Ok(None);
     }
-    Ok(Some(unix::to_path(alloc, place, root)?))
+    Ok(Some(file_below(alloc, root, place)?))
 }
 
-// Whether a text holds NUL or a backslash.
-fn holds_foreign(text: &str) -> bool
-    ensures { result ≡ holds_foreign text.now }
+// The root, and a path after it, unless that is empty.
+fn file_below(alloc: Global, root: &str, path: RelativePath<'_>) -> Result<String, AllocError>
+    ensures { IfOk result (λ file. string_bytes file ≡ added root.now (path_text path.entry)) }
 {
-    text.bytes().any(|b| b == 0 || b == b'\\')
+    if path.as_str().is_empty() {
+        return root.to_string(alloc);
+    }
+    Ok(RelativePath::new(root).join(alloc, path)?.into_string())
 }

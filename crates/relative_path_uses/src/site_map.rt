@@ -1,15 +1,17 @@
 //! A site map: its pages by any spelling of their paths, and the links from each to each.
-ghost use Rattle.std.specs.Prelude.{◌≡◌, ◌<◌, ◌↔◌, ℕ, List, length, map, IfOk, OnOk, IsErrOf, MatchOption, Some, string_bytes};
+ghost use Rattle.std.specs.Prelude.{◌≡◌, ◌≢◌, ◌<◌, ◌↔◌, ℕ, List, length, map, IfOk, IfSome, OnOk, IsErrOf, MatchOption, None, Some, string_bytes};
 ghost use Rattle.std.specs.Option.{option_map};
 ghost use Rattle.relative_path.specs.Steps.{Step};
 ghost use Rattle.relative_path.specs.Walk.{IsSame};
+ghost use Rattle.relative_path.specs.Naming.{last_name};
 ghost use Rattle.relative_path.specs.RelativePath.{path_components};
 ghost use Rattle.relative_path_moves.specs.PlaceIndex.{path_at, Indexes, IsFirstAt, IsFoundAt};
 ghost use Rattle.relative_path_uses.specs.SiteMap.{AreNamed, IsFirstNameless, IsLink, IsHref};
+ghost use Rattle.relative_path_uses.specs.UrlPath.{Resolves};
 
 use crate::reference::reference;
 use relative_path::{RelativePath, RelativePathBuf};
-use relative_path_moves::PlaceIndex;
+use relative_path_moves::{PlaceIndex, directory};
 use std::alloc::{AllocError, Global};
 use std::error::Error;
 use std::fmt;
@@ -74,7 +76,8 @@ impl<'a> Model for SiteMap<'a> {
 
     ghost view = { λ site. map path_components site.pages.now };
 
-    ghost invariant = { λ site. Indexes (map path_components site.pages.now) site.by_place };
+    ghost invariant = { λ site. Indexes (map path_components site.pages.now) site.by_place
+        × AreNamed (map path_components site.pages.now) };
 }
 
 impl<'a> SiteMap<'a> {
@@ -169,43 +172,62 @@ impl<'a> SiteMap<'a> {
         Ok(link)
     }
 
-    /// The same link as a reference of the page, as RFC 3986 reads one (section 4.2): behind `./`
-    /// where the link is empty, which would be the page itself, and where its first name holds a
-    /// colon, which would end a scheme.
+    /// The reference from a page to another, which resolves from the one's URL path to exactly the
+    /// other's (RFC 3986, section 5.2), or `None` where no link leads there. A page's URL path is the
+    /// names of its place from the top, a slash before each; a page that climbs above the top has none.
     ///
-    /// Nothing is encoded: a caller writes `%`, `?`, `#` and what else a reference can't hold as
-    /// percent signs. It asks for memory at most four times, and once more where `./` stands before the
-    /// link.
+    /// It is the shortest link that ends in the page's file name. So it is that of [`SiteMap::link`],
+    /// but where that one ends in no name: an empty reference would be the page itself, and one that
+    /// ends in `..` gets a slash at its end. It starts with `./` where a colon in its first name would
+    /// end a scheme.
+    ///
+    /// Nothing is encoded. A caller writes a name that holds `%`, `?`, `#`, a space or what is not
+    /// ASCII with percent signs, a segment at a time: `href.split('/').map(percent_encoded)`, joined by
+    /// slashes. It asks for memory at most five times.
     ///
     /// ```
-    /// let pages = ["a/b.html", "a/c:d.html", "a"].map(RelativePath::new);
+    /// let pages = ["docs/install", "docs", "docs/a:b.html"].map(RelativePath::new);
     /// let site = SiteMap::new(alloc, &pages)?;
-    /// assert!(rt; site.href(alloc, 0, 1)?.is_some_and(|href| href.as_str() == "./c:d.html"));
-    /// assert!(rt; site.href(alloc, 0, 2)?.is_some_and(|href| href.as_str() == "./"));
-    /// assert!(rt; site.href(alloc, 1, 0)?.is_some_and(|href| href.as_str() == "b.html"));
+    /// assert!(rt; site.href(alloc, 0, 1)?.is_some_and(|href| href.as_str() == "../docs"));
+    /// assert!(rt; site.href(alloc, 0, 2)?.is_some_and(|href| href.as_str() == "./a:b.html"));
+    /// assert!(rt; site.href(alloc, 1, 0)?.is_some_and(|href| href.as_str() == "docs/install"));
     /// ```
     pub fn href(&self, alloc: Global, from: usize, to: usize) -> Result<Option<String>, AllocError>
         requires from { from < length self.now }
         requires to { to < length self.now }
         ensures href { IfOk result (λ found. IsHref (path_at self.now from) (path_at self.now to)
             (option_map string_bytes found)) }
+        ensures resolves { IfOk result (λ found. IfSome found (λ href. Resolves (path_at self.now from)
+            (path_at self.now to) (string_bytes href))) }
         ensures alike { IfOk result (λ found. (page other : List Step)
             → IsSame (path_at self.now from) page → IsSame (path_at self.now to) other
             → IsHref page other (option_map string_bytes found)) }
     {
-        match self.link(alloc, from, to)? {
-            Some(link) => Ok(Some(reference(alloc, link)?)),
-            None => Ok(None),
-        }
+        let page = self.page(to);
+        let way = directory(self.page(from)).try_relative(alloc, directory(page))?;
+        let Some(mut link) = way else {
+            return Ok(None);
+        };
+        link.push(RelativePath::new(self.file_name(to)))?;
+        Ok(Some(reference(alloc, link)?))
     }
 
     // The path of a page.
     fn page(&self, k: usize) -> RelativePath<'a>
         requires { k < length self.now }
-        ensures { path_components result ≡ path_at self.now k }
+        ensures path { path_components result ≡ path_at self.now k }
+        ensures named { last_name (path_at self.now k) ≢ None }
     {
         let pages = self.pages;
         pages[k]
+    }
+
+    // The file name of a page.
+    fn file_name(&self, k: usize) -> &'a str
+        requires { k < length self.now }
+        ensures { last_name (path_at self.now k) ≡ Some result.now }
+    {
+        self.page(k).file_name().unwrap()
     }
 }
 

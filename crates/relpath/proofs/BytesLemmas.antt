@@ -67,7 +67,7 @@ position-here p bytes at n r before room is within =
     stops : at + r < length bytes → not (p (get_or bytes (at + r) 0)) ≡ false
     stops l = ap not (run_in_chunk_stops p bytes at n r 0 room is within)
 
--- the first place is behind a block without the byte
+-- the first place is after a block without the byte
 pub position-behind : (p : ℕ → Bool) (bytes : List ℕ) (at n r : ℕ) → at ≤ position_or_len p bytes
     → at + n ≤ length bytes → r ≡ position_or_len p (take n (drop at bytes)) → n ≤ r
     → at + n ≤ position_or_len p bytes
@@ -79,7 +79,7 @@ position-behind p bytes at n r before room is whole =
       | inr behind ↦ omega arith
     ]
 
--- a place before which the byte isn't is within the bytes, or behind the last
+-- a place before which the byte isn't is within the bytes, or after the last
 pub position-le : (bytes : List ℕ) (at byte : ℕ) → at ≤ position_or_len (λ b. b == byte) bytes → at ≤ length bytes
 position-le bytes at byte before =
     let bound = prefix_len-le-length (λ b. not (b == byte)) bytes in omega arith
@@ -106,7 +106,7 @@ position-holds bytes byte at is inside =
     same _ byte (ap (λ n. not (get_or bytes n 0 == byte)) is
     ∙ prefix_len_stops (λ b. not (b == byte)) bytes 0 (omega (arith, is, inside)))
 
--- the first place is behind a block in which each byte is another
+-- the first place is after a block in which each byte is another
 pub position-passed : (bytes : List ℕ) (at n byte : ℕ) → at ≤ position_or_len (λ b. b == byte) bytes
     → at + n ≤ length bytes → ((k : ℕ) → k < n → get_or bytes (at + k) 0 ≢ byte)
     → at + n ≤ position_or_len (λ b. b == byte) bytes

@@ -15,7 +15,7 @@ IfErr-at (Err f) P e is h = subst P (sym is) h
 take-over : (n : ℕ) (xs ys : List ℕ) → n ≡ length xs → take n (xs ++ ys) ≡ xs
 take-over n xs ys e = ap (λ m. take m (xs ++ ys)) e ∙ take-append_seam xs ys
 
--- after one more read, into the whole of the buffer, behind its filled bytes
+-- after one more read, into the whole of the buffer, after its filled bytes
 pub Consumes-next : (old mid new : Option (List ℕ)) (filled count room : ℕ) (buffer before after : List ℕ)
     → before ≡ buffer → room ≡ length after → take filled after ≡ take filled before
     → Consumes old mid (take filled buffer) → Consumes mid new (take count (drop filled after))
@@ -24,7 +24,7 @@ Consumes-next old mid new filled count room buffer before after same whole front
     rw (take-over room after (drop (length after) buffer) whole, take-add filled count after, front, same)
     (Consumes-trans old mid new _ _ came more)
 
--- the filled bytes are those that came, also where more room is behind them
+-- the filled bytes are those that came, also where more room is after them
 pub Consumes-widened : (old new : Option (List ℕ)) (filled len : ℕ) (before after : List ℕ)
     → take len after ≡ before → filled ≤ len → Consumes old new (take filled before)
     → Consumes old new (take filled after)

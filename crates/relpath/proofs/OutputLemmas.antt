@@ -14,7 +14,7 @@ IsOutput-first : (input line rest answer output : List ℕ)
     → IsOutput input (answer ++ line_feed ∷ output)
 IsOutput-first input line rest answer output e a o = rw e (answer, output, a, o, refl)
 
--- behind what is answered so far, the answer to the next line with a line feed
+-- after what is answered so far, the answer to the next line with a line feed
 pub IsOutput-next : (input left line rest before middle after : List ℕ)
     → lines_of left ≡ line ∷ lines_of rest → Adds (Answers line) before middle → after ≡ middle ++ line_feed ∷ []
     → ((output : List ℕ) → IsOutput left output → IsOutput input (before ++ output))

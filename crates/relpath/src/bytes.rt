@@ -12,7 +12,7 @@ const FAR: usize = 64;
 
 /// Where a byte stands first; the number of the bytes, if it is none of them.
 ///
-/// A block is looked at after the other, since most lines and fields end in the first few; behind
+/// A block is looked at after the other, since most lines and fields end in the first few; after
 /// these, far blocks without the byte are passed. The last block may begin within the one before it.
 #[inline(always)]
 pub fn find_byte(bytes: &[u8], byte: u8) -> usize

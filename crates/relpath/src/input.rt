@@ -50,7 +50,7 @@ pub fn read_input<R: Read>(alloc: Global, reader: &mut Meter<R>) -> Result<Vec<u
     Err(Fault::InputTooLong)
 }
 
-// Zeros behind the bytes up to this length, in steps: a short input needs few, and for a step
+// Zeros after the bytes up to this length, in steps: a short input needs few, and for a step
 // they are cheap.
 fn widen(input: &mut Vec<u8>, len: usize)
     requires { len ≤ vec_capacity input.old }
@@ -64,7 +64,7 @@ fn widen(input: &mut Vec<u8>, len: usize)
     }
 }
 
-// Reads once, behind the filled bytes, and answers how many bytes came.
+// Reads once, after the filled bytes, and answers how many bytes came.
 fn read_more<R: Read>(
     reader: &mut Meter<R>,
     input: &mut [u8],

@@ -91,7 +91,7 @@ fn refuses_roots(rt: HostRuntime) -> Result<(), Fail> {
     Ok(())
 }
 
-// A relative path, a platform path, and the first behind the second.
+// A relative path, a platform path, and the first after the second.
 const BEHIND: [(&str, &str, &str); 7] = [
     ("foo", "/", "//foo"),
     ("c:\\bar\\baz", "foo", "foo/c:\\bar\\baz"),
@@ -102,7 +102,7 @@ const BEHIND: [(&str, &str, &str); 7] = [
     ("///", "", ""),
 ];
 
-// Behind a text, and behind a `Path`.
+// After a text, and after a `Path`.
 fn puts_behind(alloc: Global, text: &str, base: &str, expected: &str) -> Result<(), Fail> {
     let path = RelativePath::new(text);
     let made = unix::to_path(alloc, path, base)?;

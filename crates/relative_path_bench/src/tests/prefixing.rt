@@ -3,7 +3,7 @@ use super::same;
 use relative_path::RelativePath;
 use std::test::Fail;
 
-// A path, another, what is left of the first behind the second, and whether it ends with the second.
+// A path, another, what is left of the first after the second, and whether it ends with the second.
 type Affix = (&'static str, &'static str, Option<&'static str>, bool);
 
 const AFFIXES: [&[Affix]; 2] = [&COMPARED, &WORKED];

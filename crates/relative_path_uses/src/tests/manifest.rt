@@ -44,7 +44,7 @@ fn reads_a_manifest(rt: HostRuntime) -> Result<(), Fail> {
 }
 
 // Manifests, and why they are refused.
-const REFUSED: [(&str, ManifestError); 9] = [
+const REFUSED: [(&str, ManifestError); 17] = [
     ("[]", ManifestError::NoBase),
     (r#"{"base": 7, "files": []}"#, ManifestError::NoBase),
     (r#"{"base": "a"}"#, ManifestError::NoFiles),
@@ -69,6 +69,35 @@ const REFUSED: [(&str, ManifestError); 9] = [
         r#"{"base": "", "files": ["/"]}"#,
         ManifestError::LeadsToBase(0),
     ),
+    (
+        r#"{"base": "a", "files": ["b", "..\\..\\x"]}"#,
+        ManifestError::Foreign(1),
+    ),
+    (
+        r#"{"base": "a", "files": ["a\u0000.png"]}"#,
+        ManifestError::Foreign(0),
+    ),
+    (
+        r#"{"base": "", "files": ["C:/Windows/win.ini"]}"#,
+        ManifestError::Foreign(0),
+    ),
+    (
+        r#"{"base": "a", "files": ["b/aux.txt", ".."]}"#,
+        ManifestError::Foreign(0),
+    ),
+    (
+        r#"{"base": "a", "files": ["b", "c.\n"]}"#,
+        ManifestError::Foreign(1),
+    ),
+    (
+        r#"{"base": "..\\x", "files": [7]}"#,
+        ManifestError::ForeignBase,
+    ),
+    (
+        r#"{"base": "a/b\u0000/..", "files": []}"#,
+        ManifestError::ForeignBase,
+    ),
+    (r#"{"base": "a\\b"}"#, ManifestError::NoFiles),
 ];
 
 #[test]
@@ -83,7 +112,9 @@ fn refuses_a_manifest(rt: HostRuntime) -> Result<(), Fail> {
 #[test]
 fn leaves_a_base_that_climbs_to_the_caller(rt: HostRuntime) -> Result<(), Fail> {
     let manifest = r#"{"base": "../x/../..", "files": ["/a//b"]}"#;
-    reads(rt.alloc(), manifest, &["../../a/b"])
+    reads(rt.alloc(), manifest, &["../../a/b"])?;
+    let manifest = r#"{"base": "/etc", "files": ["a", "./a", "b/../a/"]}"#;
+    reads(rt.alloc(), manifest, &["etc/a", "etc/a", "etc/a"])
 }
 
 #[test]
@@ -104,6 +135,14 @@ fn refusals_print_their_words(rt: HostRuntime) -> Result<(), Fail> {
         (
             ManifestError::LeadsToBase(1_000),
             "file 1000 leads to the base",
+        ),
+        (
+            ManifestError::Foreign(1_000),
+            "file 1000 has a name that isn't portable",
+        ),
+        (
+            ManifestError::ForeignBase,
+            "the base has a name that isn't portable",
         ),
         (ManifestError::OutOfMemory, "out of memory"),
     ] {

@@ -4,7 +4,7 @@ use std::alloc::Global;
 use std::test::Fail;
 
 // Paths of requests, and the files that they name below `site/public`.
-const SERVED: [(&str, &str); 12] = [
+const SERVED: [(&str, &str); 16] = [
     ("", "site/public"),
     ("/", "site/public"),
     ("/index.html", "site/public/index.html"),
@@ -12,10 +12,14 @@ const SERVED: [(&str, &str); 12] = [
     ("/css//./site.css", "site/public/css/site.css"),
     ("/a/../b/c.png", "site/public/b/c.png"),
     ("/a/b/../..", "site/public"),
-    ("/....//x", "site/public/..../x"),
     ("/%2e%2e/secrets", "site/public/%2e%2e/secrets"),
-    ("/C:/x", "site/public/C:/x"),
     ("/a\\b/../c", "site/public/c"),
+    ("/a:b/../aux/..", "site/public"),
+    ("/.hidden/.a", "site/public/.hidden/.a"),
+    ("/com10/COMX", "site/public/com10/COMX"),
+    ("/console/auxiliary.txt", "site/public/console/auxiliary.txt"),
+    ("/my nul/a.con", "site/public/my nul/a.con"),
+    ("/a b/c~1", "site/public/a b/c~1"),
     ("/über/日本.html", "site/public/über/日本.html"),
 ];
 
@@ -35,11 +39,14 @@ fn serves_what_is_below_the_root(rt: HostRuntime) -> Result<(), Fail> {
 }
 
 // Roots, requests, and the files that these name.
-const ROOTS: [(&str, &str, &str); 10] = [
+const ROOTS: [(&str, &str, &str); 13] = [
     ("/srv/www", "/a/b", "/srv/www/a/b"),
-    ("/srv/www/", "/a/b", "/srv/www//a/b"),
+    ("/srv/www", "/a/", "/srv/www/a"),
+    ("/srv/www/", "/a/b", "/srv/www/a/b"),
     ("/srv/www/", "/", "/srv/www/"),
-    ("/", "/a/b", "//a/b"),
+    ("/", "/a/b", "/a/b"),
+    ("/", "//server/share/x", "/server/share/x"),
+    ("//", "a", "//a"),
     ("/", "", "/"),
     ("", "/a/b", "a/b"),
     ("", "/", ""),
@@ -72,7 +79,7 @@ fn refuses_what_climbs(rt: HostRuntime) -> Result<(), Fail> {
 }
 
 #[test]
-fn refuses_what_other_platforms_cut(rt: HostRuntime) -> Result<(), Fail> {
+fn refuses_what_some_platform_reads_otherwise(rt: HostRuntime) -> Result<(), Fail> {
     for request in &[
         "/..\\..\\x",
         "/a\\..\\..\\x",
@@ -80,8 +87,25 @@ fn refuses_what_other_platforms_cut(rt: HostRuntime) -> Result<(), Fail> {
         "/a\0",
         "/a.html\0.png",
         "\0",
+        "/a\nb",
+        "/C:/Windows/win.ini",
+        "/index.html::$DATA",
+        "/index.php.",
+        "/index.php ",
+        "/.../x",
+        "/a /b",
+        "/aux.txt",
+        "/CON",
+        "/con.tar.gz",
+        "/Prn/x",
+        "/nul",
+        "/nul.",
+        "/COM0",
+        "/com1.log",
+        "/lpt9",
+        "/a/LpT5.b/c",
     ] {
-        serves(rt.alloc(), "/srv/www", request, None)?;
+        serves(rt.alloc(), "", request, None)?;
     }
     Ok(())
 }

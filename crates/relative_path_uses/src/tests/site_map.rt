@@ -99,10 +99,13 @@ fn links_a_page_to_another(rt: HostRuntime) -> Result<(), Fail> {
 }
 
 // The numbers of two pages, and the reference from the first to the second.
-const HREFS: [(usize, usize, &str); 8] = [
+const HREFS: [(usize, usize, &str); 11] = [
     (0, 1, "guide/index.html"),
-    (2, 6, "./"),
-    (3, 6, ".."),
+    (2, 6, "../guide"),
+    (3, 6, "../../guide"),
+    (6, 6, "guide"),
+    (6, 2, "guide/start.html"),
+    (11, 19, "../../../../404.html"),
     (8, 9, "./b: again.html"),
     (0, 9, "blog/2024/b: again.html"),
     (0, 15, "./a:b/c.html"),

@@ -49,7 +49,7 @@ const NOTHING: &[u8] = b"";
 
 const UNKNOWN_COMMAND: &[u8] = b"! unknown command\n";
 
-// A text, and letters `a` behind it.
+// A text, and letters `a` after it.
 fn with_letters(alloc: Global, text: &str, count: usize) -> Result<String, AllocError> {
     let mut line = text.to_string(alloc)?;
     for _ in 0..count {

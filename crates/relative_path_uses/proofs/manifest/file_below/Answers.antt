@@ -1,8 +1,11 @@
--- The file leads to the directory: its place has no name.
-use Rattle.std.proofs.Common.{rules, ◌≡◌, Some, refl, sym, ◌∙◌}
+-- The file leads to the directory, or some platform reads a name of its place otherwise, or it is below the directory.
+use Rattle.std.proofs.Common.{rules, ◌≡◌, ◌≢◌, [], Some, length, refl, sym, ap, ◌∙◌, arith}
 use Rattle.relative_path.specs.RelativePath.{path_text, path_components}
+use Rattle.serde_json.specs.View.{view}
 use Rattle.relative_path_uses.specs.Places.{SpellsPlace}
 use Rattle.relative_path_uses.proofs.PlacesLemmas.{SpellsPlace-empty}
+use Rattle.relative_path_uses.proofs.RouterLemmas.{any-unportable}
+use Rattle.relative_path_uses.proofs.ManifestLemmas.{IsFileOf-place}
 use Rattle.relative_path_uses.proofs.manifest.file_below.Goals as goal
 
 pub returns-then-len-eq0-clause-refused : goal.returns-then-len-eq0-clause-refused
@@ -13,3 +16,27 @@ returns-then-len-eq0-clause-refused c =
     let leads = SpellsPlace-empty (path_components c.in-Ok.file) c.in_ok-place.place.text
     (sym c.len.ensures ∙ c.if-len-eq0.true) spells in
     (refl, (path_text c.in-Ok.file, c.in-Ok.ensures.ok, leads))
+
+pub returns-then-has_unportable_name-clause-refused : goal.returns-then-has_unportable_name-clause-refused
+returns-then-has_unportable_name-clause-refused c =
+    let found : c.in_ok-place_from_top.field-0 ≡ Some c.in_ok-place.place = search rules in
+    let spells : SpellsPlace (path_components c.in-Ok.file) c.in_ok-place.place.text =
+    rw found at c.in_ok-place_from_top.ensures.some in
+    let holds = sym c.has_unportable_name.ensures ∙ c.if-has_unportable_name.true in
+    let any = any-unportable (path_components c.in-Ok.file) c.in_ok-place.place.text spells in (
+      refl,
+      (path_text c.in-Ok.file, spells.place, c.in-Ok.ensures.ok, spells.named,
+      sym any ∙ (rw c.as_relative_path.ensures at holds)),
+    )
+
+pub returns-clause-file : goal.returns-clause-file
+returns-clause-file c =
+    let found : c.in_ok-place_from_top.field-0 ≡ Some c.in_ok-place.place = search rules in
+    let spells : SpellsPlace (path_components c.in-Ok.file) c.in_ok-place.place.text =
+    rw found at c.in_ok-place_from_top.ensures.some in
+    let none = sym c.has_unportable_name.ensures ∙ c.if-has_unportable_name.false in
+    let some : c.in_ok-place.place.text ≢ [] =
+    λ e. absurd (let empty = c.if-len-eq0.false in let len = c.len.ensures in let nil = ap length e in omega (arith, empty, len, nil)) in
+    IsFileOf-place (path_components c.args.base) (view c.args.file.now) (path_text c.in-Ok.file)
+    c.in_ok-place.place.text _ c.in-Ok.ensures.ok spells some (rw c.as_relative_path.ensures at none)
+    c.in_ok-join_normalized.ensures.normal_form c.in_ok-join_normalized.ensures.below

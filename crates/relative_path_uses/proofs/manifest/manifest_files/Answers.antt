@@ -1,9 +1,9 @@
 -- The manifest has this directory and these entries, of which the files are made.
-use Rattle.std.proofs.Common.{◌≡◌, rules, map, codes, Some, option_and_then}
+use Rattle.std.proofs.Common.{◌≡◌, rules, map, codes, Some, option_and_then, refl, sym, ◌∙◌}
 use Rattle.std.proofs.lemmas.Result.{IfOk-weaker, IfErr-weaker}
 use Rattle.serde_json.specs.Find.{get, as_array}
 use Rattle.serde_json.specs.View.{view, items_view}
-use Rattle.relative_path_uses.specs.Manifest.{base_of, AreFiles, file_text}
+use Rattle.relative_path_uses.specs.Manifest.{base_of, AreFiles, file_text, IsForeignBase}
 use Rattle.relative_path_uses.proofs.ManifestLemmas.{OfManifest-of, Refuses-entries, entries_of-values}
 use Rattle.relative_path_uses.proofs.manifest.manifest_files.Goals as goal
 
@@ -16,7 +16,7 @@ returns-clause-files c =
     let entries = entries_of-values manifest c.in_ok-files.files.now.items listed in
     IfOk-weaker c.files_below.result _ _
     (λ files are. OfManifest-of manifest _ _ (AreFiles (map file_text files.items)) base entries are)
-    (rw (c.new.ensures, c.deref.ensures.value) at c.files_below.ensures.files)
+    (rw (c.new-base.ensures, c.deref.ensures.value) at c.files_below.ensures.files)
 
 pub returns-clause-refused : goal.returns-clause-refused
 returns-clause-refused c =
@@ -27,4 +27,19 @@ returns-clause-refused c =
     let entries = entries_of-values manifest c.in_ok-files.files.now.items listed in
     IfErr-weaker c.files_below.result _ _
     (λ refusal is. Refuses-entries manifest _ _ refusal base entries is)
-    (rw (c.new.ensures, c.deref.ensures.value) at c.files_below.ensures.refused)
+    (rw (c.new-base.ensures, c.deref.ensures.value) at c.files_below.ensures.refused)
+
+pub returns-then-has_unportable_name-clause-refused : goal.returns-then-has_unportable_name-clause-refused
+returns-then-has_unportable_name-clause-refused c =
+    let manifest = view c.args.manifest.now in
+    let base : base_of (view c.args.manifest.now) ≡ Some c.in_ok-base.base.now = search rules in
+    let listed : option_and_then as_array (get (codes "files") (view c.args.manifest.now))
+    ≡ Some (items_view c.in_ok-files.files.now.items) = search rules in
+    let entries = entries_of-values manifest c.in_ok-files.files.now.items listed in
+    OfManifest-of manifest _ _ IsForeignBase base entries
+    (rw c.new-base.ensures at (sym c.has_unportable_name.ensures ∙ c.if-has_unportable_name.true))
+
+pub returns-then-has_unportable_name-clause-foreign_base : goal.returns-then-has_unportable_name-clause-foreign_base
+returns-then-has_unportable_name-clause-foreign_base c =
+    let foreign = returns-then-has_unportable_name-clause-refused c in
+    (λ _. foreign, λ _. refl)

@@ -1,4 +1,4 @@
--- A link that would be misread stands behind `./`.
+-- A link that would be misread stands after `./`.
 use Rattle.std.proofs.Common.{◌≡◌, ◌++◌, codes, string_bytes, rules, true}
 use Rattle.relative_path_uses.specs.Reference.{is_misread}
 use Rattle.relative_path_uses.proofs.ReferenceLemmas.{IsReference-dotted}

@@ -1,4 +1,4 @@
--- The first chunk is cut behind its end, where a character begins, or is all of the text.
+-- The first chunk is cut after its end, where a character begins, or is all of the text.
 use Rattle.std.proofs.Common.{arith, sym}
 use Rattle.relative_path_uses.proofs.RewriterLemmas.{boundary_behind, chunks-first, chunks-last}
 use Rattle.relative_path_uses.proofs.rewriter.first_chunk.Goals as goal

@@ -1,4 +1,4 @@
--- The chunk stays, or its target is moved between what stands before and behind it.
+-- The chunk stays, or its target is moved between what stands before and after it.
 use Rattle.std.proofs.Common.{◌++◌, true, false, string_bytes, refl, ◌∙◌, ap}
 use Rattle.relative_path_uses.specs.Rewriter.{opening, closing}
 use Rattle.relative_path_uses.proofs.RewriterLemmas.{append_four}

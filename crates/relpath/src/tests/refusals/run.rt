@@ -8,7 +8,7 @@ use crate::tests::same;
 use std::alloc::{AllocError, Global};
 use std::test::Fail;
 
-// A text, a path of 10,000 bytes and 5,000 components behind it, and an end.
+// A text, a path of 10,000 bytes and 5,000 components after it, and an end.
 fn with_long_path(alloc: Global, text: &str, end: &str) -> Result<String, AllocError> {
     let mut line = text.to_string(alloc)?;
     line.push_str("a/".repeat(alloc, 4_999)?.as_str())?;

@@ -1,4 +1,4 @@
--- A name or a `..` that stays is pushed, and a `..` behind a name pops it.
+-- A name or a `..` that stays is pushed, and a `..` after a name pops it.
 use Rattle.std.proofs.Common.{refl, sym, arith, true≢false}
 use Rattle.relative_path.specs.Components.{step_of}
 use Rattle.relative_path.specs.Steps.{components}

@@ -11,10 +11,10 @@ pub returns-clause-link : goal.returns-clause-link
 returns-clause-link c =
     let ups = components_up (path_text c.new.result) c.new.ensures in
     let directory : path_components c.as_relative_path.result ≡ above_page (path_at c.args.self.now c.args.from) =
-    rw (c.as_relative_path.ensures, c.in_ok-directory.ensures.components, c.page.ensures, ups) refl in
+    rw (c.as_relative_path.ensures, c.in_ok-directory.ensures.components, c.page.ensures.path, ups) refl in
     IsLink-way (path_at c.args.self.now c.args.from) (path_at c.args.self.now c.args.to)
     (path_components c.as_relative_path.result) (path_components c.page-2.result) c.in_ok-link.link directory
-    c.page-2.ensures c.in_ok-link.ensures.none c.in_ok-link.ensures.shortest
+    c.page-2.ensures.path c.in_ok-link.ensures.none c.in_ok-link.ensures.shortest
 
 pub returns-clause-alike : goal.returns-clause-alike
 returns-clause-alike c page other same_page same_other =

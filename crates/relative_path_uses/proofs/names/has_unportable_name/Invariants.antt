@@ -1,0 +1,12 @@
+-- Such a name is left to be found exactly if the path has one.
+use Rattle.std.proofs.Common.{◌≡◌}
+use Rattle.std.specs.List.{list_any}
+use Rattle.relative_path.specs.Components.{components_left}
+use Rattle.relative_path.specs.RelativePath.{path_components}
+use Rattle.relative_path_uses.specs.Names.{is_unportable_step}
+use Rattle.relative_path_uses.proofs.names.has_unportable_name.Given as goal
+
+abbrev pub invariant-loop-component : goal.invariant-loop-component
+invariant-loop-component l =
+    list_any is_unportable_step (components_left l.component-iterator)
+    ≡ list_any is_unportable_step (path_components l.path)

@@ -1,0 +1,91 @@
+//! Names that are one name on every platform.
+ghost use Rattle.std.specs.Prelude.{◌≡◌};
+ghost use Rattle.std.specs.List.{before_first, list_any};
+ghost use Rattle.std.specs.Str.{str_eq_ignore_ascii_case};
+ghost use Rattle.relative_path.specs.Components.{step_of};
+ghost use Rattle.relative_path.specs.RelativePath.{path_components};
+ghost use Rattle.relative_path_uses.specs.Names.{ends_open, holds_foreign, is_device, is_dot, is_unportable, is_unportable_step, names_device};
+
+use relative_path::{Component, RelativePath};
+
+// The devices of Windows that have no number, and its ports.
+const DEVICES: [&str; 4] = ["CON", "PRN", "AUX", "NUL"];
+const SERIAL_PORTS: [&str; 10] = [
+    "COM0", "COM1", "COM2", "COM3", "COM4", "COM5", "COM6", "COM7", "COM8", "COM9",
+];
+const PARALLEL_PORTS: [&str; 10] = [
+    "LPT0", "LPT1", "LPT2", "LPT3", "LPT4", "LPT5", "LPT6", "LPT7", "LPT8", "LPT9",
+];
+
+// Whether a text is one of these names, in any case.
+fn is_one_of(names: &[&str], text: &str) -> bool
+    ensures { result ≡ list_any (λ name. str_eq_ignore_ascii_case name.now text.now) names.now }
+{
+    names.iter().any(|name| name.eq_ignore_ascii_case(text))
+}
+
+// Whether a text is the name of a device or a port of Windows, in any case.
+fn is_device(text: &str) -> bool
+    ensures { result ≡ is_device text.now }
+{
+    is_one_of(&DEVICES, text)
+        || is_one_of(&SERIAL_PORTS, text)
+        || is_one_of(&PARALLEL_PORTS, text)
+}
+
+// Whether a name is a device's, alone or before a dot.
+fn names_device(name: &str) -> bool
+    ensures { result ≡ names_device name.now }
+{
+    is_device(stem(name))
+}
+
+// Whether a name holds a byte that some platforms read otherwise.
+fn holds_foreign(name: &str) -> bool
+    ensures { result ≡ holds_foreign name.now }
+{
+    name.bytes().any(|b| b < 32 || b == b'\\' || b == b':')
+}
+
+// Whether a name ends in a dot or a space, which some platforms drop.
+fn ends_open(name: &str) -> bool
+    ensures { result ≡ ends_open name.now }
+{
+    name.bytes().last().is_some_and(|b| b == b'.' || b == b' ')
+}
+
+// What a name has before its first dot.
+fn stem(name: &str) -> &str
+    ensures { result.now ≡ before_first is_dot name.now }
+{
+    name.split_once('.').map_or(name, |(stem, _)| stem)
+}
+
+// Whether some platform reads a name otherwise: as more names, as a shorter one, or as a device.
+fn is_unportable(name: &str) -> bool
+    ensures { result ≡ is_unportable name.now }
+{
+    holds_foreign(name) || ends_open(name) || names_device(name)
+}
+
+// Whether a component is such a name.
+fn is_unportable_step(component: Component<'_>) -> bool
+    ensures { result ≡ is_unportable_step (step_of component.entry) }
+{
+    match component {
+        Component::Normal(name) => is_unportable(name),
+        Component::CurDir | Component::ParentDir => false,
+    }
+}
+
+// Whether one of a path's components is such a name.
+pub(crate) fn has_unportable_name(path: RelativePath<'_>) -> bool
+    ensures { result ≡ list_any is_unportable_step (path_components path.entry) }
+{
+    for component in path.components() {
+        if is_unportable_step(component) {
+            return true;
+        }
+    }
+    false
+}
