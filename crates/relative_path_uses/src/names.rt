@@ -10,9 +10,11 @@ use relative_path::{Component, RelativePath};
 
 // The devices of Windows that have no number, and its ports.
 const DEVICES: [&str; 4] = ["CON", "PRN", "AUX", "NUL"];
+
 const SERIAL_PORTS: [&str; 10] = [
     "COM0", "COM1", "COM2", "COM3", "COM4", "COM5", "COM6", "COM7", "COM8", "COM9",
 ];
+
 const PARALLEL_PORTS: [&str; 10] = [
     "LPT0", "LPT1", "LPT2", "LPT3", "LPT4", "LPT5", "LPT6", "LPT7", "LPT8", "LPT9",
 ];
@@ -28,9 +30,7 @@ fn is_one_of(names: &[&str], text: &str) -> bool
 fn is_device(text: &str) -> bool
     ensures { result ≡ is_device text.now }
 {
-    is_one_of(&DEVICES, text)
-        || is_one_of(&SERIAL_PORTS, text)
-        || is_one_of(&PARALLEL_PORTS, text)
+    is_one_of(&DEVICES, text) || is_one_of(&SERIAL_PORTS, text) || is_one_of(&PARALLEL_PORTS, text)
 }
 
 // Whether a name is a device's, alone or before a dot.

@@ -17,7 +17,10 @@ const SERVED: [(&str, &str); 16] = [
     ("/a:b/../aux/..", "site/public"),
     ("/.hidden/.a", "site/public/.hidden/.a"),
     ("/com10/COMX", "site/public/com10/COMX"),
-    ("/console/auxiliary.txt", "site/public/console/auxiliary.txt"),
+    (
+        "/console/auxiliary.txt",
+        "site/public/console/auxiliary.txt",
+    ),
     ("/my nul/a.con", "site/public/my nul/a.con"),
     ("/a b/c~1", "site/public/a b/c~1"),
     ("/über/日本.html", "site/public/über/日本.html"),

@@ -25,8 +25,13 @@ returns-then-has_unportable_name-clause-refused c =
     let holds = sym c.has_unportable_name.ensures ∙ c.if-has_unportable_name.true in
     let any = any-unportable (path_components c.in-Ok.file) c.in_ok-place.place.text spells in (
       refl,
-      (path_text c.in-Ok.file, spells.place, c.in-Ok.ensures.ok, spells.named,
-      sym any ∙ (rw c.as_relative_path.ensures at holds)),
+      (
+        path_text c.in-Ok.file,
+        spells.place,
+        c.in-Ok.ensures.ok,
+        spells.named,
+        sym any ∙ (rw c.as_relative_path.ensures at holds),
+      ),
     )
 
 pub returns-clause-file : goal.returns-clause-file
