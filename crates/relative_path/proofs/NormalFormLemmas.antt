@@ -1,8 +1,8 @@
 -- Climbs and names: that they are normal, what one component more does to them, and the text that spells them.
-use Rattle.std.proofs.Common.{◌≡◌, ℕ, zero, suc, ◌+◌, ◌-◌, ◌<◌, ◌≤◌, true, List, [], ◌∷◌, ◌++◌, All, Option, Some, None, Bor, MatchOption, IfSome, map, replicate, length, drop, sym, refl, ap, ◌∙◌, subst, append_assoc, append-nil, arith, length-append, fold, ◌*◌}
+use Rattle.std.proofs.Common.{◌≡◌, ℕ, zero, suc, ◌+◌, ◌-◌, ◌<◌, ◌≤◌, true, List, [], ◌∷◌, ◌++◌, All, Option, Some, None, map, replicate, length, drop, sym, refl, ap, ◌∙◌, subst, append_assoc, append-nil, arith, length-append, fold, ◌*◌}
 use Rattle.std.specs.List.{AllByRecursion}
 use Rattle.std.specs.Option.{is_some, option_to_list}
-use Rattle.std.proofs.lemmas.List.Elements.{recursion_from_All, All-from_recursion, All-drop, All-head, All-tail, All-weaker}
+use Rattle.std.proofs.lemmas.List.Elements.{recursion_from_All, All-from_recursion, All-drop, All-head, All-tail}
 use Rattle.std.proofs.lemmas.List.Sums.{fold-append}
 use Rattle.std.proofs.lemmas.List.{nil_from_length, map_push}
 use Rattle.relative_path.specs.Steps.{Step, cur, up, name, slash, step_text, components, spell}
@@ -12,11 +12,11 @@ use Rattle.relative_path.specs.Normalizing.{AreNames, IsNormal, IsNormalTextOf}
 use Rattle.relative_path.specs.declared.normal_form.NormalForm.{NormalForm}
 use Rattle.relative_path.specs.declared.spans.Sources.{Sources}
 use Rattle.relative_path.specs.declared.spans.Span.{Span}
-use Rattle.relative_path.specs.Spans.{span_text, spans_len, rest_len, IsOrdered, IsRun, CutsName, IsFirstRun}
+use Rattle.relative_path.specs.Spans.{span_text, spans_len, rest_len, CutsName}
 use Rattle.relative_path.specs.NormalForm.{climbed, form_names, form_steps, padded_len, Reduces, IsNormalFormOf}
 use Rattle.relative_path.proofs.StepsLemmas.{IsProper, IsProper-up, AreProper, components-spell, nonempty_proper, components-nil}
 use Rattle.relative_path.proofs.NormalStepsLemmas.{normal_unique}
-use Rattle.relative_path.proofs.SpansLemmas.{through, span_text-through, IsRun-through, length-run}
+use Rattle.relative_path.proofs.SpansLemmas.{length-run, AreUnwritten, Unwritten, rest_len-names}
 use Rattle.relative_path.proofs.WalkLemmas.{IsSame-refl, IsSame-sym, IsSame-trans, IsSame-append_right, IsSame-cur, IsSame-name_up}
 
 -- ---- reducing a list of components
@@ -161,115 +161,6 @@ IsNormalFormOf-form cs form reduces =
 
 -- ---- writing pieces one after another
 
--- two pieces with a slash between, at once or in turn
-with_piece-joined : (text p q : List ℕ) → 0 < length p
-    → with_piece text (p ++ slash ∷ q) ≡ with_piece (with_piece text p) q
-with_piece-joined [] [] q some = absurd (omega arith)
-with_piece-joined [] (b ∷ bs) q some = refl
-with_piece-joined (b ∷ bs) p q some = sym (append_assoc (b ∷ bs) (slash ∷ p) (slash ∷ q))
-
--- two runs that stand beside each other, at once or in turn
-pub with_piece-through : (sources : Sources) (text : List ℕ) (run span : Span) → IsRun sources run → IsRun sources span
-    → span.source ≡ run.source → span.start ≡ run.end + 1
-    → with_piece text (span_text sources (through run span))
-    ≡ with_piece (with_piece text (span_text sources run)) (span_text sources span)
-with_piece-through sources text run span first second same beside =
-    let start = first.not_empty in
-    ap (with_piece text) (span_text-through sources run span first second same beside)
-    ∙ with_piece-joined text (span_text sources run) (span_text sources span) (omega (arith, length-run first))
-
--- ---- the run that names in front make
-
-module _ (sources : Sources) where
-  pub IsFirstRun-one : (first : Span) (behind : List Span) → All (CutsName sources) (first ∷ behind)
-      → IsFirstRun sources (first ∷ behind) first behind
-  IsFirstRun-one first behind cut =
-      record {
-        is_run = (All-head (CutsName sources) first behind cut).run;
-        cut = All-tail (CutsName sources) first behind cut;
-        fewer = omega arith;
-        len = omega arith;
-        text = λ text. refl;
-      }
-
-  -- a name that stands beside the run
-  pub IsFirstRun-through : (names : List Span) (run next : Span) (behind : List Span)
-      → IsFirstRun sources names run (next ∷ behind) → next.source ≡ run.source → next.start ≡ run.end + 1
-      → IsFirstRun sources names (through run next) behind
-  IsFirstRun-through names run next behind first same beside =
-      let f = span_text sources in
-      let here = (All-head (CutsName sources) next behind first.cut).run in
-      record {
-        is_run = IsRun-through sources run next first.is_run here same beside;
-        cut = All-tail (CutsName sources) next behind first.cut;
-        fewer = omega (arith, first.fewer);
-        len = omega (arith, first.len, first.is_run.not_empty, here.not_empty, beside);
-        text = λ text. first.text text
-            ∙ ap (λ x. fold with_piece x (map f behind))
-            (sym (with_piece-through sources text run next first.is_run here same beside));
-      }
-
--- what is left to write: a run and the names after it, if there are any
-abbrev pub Left : Type 0
-Left = Option (Span × Bor (List Span))
-
--- how many pieces are left at most
-abbrev pub left_count : Left → ℕ
-left_count None = 0
-left_count (Some (run, behind)) = suc (length behind.now)
-
-module _ (sources : Sources) where
-  -- the text with all that is left
-  abbrev pub with_left : List ℕ → Left → List ℕ
-  with_left text None = text
-  with_left text (Some (run, behind)) =
-      fold with_piece (with_piece text (span_text sources run)) (map (span_text sources) behind.now)
-
-  -- the run and the names are cut out of their sources
-  abbrev pub IsCutLeft : Left → Type 0
-  IsCutLeft left = IfSome left (λ found. IsRun sources found.0 × All (CutsName sources) found.1.now)
-
-  module _ (names : List Span) where
-    -- the names as a run and those after it
-    abbrev pub AreLeft : Left → Type 0
-    AreLeft left = MatchOption left (names ≡ []) (λ found. IsFirstRun sources names found.0 found.1.now)
-
-    pub with_left-names : (left : Left) (text : List ℕ) → AreLeft left
-        → with_left text left ≡ fold with_piece text (map (span_text sources) names)
-    with_left-names None text none = ap (λ xs. fold with_piece text (map (span_text sources) xs)) (sym none)
-    with_left-names (Some (run, behind)) text first = sym (first.text text)
-
-    pub IsCutLeft-names : (left : Left) → AreLeft left → IsCutLeft left
-    IsCutLeft-names None none = tt
-    IsCutLeft-names (Some (run, behind)) first = (first.is_run, first.cut)
-
-    pub left_count-names : (left : Left) → AreLeft left → left_count left ≤ length names
-    left_count-names None none = omega arith
-    left_count-names (Some (run, behind)) first = omega (arith, first.fewer)
-
-    pub rest_len-names : (left : Left) → AreLeft left → rest_len left ≡ spans_len names
-    rest_len-names None none = ap spans_len (sym none)
-    rest_len-names (Some (run, behind)) first = sym first.len
-
-  -- the spans of names end no earlier than they start
-  AreOrdered-cut : (spans : List Span) → All (CutsName sources) spans → All IsOrdered spans
-  AreOrdered-cut spans cut = All-weaker (CutsName sources) IsOrdered
-      (λ span c. let some = c.run.not_empty in omega (arith, some)) spans cut
-
-  pub AreOrdered-left : (left : Left) → IsCutLeft left
-      → IfSome left (λ found. (found.0.start ≤ found.0.end) × All IsOrdered found.1.now)
-  AreOrdered-left None cut = tt
-  AreOrdered-left (Some (run, behind)) cut =
-      (let some = cut.0.not_empty in omega (arith, some), AreOrdered-cut behind.now cut.1)
-
-  -- the names of a table, counted by their spans
-  pub spans_len-padded : (spans : List Span) → All (CutsName sources) spans
-      → spans_len spans ≡ padded_len (map name (map (span_text sources) spans))
-  spans_len-padded [] cut = refl
-  spans_len-padded (span ∷ spans) cut =
-      let rest = spans_len-padded spans (All-tail (CutsName sources) span spans cut) in
-      omega (arith, rest, length-run (All-head (CutsName sources) span spans cut).run)
-
 length-with_piece_le : (text p : List ℕ) → length text ≤ length (with_piece text p)
 length-with_piece_le [] p = omega arith
 length-with_piece_le (b ∷ bs) p = omega (arith, length-append bs (slash ∷ p))
@@ -327,14 +218,22 @@ padded_len-drop_le zero names = omega arith
 padded_len-drop_le (suc n) [] = omega arith
 padded_len-drop_le (suc n) (x ∷ names) = omega (arith, padded_len-drop_le n names)
 
--- how many bytes the climbs and the names have that are left, with single slashes between
-pub length-spell-left : (form : NormalForm) (climb skipped : ℕ) (names : List Span) (left : Left)
+-- the names of a table, counted by their spans
+pub spans_len-padded : (sources : Sources) (spans : List Span) → All (CutsName sources) spans
+    → spans_len spans ≡ padded_len (map name (map (span_text sources) spans))
+spans_len-padded sources [] cut = refl
+spans_len-padded sources (span ∷ spans) cut =
+    let rest = spans_len-padded sources spans (All-tail (CutsName sources) span spans cut) in
+    omega (arith, rest, length-run (All-head (CutsName sources) span spans cut).run)
+
+-- how many bytes the climbs and the names have that are unwritten, with single slashes between
+pub length-spell-unwritten : (form : NormalForm) (climb skipped : ℕ) (names : List Span) (unwritten : Unwritten)
     → All (CutsName form.sources) names → map (span_text form.sources) names ≡ drop skipped (form_names form)
-    → AreLeft form.sources names left
-    → (length (spell (climbed climb (drop skipped (form_names form)))) ≡ 3 * climb + rest_len left - 1)
-    × (rest_len left ≤ padded_len (form_steps form))
-length-spell-left form climb skipped names left cut is first =
-    let counted = rest_len-names form.sources names left first ∙ spans_len-padded form.sources names cut
+    → AreUnwritten form.sources names unwritten
+    → (length (spell (climbed climb (drop skipped (form_names form)))) ≡ 3 * climb + rest_len unwritten - 1)
+    × (rest_len unwritten ≤ padded_len (form_steps form))
+length-spell-unwritten form climb skipped names unwritten cut is first =
+    let counted = rest_len-names form.sources names unwritten first ∙ spans_len-padded form.sources names cut
     ∙ ap (λ ns. padded_len (map name ns)) is in
     let past = drop skipped (form_names form) in (
       omega (arith, counted, length-spell (climbed climb past), padded_len-climbed climb past),

@@ -25,7 +25,7 @@ pub record IsRun (sources : Sources) (span : Span) : Type 0 where
   pub not_empty : span.start < span.end
   pub start : IsCharBoundary (source_text sources span.source) span.start
   pub end : IsCharBoundary (source_text sources span.source) span.end
-  pub behind : span.end < length (source_text sources span.source)
+  pub after : span.end < length (source_text sources span.source)
       → slice_index (source_text sources span.source) span.end ≡ slash
 
 -- the span cuts the text of one component out of its source
@@ -50,13 +50,13 @@ spans_len (span ∷ spans) = span.end - span.start + 1 + spans_len spans
 -- the same of a run and the spans after it, if there is one
 abbrev pub rest_len : Option (Span × Bor (List Span)) → ℕ
 rest_len None = 0
-rest_len (Some (run, behind)) = run.end - run.start + 1 + spans_len behind.now
+rest_len (Some (run, rest)) = run.end - run.start + 1 + spans_len rest.now
 
--- the names are a run, which some of them in front make that stand beside each other, and those after it
-pub record IsFirstRun (sources : Sources) (names : List Span) (run : Span) (behind : List Span) : Type 0 where
+-- the first of the names, each next to the one before it, make the run; the rest of the names come after it
+pub record IsFirstRun (sources : Sources) (names : List Span) (run : Span) (rest : List Span) : Type 0 where
   pub is_run : IsRun sources run
-  pub cut : All (CutsName sources) behind
-  pub fewer : length behind < length names
-  pub len : spans_len names ≡ run.end - run.start + 1 + spans_len behind
+  pub cut : All (CutsName sources) rest
+  pub fewer : length rest < length names
+  pub len : spans_len names ≡ run.end - run.start + 1 + spans_len rest
   pub text : (text : List ℕ) → fold with_piece text (map (span_text sources) names)
-      ≡ fold with_piece (with_piece text (span_text sources run)) (map (span_text sources) behind)
+      ≡ fold with_piece (with_piece text (span_text sources run)) (map (span_text sources) rest)

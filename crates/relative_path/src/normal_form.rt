@@ -3,7 +3,7 @@ ghost use Rattle.std.specs.Prelude.{◌≡◌, ◌+◌, ◌-◌, ◌*◌, ◌≤
 ghost use Rattle.std.specs.List.{All, common_prefix_len};
 ghost use Rattle.std.specs.Str.{bytes_eq};
 ghost use Rattle.relative_path.specs.Components.{step_of};
-ghost use Rattle.relative_path.specs.Spans.{source_text, span_text, spans_len, rest_len, Cuts, CutsName, IsFirstRun, IsOrdered};
+ghost use Rattle.relative_path.specs.Spans.{source_text, span_text, spans_len, rest_len, Cuts, CutsName, IsOrdered};
 ghost use Rattle.relative_path.specs.Steps.{components, spell};
 ghost use Rattle.relative_path.specs.declared.spans.Sources.{Sources};
 
@@ -12,7 +12,7 @@ use crate::component::{Component, Components};
 use crate::counting::component_count;
 use crate::editing::add_piece;
 use crate::slashes::without_leading_slashes;
-use crate::spans::{Source, Sources, Span};
+use crate::spans::{Source, Sources, Span, first_run, spans_len};
 use std::alloc::{AllocError, Global};
 
 // A normal list of components: as many `..` as it climbs, and then the names, each a span of a source.
@@ -25,7 +25,7 @@ pub(crate) struct NormalForm<'a> {
 }
 
 impl<'a> NormalForm<'a> {
-    ghost use Rattle.relative_path.specs.NormalForm.{climbed, padded_len, form_sources, form_climb, form_names, form_steps, form_len, form_room, Reduces, IsNormalFormOf};
+    ghost use Rattle.relative_path.specs.NormalForm.{climbed, form_sources, form_climb, form_names, form_steps, form_len, form_room, Reduces, IsNormalFormOf};
 
     // The normal form of a text. It asks for memory once, for a table with a place for each of its
     // components, if it has one.
@@ -128,9 +128,9 @@ impl<'a> NormalForm<'a> {
         let len = spelled_len(climb, next).ok_or(AllocError)?;
         let mut text = String::with_capacity(alloc, len)?;
         push_climb(&mut text, climb);
-        while let Some((run, behind)) = next {
+        while let Some((run, rest)) = next {
             add_piece(&mut text, self.sources.cut(run));
-            next = first_run(behind);
+            next = first_run(rest);
         }
         Ok(text)
     }
@@ -210,24 +210,6 @@ impl<'a> NormalForm<'a> {
     }
 }
 
-// The run that the names in front make as far as they stand beside each other, and the names after
-// it.
-fn first_run(names: &[Span]) -> Option<(Span, &[Span])>
-    ensures { (sources : Sources) → All (CutsName sources) names.now → MatchOption result (names.now ≡ [])
-        (λ found. IsFirstRun sources names.now found.0 found.1.now) }
-{
-    let (first, behind) = names.split_first()?;
-    let mut run = *first;
-    let mut left = behind;
-    while let Some((name, behind)) = left.split_first()
-        && run.is_beside(*name)
-    {
-        run.end = name.end;
-        left = behind;
-    }
-    Some((run, left))
-}
-
 // How many bytes `climb` times `..`, a run and the names after it have, with single slashes between.
 fn spelled_len(climb: usize, names: Option<(Span, &[Span])>) -> Option<usize>
     requires ordered { IfSome names (λ found. (found.0.start ≤ found.0.end) × All IsOrdered found.1.now) }
@@ -237,20 +219,7 @@ fn spelled_len(climb: usize, names: Option<(Span, &[Span])>) -> Option<usize>
 {
     let climb_len = climb.checked_mul(3)?;
     match names {
-        Some((run, behind)) => climb_len.checked_add(run.end - run.start + padded_len(behind)),
+        Some((run, rest)) => climb_len.checked_add(run.end - run.start + spans_len(rest)),
         None => Some(climb_len.saturating_sub(1)),
     }
-}
-
-// How many bytes the names have, with a slash after each.
-fn padded_len(names: &[Span]) -> usize
-    requires ordered { All IsOrdered names.now }
-    requires bound { spans_len names.now < 2 ^ 64 }
-    ensures { result ≡ spans_len names.now }
-{
-    let mut len = 0;
-    for name in names {
-        len += name.end - name.start + 1;
-    }
-    len
 }

@@ -4,7 +4,8 @@ use Rattle.relative_path.specs.NormalForm.{form_names, form_steps}
 use Rattle.relative_path.specs.Spans.{span_text}
 use Rattle.relative_path.specs.Steps.{up, step_text, components, spell}
 use Rattle.relative_path.proofs.StepsLemmas.{components-spell}
-use Rattle.relative_path.proofs.NormalFormLemmas.{AreProper-climbed, AreProper-names_past, AreOrdered-left, IsCutLeft-names, left_count, left_count-names, length-spell, length-spell-left, length-with_pieces_le, with_left-names, with_pieces-climbed}
+use Rattle.relative_path.proofs.NormalFormLemmas.{AreProper-climbed, AreProper-names_past, length-spell, length-spell-unwritten, length-with_pieces_le, with_pieces-climbed}
+use Rattle.relative_path.proofs.SpansLemmas.{AreOrdered-unwritten, IsCutUnwritten-names, unwritten_count, unwritten_count-names, with_unwritten-names}
 use Rattle.relative_path.proofs.normal_form.NormalForm.spelled_past.Goals as goal
 
 pub spelled_len-requires : goal.spelled_len-requires
@@ -13,10 +14,10 @@ spelled_len-requires c =
     let cut = c.names_past.ensures.cut in
     let names = c.names_past.result.now in
     let first = c.first_run-next.ensures form.sources cut in
-    let lens = length-spell-left form c.args.climb c.args.skipped names c.first_run-next.result cut
+    let lens = length-spell-unwritten form c.args.climb c.args.skipped names c.first_run-next.result cut
     c.names_past.ensures.names first in
     record {
-      ordered = AreOrdered-left form.sources c.first_run-next.result (IsCutLeft-names form.sources names _ first);
+      ordered = AreOrdered-unwritten form.sources c.first_run-next.result (IsCutUnwritten-names form.sources names _ first);
       bound = omega (arith, lens.1, c.requires.short, length-spell (form_steps form));
     }
 
@@ -26,7 +27,7 @@ push_climb-requires c =
     let past = drop c.args.skipped (form_names form) in
     let climbs = replicate c.args.climb (step_text up) in
     let cut = c.names_past.ensures.cut in
-    let lens = length-spell-left form c.args.climb c.args.skipped c.names_past.result.now c.first_run-next.result cut
+    let lens = length-spell-unwritten form c.args.climb c.args.skipped c.names_past.result.now c.first_run-next.result cut
     c.names_past.ensures.names (c.first_run-next.ensures form.sources cut) in
     let whole = with_pieces-climbed c.args.climb past (AreProper-names_past form c.args.skipped) in
     let shorter = length-with_pieces_le (fold with_piece [] climbs) past in
@@ -41,17 +42,17 @@ loop-next-init c =
     let climbs = replicate c.args.climb (step_text up) in
     let cut = c.names_past.ensures.cut in
     let first = c.first_run-next.ensures form.sources cut in
-    let lens = length-spell-left form c.args.climb c.args.skipped names c.first_run-next.result cut
+    let lens = length-spell-unwritten form c.args.climb c.args.skipped names c.first_run-next.result cut
     c.names_past.ensures.names first in
     let written = c.push_climb.ensures.text ∙ ap (λ text. fold with_piece text climbs) c.in_ok-text.ensures.bytes in
     let len = rw c.in_ok-len.ensures.ok_part at c.spelled_len.ensures in
     record {
       text =
-          with_left-names form.sources names c.first_run-next.result (string_bytes c.push_climb.new.text) first
+          with_unwritten-names form.sources names c.first_run-next.result (string_bytes c.push_climb.new.text) first
           ∙ ap (fold with_piece (string_bytes c.push_climb.new.text)) c.names_past.ensures.names
           ∙ ap (λ text. fold with_piece text past) written
           ∙ with_pieces-climbed c.args.climb past (AreProper-names_past form c.args.skipped);
-      cut = IsCutLeft-names form.sources names _ first;
+      cut = IsCutUnwritten-names form.sources names _ first;
       room = omega (arith, lens.0, len, c.in_ok-text.ensures.capacity, c.push_climb.ensures.room);
     }
 
@@ -60,7 +61,7 @@ add_piece-requires c =
     let f = span_text c.args.self.now.sources in
     let text = string_bytes c.loop-next.text in
     let left = rw c.in-Some.is at c.loop-next.invariant.text in
-    let shorter = length-with_pieces_le (with_piece text (f c.in-Some.run')) (map f c.in-Some.behind.now) in
+    let shorter = length-with_pieces_le (with_piece text (f c.in-Some.run')) (map f c.in-Some.rest.now) in
     let piece = ap (λ p. length (with_piece text p)) c.cut.ensures in
     omega (arith, ap length left, shorter, piece, c.loop-next.invariant.room)
 
@@ -68,27 +69,27 @@ pub loop-next-preserved : goal.loop-next-preserved
 loop-next-preserved c =
     let sources = c.args.self.now.sources in
     let f = span_text sources in
-    let behind = c.in-Some.behind.now in
+    let rest = c.in-Some.rest.now in
     let before = c.loop-next.invariant in
     let cut = rw c.in-Some.is at before.cut in
     let first = c.first_run-next-in-Some.ensures sources cut.1 in
     let written = c.add_piece.ensures.text ∙ ap (with_piece (string_bytes c.loop-next.text)) c.cut.ensures in
     record {
       text =
-          with_left-names sources behind c.first_run-next-in-Some.result (string_bytes c.add_piece.new.text) first
-          ∙ ap (λ text. fold with_piece text (map f behind)) written ∙ (rw c.in-Some.is at before.text);
-      cut = IsCutLeft-names sources behind _ first;
+          with_unwritten-names sources rest c.first_run-next-in-Some.result (string_bytes c.add_piece.new.text) first
+          ∙ ap (λ text. fold with_piece text (map f rest)) written ∙ (rw c.in-Some.is at before.text);
+      cut = IsCutUnwritten-names sources rest _ first;
       room = omega (arith, before.room, c.add_piece.ensures.room);
     }
 
 pub loop-next-smaller : goal.loop-next-smaller
 loop-next-smaller c =
     let sources = c.args.self.now.sources in
-    let behind = c.in-Some.behind.now in
+    let rest = c.in-Some.rest.now in
     let cut = rw c.in-Some.is at c.loop-next.invariant.cut in
     let first = c.first_run-next-in-Some.ensures sources cut.1 in
-    let fewer = left_count-names sources behind c.first_run-next-in-Some.result first in
-    omega (arith, fewer, ap left_count c.in-Some.is)
+    let fewer = unwritten_count-names sources rest c.first_run-next-in-Some.result first in
+    omega (arith, fewer, ap unwritten_count c.in-Some.is)
 
 pub returns-clause-text : goal.returns-clause-text
 returns-clause-text c = rw c.in_default.is at c.loop-next.invariant.text
@@ -103,7 +104,7 @@ pub returns-in_err-len-clause-succeeds : goal.returns-in_err-len-clause-succeeds
 returns-in_err-len-clause-succeeds c = λ none.
     let form = c.args.self.now in
     let cut = c.names_past.ensures.cut in
-    let lens = length-spell-left form c.args.climb c.args.skipped c.names_past.result.now c.first_run-next.result cut
+    let lens = length-spell-unwritten form c.args.climb c.args.skipped c.names_past.result.now c.first_run-next.result cut
     c.names_past.ensures.names (c.first_run-next.ensures form.sources cut) in
     let large = rw c.in_err-len.ensures.ok_part at c.spelled_len.ensures in
     absurd (omega (arith, lens.0, ap (λ cs. length (spell cs)) none, large))
@@ -112,7 +113,7 @@ pub returns-in_err-text-clause-succeeds : goal.returns-in_err-text-clause-succee
 returns-in_err-text-clause-succeeds c = λ none.
     let form = c.args.self.now in
     let cut = c.names_past.ensures.cut in
-    let lens = length-spell-left form c.args.climb c.args.skipped c.names_past.result.now c.first_run-next.result cut
+    let lens = length-spell-unwritten form c.args.climb c.args.skipped c.names_past.result.now c.first_run-next.result cut
     c.names_past.ensures.names (c.first_run-next.ensures form.sources cut) in
     let len = rw c.in_ok-len.ensures.ok_part at c.spelled_len.ensures in
     let ok = c.in_err-text.ensures.succeeds (omega (arith, lens.0, ap (λ cs. length (spell cs)) none, len)) in
