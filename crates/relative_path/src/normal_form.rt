@@ -41,7 +41,7 @@ impl<'a> NormalForm<'a> {
             second: "",
         };
         let form = NormalForm::with_room(alloc, sources, component_count(text))?;
-        Ok(form.follow(Source::First))
+        Ok(form.follow_all(Source::First))
     }
 
     // The normal form of a text followed by another one, over one table for the components of both.
@@ -61,7 +61,7 @@ impl<'a> NormalForm<'a> {
         };
         let room = component_count(text) + component_count(other);
         let form = NormalForm::with_room(alloc, sources, room)?;
-        Ok(form.follow(Source::First).follow(Source::Second))
+        Ok(form.follow_all(Source::First).follow_all(Source::Second))
     }
 
     // How many `..` the form begins with.
@@ -165,7 +165,7 @@ impl<'a> NormalForm<'a> {
     }
 
     // Follows one component more, which the span cuts out.
-    fn take(&mut self, component: Component<'_>, span: Span)
+    fn follow(&mut self, component: Component<'_>, span: Span)
         requires cuts { Cuts (form_sources self.old) span (step_of component) }
         requires room { form_len self.old < form_room self.old }
         ensures steps { Reduces (form_steps self.old ++ step_of component.entry ∷ [])
@@ -186,7 +186,7 @@ impl<'a> NormalForm<'a> {
     }
 
     // Follows the components of a source, one after another.
-    fn follow(mut self, source: Source) -> NormalForm<'a>
+    fn follow_all(mut self, source: Source) -> NormalForm<'a>
         requires room { form_len self + length (components (source_text (form_sources self) source))
             ≤ form_room self }
         ensures steps { Reduces
@@ -205,7 +205,7 @@ impl<'a> NormalForm<'a> {
                 return self;
             };
             let end = start + component.as_str().len();
-            self.take(component, Span { source, start, end });
+            self.follow(component, Span { source, start, end });
         }
     }
 }

@@ -496,8 +496,8 @@ impl<'a> RelativePath<'a> {
             → components normal.text ≡ path_components self.entry) }
         ensures succeeds { path_components self.entry ≡ [] → IsOk result }
     {
-        let form = NormalForm::of(alloc, self.text)?;
-        Ok(form.into_text(alloc)?.into())
+        let normal = NormalForm::of(alloc, self.text)?;
+        Ok(normal.into_text(alloc)?.into())
     }
 
     /// Writes the text of `normalize` into an empty buffer with room for this path. It takes no

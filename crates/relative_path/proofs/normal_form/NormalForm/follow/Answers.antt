@@ -1,63 +1,27 @@
-use Rattle.std.proofs.Common.{◌++◌, length, refl, sym, ap, ◌∙◌, subst, append-nil, arith}
-use Rattle.relative_path.specs.Components.{step_of, text_left}
-use Rattle.relative_path.specs.NormalForm.{form_steps, Reduces}
-use Rattle.relative_path.specs.Spans.{source_text}
-use Rattle.relative_path.specs.Steps.{components}
-use Rattle.relative_path.proofs.SlicesLemmas.{IsSuffix-from, IsSuffix-drop, IsSuffix-trans}
-use Rattle.relative_path.proofs.NormalFormLemmas.{Reduces-refl, Reduces-step}
-use Rattle.relative_path.proofs.SpansLemmas.{Cuts-first}
+use Rattle.std.proofs.Common.{sym, subst}
+use Rattle.std.proofs.lemmas.List.Elements.{All-pop, All-push}
+use Rattle.relative_path.specs.Spans.{span_text, Cuts, CutsName}
+use Rattle.relative_path.specs.Steps.{name}
+use Rattle.relative_path.proofs.NormalFormLemmas.{Reduces-cur, Reduces-pop}
 use Rattle.relative_path.proofs.normal_form.NormalForm.follow.Goals as goal
 
-pub loop-component-init : goal.loop-component-init
-loop-component-init c =
-    let trim = c.without_leading_slashes.ensures in
-    let start = c.new-left.ensures in
-    let same = ap components start ∙ trim.same in
-    record {
-      sources = refl;
-      suffix = rw start trim.suffix;
-      no_slash = rw start trim.start;
-      steps = rw same (Reduces-refl _);
-      len = omega (arith, ap length same);
-      room = refl;
-    }
+pub invariant_of-self-else-is_none : goal.invariant_of-self-else-is_none
+invariant_of-self-else-is_none c =
+    let form = c.args.self.now in
+    record { cut = (All-pop (CutsName form.sources) _ _ _ c.pop.ensures.items form.cut).0 }
 
-pub take-requires-clause-cuts : goal.take-requires-clause-cuts
-take-requires-clause-cuts c =
-    let loop = c.loop-component in
-    let text = c.text-text.result.now in
-    let left = text_left loop.left in
-    let component = step_of c.in-Some.component in
-    let source = c.text-text.ensures ∙ ap (λ sources. source_text sources c.args.source) (sym loop.invariant.sources) in
-    let cuts = Cuts-first loop.self.sources c.args.source text left component _ source loop.invariant.suffix
-    (rw c.as_str.ensures at c.as_str.utf8) loop.invariant.no_slash c.in-Some.ensures.steps.0 in
-    rw (c.as_str.ensures, c.as_str-in-loop-component.ensures) cuts
+pub invariant_of-self-in-Normal : goal.invariant_of-self-in-Normal
+invariant_of-self-in-Normal c =
+    let form = c.args.self.now in
+    let cuts = rw c.in-Normal.is at c.requires.cuts in
+    let named = subst (λ n. Cuts form.sources c.args.span (name n)) (sym cuts.text) cuts in
+    record { cut = rw c.push_reserved.ensures.items (All-push (CutsName form.sources) _ _ form.cut named) }
 
-pub take-requires-clause-room : goal.take-requires-clause-room
-take-requires-clause-room c =
-    let before = c.loop-component.invariant in
-    let source = ap (λ x. length (components x)) c.text-text.ensures in
-    omega (arith, c.requires.room, ap length c.in-Some.ensures.steps.0, source, before.len, before.room)
+pub returns-in-CurDir-clause-steps : goal.returns-in-CurDir-clause-steps
+returns-in-CurDir-clause-steps c = rw c.in-CurDir.is (Reduces-cur _)
 
-pub loop-component-preserved : goal.loop-component-preserved
-loop-component-preserved c =
-    let before = c.loop-component.invariant in
-    let first = c.in-Some.ensures.steps.0 in
-    let rest = c.in-Some.ensures.steps.1 in
-    record {
-      sources = c.take.ensures.sources ∙ before.sources;
-      suffix = IsSuffix-drop (IsSuffix-trans (IsSuffix-from before.suffix) (IsSuffix-from rest.suffix));
-      no_slash = rest.no_leading_slash;
-      steps = Reduces-step _ _ _ _ _ _ before.steps first c.take.ensures.steps;
-      len = omega (arith, c.take.ensures.len, before.len, ap length first);
-      room = c.take.ensures.room ∙ before.room;
-    }
-
-pub returns-in_default-clause-steps : goal.returns-in_default-clause-steps
-returns-in_default-clause-steps c =
-    let text = c.text-text.result.now in
-    let none = c.in_default.ensures.steps.0 in
-    let self = form_steps c.loop-component.self in
-    let whole = ap (λ cs. self ++ cs) none ∙ append-nil self in
-    let steps = c.loop-component.invariant.steps in
-    rw (← c.text-text.ensures) (subst (Reduces (form_steps c.args.self ++ components text)) whole steps)
+pub returns-else-is_none-clause-steps : goal.returns-else-is_none-clause-steps
+returns-else-is_none-clause-steps c =
+    let form = c.args.self.now in
+    let popped = Reduces-pop (span_text form.sources) form.climb _ _ _ c.pop.ensures.items c.if-is_none.ensures in
+    rw c.in-ParentDir.is popped

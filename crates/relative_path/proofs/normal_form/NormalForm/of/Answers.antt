@@ -9,7 +9,7 @@ pub returns-clause-normal_form : goal.returns-clause-normal_form
 returns-clause-normal_form c =
     let empty = c.in_ok-form.ensures.steps in
     let text = ap (λ sources. source_text sources First) c.in_ok-form.ensures.sources in
-    IsNormalFormOf-form _ c.follow.result (rw (empty, text) at c.follow.ensures.steps)
+    IsNormalFormOf-form _ c.follow_all.result (rw (empty, text) at c.follow_all.ensures.steps)
 
 pub returns-clause-short : goal.returns-clause-short
 returns-clause-short c =

@@ -12,12 +12,12 @@ returns-clause-normal_form c =
     let empty = c.in_ok-form.ensures.steps in
     let sources = c.in_ok-form.ensures.sources in
     let first = ap (λ s. source_text s First) sources in
-    let second = ap (λ s. source_text s Second) (c.follow.ensures.sources ∙ sources) in
-    let one = rw (empty, first) at c.follow.ensures.steps in
+    let second = ap (λ s. source_text s Second) (c.follow_all.ensures.sources ∙ sources) in
+    let one = rw (empty, first) at c.follow_all.ensures.steps in
     let both =
-    subst (λ text. Reduces (form_steps c.follow.result ++ components text) (form_steps c.follow-2.result)) second
-    c.follow-2.ensures.steps in
-    IsNormalFormOf-form _ c.follow-2.result (Reduces-trans (Reduces-append_right _ one) both)
+    subst (λ text. Reduces (form_steps c.follow_all.result ++ components text) (form_steps c.follow_all-2.result)) second
+    c.follow_all-2.ensures.steps in
+    IsNormalFormOf-form _ c.follow_all-2.result (Reduces-trans (Reduces-append_right _ one) both)
 
 pub returns-clause-short : goal.returns-clause-short
 returns-clause-short c =

@@ -6,12 +6,12 @@ use Rattle.relative_path.proofs.path.RelativePath.normalize.Goals as goal
 
 pub returns-clause-normal_form : goal.returns-clause-normal_form
 returns-clause-normal_form c =
-    IsNormalTextOf-spell _ _ c.into.result.text c.in_ok-form.ensures.normal_form (c.into.ensures.0 ∙ c.in_ok-into_text.ensures.text)
+    IsNormalTextOf-spell _ _ c.into.result.text c.in_ok-normal.ensures.normal_form (c.into.ensures.0 ∙ c.in_ok-into_text.ensures.text)
 
 pub returns-clause-no_longer : goal.returns-clause-no_longer
 returns-clause-no_longer c =
     let spelled = ap length (c.into.ensures.0 ∙ c.in_ok-into_text.ensures.text) in
-    let shorter = c.in_ok-form.ensures.normal_form.no_longer in
+    let shorter = c.in_ok-normal.ensures.normal_form.no_longer in
     omega (arith, spelled, shorter, length-spell-components (path_text c.args.self))
 
 pub returns-clause-normal_stays : goal.returns-clause-normal_stays
@@ -19,5 +19,5 @@ returns-clause-normal_stays c = components-IsNormalTextOf _ _ (returns-clause-no
 
 pub returns-in_err-into_text-clause-succeeds : goal.returns-in_err-into_text-clause-succeeds
 returns-in_err-into_text-clause-succeeds c = λ none.
-    let ok = c.in_err-into_text.ensures.succeeds (IsNormalFormOf-nil _ _ none c.in_ok-form.ensures.normal_form) in
+    let ok = c.in_err-into_text.ensures.succeeds (IsNormalFormOf-nil _ _ none c.in_ok-normal.ensures.normal_form) in
     search rules

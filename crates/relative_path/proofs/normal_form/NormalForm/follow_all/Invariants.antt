@@ -3,7 +3,7 @@ use Rattle.std.proofs.Common.{◌≡◌, ◌≢◌, ◌+◌, ◌-◌, ◌≤◌,
 use Rattle.relative_path.specs.Components.{text_left, components_left}
 use Rattle.relative_path.specs.NormalForm.{form_steps, form_len, form_room, Reduces}
 use Rattle.relative_path.specs.Steps.{slash, components}
-use Rattle.relative_path.proofs.normal_form.NormalForm.follow.Given as goal
+use Rattle.relative_path.proofs.normal_form.NormalForm.follow_all.Given as goal
 
 abbrev pub invariant-loop-component : goal.invariant-loop-component
 invariant-loop-component l =
