@@ -2,9 +2,10 @@
 #![tactic(auto)]
 
 pub use self::manifest::{ManifestError, manifest_files};
-pub use self::rewriter::{RewriteError, rewritten};
+pub use self::rewriter::{Left, RewrittenPage, rewritten};
 pub use self::router::served;
 pub use self::site_map::{SiteMap, SiteMapError};
+pub use self::target::Target;
 
 mod manifest;
 mod names;
@@ -13,5 +14,6 @@ mod reference;
 mod rewriter;
 mod router;
 mod site_map;
+mod target;
 #[cfg(test)]
 mod tests;
