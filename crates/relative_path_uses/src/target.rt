@@ -26,10 +26,10 @@ impl Target {
     pub(crate) fn is_of(self, page: &str) -> bool
         ensures { IsTrue result ↔ IsTarget page.now self }
     {
-        match page.get(self.start..self.end) {
-            Some(text) => !is_kept(split_path(text).0),
-            None => false,
-        }
+        self.start <= self.end
+            && page.is_char_boundary(self.start)
+            && page.is_char_boundary(self.end)
+            && !is_kept(split_path(&page[self.start..self.end]).0)
     }
 
     // Its text in a page that has it.
