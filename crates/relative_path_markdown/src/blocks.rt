@@ -2,6 +2,7 @@
 
 use crate::containers::{Container, opened};
 use crate::cursor::Cursor;
+use crate::definitions::is_definitions;
 use crate::fence::Fence;
 use crate::html_block::HtmlBlock;
 use crate::mask::Mask;
@@ -19,8 +20,9 @@ const BYTE_ORDER_MARK: &[u8] = b"\xEF\xBB\xBF";
 enum Leaf {
     // None is open.
     Nothing,
-    // A paragraph.
-    Paragraph,
+    // A paragraph, whose text begins here in the page, or nowhere if it is known to hold more than
+    // definitions.
+    Paragraph(Option<usize>),
     // Indented code.
     Code,
     // Code in fences.
@@ -128,7 +130,7 @@ impl<'a> Blocks<'a> {
         let before = self.before(depth, cursor);
         let (cursor, is_opened) = self.open_containers(depth, before, cursor)?;
         let before = if is_opened { Before::Nothing } else { before };
-        let start = start_of(cursor, before);
+        let start = self.start_of(cursor, before);
         if before.goes_on() && matches!(start, Start::Text) {
             let from = line.place_of(cursor);
             return self.mask.continue_paragraph(line.start, from, line.end());
@@ -138,6 +140,22 @@ impl<'a> Blocks<'a> {
         }
         self.is_item_empty = is_opened && cursor.is_blank() && self.is_in_item();
         self.begin(start, line, cursor)
+    }
+
+    // What the rest of a line begins. No underline stands below definitions alone: it is text.
+    fn start_of(&mut self, cursor: Cursor<'a>, before: Before) -> Start {
+        let start = start_of(cursor, before);
+        if !matches!(start, Start::Rule) || is_thematic_break(cursor.rest) {
+            return start;
+        }
+        let Leaf::Paragraph(Some(from)) = self.leaf else {
+            return start;
+        };
+        if !self.mask.text_from(from).is_some_and(is_definitions) {
+            return start;
+        }
+        self.leaf = Leaf::Paragraph(None);
+        Start::Text
     }
 
     // How many containers a line belongs to, and the place after what it has for them.
@@ -160,7 +178,7 @@ impl<'a> Blocks<'a> {
     // Whether the innermost block takes a line as it is. A line that ends the block is one of it.
     fn takes(&mut self, cursor: Cursor<'a>) -> bool {
         match self.leaf {
-            Leaf::Nothing | Leaf::Paragraph => false,
+            Leaf::Nothing | Leaf::Paragraph(_) => false,
             Leaf::Code => cursor.is_blank() || cursor.is_indented(),
             Leaf::Fenced(fence) => {
                 if fence.is_closed(cursor) {
@@ -179,9 +197,9 @@ impl<'a> Blocks<'a> {
     // What a line of so many containers finds before it.
     fn before(&self, depth: usize, cursor: Cursor<'a>) -> Before {
         match self.leaf {
-            Leaf::Paragraph if cursor.is_blank() => Before::Nothing,
-            Leaf::Paragraph if depth == self.containers.len() => Before::Paragraph,
-            Leaf::Paragraph => Before::Lazy,
+            Leaf::Paragraph(_) if cursor.is_blank() => Before::Nothing,
+            Leaf::Paragraph(_) if depth == self.containers.len() => Before::Paragraph,
+            Leaf::Paragraph(_) => Before::Lazy,
             _ => Before::Nothing,
         }
     }
@@ -229,8 +247,8 @@ impl<'a> Blocks<'a> {
         line: Line<'a>,
         cursor: Cursor<'a>,
     ) -> Result<(), AllocError> {
-        self.leaf = leaf_of(start, cursor);
         let from = line.place_of(cursor);
+        self.leaf = leaf_of(start, cursor, from);
         match start {
             Start::Text => self.mask.begin_paragraph(from, line.end()),
             Start::Heading(level) => {
@@ -248,11 +266,11 @@ fn begins_break(cursor: Cursor<'_>, marker: Option<u8>) -> bool {
     cursor.first() != marker && is_thematic_break(cursor.rest)
 }
 
-// The block that is open after the first line of a block.
-fn leaf_of(start: Start, cursor: Cursor<'_>) -> Leaf {
+// The block that is open after the first line of a block, whose text begins at a place.
+fn leaf_of(start: Start, cursor: Cursor<'_>, from: usize) -> Leaf {
     match start {
         Start::Blank | Start::Heading(_) | Start::Rule => Leaf::Nothing,
-        Start::Text => Leaf::Paragraph,
+        Start::Text => Leaf::Paragraph(Some(from)),
         Start::Code => Leaf::Code,
         Start::Fenced(fence) => Leaf::Fenced(fence),
         Start::Html(block) => html_leaf(block, cursor),

@@ -35,6 +35,21 @@ pub(crate) fn note_definitions(
     Ok(next)
 }
 
+// Whether a paragraph holds definitions alone.
+pub(crate) fn is_definitions(text: &[u8]) -> bool {
+    let mut next = 0;
+    for k in 0..text.len() {
+        if k < next {
+            continue;
+        }
+        let Some(definition) = read_definition(text, k) else {
+            return false;
+        };
+        next = definition.after;
+    }
+    true
+}
+
 // The definition at an offset.
 fn read_definition(text: &[u8], start: usize) -> Option<Definition> {
     let colon = label_end(text, skip_spaces(text, start))?;

@@ -3,9 +3,10 @@
 //! `blocks` masks all but the inline text of a page, and `inlines` finds the links in that.
 //!
 //! ```text
-//! inlines - brackets, code_spans, definitions, tags - link_parts - scan, span
-//! blocks  - containers, starts - fence, html_block - lone_tag - cursor
-//!         - mask
+//! inlines - brackets, code_spans, tags
+//!         - definitions - link_parts - scan, span
+//! blocks  - definitions, mask
+//!         - containers, starts - fence, html_block - lone_tag - cursor
 //! ```
 #![tactic(auto)]
 
@@ -39,7 +40,8 @@ use std::alloc::{AllocError, Global};
 /// it. Nothing is decoded. Links by name, as `[a]` and `[a][b]`, aren't looked up; the definitions of
 /// such names are found. Code, HTML, comments and autolinks are passed over.
 ///
-/// It reads as CommonMark 0.31 does. What it finds is tested, and not proved. It takes time as the
+/// It reads as CommonMark 0.31 does, but for runs of more than 80 backticks and more than 100 lists
+/// and quotations in one another, which it takes for text. What it finds is tested, and not proved. It takes time as the
 /// page is long, and memory for a list as long as the page, for the targets and for the brackets
 /// that are open.
 ///
@@ -48,7 +50,7 @@ use std::alloc::{AllocError, Global};
 /// let spans = link_targets(alloc, page)?;
 /// let targets = spans.iter().map(|span| &page[span.start..span.end]);
 /// let targets = targets.collect::<Vec<_>>(alloc)?;
-/// assert_eq!(rt; targets.as_slice(), ["b.md", "f g", "i"]);
+/// assert_eq!(rt; targets.as_slice(), ["b.md", "f g", "i"].as_slice());
 /// ```
 pub fn link_targets(alloc: Global, page: &str) -> Result<Vec<Span>, AllocError> {
     let text = inline_text(alloc, page)?;

@@ -38,6 +38,11 @@ impl<'a> Mask<'a> {
         Ok(bytes)
     }
 
+    // The text of the mask from a place on.
+    pub(crate) fn text_from(&self, from: usize) -> Option<&[u8]> {
+        self.bytes.as_slice().get(from..self.bytes.len())
+    }
+
     // Adds the first line of a paragraph, whose text is `from..to`.
     pub(crate) fn begin_paragraph(&mut self, from: usize, to: usize) -> Result<(), AllocError> {
         self.cover(from, OUTSIDE)?;

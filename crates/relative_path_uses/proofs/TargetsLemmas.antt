@@ -1,9 +1,9 @@
 -- A target cut after its path.
-use Rattle.std.proofs.Common.{◌≡◌, ◌≢◌, ℕ, ◌<◌, ◌+◌, Bool, true, false, ◌||◌, List, [], ◌∷◌, ◌++◌, length, take, drop, get_or, not, suc, cond, Option, Some, refl, sym, ap, ◌∙◌, subst, arith, append_assoc, append-nil, ◌≤◌}
+use Rattle.std.proofs.Common.{◌≡◌, ◌≢◌, ℕ, ◌<◌, ◌+◌, Bool, true, false, ◌||◌, List, [], ◌∷◌, ◌++◌, length, take, drop, get_or, not, suc, cond, Some, refl, sym, ap, ◌∙◌, subst, arith, append_assoc, append-nil, ◌≤◌}
 use Rattle.std.proofs.lemmas.Bool.{cond_both}
 use Rattle.std.proofs.lemmas.List.Sums.{passes_at_first}
 use Rattle.std.proofs.lemmas.Str.{IsCharBoundary-before_ascii}
-use Rattle.std.specs.List.{position, position_or_len, prefix_len, list_any, before_first}
+use Rattle.std.specs.List.{position, position_or_len, list_any, before_first}
 use Rattle.std.specs.Str.{IsCharBoundary}
 use Rattle.relative_path.specs.Steps.{Step, slash, is_slash, step_text, components, spell}
 use Rattle.relative_path.specs.Unix.{has_root}
@@ -112,7 +112,7 @@ pub record HasSoFar (page : List ℕ) (targets : List Target) (at : ℕ) : Type 
   pub with : (more : List Target) → HasTargets page at more → HasTargets page 0 (targets ++ more)
 
 pub HasSoFar-none : (page : List ℕ) (targets : List Target) → targets ≡ [] → HasSoFar page targets 0
-HasSoFar-none page targets none = record { with = λ more has. rw none has; }
+HasSoFar-none page targets none = record { with = λ more has. rw none has }
 
 -- with the next target
 pub HasSoFar-next : (page : List ℕ) (targets all : List Target) (at : ℕ) (target : Target) → HasSoFar page targets at

@@ -20,7 +20,7 @@ use std::alloc::{AllocError, Global};
 /// ```
 /// let page = "[a](b.md#top) [c](#d) [e](https://f.org) `[g](h)`";
 /// let found = targets(alloc, page)?;
-/// assert_eq!(rt; found.as_slice(), [Target { start: 4, end: 12 }]);
+/// assert_eq!(rt; found.as_slice(), [Target { start: 4, end: 12 }].as_slice());
 /// ```
 pub fn targets(alloc: Global, page: &str) -> Result<Vec<Target>, AllocError>
     ensures in_order { IfOk result (λ targets. HasTargets page.now 0 targets.items) }
@@ -36,7 +36,10 @@ fn in_order(alloc: Global, page: &str, spans: &[Span]) -> Result<Vec<Target>, Al
     let mut targets = Vec::new(alloc);
     let mut at = 0;
     for span in spans {
-        let target = Target { start: span.start, end: span.end };
+        let target = Target {
+            start: span.start,
+            end: span.end,
+        };
         if at <= target.start && target.is_of(page) {
             targets.push(target)?;
             at = target.end;

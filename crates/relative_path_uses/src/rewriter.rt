@@ -22,7 +22,7 @@ use relative_path::RelativePath;
 use relative_path_moves::{MoveTable, ReferenceError};
 use std::alloc::{AllocError, Global};
 
-/// Why a link is left as it is.
+/// Why [`rewritten`] leaves a link as it is.
 #[derive(Clone, Copy, Debug, PartialEq, Eq)]
 pub enum Left {
     /// It leads above the root.
@@ -33,7 +33,7 @@ pub enum Left {
     Unwritable,
 }
 
-/// A page after the moves.
+/// A page after the moves, as [`rewritten`] answers it.
 #[derive(Drop)]
 pub struct RewrittenPage {
     /// Its text.
@@ -59,7 +59,28 @@ impl From<AllocError> for PathError {
     }
 }
 
-/// The text of a page after the moves of a table.
+/// A page in Markdown after the moves of a table: each of its targets leads from the page's new
+/// directory to where it led before, or to where that file is now. All else stays byte for byte.
+///
+/// The targets are those that [`targets`] finds, or others that stand in order in the page. The path
+/// `from` is the page's before the moves, whether or not it moves itself. A target that still leads
+/// there stays. Of one that doesn't, the path becomes the shortest one, its slash at the end, its query
+/// and its fragment stay, and read back it is that path. A target that has no path there, or none that
+/// can be written in a link, stays and is told in `left`. Nothing is encoded or decoded.
+///
+/// It takes memory for the text, at first as much as the page has, for what is left, and for what
+/// [`MoveTable::moved_in`] needs for each target. Only want of memory refuses a page.
+///
+/// ```
+/// let moves = [("a.md", "docs/a.md"), ("b.md", "docs/more/b.md")]
+///     .map(|(old, new)| (RelativePath::new(old), RelativePath::new(new)));
+/// let table = MoveTable::new(alloc, &moves)?;
+/// let page = "[b](b.md#top), [c](img/c.png), [d](../d.md)";
+/// let found = targets(alloc, page)?;
+/// let new = rewritten(alloc, page, &found, &table, RelativePath::new("a.md"))?;
+/// assert_eq!(rt; new.text.as_str(), "[b](more/b.md#top), [c](../img/c.png), [d](../d.md)");
+/// assert_eq!(rt; new.left.as_slice(), [(35, Left::AboveRoot)].as_slice());
+/// ```
 pub fn rewritten(
     alloc: Global,
     page: &str,
@@ -68,7 +89,7 @@ pub fn rewritten(
     from: RelativePath<'_>,
 ) -> Result<RewrittenPage, AllocError>
     requires { HasTargets page.now 0 targets.now }
-    ensures { IfOk result (λ new. IsRewritten table.now (path_components from.entry) page.now targets.now
+    ensures rewritten { IfOk result (λ new. IsRewritten table.now (path_components from.entry) page.now targets.now
         (string_bytes new.text) new.left.items) }
 {
     let mut text = String::with_capacity(alloc, page.len())?;

@@ -1,6 +1,6 @@
 -- The table answers, and its way is written as a reference.
-use Rattle.std.proofs.Common.{◌≡◌, true, is_some, Err, sym, ◌∙◌, ap, string_bytes}
-use Rattle.relative_path.specs.RelativePath.{path_text, path_components}
+use Rattle.std.proofs.Common.{is_some, Err, sym, ◌∙◌, ap, string_bytes}
+use Rattle.relative_path.specs.RelativePath.{path_components}
 use Rattle.relative_path_uses.specs.Rewriter.{has_unfit}
 use Rattle.relative_path_uses.proofs.RewriterLemmas.{IsNewPath-way, IsNone-some}
 use Rattle.relative_path_uses.proofs.rewriter.new_path.Goals as goal
@@ -20,7 +20,7 @@ returns-then-has_unfit-clause-left c = (
   IsNewPath-way c.args.table.now (path_components c.args.from) c.args.path.now c.in-Ok-Some.way.text
       (string_bytes c.in_ok-reference.field-0) (string_bytes c.in_ok-new.new)
       (λ still. IsNone-some c.in-Ok-Some.field-0 c.in-Ok-Some.way c.in-Ok-Some.field-0-is
-          (c.in-Ok-Some.ensures.stays.1 (rw (sym c.new.ensures) at still)))
+      (c.in-Ok-Some.ensures.stays.1 (rw (sym c.new.ensures) at still)))
       (rw (c.in-Ok-Some.field-0-is, c.new.ensures) at c.in-Ok-Some.ensures.shortest)
       c.in_ok-reference.ensures c.in_ok-new.ensures,
   ap (has_unfit c.args.angled) (sym c.deref.ensures) ∙ sym c.has_unfit.ensures ∙ c.if-has_unfit.true,
@@ -31,7 +31,7 @@ returns-clause-new c = (
   IsNewPath-way c.args.table.now (path_components c.args.from) c.args.path.now c.in-Ok-Some.way.text
       (string_bytes c.in_ok-reference.field-0) (string_bytes c.in_ok-new.new)
       (λ still. IsNone-some c.in-Ok-Some.field-0 c.in-Ok-Some.way c.in-Ok-Some.field-0-is
-          (c.in-Ok-Some.ensures.stays.1 (rw (sym c.new.ensures) at still)))
+      (c.in-Ok-Some.ensures.stays.1 (rw (sym c.new.ensures) at still)))
       (rw (c.in-Ok-Some.field-0-is, c.new.ensures) at c.in-Ok-Some.ensures.shortest)
       c.in_ok-reference.ensures c.in_ok-new.ensures,
   ap (has_unfit c.args.angled) (sym c.deref.ensures) ∙ sym c.has_unfit.ensures ∙ c.if-has_unfit.false,

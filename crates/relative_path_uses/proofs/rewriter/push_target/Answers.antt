@@ -1,5 +1,5 @@
 -- The target is written anew, stays, or is left.
-use Rattle.std.proofs.Common.{◌≡◌, ◌++◌, ◌∙◌, ap, sym, append_assoc, string_bytes, None, Some, inl, refl}
+use Rattle.std.proofs.Common.{◌++◌, ◌∙◌, ap, sym, append_assoc, string_bytes, None, Some, inl, refl}
 use Rattle.relative_path.specs.RelativePath.{path_components}
 use Rattle.relative_path_uses.proofs.RewriterLemmas.{BecomesPart-moved}
 use Rattle.relative_path_uses.proofs.rewriter.push_target.Goals as goal

@@ -1,5 +1,5 @@
 -- Each turn moves the next target, and after the last the rest of the page stays.
-use Rattle.std.proofs.Common.{◌≡◌, ◌++◌, ◌∙◌, ap, sym, refl, string_bytes, rules}
+use Rattle.std.proofs.Common.{◌++◌, ◌∙◌, ap, sym, string_bytes}
 use Rattle.std.proofs.lemmas.Str.{IsCharBoundary-start}
 use Rattle.relative_path.specs.RelativePath.{path_components}
 use Rattle.relative_path_uses.specs.Rewriter.{told}
@@ -38,8 +38,11 @@ loop-target-preserved c =
 pub returns : goal.returns
 returns c =
     let none = no_targets c.loop-target.rest.now c.in_default.ensures.cases in
-    IsRewritten-last c.args.table.now (path_components c.args.from) c.args.page.now c.args.targets.now c.loop-target.at
-    (string_bytes c.loop-target.text) (string_bytes c.push_str-2.new.self) c.loop-target.left.items
-    (rw none at c.loop-target.invariant.progress)
-    (c.in_ok-push_str-2.ensures.bytes
-    ∙ ap (λ rest. string_bytes c.loop-target.text ++ rest) c.range_from.ensures.value)
+    record {
+      rewritten =
+          IsRewritten-last c.args.table.now (path_components c.args.from) c.args.page.now c.args.targets.now
+          c.loop-target.at (string_bytes c.loop-target.text) (string_bytes c.push_str-2.new.self)
+          c.loop-target.left.items (rw none at c.loop-target.invariant.progress)
+          (c.in_ok-push_str-2.ensures.bytes
+          ∙ ap (λ rest. string_bytes c.loop-target.text ++ rest) c.range_from.ensures.value);
+    }

@@ -1,5 +1,5 @@
 -- The targets so far have become their parts.
-use Rattle.std.proofs.Common.{length, ◌≤◌, string_bytes}
+use Rattle.std.proofs.Common.{length, string_bytes}
 use Rattle.std.specs.Str.{IsCharBoundary}
 use Rattle.relative_path.specs.RelativePath.{path_components}
 use Rattle.relative_path_uses.specs.Targets.{HasTargets}
