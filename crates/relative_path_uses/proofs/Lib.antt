@@ -4,4 +4,5 @@ pub mod ManifestLemmas
 pub mod ReferenceLemmas
 pub mod UrlPathLemmas
 pub mod SiteMapLemmas
+pub mod TargetsLemmas
 pub mod RewriterLemmas

@@ -1,255 +1,137 @@
--- A page cut into chunks, a chunk cut around its target, and the targets of the chunks moved one after the other.
-use Rattle.std.proofs.Common.{◌≡◌, ◌≢◌, ℕ, ◌<◌, ◌≤◌, ◌+◌, Bool, true, false, List, [], ◌∷◌, ◌++◌, length, take, drop, cond, Option, Some, None, MatchOption, Bor, Result, Ok, Err, IfErr, IsErrAnd, inl, inr, suc, refl, sym, ap, ◌∙◌, arith, append_assoc, append-nil, IsUtf8}
-use Rattle.std.proofs.lemmas.List.{append_cancel_right, take-append-drop, length-append, get_or-take, length-take, take_all, take_more}
-use Rattle.std.proofs.lemmas.List.Elements.{All-from_get_or, recursion_from_All}
-use Rattle.std.proofs.Math.Seq.{split_at}
-use Rattle.std.proofs.lemmas.List.Sums.{fails_before_first, passes_at_first, sum_by-append}
-use Rattle.std.proofs.lemmas.Str.{IsCharBoundary-before_ascii, IsCharBoundary-after_ascii}
-use Rattle.std.proofs.lemmas.Bool.{cases_lt}
-use Rattle.std.proofs.lemmas.Slice.Zip.{all_zipped_more}
-use Rattle.std.specs.List.{AllByRecursion, position, position_or_len, onto_first}
-use Rattle.std.specs.Str.{IsCharBoundary}
-use mir.Val.{bool_byte}
-use Rattle.std.specs.Str.Pattern.{FindsText, SplitsAroundMatch}
-use Rattle.relative_path.specs.Steps.{Step, components}
-use Rattle.relative_path.specs.RelativePathBuf.{Buffer}
-use Rattle.relative_path_moves.specs.Moves.{Move, OfTarget, ClimbsAbove, BelowTop, IsBeyond, IsMovedText}
-use Rattle.relative_path_moves.specs.MoveError.{Refuses}
-use Rattle.relative_path_moves.specs.declared.move_error.ReferenceError.{ReferenceError}
-use Rattle.relative_path_moves.specs.declared.move_error.ReferenceError.TheVariants.{AboveRoot, NoPath, OutOfMemory}
+-- The targets of a page moved one after the other.
+use Rattle.std.proofs.Common.{◌≡◌, ℕ, Bool, false, List, [], ◌∷◌, ◌++◌, length, Option, Some, None, is_some, refl, sym, ap, ◌∙◌, arith, subst, ◌||◌, inr, append_assoc, append-nil}
+use Rattle.std.proofs.lemmas.Bool.{cond_both}
+use Rattle.std.specs.List.{AllZip, list_any, between}
+use Rattle.std.specs.Option.{IsNone}
+use Rattle.relative_path.specs.Steps.{Step, slash, components}
+use Rattle.relative_path.specs.Walk.{IsSame}
+use Rattle.relative_path.proofs.StepsLemmas.{components-trailing_slash}
+use Rattle.relative_path_moves.specs.Moves.{Move}
+use Rattle.relative_path_uses.specs.declared.target.Target.{Target}
+use Rattle.relative_path_uses.specs.declared.rewriter.Left.{Left}
 use Rattle.relative_path_uses.specs.Reference.{IsReference}
-use Rattle.relative_path_uses.specs.Rewriter.{opening, closing, ends_chunk, chunks, HasTarget, HasNoTarget, ends_path, path_of, tail_of, is_kept, IsMovedTarget, IsRefusal, UnlessMemory, Part, IsChunkMoved, AreMoved, parts_text, link_count, IsRewritten, IsChunkRefused, IsFirstRefused, IsRefusedAt, at_link}
+use Rattle.relative_path_uses.specs.Targets.{ends_path, path_of, tail_of, is_kept}
+use Rattle.relative_path_uses.specs.Rewriter.{StillLeads, IsWayNow, with_slash, IsNewPath, is_unfit, has_unfit, Part, BecomesPart, Becomes, with_parts, left_of, told, IsRewritten}
+use Rattle.relative_path_uses.proofs.TargetsLemmas.{or_false, path_of-moved, is_kept-reference, is_kept-slash}
 
--- ---- the first chunk
+-- ---- one target
 
--- the first place at which a byte passes
-position_some : (p : ℕ → Bool) (text : List ℕ) (k : ℕ) → position p text ≡ Some k
-    → (k ≡ position_or_len p text) × (k < length text)
-position_some p text k is = grind arith
+-- with a slash at its end it is the same path
+same_with_slash : (path way reference : List ℕ) → IsSame (components way) (components reference)
+    → IsSame (components way) (components (with_slash path reference))
+same_with_slash path way reference same =
+    cond_both _ (reference ++ slash ∷ []) reference (λ text. IsSame (components way) (components text))
+    (λ _. subst (IsSame (components way)) (sym (components-trailing_slash reference)) same) (λ _. same)
 
--- the place after all bytes, where none passes
-position_none : (p : ℕ → Bool) (text : List ℕ) → position p text ≡ None → length text ≤ position_or_len p text
-position_none p text is = grind arith
+-- what is written in place of a path
+pub IsNewPath-way : (moves : List Move) (file : List Step) (path way reference new : List ℕ)
+    → ¬ StillLeads moves file path → IsWayNow moves file path way → IsReference way reference
+    → new ≡ with_slash path reference → IsNewPath moves file path new
+IsNewPath-way moves file path way reference new moved shortest is text = record {
+  way = way;
+  reference = reference;
+  moved = moved;
+  shortest = shortest;
+  is_reference = is;
+  text = text;
+  same = rw text (same_with_slash path way reference is.same);
+  relative = rw text
+      (cond_both _ (reference ++ slash ∷ []) reference (λ text. is_kept text ≡ false)
+      (λ _. is_kept-slash reference relative) (λ _. relative));
+} where
+  relative : is_kept reference ≡ false
+  relative = is_kept-reference way reference shortest.2.2.1.spelled is
 
-ends_chunk-ascii : (b : ℕ) → ends_chunk b ≡ true → b < 128
-ends_chunk-ascii b is = grind arith
+-- a value that is there
+pub IsNone-some : {T : Type 0} (found : Option T) (x : T) → found ≡ Some x → ¬ IsNone found
+IsNone-some None x is none = absurd (grind (arith, ap is_some is))
+IsNone-some (Some y) x is none = absurd (grind (arith, none))
 
-ends_path-ascii : (b : ℕ) → ends_path b ≡ true → b < 128
-ends_path-ascii b is = grind arith
+-- a byte that fits ends no path
+fits : (angled : Bool) (text : List ℕ) → has_unfit angled text ≡ false → list_any ends_path text ≡ false
+fits angled [] fit = refl
+fits angled (b ∷ bs) fit =
+    let (first, rest) = or_false (is_unfit angled b) (has_unfit angled bs) fit in
+    let goes_on : ends_path b ≡ false = grind (arith, first) in
+    ap (λ ends. ends || list_any ends_path bs) goes_on ∙ fits angled bs rest
 
--- after the end of the first chunk a character begins
-pub boundary_behind : (text : List ℕ) (k : ℕ) → IsUtf8 text → position ends_chunk text ≡ Some k
-    → IsCharBoundary text (k + 1)
-boundary_behind text k utf8 is =
-    let (first, inside) = position_some ends_chunk text k is in
-    let ends = rw (sym first) at (passes_at_first ends_chunk text 0 (rw (sym first) inside)) in
-    IsCharBoundary-after_ascii text k utf8 inside (ends_chunk-ascii _ ends)
+-- a target whose path is written anew
+pub BecomesPart-moved : (moves : List Move) (file : List Step) (angled : Bool) (target path new tail : List ℕ)
+    → path ≡ path_of target → tail ≡ tail_of target → IsNewPath moves file path new → has_unfit angled new ≡ false
+    → BecomesPart moves file angled target (record { text = new ++ tail; left = None })
+BecomesPart-moved moves file angled target path new tail is_path is_tail is fit = inr (record {
+  new = new;
+  is_new = rw is_path at is;
+  fit = fit;
+  whole = ap (λ tail. new ++ tail) is_tail;
+  read_back = ap (λ tail. path_of (new ++ tail)) is_tail ∙ path_of-moved new target (fits angled new fit);
+})
 
--- before the end of the path a character ends
-pub boundary_before : (text : List ℕ) (k : ℕ) → position ends_path text ≡ Some k → IsCharBoundary text k
-boundary_before text k is =
-    let (first, inside) = position_some ends_path text k is in
-    let ends = rw (sym first) at (passes_at_first ends_path text 0 (rw (sym first) inside)) in
-    IsCharBoundary-before_ascii text k inside (ends_path-ascii _ ends)
+-- ---- all targets
 
--- no byte of the text ends a chunk
-abbrev NoneEnds : List ℕ → Type 0
-NoneEnds = AllByRecursion (λ b. ends_chunk b ≡ false)
-
-none_ends : (text : List ℕ) (k : ℕ) → k ≤ position_or_len ends_chunk text → NoneEnds (take k text)
-none_ends text k first =
-    recursion_from_All (λ b. ends_chunk b ≡ false) (take k text)
-    (All-from_get_or (λ b. ends_chunk b ≡ false) (take k text) 0 (λ i l.
-    let before : i < k = omega (arith, length-take k text, l) in
-    rw (get_or-take k text i 0 before) (fails_before_first ends_chunk text i 0 (omega (arith, first, before)))))
-
-chunks_cut : (xs ys : List ℕ) (e : ℕ) → NoneEnds xs → ends_chunk e ≡ true
-    → chunks (xs ++ e ∷ ys) ≡ (xs ++ e ∷ []) ∷ chunks ys
-chunks_cut [] ys e none ends = ap (λ ends. cond ends ((e ∷ []) ∷ chunks ys) (onto_first e (chunks ys))) ends
-chunks_cut (x ∷ xs) ys e none ends =
-    ap (λ ends. cond ends ((x ∷ []) ∷ chunks (xs ++ e ∷ ys)) (onto_first x (chunks (xs ++ e ∷ ys)))) none.0
-    ∙ ap (onto_first x) (chunks_cut xs ys e none.1 ends)
-
-chunks_whole : (text : List ℕ) → NoneEnds text → 0 < length text → chunks text ≡ text ∷ []
-chunks_whole [] none some = absurd (omega arith)
-chunks_whole (x ∷ []) none some = ap (λ ends. cond ends ((x ∷ []) ∷ []) ((x ∷ []) ∷ [])) none.0
-chunks_whole (x ∷ y ∷ xs) none some =
-    ap (λ ends. cond ends ((x ∷ []) ∷ chunks (y ∷ xs)) (onto_first x (chunks (y ∷ xs)))) none.0
-    ∙ ap (onto_first x) (chunks_whole (y ∷ xs) none.1 (omega arith))
-
--- the first chunk is the text up to its end
-pub chunks-first : (text : List ℕ) (k : ℕ) → position ends_chunk text ≡ Some k
-    → chunks text ≡ take (k + 1) text ∷ chunks (drop (k + 1) text)
-chunks-first text k is =
-    let (first, inside) = position_some ends_chunk text k is in
-    let ends = rw (sym first) at (passes_at_first ends_chunk text 0 (rw (sym first) inside)) in
-    let next : suc k ≡ k + 1 = omega arith in
-    ap chunks (rw next at (split_at text k 0 inside))
-    ∙ chunks_cut (take k text) (drop (k + 1) text) _ (none_ends text k (omega (arith, first))) ends
-    ∙ ap (λ front. front ∷ chunks (drop (k + 1) text)) (sym (take_more text k 0 inside))
-
--- a text that nothing ends is one chunk
-pub chunks-last : (text : List ℕ) → position ends_chunk text ≡ None → 0 < length text → chunks text ≡ text ∷ []
-chunks-last text is some =
-    let all = position_none ends_chunk text is in
-    chunks_whole text (rw (take_all (length text) text (omega arith)) at (none_ends text (length text) all))
-    some
-
--- ---- the target of a chunk
-
--- a chunk that no `)` closes
-pub HasNoTarget-open : (chunk : List ℕ) → ((front : List ℕ) → chunk ≢ front ++ closing) → HasNoTarget chunk
-HasNoTarget-open chunk none = λ text target is. none (text ++ opening ++ target) is
-
-drop_length : (xs ys : List ℕ) → drop (length xs) (xs ++ ys) ≡ ys
-drop_length [] ys = refl
-drop_length (x ∷ xs) ys = drop_length xs ys
-
--- where `](` stands in a chunk that is closed, it stands before the `)`
-opening_within : (chunk body before after : List ℕ) → chunk ≡ body ++ closing
-    → chunk ≡ before ++ opening ++ after ++ closing
-    → (length before ≤ length body) × (drop (length before) body ≡ opening ++ after)
-opening_within chunk body before after closed is =
-    let there = append_cancel_right body (before ++ opening ++ after) closing (sym closed ∙ is)
-    ∙ append_assoc before opening after in (
-      omega (arith, ap length there, length-append before (opening ++ after)),
-      ap (drop (length before)) there ∙ drop_length before (opening ++ after),
-    )
-
--- a chunk that is closed, cut around its first `](`
-pub HasTarget-split : (chunk body : List ℕ) (found : Option (Bor (List ℕ) × Bor (List ℕ))) → chunk ≡ body ++ closing
-    → MatchOption found (FindsText opening body None)
-    (λ parts. SplitsAroundMatch (FindsText opening) body parts.0.now parts.1.now)
-    → MatchOption found (HasNoTarget chunk) (λ parts. HasTarget chunk parts.0.now parts.1.now)
-HasTarget-split chunk body None closed none = λ text target is.
-    let (within, there) = opening_within chunk body text target closed is in none (length text) within target there
-HasTarget-split chunk body (Some (text, target)) closed (i, j, (first, there), front, back, in_order, len, rest) =
-    record {
-      whole = closed ∙ ap (λ body. body ++ closing) whole;
-      first = λ before after is. elim (cases_lt (length before) (length text.now)) [
-        | inr no_less ↦ no_less
-        | inl less ↦
-            absurd (first (length before) (omega (arith, less, len)) after
-            (opening_within chunk body before after closed is).1)
-      ];
-    } where
-      whole : body ≡ text.now ++ opening ++ target.now
-      whole =
-          sym (take-append-drop i body) ∙ ap (λ rest. take i body ++ rest) there.split
-          ∙ sym (append_assoc (take i body) opening (drop j body)) ∙ rw (front, back) refl
-
--- ---- refusals
-
--- what the table refuses of a reference
-pub refused_way : (moves : List Move) (i : ℕ) (reference : List Step) (kept : Type 0) (result : Result Buffer ReferenceError)
-    (error : ReferenceError) → result ≡ Err error → kept
-    → Refuses result AboveRoot OutOfMemory (OfTarget moves i reference ClimbsAbove)
-    → Refuses result NoPath OutOfMemory (OfTarget moves i reference (BelowTop (IsBeyond moves i)))
-    → UnlessMemory (λ refusal. kept × IsRefusal moves i reference refusal) error
-refused_way moves i reference kept result error is left above beyond =
-    tell error (rw is at above) (rw is at beyond) where
-      tell : (error : ReferenceError) → Refuses {T = Buffer} (Err error) AboveRoot OutOfMemory (OfTarget moves i reference ClimbsAbove)
-          → Refuses {T = Buffer} (Err error) NoPath OutOfMemory (OfTarget moves i reference (BelowTop (IsBeyond moves i)))
-          → UnlessMemory (λ refusal. kept × IsRefusal moves i reference refusal) error
-      tell AboveRoot above beyond = (left, above.only refl)
-      tell NoPath above beyond = (left, beyond.only refl)
-      tell OutOfMemory above beyond = tt
-
--- a result that is this error
-pub IfErr-is : {T : Type 0} (P : ReferenceError → Type 0) (result : Result T ReferenceError) (error : ReferenceError)
-    → IsErrAnd result (λ e. e ≡ error) → P error → IfErr result P
-IfErr-is P (Ok x) error is holds = tt
-IfErr-is P (Err e) error is holds = rw is holds
-
--- a target whose path is moved
-pub IsMovedTarget-way : (moves : List Move) (i : ℕ) (target path way reference tail : List ℕ)
-    → is_kept (path_of target) ≡ false → path ≡ path_of target → tail ≡ tail_of target
-    → OfTarget moves i (components path) (BelowTop (IsMovedText moves i way)) → IsReference way reference
-    → IsMovedTarget moves i target (reference ++ tail)
-IsMovedTarget-way moves i target path way reference tail left is_path is_tail moved is =
-    rw left (way, reference, rw is_path at moved, is, ap (λ tail. reference ++ tail) is_tail)
-
--- four texts added one after the other
-pub append_four : (old a b c d : List ℕ) → old ++ a ++ b ++ c ++ d ≡ old ++ (a ++ b ++ c ++ d)
-append_four [] a b c d = refl
-append_four (x ∷ old) a b c d = ap (λ text. x ∷ text) (append_four old a b c d)
-
--- ---- chunks moved one after the other
-
--- some chunks of the page are moved, the text has what they became, and what is left has the other chunks
-pub record Progress (moves : List Move) (i : ℕ) (page left text : List ℕ) (links : ℕ) : Type 0 where
-  pub before : List (List ℕ)
+-- some targets have their parts, the text has these and what stands between them, and the rest of the targets
+-- and of the page is to come
+pub record Progress (moves : List Move) (file : List Step) (page : List ℕ) (targets : List Target) (at : ℕ) (rest : List Target) (text : List ℕ) (left : List (ℕ × Left)) : Type 0 where
   pub parts : List Part
-  pub cut : chunks page ≡ before ++ chunks left
-  pub moved : AreMoved moves i before parts
-  pub joined : text ≡ parts_text parts
-  pub number : links ≡ link_count parts
+  pub become : (more : List Part) → AllZip (Becomes moves file page) rest more
+      → AllZip (Becomes moves file page) targets (parts ++ more)
+  pub text_is : (more : List Part) → with_parts page 0 targets (parts ++ more) ≡ text ++ with_parts page at rest more
+  pub left_is : (more : List Part) → left_of targets (parts ++ more) ≡ left ++ left_of rest more
 
-pub Progress-start : (moves : List Move) (i : ℕ) (page text : List ℕ) → text ≡ [] → Progress moves i page page text 0
-Progress-start moves i page text empty = record {
-  before = [];
+pub Progress-start : (moves : List Move) (file : List Step) (page : List ℕ) (targets : List Target) (text : List ℕ)
+    (left : List (ℕ × Left)) → text ≡ [] → left ≡ [] → Progress moves file page targets 0 targets text left
+Progress-start moves file page targets text left no_text none = record {
   parts = [];
-  cut = refl;
-  moved = tt;
-  joined = empty;
-  number = refl;
+  become = λ more is. is;
+  text_is = λ more. ap (λ text. text ++ with_parts page 0 targets more) (sym no_text);
+  left_is = λ more. ap (λ left. left ++ left_of targets more) (sym none);
 }
 
-pub bool_byte_is : (b : Bool) → bool_byte b ≡ cond b 1 0
-bool_byte_is true = refl
-bool_byte_is false = refl
+-- four texts in a row
+joined_four : {X : Type 0} (a b c d : List X) → a ++ (b ++ c ++ d) ≡ a ++ b ++ c ++ d
+joined_four a b c d = sym (append_assoc a (b ++ c) d) ∙ ap (λ front. front ++ d) (sym (append_assoc a b c))
 
-pub cond_le_one : (b : Bool) → cond b 1 0 ≤ 1
-cond_le_one true = omega arith
-cond_le_one false = omega arith
-
--- with the next chunk
-pub Progress-next : (moves : List Move) (i : ℕ) (page left chunk rest old new : List ℕ) (links : ℕ) (part : Part)
-    → Progress moves i page left old links → chunks left ≡ chunk ∷ chunks rest → IsChunkMoved moves i chunk part
-    → new ≡ old ++ part.text → Progress moves i page rest new (links + cond part.is_link 1 0)
-Progress-next moves i page left chunk rest old new links part so_far next is added = record {
-  before = so_far.before ++ chunk ∷ [];
+-- with the part of the next target
+pub Progress-next : (moves : List Move) (file : List Step) (page : List ℕ) (targets : List Target) (at : ℕ)
+    (target : Target) (rest : List Target) (text next : List ℕ) (left later : List (ℕ × Left)) (part : Part)
+    → Progress moves file page targets at (target ∷ rest) text left → Becomes moves file page target part
+    → next ≡ text ++ between at target.start page ++ part.text → later ≡ left ++ told target.start part.left
+    → Progress moves file page targets target.end rest next later
+Progress-next moves file page targets at target rest text next left later part so_far is added now_left = record {
   parts = so_far.parts ++ part ∷ [];
-  cut =
-      so_far.cut ∙ ap (λ more. so_far.before ++ more) next
-      ∙ sym (append_assoc so_far.before (chunk ∷ []) (chunks rest));
-  moved = all_zipped_more (IsChunkMoved moves i) so_far.before so_far.parts chunk part so_far.moved is;
-  joined = added ∙ ap (λ text. text ++ part.text) so_far.joined ∙ sym (parts_text_push so_far.parts part);
-  number =
-      omega
-      (arith, so_far.number, sum_by-append (λ part. cond part.is_link 1 0) so_far.parts (part ∷ []));
+  become = λ more others.
+      subst (AllZip (Becomes moves file page) targets) (sym (append_assoc so_far.parts (part ∷ []) more))
+      (so_far.become (part ∷ more) (is, others));
+  text_is = text_is;
+  left_is = left_is;
 } where
-  parts_text_push : (parts : List Part) (part : Part) → parts_text (parts ++ part ∷ []) ≡ parts_text parts ++ part.text
-  parts_text_push [] part = append-nil part.text
-  parts_text_push (p ∷ parts) part =
-      ap (λ text. p.text ++ text) (parts_text_push parts part) ∙ sym (append_assoc p.text (parts_text parts) part.text)
+  text_is : (more : List Part) → with_parts page 0 targets ((so_far.parts ++ part ∷ []) ++ more)
+      ≡ next ++ with_parts page target.end rest more
+  text_is more =
+      let first = ap (with_parts page 0 targets) (append_assoc so_far.parts (part ∷ []) more) in
+      let then = so_far.text_is (part ∷ more) in
+      let last = joined_four text (between at target.start page) part.text (with_parts page target.end rest more) in
+      rw added (first ∙ (then ∙ last))
 
--- with the last chunk the page is rewritten
-pub IsRewritten-end : (moves : List Move) (i : ℕ) (page left text : List ℕ) (links : ℕ)
-    → Progress moves i page left text links → chunks left ≡ [] → IsRewritten moves i page text
-IsRewritten-end moves i page left text links so_far none =
-    let all = so_far.cut ∙ ap (λ more. so_far.before ++ more) none ∙ append-nil so_far.before in
-    (so_far.parts, rw all so_far.moved, so_far.joined)
+  left_is : (more : List Part) → left_of targets ((so_far.parts ++ part ∷ []) ++ more)
+      ≡ later ++ left_of rest more
+  left_is more =
+      let first = ap (left_of targets) (append_assoc so_far.parts (part ∷ []) more) in
+      let then = so_far.left_is (part ∷ more) in
+      let last = sym (append_assoc left (told target.start part.left) (left_of rest more)) in
+      rw now_left (first ∙ (then ∙ last))
 
--- the next chunk is refused
-pub IsRefusedAt-next : (moves : List Move) (i : ℕ) (page left chunk rest text : List ℕ) (links : ℕ) (error : ReferenceError)
-    → Progress moves i page left text links → chunks left ≡ chunk ∷ chunks rest
-    → UnlessMemory (IsChunkRefused moves i chunk) error → IsRefusedAt moves i page (at_link links error)
-IsRefusedAt-next moves i page left chunk rest text links error so_far next refused = tell error refused where
-  first : (error : ReferenceError) → IsChunkRefused moves i chunk error → IsFirstRefused moves i page links error
-  first error is = record {
-    before = so_far.before;
-    chunk = chunk;
-    after = chunks rest;
-    parts = so_far.parts;
-    cut = so_far.cut ∙ ap (λ more. so_far.before ++ more) next;
-    moved = so_far.moved;
-    number = so_far.number;
-    refused = is;
-  }
+-- after the last target the rest of the page stays
+pub IsRewritten-last : (moves : List Move) (file : List Step) (page : List ℕ) (targets : List Target) (at : ℕ)
+    (text whole : List ℕ) (left : List (ℕ × Left)) → Progress moves file page targets at [] text left
+    → whole ≡ text ++ with_parts page at [] [] → IsRewritten moves file page targets whole left
+IsRewritten-last moves file page targets at text whole left so_far is = record {
+  parts = so_far.parts ++ [];
+  become = so_far.become [] tt;
+  text_is = is ∙ sym (so_far.text_is []);
+  left_is = sym (append-nil left) ∙ sym (so_far.left_is []);
+}
 
-  tell : (error : ReferenceError) → UnlessMemory (IsChunkRefused moves i chunk) error
-      → IsRefusedAt moves i page (at_link links error)
-  tell AboveRoot is = first AboveRoot is
-  tell NoPath is = first NoPath is
-  tell OutOfMemory is = tt
+pub no_targets : (targets : List Target) → length targets ≡ 0 → targets ≡ []
+no_targets [] none = refl
+no_targets (target ∷ targets) none = absurd (omega (arith, none))

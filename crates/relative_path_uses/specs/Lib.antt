@@ -5,4 +5,5 @@ pub mod Manifest
 pub mod Reference
 pub mod UrlPath
 pub mod SiteMap
+pub mod Targets
 pub mod Rewriter

@@ -1,140 +1,122 @@
--- A page in Markdown: its links, and what they become when files move.
-use Rattle.std.specs.Prelude.{◌≡◌, ◌≢◌, ◌≤◌, ℕ, Bool, false, ◌==◌, ◌||◌, List, [], ◌∷◌, ◌++◌, map, length, drop, codes, decimal, if◌then◌else◌, ⊤}
-use Rattle.std.specs.Bool.{MatchBool}
-use Rattle.std.specs.List.{AllZip, before_first, concat, count_by, onto_first}
-use Rattle.relative_path.specs.Steps.{Step, components}
-use Rattle.relative_path.specs.Unix.{has_root}
-use Rattle.relative_path_moves.specs.Moves.{Move, OfTarget, ClimbsAbove, BelowTop, IsBeyond, IsMovedText}
-use Rattle.relative_path_moves.specs.declared.move_error.ReferenceError.{ReferenceError}
-use Rattle.relative_path_moves.specs.declared.move_error.ReferenceError.TheVariants.{AboveRoot, NoPath, OutOfMemory}
-use Rattle.relative_path_moves.specs.MoveError as moves_error
-use Rattle.relative_path_uses.specs.Reference.{is_misread, IsReference}
-use Rattle.relative_path_uses.specs.declared.rewriter.RewriteError.{RewriteError}
-use Rattle.relative_path_uses.specs.declared.rewriter.RewriteError.TheVariants as rewrite
+-- What becomes of the targets of a page when files move, and of the page.
+use Rattle.std.specs.Prelude.{◌≡◌, ◌⊎◌, ℕ, Bool, true, false, ◌==◌, ◌||◌, ◌&&◌, not, nat_lt, List, [], ◌∷◌, ◌++◌, length, drop, get_or, ◌-◌, Option, None, Some, MatchOption, if◌then◌else◌, ⊤}
+use Rattle.std.specs.List.{AllZip, list_any, between}
+use Rattle.relative_path.specs.Steps.{Step, slash, is_slash, components}
+use Rattle.relative_path.specs.Walk.{IsSame}
+use Rattle.relative_path.specs.Relating.{Leads, IsReachable, IsShortestText}
+use Rattle.relative_path_moves.specs.Moves.{Move, OfLink, ClimbsAbove, BelowTop}
+use Rattle.relative_path_uses.specs.Reference.{IsReference}
+use Rattle.relative_path_uses.specs.Targets.{path_of, tail_of, is_kept, target_text, is_angled}
+use Rattle.relative_path_uses.specs.declared.target.Target.{Target}
+use Rattle.relative_path_uses.specs.declared.rewriter.Left.{Left}
+use Rattle.relative_path_uses.specs.declared.rewriter.Left.TheVariants.{AboveRoot, NoPath, Unwritable}
+use Rattle.relative_path_uses.specs.declared.rewriter.PathError.{PathError}
+use Rattle.relative_path_uses.specs.declared.rewriter.PathError.TheVariants as refused
 
--- `](`, which stands before a target
-abbrev pub opening : List ℕ
-opening = codes "]("
+-- the path leads, as it is written, from where the file is now to where it led before, or to where that is now
+abbrev pub StillLeads : List Move → List Step → List ℕ → Type 0
+StillLeads moves file path = OfLink moves file (components path) (λ directory. Leads directory (components path))
 
--- `)`, which stands after it
-abbrev pub closing : List ℕ
-closing = codes ")"
+-- the way is the shortest path from where the file is now to there
+abbrev pub IsWayNow : List Move → List Step → List ℕ → List ℕ → Type 0
+IsWayNow moves file path way =
+    OfLink moves file (components path) (λ directory. BelowTop (λ target. IsShortestText directory target way))
 
--- the byte is a `)` or a line feed
-abbrev pub ends_chunk : ℕ → Bool
-ends_chunk b = b == 41 || b == 10
+-- the text ends in a slash
+abbrev pub ends_in_slash : List ℕ → Bool
+ends_in_slash text = is_slash (get_or text (length text - 1) 0)
 
--- the page cut after each `)` and each line feed
-abbrev pub chunks : List ℕ → List (List ℕ)
-chunks [] = []
-chunks (b ∷ bs) = if ends_chunk b then (b ∷ []) ∷ chunks bs else onto_first b (chunks bs)
+-- the reference, with a slash at its end if the path has one
+abbrev pub with_slash : List ℕ → List ℕ → List ℕ
+with_slash path reference =
+    if ends_in_slash path && not (ends_in_slash reference) then reference ++ slash ∷ [] else reference
 
--- the chunk is a text, `](`, a target and `)`, and there is no such text that is shorter
-pub record HasTarget (chunk text target : List ℕ) : Type 0 where
-  pub whole : chunk ≡ text ++ opening ++ target ++ closing
-  pub first : (before after : List ℕ) → chunk ≡ before ++ opening ++ after ++ closing → length text ≤ length before
+-- what has to be written in place of a path that leads there no more: the way as a reference, which is read as a path,
+-- leads where the way does, and ends in a slash if the path does
+pub record IsNewPath (moves : List Move) (file : List Step) (path new : List ℕ) : Type 0 where
+  pub way : List ℕ
+  pub reference : List ℕ
+  pub moved : ¬ StillLeads moves file path
+  pub shortest : IsWayNow moves file path way
+  pub is_reference : IsReference way reference
+  pub text : new ≡ with_slash path reference
+  pub same : IsSame (components way) (components new)
+  pub relative : is_kept new ≡ false
 
--- the chunk isn't that
-abbrev pub HasNoTarget : List ℕ → Type 0
-HasNoTarget chunk = (text target : List ℕ) → chunk ≢ text ++ opening ++ target ++ closing
+-- in a target the byte is read as something else than a name's: a control byte, `#`, `?`, `<`, `>`, a backslash, a
+-- backtick, `&` or `|`
+abbrev pub is_special : ℕ → Bool
+is_special b =
+    nat_lt b 32 || b == 127 || b == 35 || b == 63 || b == 60 || b == 62 || b == 92 || b == 96 || b == 38 || b == 124
 
--- the byte is `#`, `?` or a space
-abbrev pub ends_path : ℕ → Bool
-ends_path b = b == 35 || b == 63 || b == 32
+-- and outside `<` and `>` so is a space or a parenthesis
+abbrev pub is_unfit : Bool → ℕ → Bool
+is_unfit angled b = is_special b || not angled && (b == 32 || b == 40 || b == 41)
 
--- the path of a target: what stands before a fragment, a query or a title
-abbrev pub path_of : List ℕ → List ℕ
-path_of target = before_first ends_path target
+-- the text has such a byte
+abbrev pub has_unfit : Bool → List ℕ → Bool
+has_unfit angled text = list_any (is_unfit angled) text
 
--- what stands after the path
-abbrev pub tail_of : List ℕ → List ℕ
-tail_of target = drop (length (path_of target)) target
+-- the path of the target is left as it is, and this is why: it leads above the root, no path leads there, or the new
+-- path can't be written there
+abbrev pub IsLeft : List Move → List Step → Bool → List ℕ → Left → Type 0
+IsLeft moves file angled path AboveRoot = OfLink moves file (components path) (λ _. ClimbsAbove)
+IsLeft moves file angled path NoPath =
+    OfLink moves file (components path) (λ directory. BelowTop (λ target. ¬ IsReachable directory target))
+IsLeft moves file angled path Unwritable =
+    (new : List ℕ) × IsNewPath moves file path new × (has_unfit angled new ≡ true)
 
--- a target with this path stays as it is: it is empty or has a scheme, or it begins with a slash
-abbrev pub is_kept : List ℕ → Bool
-is_kept path = is_misread path || has_root path
+-- why a path has no new one; an allocation failure says nothing of it
+abbrev pub IsRefused : List Move → List Step → Bool → List ℕ → PathError → Type 0
+IsRefused moves file angled path (refused.Left why) = IsLeft moves file angled path why
+IsRefused moves file angled path refused.OutOfMemory = ⊤
 
--- moved is the target in the file of move number i after the moves: the target itself where that is kept, and else its
--- path as the reference of what the path has to be, and what stands after the path
-abbrev pub IsMovedTarget : List Move → ℕ → List ℕ → List ℕ → Type 0
-IsMovedTarget moves i target moved = MatchBool (is_kept (path_of target)) (moved ≡ target)
-    ((way reference : List ℕ) × OfTarget moves i (components (path_of target)) (BelowTop (IsMovedText moves i way))
-    × IsReference way reference × (moved ≡ reference ++ tail_of target))
-
--- what a chunk becomes: whether it has a target, and its text after the moves
+-- what a target becomes: its text, and why it is left, if it is
 pub record Part : Type 0 where
-  pub is_link : Bool
   pub text : List ℕ
+  pub left : Option Left
 
--- the chunk becomes the part: its target is moved, if it has one, and all else of it stays
-abbrev pub IsChunkMoved : List Move → ℕ → List ℕ → Part → Type 0
-IsChunkMoved moves i chunk part = MatchBool part.is_link
-    ((text target moved : List ℕ) × HasTarget chunk text target × IsMovedTarget moves i target moved
-    × (part.text ≡ text ++ opening ++ moved ++ closing))
-    (HasNoTarget chunk × (part.text ≡ chunk))
+-- the text is the target after the moves: the new path and the tail, and read back, its path is the new path
+pub record IsMovedTarget (moves : List Move) (file : List Step) (angled : Bool) (target text : List ℕ) : Type 0 where
+  pub new : List ℕ
+  pub is_new : IsNewPath moves file (path_of target) new
+  pub fit : has_unfit angled new ≡ false
+  pub whole : text ≡ new ++ tail_of target
+  pub read_back : path_of text ≡ new
 
--- the chunks become the parts, in order
-abbrev pub AreMoved : List Move → ℕ → List (List ℕ) → List Part → Type 0
-AreMoved moves i = AllZip (IsChunkMoved moves i)
+-- the target becomes the part: it stays since it still leads there, it is moved, or it is left as it is
+abbrev pub BecomesPart : List Move → List Step → Bool → List ℕ → Part → Type 0
+BecomesPart moves file angled target part = MatchOption part.left
+    (StillLeads moves file (path_of target) × (part.text ≡ target)
+    ⊎ IsMovedTarget moves file angled target part.text)
+    (λ why. IsLeft moves file angled (path_of target) why × (part.text ≡ target))
 
--- the text of the parts, in order
-abbrev pub parts_text : List Part → List ℕ
-parts_text parts = concat (map (λ part. part.text) parts)
+-- a target of the page becomes the part
+abbrev pub Becomes : List Move → List Step → List ℕ → Target → Part → Type 0
+Becomes moves file page target part =
+    BecomesPart moves file (is_angled page target) (target_text page target) part
 
--- how many of them are links
-abbrev pub link_count : List Part → ℕ
-link_count parts = count_by (λ part. part.is_link) parts
+-- a target is told by the byte where it stands, if it is left
+abbrev pub told : ℕ → Option Left → List (ℕ × Left)
+told start None = []
+told start (Some why) = (start, why) ∷ []
 
--- the text is what the chunks of the page become
-abbrev pub IsRewritten : List Move → ℕ → List ℕ → List ℕ → Type 0
-IsRewritten moves i page text = (parts : List Part) × AreMoved moves i (chunks page) parts × (text ≡ parts_text parts)
+-- the page from byte `at` on, with a part in place of each target
+abbrev pub with_parts : List ℕ → ℕ → List Target → List Part → List ℕ
+with_parts page at [] parts = drop at page
+with_parts page at (target ∷ targets) [] = drop at page
+with_parts page at (target ∷ targets) (part ∷ parts) =
+    between at target.start page ++ part.text ++ with_parts page target.end targets parts
 
--- the moves refuse the reference so; an allocation failure says nothing of it
-abbrev pub IsRefusal : List Move → ℕ → List Step → ReferenceError → Type 0
-IsRefusal moves i reference AboveRoot = OfTarget moves i reference ClimbsAbove
-IsRefusal moves i reference NoPath = OfTarget moves i reference (BelowTop (IsBeyond moves i))
-IsRefusal moves i reference OutOfMemory = ⊥
+-- where the targets that are left stand, and why each is left
+abbrev pub left_of : List Target → List Part → List (ℕ × Left)
+left_of [] parts = []
+left_of (target ∷ targets) [] = []
+left_of (target ∷ targets) (part ∷ parts) = told target.start part.left ++ left_of targets parts
 
--- the target isn't kept, and the moves refuse its path so
-abbrev pub IsTargetRefused : List Move → ℕ → List ℕ → ReferenceError → Type 0
-IsTargetRefused moves i target refusal =
-    (is_kept (path_of target) ≡ false) × IsRefusal moves i (components (path_of target)) refusal
-
--- the chunk has a target, and the moves refuse that so
-abbrev pub IsChunkRefused : List Move → ℕ → List ℕ → ReferenceError → Type 0
-IsChunkRefused moves i chunk refusal =
-    (text target : List ℕ) × HasTarget chunk text target × IsTargetRefused moves i target refusal
-
--- link number k of the page is refused so, and each before it is moved
-pub record IsFirstRefused (moves : List Move) (i : ℕ) (page : List ℕ) (k : ℕ) (refusal : ReferenceError) : Type 0 where
-  pub before : List (List ℕ)
-  pub chunk : List ℕ
-  pub after : List (List ℕ)
+-- the page becomes the text: each target becomes its part, and all else stays; these targets are left
+pub record IsRewritten (moves : List Move) (file : List Step) (page : List ℕ) (targets : List Target) (text : List ℕ) (left : List (ℕ × Left)) : Type 0 where
   pub parts : List Part
-  pub cut : chunks page ≡ before ++ chunk ∷ after
-  pub moved : AreMoved moves i before parts
-  pub number : k ≡ link_count parts
-  pub refused : IsChunkRefused moves i chunk refusal
-
--- what the page is where it is refused so; an allocation failure says nothing of it
-abbrev pub IsRefusedAt : List Move → ℕ → List ℕ → RewriteError → Type 0
-IsRefusedAt moves i page (rewrite.Link k refusal) = IsFirstRefused moves i page k refusal
-IsRefusedAt moves i page rewrite.OutOfMemory = ⊤
-
--- the refusal of link number k
-abbrev pub at_link : ℕ → ReferenceError → RewriteError
-at_link k AboveRoot = rewrite.Link k AboveRoot
-at_link k NoPath = rewrite.Link k NoPath
-at_link k OutOfMemory = rewrite.OutOfMemory
-
--- P holds of a refusal, unless it is an allocation failure
-abbrev pub UnlessMemory : (ReferenceError → Type 0) → ReferenceError → Type 0
-UnlessMemory P AboveRoot = P AboveRoot
-UnlessMemory P NoPath = P NoPath
-UnlessMemory P OutOfMemory = ⊤
-
--- what is printed of a refusal
-abbrev pub refusal_text : RewriteError → List ℕ
-refusal_text (rewrite.Link k refusal) =
-    codes "link " ++ decimal k ++ codes ": " ++ moves_error.refusal_text (moves_error.of_reference refusal)
-refusal_text rewrite.OutOfMemory = codes "out of memory"
+  pub become : AllZip (Becomes moves file page) targets parts
+  pub text_is : text ≡ with_parts page 0 targets parts
+  pub left_is : left ≡ left_of targets parts

@@ -1,237 +1,217 @@
 //! A rewriter of links: a page in Markdown, whose file and others moved.
-ghost use Rattle.std.specs.Prelude.{◌≡◌, ◌<◌, ◌+◌, ◌++◌, ℕ, List, [], ◌∷◌, length, Some, IfOk, IfErr, IfNone, IfSome, string_bytes};
-ghost use Rattle.std.specs.List.{position};
+ghost use Rattle.std.specs.Prelude.{◌≡◌, ◌++◌, List, ℕ, false, IfOk, IfErr, MatchOption, string_bytes};
+ghost use Rattle.relative_path.specs.RelativePath.{path_components};
+ghost use Rattle.relative_path_uses.specs.Targets.{HasTargets};
 ghost use Rattle.relative_path_uses.specs.Rewriter.{
-  ends_chunk,
-  ends_path,
-  chunks,
-  path_of,
-  tail_of,
-  is_kept,
-  at_link,
-  HasTarget,
-  HasNoTarget,
-  IsMovedTarget,
-  IsTargetRefused,
-  IsChunkMoved,
-  IsChunkRefused,
+  Becomes,
+  BecomesPart,
+  has_unfit,
+  IsNewPath,
+  IsRefused,
   IsRewritten,
-  IsRefusedAt,
+  is_unfit,
   Part,
-  UnlessMemory,
+  StillLeads,
+  told,
+  with_slash,
 };
 
-use crate::reference::{is_misread, reference};
+use crate::reference::reference;
+use crate::target::{Target, split_path};
 use relative_path::RelativePath;
 use relative_path_moves::{MoveTable, ReferenceError};
 use std::alloc::{AllocError, Global};
-use std::error::Error;
-use std::fmt;
 
-/// Why a page is refused. Links are told by their numbers, counted from 0.
-///
-/// A refusal prints its words.
-///
-/// ```
-/// let error = RewriteError::Link(3, ReferenceError::NoPath);
-/// assert_eq!(rt; error.to_string(alloc)?.as_str(), "link 3: no path");
-/// ```
+/// Why [`rewritten`] leaves a link as it is.
 #[derive(Clone, Copy, Debug, PartialEq, Eq)]
-pub enum RewriteError {
-    /// The first link whose target the table refuses, and its reason.
-    Link(usize, ReferenceError),
-    /// Memory was refused.
+pub enum Left {
+    /// It leads above the root.
+    AboveRoot,
+    /// No path leads from the page's new directory to where it leads.
+    NoPath,
+    /// The new path can't be written there: it has a byte that is read otherwise in a link.
+    Unwritable,
+}
+
+/// A page after the moves, as [`rewritten`] answers it.
+#[derive(Drop)]
+pub struct RewrittenPage {
+    /// Its text.
+    pub text: String,
+    /// The links that are left as they are: at which byte of the page before the moves the target
+    /// stands, and why.
+    pub left: Vec<(usize, Left)>,
+}
+
+// Why a path has no new one.
+enum PathError {
+    Left(Left),
     OutOfMemory,
 }
 
-impl fmt::Display for RewriteError {
-    ghost use Rattle.relative_path_uses.specs.Rewriter.{refusal_text};
-
-    ghost output = { λ refusal. Some (refusal_text refusal) };
-
-    fn fmt<W: fmt::Write>(&self, f: &mut fmt::Formatter<W>) -> fmt::Result {
-        match self {
-            RewriteError::Link(k, error) => write!(f, "link {k}: {error}"),
-            RewriteError::OutOfMemory => f.write_str("out of memory"),
-        }
-    }
-}
-
-impl Error for RewriteError {}
-
-impl From<AllocError> for RewriteError {
-    ghost use Rattle.relative_path_uses.specs.declared.rewriter.RewriteError.TheVariants.{OutOfMemory};
+impl From<AllocError> for PathError {
+    ghost use Rattle.relative_path_uses.specs.declared.rewriter.PathError.TheVariants.{OutOfMemory};
 
     ghost from_gives = { λ _ refusal. refusal ≡ OutOfMemory };
 
-    fn from(_: AllocError) -> RewriteError {
-        RewriteError::OutOfMemory
+    fn from(_: AllocError) -> PathError {
+        PathError::OutOfMemory
     }
 }
 
-/// The text of a page in Markdown after the moves of a table, for the page that move number `i`
-/// moves: the target of each link leads from the page's new directory to where it led before, or to
-/// where that file is now.
+/// A page in Markdown after the moves of a table: each of its targets leads from the page's new
+/// directory to where it led before, or to where that file is now. All else stays byte for byte.
 ///
-/// A target stands between `](` and the next `)` on the same line; without that, `](` is text. It
-/// stays as it is where it begins with a slash, `#` or `?`, where it is empty, and where a colon
-/// before its first slash ends a scheme. What stands after its path, from the first `#`, `?` or
-/// space on (a fragment, a query, a title), is kept. A path that would then be misread, as it is
-/// empty or its first name holds a colon, stands after `./`. Nothing else of the page is read: also
-/// a link in a block of code is moved, references with a name (`[a]: b.md`) and targets in `<>`
-/// aren't understood, and nothing is encoded or decoded: percent signs are names' own, and a new
-/// path with a space, `#`, `?` or `)` is written as it is.
+/// The targets are those that [`targets`] finds, or others that stand in order in the page. The path
+/// `from` is the page's before the moves, whether or not it moves itself. A target that still leads
+/// there stays. Of one that doesn't, the path becomes the shortest one, its slash at the end, its query
+/// and its fragment stay, and read back it is that path. A target that has no path there, or none that
+/// can be written in a link, stays and is told in `left`. Nothing is encoded or decoded.
 ///
-/// It writes one text, in one pass, and takes memory for that, at first as much as the page has, and
-/// for each way.
+/// It takes memory for the text, at first as much as the page has, for what is left, and for what
+/// [`MoveTable::moved_in`] needs for each target. Only want of memory refuses a page.
 ///
 /// ```
 /// let moves = [("a.md", "docs/a.md"), ("b.md", "docs/more/b.md")]
 ///     .map(|(old, new)| (RelativePath::new(old), RelativePath::new(new)));
 /// let table = MoveTable::new(alloc, &moves)?;
-/// let page = "[b](b.md#top), [c](img/c.png), [d](https://d.org) and [e](#e).";
-/// assert_eq!(rt;
-///     rewritten(alloc, page, &table, 0)?.as_str(),
-///     "[b](more/b.md#top), [c](../img/c.png), [d](https://d.org) and [e](#e)."
-/// );
-/// let refused = rewritten(alloc, "[b](b.md) [f](../f.md)", &table, 0);
-/// assert_eq!(rt; refused.err(), Some(RewriteError::Link(1, ReferenceError::AboveRoot)));
+/// let page = "[b](b.md#top), [c](img/c.png), [d](../d.md)";
+/// let found = targets(alloc, page)?;
+/// let new = rewritten(alloc, page, &found, &table, RelativePath::new("a.md"))?;
+/// assert_eq!(rt; new.text.as_str(), "[b](more/b.md#top), [c](../img/c.png), [d](../d.md)");
+/// assert_eq!(rt; new.left.as_slice(), [(35, Left::AboveRoot)].as_slice());
 /// ```
 pub fn rewritten(
     alloc: Global,
     page: &str,
+    targets: &[Target],
     table: &MoveTable<'_>,
-    i: usize,
-) -> Result<String, RewriteError>
-    requires { i < length table.now }
-    ensures rewritten { IfOk result (λ text. IsRewritten table.now i page.now (string_bytes text)) }
-    ensures refused { IfErr result (IsRefusedAt table.now i page.now) }
+    from: RelativePath<'_>,
+) -> Result<RewrittenPage, AllocError>
+    requires { HasTargets page.now 0 targets.now }
+    ensures rewritten { IfOk result (λ new. IsRewritten table.now (path_components from.entry) page.now targets.now
+        (string_bytes new.text) new.left.items) }
 {
     let mut text = String::with_capacity(alloc, page.len())?;
-    let mut left = page;
-    let mut links = 0;
-    while let Some((chunk, rest)) = first_chunk(left) {
-        match push_chunk(alloc, &mut text, chunk, table, i) {
-            Ok(is_link) => links += usize::from(is_link),
-            Err(error) => return Err(at_link(links, error)),
-        }
-        left = rest;
+    let mut left = Vec::new(alloc);
+    let mut at = 0;
+    let mut rest = targets;
+    while let Some((target, others)) = rest.split_first() {
+        text.push_str(&page[at..target.start])?;
+        let angled = target.is_angled(page);
+        let why = push_target(alloc, &mut text, target.text(page), angled, table, from)?;
+        push_left(&mut left, target.start, why)?;
+        at = target.end;
+        rest = others;
     }
-    Ok(text)
+    text.push_str(&page[at..])?;
+    Ok(RewrittenPage { text, left })
 }
 
-// The refusal of a link.
-fn at_link(k: usize, error: ReferenceError) -> RewriteError
-    ensures { result ≡ at_link k error }
+// Adds a target that is left to the others.
+fn push_left(
+    left: &mut Vec<(usize, Left)>,
+    start: usize,
+    why: Option<Left>,
+) -> Result<(), AllocError>
+    ensures { IfOk result (λ _. left.new.items ≡ left.old.items ++ told start why) }
 {
-    match error {
-        ReferenceError::OutOfMemory => RewriteError::OutOfMemory,
-        error => RewriteError::Link(k, error),
+    if let Some(why) = why {
+        left.push((start, why))?;
     }
+    Ok(())
 }
 
-// Adds a chunk with its target moved; answers whether it has a target.
-fn push_chunk(
-    alloc: Global,
-    text: &mut String,
-    chunk: &str,
-    table: &MoveTable<'_>,
-    i: usize,
-) -> Result<bool, ReferenceError>
-    requires { i < length table.now }
-    ensures moved { IfOk result (λ is_link. (part : Part) × IsChunkMoved table.now i chunk.now part
-        × (part.is_link ≡ is_link) × (string_bytes text.new ≡ string_bytes text.old ++ part.text)) }
-    ensures refused { IfErr result (UnlessMemory (IsChunkRefused table.now i chunk.now)) }
-{
-    let Some((before, target)) = target_of(chunk) else {
-        text.push_str(chunk)?;
-        return Ok(false);
-    };
-    text.push_str(before)?;
-    text.push_str("](")?;
-    push_target(alloc, text, target, table, i)?;
-    text.push_str(")")?;
-    Ok(true)
-}
-
-// Adds a target as it is after the moves.
+// Adds what a target becomes; answers why it is left, if it is.
 fn push_target(
     alloc: Global,
     text: &mut String,
     target: &str,
+    angled: bool,
     table: &MoveTable<'_>,
-    i: usize,
-) -> Result<(), ReferenceError>
-    requires { i < length table.now }
-    ensures moved { IfOk result (λ _. (moved : List ℕ) × IsMovedTarget table.now i target.now moved
-        × (string_bytes text.new ≡ string_bytes text.old ++ moved)) }
-    ensures refused { IfErr result (UnlessMemory (IsTargetRefused table.now i target.now)) }
+    from: RelativePath<'_>,
+) -> Result<Option<Left>, AllocError>
+    ensures { IfOk result (λ left. (part : Part)
+        × BecomesPart table.now (path_components from.entry) angled target.now part
+        × (part.left ≡ left) × (string_bytes text.new ≡ string_bytes text.old ++ part.text)) }
 {
     let (path, tail) = split_path(target);
-    if is_kept(path) {
-        text.push_str(target)?;
-        return Ok(());
-    }
-    let way = table.moved(alloc, i, RelativePath::new(path))?;
-    let way = reference(alloc, way)?;
-    text.push_str(&way)?;
-    text.push_str(tail)?;
-    Ok(())
-}
-
-// The first chunk of a text, up to a `)` or a line feed, and what stands after it.
-fn first_chunk(text: &str) -> Option<(&str, &str)>
-    ensures none { IfNone result (chunks text.now ≡ []) }
-    ensures some { IfSome result (λ parts. chunks text.now ≡ parts.0.now ∷ chunks parts.1.now) }
-    ensures shorter { IfSome result (λ parts. length parts.1.now < length text.now) }
-{
-    match chunk_end(text) {
-        Some(end) => Some(text.split_at(end + 1)),
-        None if text.is_empty() => None,
-        None => Some((text, "")),
+    match new_path(alloc, path, angled, table, from) {
+        Ok(Some(new)) => {
+            text.push_str(&new)?;
+            text.push_str(tail)?;
+            Ok(None)
+        }
+        Ok(None) => {
+            text.push_str(target)?;
+            Ok(None)
+        }
+        Err(PathError::Left(why)) => {
+            text.push_str(target)?;
+            Ok(Some(why))
+        }
+        Err(PathError::OutOfMemory) => Err(AllocError),
     }
 }
 
-// Where the first chunk of a text ends, if a `)` or a line feed ends it.
-fn chunk_end(text: &str) -> Option<usize>
-    ensures { result ≡ position ends_chunk text.now }
+// What has to be written in place of a path, if that leads there no more.
+fn new_path(
+    alloc: Global,
+    path: &str,
+    angled: bool,
+    table: &MoveTable<'_>,
+    from: RelativePath<'_>,
+) -> Result<Option<String>, PathError>
+    ensures new { IfOk result (λ new. MatchOption new
+        (StillLeads table.now (path_components from.entry) path.now)
+        (λ new. IsNewPath table.now (path_components from.entry) path.now (string_bytes new)
+        × (has_unfit angled (string_bytes new) ≡ false))) }
+    ensures left { IfErr result (IsRefused table.now (path_components from.entry) angled path.now) }
 {
-    text.bytes().position(|b| b == b')' || b == b'\n')
-}
-
-// What stands before the `](` of a chunk, and its target.
-fn target_of(chunk: &str) -> Option<(&str, &str)>
-    ensures none { IfNone result (HasNoTarget chunk.now) }
-    ensures some { IfSome result (λ parts. HasTarget chunk.now parts.0.now parts.1.now) }
-{
-    let body = chunk.strip_suffix(')')?;
-    let parts = body.split_once("](")?;
-    Some(parts)
-}
-
-// The path of a target, and what stands after it.
-fn split_path(target: &str) -> (&str, &str)
-    ensures path { result.0.now ≡ path_of target.now }
-    ensures tail { result.1.now ≡ tail_of target.now }
-{
-    match path_end(target) {
-        Some(end) => target.split_at(end),
-        None => (target, ""),
+    let way = match table.moved_in(alloc, from, RelativePath::new(path)) {
+        Ok(Some(way)) => way,
+        Ok(None) => return Ok(None),
+        Err(ReferenceError::AboveRoot) => return Err(PathError::Left(Left::AboveRoot)),
+        Err(ReferenceError::NoPath) => return Err(PathError::Left(Left::NoPath)),
+        Err(ReferenceError::OutOfMemory) => return Err(PathError::OutOfMemory),
+    };
+    let new = with_slash(path, reference(alloc, way)?)?;
+    if has_unfit(angled, &new) {
+        return Err(PathError::Left(Left::Unwritable));
     }
+    Ok(Some(new))
 }
 
-// Where the path of a target ends, if something stands after it.
-fn path_end(target: &str) -> Option<usize>
-    ensures { result ≡ position ends_path target.now }
+// The reference, with a slash at its end if the path has one.
+fn with_slash(path: &str, mut reference: String) -> Result<String, AllocError>
+    ensures { IfOk result (λ new. string_bytes new ≡ with_slash path.now (string_bytes reference)) }
 {
-    target
-        .bytes()
-        .position(|b| b == b'#' || b == b'?' || b == b' ')
+    if path.ends_with('/') && !reference.ends_with('/') {
+        reference.push('/')?;
+    }
+    Ok(reference)
 }
 
-// Whether a target with this path stays as it is.
-fn is_kept(path: &str) -> bool
-    ensures { result ≡ is_kept path.now }
+// Whether a path can't be written in a link.
+fn has_unfit(angled: bool, path: &str) -> bool
+    ensures { result ≡ has_unfit angled path.now }
 {
-    is_misread(path) || path.starts_with('/')
+    path.bytes().any(|b| is_unfit(angled, b))
+}
+
+// Whether a byte of a path is read otherwise in a link.
+fn is_unfit(angled: bool, b: u8) -> bool
+    ensures { result ≡ is_unfit angled b }
+{
+    b < 32
+        || b == 127
+        || b == b'#'
+        || b == b'?'
+        || b == b'<'
+        || b == b'>'
+        || b == b'\\'
+        || b == b'`'
+        || b == b'&'
+        || b == b'|'
+        || !angled && (b == b' ' || b == b'(' || b == b')')
 }

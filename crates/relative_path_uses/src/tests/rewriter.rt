@@ -1,8 +1,8 @@
 use super::pages::{FRONT_PAGE, REWRITER};
-use super::{prints, same};
-use crate::{RewriteError, rewritten};
+use super::same;
+use crate::{Left, RewrittenPage, rewritten, targets};
 use relative_path::RelativePath;
-use relative_path_moves::{MoveTable, ReferenceError};
+use relative_path_moves::MoveTable;
 use std::alloc::Global;
 use std::test::Fail;
 
@@ -19,7 +19,7 @@ const MOVES: [(&str, &str); 4] = [
 ];
 
 // Pages with links, and what they become.
-const LINKED: [(&str, &str); 10] = [
+const LINKED: [(&str, &str); 11] = [
     ("[c](c.md)", "[c](../../e/f.md)"),
     ("![x](../img/x.png)\n", "![x](../../art/y.png)\n"),
     (
@@ -31,8 +31,8 @@ const LINKED: [(&str, &str); 10] = [
         "[c](../../e/f.md \"A title\") (c.md)",
     ),
     (
-        "[c](c.md)\r\n[d](d.md)\r\n",
-        "[c](../../e/f.md)\r\n[d](../d.md)\r\n",
+        "[c](c.md)\r\n[d]( <d.md> )\r\n",
+        "[c](../../e/f.md)\r\n[d]( <../d.md> )\r\n",
     ),
     (
         "[ü](über.md) [z](zürich/日.png)",
@@ -40,53 +40,55 @@ const LINKED: [(&str, &str); 10] = [
     ),
     ("[no](c.md\n[c](c.md) ](", "[no](c.md\n[c](../../e/f.md) ]("),
     ("[self](a.md) [here](.)", "[self](b.md) [here](..)"),
-    ("[up](sub) [in](sub/x:y.md)", "[up](./) [in](./x:y.md)"),
-    ("[[c](c.md)](d.md)", "[[c](../../e/f.md)](../d.md)"),
+    (
+        "[up](sub) [in](sub/x:y.md) [g](g/)",
+        "[up](./) [in](./x:y.md) [g](../g/)",
+    ),
+    ("[c][c]\n\n[c]: c.md\n", "[c][c]\n\n[c]: ../../e/f.md\n"),
+    ("`[c](c.md)` [g](<g h.md>)", "`[c](c.md)` [g](<../g h.md>)"),
 ];
 
 // Pages that stay as they are.
-const KEPT: [&str; 9] = [
+const KEPT: [&str; 7] = [
     "",
     "no link: a](b and [c] (d\n",
-    "](",
     "a) b) c)\n\n)",
-    "[a](#a) [q](?q) [none]() [space]( c.md)",
+    "[a](#a) [q](?q) [none]()",
     "[h](https://x.org/c.md) [m](mailto:x) [w](C:\\c.md)",
     "[r](/c.md) [s](//x.org/c.md)",
-    "[c][c]\n\n[c]: c.md\n",
     "] (c.md) [c]\n(c.md)\r\n",
 ];
 
-// What a page becomes that the first of these moves moves.
+// What a page at a path becomes after these moves.
 fn after(
     alloc: Global,
     moves: &[(RelativePath<'_>, RelativePath<'_>)],
+    from: &str,
     page: &str,
-) -> Result<String, Fail> {
+) -> Result<RewrittenPage, Fail> {
     let table = MoveTable::new(alloc, moves)?;
-    if table.len() == 0 {
-        return Err(Fail::new("no moves"));
-    }
-    Ok(rewritten(alloc, page, &table, 0)?)
+    let found = targets(alloc, page)?;
+    Ok(rewritten(alloc, page, &found, &table, RelativePath::new(from))?)
 }
 
-// Fails where such a page becomes another text than is expected.
+// Fails where it becomes another text than is expected, or a link is left.
 fn becomes(
     alloc: Global,
-    case: &str,
     moves: &[(RelativePath<'_>, RelativePath<'_>)],
+    from: &str,
     page: &str,
     expected: &str,
 ) -> Result<(), Fail> {
-    let text = after(alloc, moves, page)?;
-    same(case, &text.as_str(), &expected)
+    let new = after(alloc, moves, from, page)?;
+    same(page, &new.text.as_str(), &expected)?;
+    same(page, &new.left.as_slice(), &[].as_slice())
 }
 
 #[test]
 fn moves_the_targets_of_links(rt: HostRuntime) -> Result<(), Fail> {
     let moves = MOVES.map(as_paths);
     for (page, expected) in &LINKED {
-        becomes(rt.alloc(), page, &moves, page, expected)?;
+        becomes(rt.alloc(), &moves, "docs/a.md", page, expected)?;
     }
     Ok(())
 }
@@ -95,47 +97,62 @@ fn moves_the_targets_of_links(rt: HostRuntime) -> Result<(), Fail> {
 fn leaves_the_rest_as_it_is(rt: HostRuntime) -> Result<(), Fail> {
     let moves = MOVES.map(as_paths);
     for page in &KEPT {
-        becomes(rt.alloc(), page, &moves, page, page)?;
-    }
-    Ok(())
-}
-
-// The numbers of moves, pages, and why they are refused.
-const REFUSED: [(usize, &str, RewriteError); 3] = [
-    (
-        0,
-        "[e](../e.md)",
-        RewriteError::Link(0, ReferenceError::AboveRoot),
-    ),
-    (
-        0,
-        "[e](e.md) [#](#)\n[c](c.md)",
-        RewriteError::Link(2, ReferenceError::AboveRoot),
-    ),
-    (
-        2,
-        "[k](k) [e](e.md) [c](../c)",
-        RewriteError::Link(0, ReferenceError::NoPath),
-    ),
-];
-
-// Fails where the table refuses one of these pages for another reason than is expected, or doesn't.
-fn refuses(alloc: Global, table: &MoveTable<'_>) -> Result<(), Fail> {
-    for (i, page, refusal) in &REFUSED {
-        if *i >= table.len() {
-            return Err(Fail::new("no such move"));
-        }
-        let answer = rewritten(alloc, page, table, *i);
-        same(page, &answer.err(), &Some(*refusal))?;
+        becomes(rt.alloc(), &moves, "docs/a.md", page, page)?;
     }
     Ok(())
 }
 
 #[test]
-fn refuses_what_the_table_refuses(rt: HostRuntime) -> Result<(), Fail> {
-    let moves = [("a.md", "b.md"), ("c.md", "../c.md"), ("d.md", "../x/d.md")].map(as_paths);
-    let table = MoveTable::new(rt.alloc(), &moves)?;
-    refuses(rt.alloc(), &table)
+fn moves_a_page_that_stays(rt: HostRuntime) -> Result<(), Fail> {
+    let moves = MOVES.map(as_paths);
+    let page = "[c](./../docs/c.md) [d](./d.md)";
+    let expected = "[c](../e/f.md) [d](./d.md)";
+    becomes(rt.alloc(), &moves, "docs/d.md", page, expected)
+}
+
+// Old and new paths of a page, the page with one link that is left, and where and why.
+const LEFT: [(&str, &str, &str, usize, Left); 8] = [
+    ("a.md", "b.md", "[e](../e.md)", 4, Left::AboveRoot),
+    ("d.md", "../x/d.md", "[e](e.md)", 4, Left::NoPath),
+    ("My Docs/a.md", "b/a.md", "[x](x.md)", 4, Left::Unwritable),
+    ("(a)/a.md", "b/a.md", "[x](x.md)", 4, Left::Unwritable),
+    ("a#/a.md", "b/a.md", "[x](x.md)", 4, Left::Unwritable),
+    ("a\n/a.md", "b/a.md", "[x](<x.md>)", 5, Left::Unwritable),
+    ("a>/a.md", "b/a.md", "[x](<x.md>)", 5, Left::Unwritable),
+    ("a`|&/a.md", "b/a.md", "![x](x.md)", 5, Left::Unwritable),
+];
+
+// Fails where the link isn't left so.
+fn leaves(
+    alloc: Global,
+    (old, new, page, at, why): (&str, &str, &str, usize, Left),
+) -> Result<(), Fail> {
+    let moves = [(RelativePath::new(old), RelativePath::new(new))];
+    let moved = after(alloc, &moves, old, page)?;
+    same(old, &moved.text.as_str(), &page)?;
+    same(old, &moved.left.as_slice(), &[(at, why)].as_slice())
+}
+
+#[test]
+fn leaves_a_link_that_it_cant_move(rt: HostRuntime) -> Result<(), Fail> {
+    for row in &LEFT {
+        leaves(rt.alloc(), *row)?;
+    }
+    Ok(())
+}
+
+#[test]
+fn moves_the_others_beside_a_link_that_is_left(rt: HostRuntime) -> Result<(), Fail> {
+    let moves = [("My Docs/a.md", "b/a.md")].map(as_paths);
+    let page = "[x](x.md) [y](<y.md#z>) [z](../z.md)";
+    let moved = after(rt.alloc(), &moves, "My Docs/a.md", page)?;
+    let expected = "[x](x.md) [y](<../My Docs/y.md#z>) [z](../z.md)";
+    same(page, &moved.text.as_str(), &expected)?;
+    same(
+        page,
+        &moved.left.as_slice(),
+        &[(4, Left::Unwritable)].as_slice(),
+    )
 }
 
 #[test]
@@ -143,63 +160,63 @@ fn moves_a_link_in_each_line(rt: HostRuntime) -> Result<(), Fail> {
     let page = "- [c](c.md)\n".repeat(rt.alloc(), 5_000)?;
     let expected = "- [c](../../e/f.md)\n".repeat(rt.alloc(), 5_000)?;
     let moves = MOVES.map(as_paths);
-    becomes(rt.alloc(), "60,000 bytes", &moves, &page, &expected)
+    becomes(rt.alloc(), &moves, "docs/a.md", &page, &expected)
+}
+
+// Fails where a page that moves lacks one of these parts then, or isn't this text after it moves back.
+fn moves_and_back(
+    alloc: Global,
+    there: &[(RelativePath<'_>, RelativePath<'_>)],
+    page: &str,
+    parts: &[&str],
+    expected: &str,
+) -> Result<(), Fail> {
+    let mut back = Vec::new(alloc);
+    for (old, new) in there {
+        back.push((*new, *old))?;
+    }
+    let (from, now) = there.first().ok_or("a move")?;
+    let moved = after(alloc, there, from.as_str(), page)?;
+    for part in parts {
+        same(part, &moved.text.contains(*part), &true)?;
+    }
+    becomes(alloc, &back, now.as_str(), &moved.text, expected)
 }
 
 #[test]
 fn moves_the_front_page_and_back(rt: HostRuntime) -> Result<(), Fail> {
     let there = [("README.md", "docs/README.md")].map(as_paths);
-    let moved = after(rt.alloc(), &there, FRONT_PAGE)?;
-    let is_moved = moved.contains("[docs/CALLING.md](CALLING.md)");
-    same("there", &is_moved, &true)?;
-    let back = [("docs/README.md", "README.md")].map(as_paths);
-    becomes(rt.alloc(), "and back", &back, &moved, FRONT_PAGE)
+    let parts = ["[docs/CALLING.md](CALLING.md)"];
+    moves_and_back(rt.alloc(), &there, FRONT_PAGE, &parts, FRONT_PAGE)
 }
 
 // Parts of the page of the docs, as it is after its moves.
-const PARTS: [&str; 11] = [
-    "| [the callers](calling.md), which move too | `calling.md` |",
+const PARTS: [&str; 8] = [
+    "[the callers](calling.md), which move too",
     "[the errors](calling.md#errors), with a fragment",
     "[the decisions](../docs/DECISIONS.md \"why it is made so\")",
-    "[the front page](../README.md)",
-    "[the directory of this page](../docs)",
+    "[the contracts](../docs/contracts/)",
     "[this page](links.md)",
-    "[a part of this page](#links-of-pages-that-move)",
-    "[a site](https://www.rust-lang.org/) and [the server's root](/docs/)",
-    "between `](` and the next closing parenthesis\non the same line",
-    "- a `](` whose line closes no parenthesis behind it,\n",
-    "[calling]: CALLING.md\n",
+    "[the front page](../README.md), [a part of this page](#links-of-pages-that-move)",
+    "`[the callers](CALLING.md)`, in code",
+    "[calling]: calling.md\n",
 ];
 
-// Fails where a text lacks one of these parts.
-fn holds(text: &str, parts: &[&str]) -> Result<(), Fail> {
-    for part in parts {
-        same(part, &text.contains(*part), &true)?;
-    }
-    Ok(())
+// The page of the docs with the two links that still lead to their targets from where it was, which
+// are written as it had them between.
+fn as_moved_back(alloc: Global) -> Result<String, Fail> {
+    let (before, rest) = REWRITER.split_once("(DECISIONS.md ").ok_or("decisions")?;
+    let (between, after) = rest.split_once("(contracts/)").ok_or("contracts")?;
+    Ok(format!(in alloc; "{before}(../docs/DECISIONS.md {between}(../docs/contracts/){after}")?)
 }
 
 #[test]
-fn moves_the_page_of_the_docs(rt: HostRuntime) -> Result<(), Fail> {
-    let moves = [
+fn moves_the_page_of_the_docs_and_back(rt: HostRuntime) -> Result<(), Fail> {
+    let there = [
         ("docs/REWRITER.md", "guide/links.md"),
         ("docs/CALLING.md", "guide/calling.md"),
     ]
     .map(as_paths);
-    let text = after(rt.alloc(), &moves, REWRITER)?;
-    holds(&text, &PARTS)
-}
-
-#[test]
-fn refusals_print_their_words(rt: HostRuntime) -> Result<(), Fail> {
-    for (refusal, words) in &[
-        (
-            RewriteError::Link(1_000, ReferenceError::AboveRoot),
-            "link 1000: reference climbs above the root",
-        ),
-        (RewriteError::OutOfMemory, "out of memory"),
-    ] {
-        prints(rt.alloc(), refusal, words)?;
-    }
-    Ok(())
+    let expected = as_moved_back(rt.alloc())?;
+    moves_and_back(rt.alloc(), &there, REWRITER, &PARTS, expected.as_str())
 }

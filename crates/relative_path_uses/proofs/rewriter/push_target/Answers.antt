@@ -1,32 +1,35 @@
--- The target is kept, or its path is moved; the table refuses as it refuses the path.
-use Rattle.std.proofs.Common.{◌≡◌, ◌++◌, false, string_bytes, sym, ◌∙◌, ap, append_assoc}
-use Rattle.relative_path.specs.RelativePath.{path_text, path_components}
-use Rattle.relative_path_uses.specs.Rewriter.{is_kept, path_of, UnlessMemory, IsTargetRefused}
-use Rattle.relative_path_uses.proofs.RewriterLemmas.{refused_way, IfErr-is, IsMovedTarget-way}
+-- The target is written anew, stays, or is left.
+use Rattle.std.proofs.Common.{◌++◌, ◌∙◌, ap, sym, append_assoc, string_bytes, None, Some, inl, refl}
+use Rattle.relative_path.specs.RelativePath.{path_components}
+use Rattle.relative_path_uses.proofs.RewriterLemmas.{BecomesPart-moved}
 use Rattle.relative_path_uses.proofs.rewriter.push_target.Goals as goal
 
-pub returns-in_err-way-clause-refused : goal.returns-in_err-way-clause-refused
-returns-in_err-way-clause-refused c =
-    let left : is_kept (path_of c.args.target.now) ≡ false =
-    rw c.split_path.ensures.path at (sym c.is_kept.ensures ∙ c.if-is_kept.false) in
-    let path : path_text c.new.result ≡ path_of c.args.target.now = c.new.ensures ∙ c.split_path.ensures.path in
-    IfErr-is (UnlessMemory (IsTargetRefused c.args.table.now c.args.i c.args.target.now))
-    c.from_residual-in_err-way.result c.in_err-way.field-0.0 c.from_residual-in_err-way.ensures.1
-    (rw path at (refused_way c.args.table.now c.args.i (path_components c.new.result)
-    (is_kept (path_of c.args.target.now) ≡ false) c.moved.result c.in_err-way.field-0.0 c.in_err-way.was left
-    c.moved.ensures.above_root c.moved.ensures.no_path))
-
-pub returns-clause-moved : goal.returns-clause-moved
-returns-clause-moved c =
-    let left : is_kept (path_of c.args.target.now) ≡ false =
-    rw c.split_path.ensures.path at (sym c.is_kept.ensures ∙ c.if-is_kept.false) in
-    let path : path_text c.new.result ≡ path_of c.args.target.now = c.new.ensures ∙ c.split_path.ensures.path in
-    let reference = string_bytes c.in_ok-way-2.way in
-    let tail = c.split_path.result.1.now in (
-      reference ++ tail,
-      IsMovedTarget-way c.args.table.now c.args.i c.args.target.now (path_text c.new.result) c.in_ok-way.way.text
-          reference tail left path c.split_path.ensures.tail c.in_ok-way.ensures.shortest c.in_ok-way-2.ensures,
-      c.in_ok-push_str-3.ensures.bytes ∙ ap (λ text. text ++ tail) (c.in_ok-push_str-2.ensures.bytes
-          ∙ ap (λ way. string_bytes c.args.text.now ++ way) c.deref.ensures)
-          ∙ append_assoc (string_bytes c.args.text.now) reference tail,
+pub returns-in_ok-push_str-in-Ok-Some-2 : goal.returns-in_ok-push_str-in-Ok-Some-2
+returns-in_ok-push_str-in-Ok-Some-2 c =
+    let new = string_bytes c.in-Ok-Some.new in
+    let tail = c.split_path.result.1.now in
+    let is = rw c.in-Ok-Some.field-0-is at c.in-Ok-Some.ensures.new in (
+      record { text = new ++ tail; left = None },
+      BecomesPart-moved c.args.table.now (path_components c.args.from) c.args.angled c.args.target.now
+          c.split_path.result.0.now new tail c.split_path.ensures.path c.split_path.ensures.tail is.0 is.1,
+      refl,
+      c.in_ok-push_str-in-Ok-Some-2.ensures.bytes ∙ ap (λ text. text ++ tail) (c.in_ok-push_str-in-Ok-Some.ensures.bytes
+          ∙ ap (λ new. string_bytes c.args.text.now ++ new) c.deref.ensures)
+          ∙ append_assoc (string_bytes c.args.text.now) new tail,
     )
+
+pub returns-in_ok-push_str-in-Ok-None : goal.returns-in_ok-push_str-in-Ok-None
+returns-in_ok-push_str-in-Ok-None c = (
+  record { text = c.args.target.now; left = None },
+  inl (rw (c.in-Ok-None.field-0-is, c.split_path.ensures.path) at c.in-Ok-None.ensures.new, refl),
+  refl,
+  c.in_ok-push_str-in-Ok-None.ensures.bytes,
+)
+
+pub returns-in_ok-push_str-in-Err-Left : goal.returns-in_ok-push_str-in-Err-Left
+returns-in_ok-push_str-in-Err-Left c = (
+  record { text = c.args.target.now; left = Some c.in-Err-Left.why },
+  (rw (c.in-Err-Left.field-0-is, c.split_path.ensures.path) at c.in-Err-Left.ensures.left, refl),
+  sym (ap Some c.in-Err-Left.why-is),
+  c.in_ok-push_str-in-Err-Left.ensures.bytes,
+)

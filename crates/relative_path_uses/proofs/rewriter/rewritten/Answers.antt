@@ -1,37 +1,48 @@
--- Each turn moves the next chunk, or is refused at it.
-use Rattle.std.proofs.Common.{◌≡◌, cond, rules, arith, string_bytes, sym, ◌∙◌}
-use Rattle.relative_path_uses.proofs.RewriterLemmas.{bool_byte_is, cond_le_one, Progress-start, Progress-next, IsRefusedAt-next}
+-- Each turn moves the next target, and after the last the rest of the page stays.
+use Rattle.std.proofs.Common.{◌++◌, ◌∙◌, ap, sym, string_bytes}
+use Rattle.std.proofs.lemmas.Str.{IsCharBoundary-start}
+use Rattle.relative_path.specs.RelativePath.{path_components}
+use Rattle.relative_path_uses.specs.Rewriter.{told}
+use Rattle.relative_path_uses.proofs.RewriterLemmas.{Progress-start, Progress-next, IsRewritten-last, no_targets}
 use Rattle.relative_path_uses.proofs.rewriter.rewritten.Goals as goal
 
-pub loop-chunk-init : goal.loop-chunk-init
-loop-chunk-init c = record {
-  text = search rules;
-  room = omega arith;
+pub loop-target-init : goal.loop-target-init
+loop-target-init c = record {
+  start = IsCharBoundary-start c.args.page.now c.utf8.page;
+  rest = c.requires;
   progress =
-      Progress-start c.args.table.now c.args.i c.args.page.now (string_bytes c.in_ok-text.text)
-      c.in_ok-text.ensures.bytes;
+      Progress-start c.args.table.now (path_components c.args.from) c.args.page.now c.args.targets.now
+      (string_bytes c.in_ok-text.text) c.new-left.result.items c.in_ok-text.ensures.bytes c.new-left.ensures.items;
 }
 
-pub returns-in-Err-clause-refused : goal.returns-in-Err-clause-refused
-returns-in-Err-clause-refused c =
-    rw c.at_link.ensures
-    (IsRefusedAt-next c.args.table.now c.args.i c.args.page.now c.loop-chunk.left.now c.in-Some.chunk.now
-    c.in-Some.rest.now (string_bytes c.loop-chunk.text) c.loop-chunk.links c.in-Err.error
-    c.loop-chunk.invariant.progress c.in-Some.ensures.some c.in-Err.ensures.refused)
-
-pub loop-chunk-preserved : goal.loop-chunk-preserved
-loop-chunk-preserved c =
-    let (part, is, is_link, added) = c.in-Ok.ensures.moved in
-    let one : c.from-links.result ≡ cond c.in-Ok.is_link 1 0 =
-    c.from-links.ensures ∙ bool_byte_is c.in-Ok.is_link in
+pub loop-target-preserved : goal.loop-target-preserved
+loop-target-preserved c =
+    let first = c.in-Some.ensures.cases.0 in
+    let (after, is, others) = rw first at c.loop-target.invariant.rest in
+    let (part, becomes, left_is, added) = c.in_ok-why.ensures in
     record {
-      text = search rules;
-      room =
-          omega
-          (arith, one, cond_le_one c.in-Ok.is_link, c.loop-chunk.invariant.room, c.in-Some.ensures.shorter);
+      start = is.end;
+      rest = others;
       progress =
-          rw (one, sym is_link)
-          (Progress-next c.args.table.now c.args.i c.args.page.now c.loop-chunk.left.now c.in-Some.chunk.now
-          c.in-Some.rest.now (string_bytes c.loop-chunk.text) (string_bytes c.push_chunk.new.text) c.loop-chunk.links
-          part c.loop-chunk.invariant.progress c.in-Some.ensures.some is added);
+          Progress-next c.args.table.now (path_components c.args.from) c.args.page.now c.args.targets.now
+          c.loop-target.at c.in-Some.target.now c.in-Some.others.now (string_bytes c.loop-target.text)
+          (string_bytes c.push_target.new.text) c.loop-target.left.items c.push_left.new.left.items part
+          (rw first at c.loop-target.invariant.progress)
+          (rw (c.text.ensures, c.is_angled-angled.ensures) at becomes)
+          (added ∙ ap (λ text. text ++ part.text) (c.in_ok-push_str.ensures.bytes
+          ∙ ap (λ gap. string_bytes c.loop-target.text ++ gap) c.range.ensures.value))
+          (c.in_ok-push_left.ensures
+          ∙ ap (λ why. c.loop-target.left.items ++ told c.in-Some.target.now.start why) (sym left_is));
+    }
+
+pub returns : goal.returns
+returns c =
+    let none = no_targets c.loop-target.rest.now c.in_default.ensures.cases in
+    record {
+      rewritten =
+          IsRewritten-last c.args.table.now (path_components c.args.from) c.args.page.now c.args.targets.now
+          c.loop-target.at (string_bytes c.loop-target.text) (string_bytes c.push_str-2.new.self)
+          c.loop-target.left.items (rw none at c.loop-target.invariant.progress)
+          (c.in_ok-push_str-2.ensures.bytes
+          ∙ ap (λ rest. string_bytes c.loop-target.text ++ rest) c.range_from.ensures.value);
     }

@@ -1,16 +1,18 @@
--- The chunks so far are moved, and what is left of the page has the others.
-use Rattle.std.proofs.Common.{length, ◌+◌, ◌≤◌, string_bytes}
-use denote.Shadow.{shadow}
-use denote.Text.{Utf8}
+-- The targets so far have become their parts.
+use Rattle.std.proofs.Common.{length, string_bytes}
+use Rattle.std.specs.Str.{IsCharBoundary}
+use Rattle.relative_path.specs.RelativePath.{path_components}
+use Rattle.relative_path_uses.specs.Targets.{HasTargets}
 use Rattle.relative_path_uses.proofs.RewriterLemmas.{Progress}
 use Rattle.relative_path_uses.proofs.rewriter.rewritten.Given as goal
 
-abbrev pub invariant-loop-chunk : goal.invariant-loop-chunk
-invariant-loop-chunk l = record {
-  text : shadow (Utf8 l.left);
-  room : l.links + length l.left ≤ length l.page;
-  progress : Progress l.table l.i l.page l.left (string_bytes l.text) l.links;
+abbrev pub invariant-loop-target : goal.invariant-loop-target
+invariant-loop-target l = record {
+  start : IsCharBoundary l.page l.at;
+  rest : HasTargets l.page l.at l.rest;
+  progress :
+      Progress l.table (path_components l.from) l.page l.targets l.at l.rest (string_bytes l.text) l.left.items;
 }
 
-abbrev pub decreases-loop-chunk : goal.decreases-loop-chunk
-decreases-loop-chunk l = length l.left
+abbrev pub decreases-loop-target : goal.decreases-loop-target
+decreases-loop-target l = length l.rest

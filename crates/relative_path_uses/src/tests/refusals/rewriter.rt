@@ -1,33 +1,26 @@
-//! The rewriter of links.
+//! The finder and the rewriter of links.
 use super::long_text;
 use super::marks::{begin, end};
 use crate::tests::same;
-use crate::{RewriteError, rewritten};
+use crate::{rewritten, targets};
 use relative_path::RelativePath;
 use relative_path_moves::MoveTable;
 use std::alloc::Global;
 use std::test::Fail;
 
-// The rewriter's call between two marks, on a page that the first move moves. It fails where memory
+// The rewriter's call between two marks, on a page that moves into a directory. It fails where memory
 // was there and the page becomes another text than is expected.
-fn marked(alloc: Global, table: &MoveTable<'_>, page: &str, expected: &str) -> Result<(), Fail> {
-    if table.len() == 0 {
-        return Err(Fail::new("no move"));
-    }
-    begin(alloc);
-    let answer = rewritten(alloc, page, table, 0);
-    end(alloc, answer.is_err())?;
-    match answer {
-        Ok(text) => same(page, &text.as_str(), &expected),
-        Err(error) => same(page, &error, &RewriteError::OutOfMemory),
-    }
-}
-
-// The same, where the page moves into a directory.
 fn moved_down(alloc: Global, page: &str, expected: &str) -> Result<(), Fail> {
     let moves = [(RelativePath::new("a.md"), RelativePath::new("b/a.md"))];
     let table = MoveTable::new(alloc, &moves)?;
-    marked(alloc, &table, page, expected)
+    let found = targets(alloc, page)?;
+    begin(alloc);
+    let answer = rewritten(alloc, page, &found, &table, RelativePath::new("a.md"));
+    end(alloc, answer.is_err())?;
+    match answer {
+        Ok(new) => same(page, &new.text.as_str(), &expected),
+        Err(_) => Ok(()),
+    }
 }
 
 #[test]
@@ -48,6 +41,23 @@ fn a_long_link(rt: HostRuntime) -> Result<(), Fail> {
 }
 
 #[test]
+fn a_link_that_is_left(rt: HostRuntime) -> Result<(), Fail> {
+    moved_down(rt.alloc(), "[c](../c.md)", "[c](../c.md)")
+}
+
+#[test]
 fn a_page_without_links(rt: HostRuntime) -> Result<(), Fail> {
     moved_down(rt.alloc(), "no link](", "no link](")
+}
+
+#[test]
+fn links_of_a_page(rt: HostRuntime) -> Result<(), Fail> {
+    let alloc = rt.alloc();
+    begin(alloc);
+    let answer = targets(alloc, "[c](c.md) ![d](d.png)");
+    end(alloc, answer.is_err())?;
+    match answer {
+        Ok(found) => same("links", &found.len(), &2),
+        Err(_) => Ok(()),
+    }
 }

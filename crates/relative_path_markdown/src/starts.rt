@@ -1,0 +1,119 @@
+//! What a line begins after the markers of its containers.
+
+use crate::cursor::{Cursor, is_blank_byte, is_blank_text, past, run_length};
+use crate::fence::Fence;
+use crate::html_block::HtmlBlock;
+
+// How many `#` a heading may have.
+const DEEPEST_HEADING: usize = 6;
+
+// How many bytes of one kind make a thematic break.
+const SHORTEST_BREAK: usize = 3;
+
+// What a line begins.
+#[derive(Clone, Copy)]
+pub(crate) enum Start {
+    // Nothing: the line is blank.
+    Blank,
+    // A line of a paragraph.
+    Text,
+    // Indented code.
+    Code,
+    // A heading of so many `#`.
+    Heading(usize),
+    // A block of code in fences.
+    Fenced(Fence),
+    // A block in HTML.
+    Html(HtmlBlock),
+    // A thematic break, or the underline of a heading.
+    Rule,
+}
+
+// The paragraph that a line finds before it. It goes on if nothing else begins in the line.
+#[derive(Clone, Copy)]
+pub(crate) enum Before {
+    // A paragraph in the containers that the line belongs to.
+    Paragraph,
+    // A paragraph in further containers, whose markers the line lacks.
+    Lazy,
+    // No paragraph.
+    Nothing,
+}
+
+impl Before {
+    // Whether there is a paragraph of the same containers.
+    pub(crate) fn is_paragraph(self) -> bool {
+        matches!(self, Before::Paragraph)
+    }
+
+    // Whether there is a paragraph.
+    pub(crate) fn goes_on(self) -> bool {
+        !matches!(self, Before::Nothing)
+    }
+}
+
+// What the rest of a line begins, which opens no container.
+pub(crate) fn start_of(cursor: Cursor<'_>, before: Before) -> Start {
+    if cursor.is_blank() {
+        return Start::Blank;
+    }
+    if cursor.is_indented() {
+        return if before.goes_on() {
+            Start::Text
+        } else {
+            Start::Code
+        };
+    }
+    let text = cursor.rest;
+    if let Some(level) = heading_level(text) {
+        return Start::Heading(level);
+    }
+    if is_rule(text, before) {
+        return Start::Rule;
+    }
+    if let Some(fence) = Fence::opened(text) {
+        return Start::Fenced(fence);
+    }
+    HtmlBlock::opened(text, before.goes_on()).map_or(Start::Text, Start::Html)
+}
+
+// How many `#` a text begins with, if they make a heading.
+fn heading_level(text: &[u8]) -> Option<usize> {
+    let level = run_length(text, b'#');
+    let is_open = text.get(level).is_none_or(|&byte| is_blank_byte(byte));
+    if level == 0 || level > DEEPEST_HEADING || !is_open {
+        return None;
+    }
+    Some(level)
+}
+
+// Whether a text is a thematic break, or underlines the paragraph before it.
+fn is_rule(text: &[u8], before: Before) -> bool {
+    is_thematic_break(text) || (before.is_paragraph() && is_underline(text))
+}
+
+// Whether a text underlines a heading.
+fn is_underline(text: &[u8]) -> bool {
+    match text.first() {
+        Some(&byte) if byte == b'=' || byte == b'-' => {
+            is_blank_text(past(text, run_length(text, byte)))
+        }
+        _ => false,
+    }
+}
+
+// Whether a text is a thematic break.
+pub(crate) fn is_thematic_break(text: &[u8]) -> bool {
+    match text.first() {
+        Some(&byte) if byte == b'*' || byte == b'-' || byte == b'_' => {
+            text.iter()
+                .all(|&other| other == byte || is_blank_byte(other))
+                && text
+                    .iter()
+                    .filter(|&&other| other == byte)
+                    .nth(SHORTEST_BREAK - 1)
+                    .is_some()
+        }
+        _ => false,
+    }
+}

@@ -1,0 +1,130 @@
+-- A target cut after its path.
+use Rattle.std.proofs.Common.{◌≡◌, ◌≢◌, ℕ, ◌<◌, ◌+◌, Bool, true, false, ◌||◌, List, [], ◌∷◌, ◌++◌, length, take, drop, get_or, not, suc, cond, Some, refl, sym, ap, ◌∙◌, subst, arith, append_assoc, append-nil, ◌≤◌}
+use Rattle.std.proofs.lemmas.Bool.{cond_both}
+use Rattle.std.proofs.lemmas.List.Sums.{passes_at_first}
+use Rattle.std.proofs.lemmas.Str.{IsCharBoundary-before_ascii}
+use Rattle.std.specs.List.{position, position_or_len, list_any, before_first}
+use Rattle.std.specs.Str.{IsCharBoundary}
+use Rattle.relative_path.specs.Steps.{Step, slash, is_slash, step_text, components, spell}
+use Rattle.relative_path.specs.Unix.{has_root}
+use Rattle.relative_path.proofs.StepsLemmas.{AreProper, AreProper-components, HasNoSlash-start, HasNoSlash-proper, nonempty_proper}
+use Rattle.relative_path_uses.specs.Reference.{is_misread, has_scheme, IsReference}
+use Rattle.relative_path_uses.specs.Targets.{ends_path, path_of, tail_of, is_kept, IsTarget, HasTargets}
+use Rattle.relative_path_uses.specs.declared.target.Target.{Target}
+
+-- the first place at which a byte passes
+position_some : (p : ℕ → Bool) (text : List ℕ) (k : ℕ) → position p text ≡ Some k
+    → (k ≡ position_or_len p text) × (k < length text)
+position_some p text k is = grind arith
+
+ends_path-ascii : (b : ℕ) → ends_path b ≡ true → b < 128
+ends_path-ascii b is = grind arith
+
+-- before the end of the path a character ends
+pub boundary_before : (text : List ℕ) (k : ℕ) → position ends_path text ≡ Some k → IsCharBoundary text k
+boundary_before text k is =
+    let (first, inside) = position_some ends_path text k is in
+    let ends = rw (sym first) at (passes_at_first ends_path text 0 (rw (sym first) inside)) in
+    IsCharBoundary-before_ascii text k inside (ends_path-ascii _ ends)
+
+-- ---- a path read back
+
+-- neither passes
+pub or_false : (a b : Bool) → (a || b) ≡ false → (a ≡ false) × (b ≡ false)
+or_false false b is = (refl, is)
+or_false true b is = absurd (grind (arith, is))
+
+-- what stands before the first element that passes, by the first element
+pub before_first-next : (p : ℕ → Bool) (b : ℕ) (bs : List ℕ)
+    → before_first p (b ∷ bs) ≡ cond (p b) [] (b ∷ before_first p bs)
+before_first-next p b bs = of (p b) where
+  more : 1 + position_or_len p bs ≡ suc (position_or_len p bs)
+  more = omega arith
+
+  of : (passes : Bool) → take (cond (not passes) (1 + position_or_len p bs) 0) (b ∷ bs)
+      ≡ cond passes [] (b ∷ before_first p bs)
+  of true = refl
+  of false = ap (λ k. take k (b ∷ bs)) more
+
+-- after the path comes what ends it
+path_of-tail : (target : List ℕ) → path_of (tail_of target) ≡ []
+path_of-tail [] = refl
+path_of-tail (b ∷ bs) =
+    subst (λ path. path_of (drop (length path) (b ∷ bs)) ≡ []) (sym (before_first-next ends_path b bs))
+    (cond_both (ends_path b) [] (b ∷ path_of bs) (λ path. path_of (drop (length path) (b ∷ bs)) ≡ [])
+    (λ ends. before_first-next ends_path b bs ∙ ap (λ ends. cond ends [] (b ∷ path_of bs)) ends)
+    (λ _. path_of-tail bs))
+
+-- a path that nothing ends stands before the tail
+pub path_of-moved : (path target : List ℕ) → list_any ends_path path ≡ false → path_of (path ++ tail_of target) ≡ path
+path_of-moved [] target none = path_of-tail target
+path_of-moved (b ∷ bs) target none =
+    before_first-next ends_path b (bs ++ tail_of target)
+    ∙ ap (λ ends. cond ends [] (b ∷ path_of (bs ++ tail_of target))) (or_false _ _ none).0
+    ∙ ap (λ path. b ∷ path) (path_of-moved bs target (or_false _ _ none).1)
+
+-- ---- a path from the page's directory
+
+has_root-not : (text : List ℕ) → get_or text 0 0 ≢ slash → has_root text ≡ false
+has_root-not [] first = refl
+has_root-not (b ∷ bs) first = grind (first, arith)
+
+spell_start : (cs : List Step) → AreProper cs → get_or (spell cs) 0 0 ≢ slash
+spell_start [] proper = λ e. absurd (omega (arith, e))
+spell_start (c ∷ []) proper = λ e.
+    HasNoSlash-start (step_text c) [] (nonempty_proper c proper.0) (HasNoSlash-proper c proper.0)
+    (ap (λ text. get_or text 0 0) (append-nil (step_text c)) ∙ e)
+spell_start (c ∷ d ∷ cs) proper =
+    HasNoSlash-start (step_text c) (slash ∷ spell (d ∷ cs)) (nonempty_proper c proper.0) (HasNoSlash-proper c proper.0)
+
+-- what spells components has no root
+has_root-spelled : (text : List ℕ) → text ≡ spell (components text) → has_root text ≡ false
+has_root-spelled text is =
+    has_root-not text
+    (subst (λ text. get_or text 0 0 ≢ slash) (sym is) (spell_start (components text) (AreProper-components text)))
+
+-- the reference of such a text is a path from the page's directory
+pub is_kept-reference : (way reference : List ℕ) → way ≡ spell (components way) → IsReference way reference
+    → is_kept reference ≡ false
+is_kept-reference way reference spelled is =
+    ap (λ misread. misread || has_root reference) is.read
+    ∙ subst (λ text. has_root text ≡ false) (sym is.text)
+    (cond_both (is_misread way) _ way (λ text. has_root text ≡ false) (λ _. refl)
+    (λ _. has_root-spelled way spelled))
+
+has_scheme-slash : (text : List ℕ) → has_scheme (text ++ slash ∷ []) ≡ has_scheme text
+has_scheme-slash text = ap (list_any _) (same text) where
+  same : (text : List ℕ) → before_first is_slash (text ++ slash ∷ []) ≡ before_first is_slash text
+  same [] = refl
+  same (b ∷ bs) =
+      before_first-next is_slash b (bs ++ slash ∷ []) ∙ ap (λ rest. cond (is_slash b) [] (b ∷ rest)) (same bs)
+      ∙ sym (before_first-next is_slash b bs)
+
+-- and so it is with a slash after it
+pub is_kept-slash : (text : List ℕ) → is_kept text ≡ false → is_kept (text ++ slash ∷ []) ≡ false
+is_kept-slash [] relative = absurd (grind (arith, relative))
+is_kept-slash (b ∷ bs) relative = ap (λ scheme. scheme || is_slash b) (has_scheme-slash (b ∷ bs)) ∙ relative
+
+-- ---- targets in order
+
+-- the page has the targets so far, and after them those that it has from byte `at` on
+pub record HasSoFar (page : List ℕ) (targets : List Target) (at : ℕ) : Type 0 where
+  pub with : (more : List Target) → HasTargets page at more → HasTargets page 0 (targets ++ more)
+
+pub HasSoFar-none : (page : List ℕ) (targets : List Target) → targets ≡ [] → HasSoFar page targets 0
+HasSoFar-none page targets none = record { with = λ more has. rw none has }
+
+-- with the next target
+pub HasSoFar-next : (page : List ℕ) (targets all : List Target) (at : ℕ) (target : Target) → HasSoFar page targets at
+    → all ≡ targets ++ target ∷ [] → at ≤ target.start → IsTarget page target → HasSoFar page all target.end
+HasSoFar-next page targets all at target so_far is after has = record {
+  with = λ more others.
+      rw is
+      (subst (HasTargets page 0) (sym (append_assoc targets (target ∷ []) more))
+      (so_far.with (target ∷ more) (after, has, others)));
+}
+
+-- after the last target there are no more
+pub HasTargets-whole : (page : List ℕ) (targets : List Target) (at : ℕ) → HasSoFar page targets at
+    → HasTargets page 0 targets
+HasTargets-whole page targets at so_far = subst (HasTargets page 0) (append-nil targets) (so_far.with [] tt)

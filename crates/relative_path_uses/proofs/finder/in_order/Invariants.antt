@@ -1,0 +1,6 @@
+-- The targets so far are the page's, and stand before byte `at`.
+use Rattle.relative_path_uses.proofs.TargetsLemmas.{HasSoFar}
+use Rattle.relative_path_uses.proofs.finder.in_order.Given as goal
+
+abbrev pub invariant-loop-span : goal.invariant-loop-span
+invariant-loop-span l = HasSoFar l.page l.targets.items l.at

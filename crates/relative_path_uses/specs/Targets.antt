@@ -1,0 +1,46 @@
+-- The targets of a page's links: where they stand, and what of each is its path.
+use Rattle.std.specs.Prelude.{◌≡◌, ◌≤◌, ℕ, ◌-◌, Bool, false, ◌==◌, ◌||◌, ◌&&◌, List, [], ◌∷◌, length, take, drop, get_or, ⊤}
+use Rattle.std.specs.List.{before_first, between}
+use Rattle.std.specs.Str.{IsCharBoundary}
+use Rattle.relative_path.specs.Unix.{has_root}
+use Rattle.relative_path_uses.specs.Reference.{is_misread}
+use Rattle.relative_path_uses.specs.declared.target.Target.{Target}
+
+-- the byte is `#` or `?`, which begins a fragment or a query
+abbrev pub ends_path : ℕ → Bool
+ends_path b = b == 35 || b == 63
+
+-- the path of a target: what stands before its query and its fragment
+abbrev pub path_of : List ℕ → List ℕ
+path_of target = before_first ends_path target
+
+-- its tail: the query and the fragment
+abbrev pub tail_of : List ℕ → List ℕ
+tail_of target = drop (length (path_of target)) target
+
+-- the path isn't one from the page's directory: it is empty, has a scheme, or begins with a slash
+abbrev pub is_kept : List ℕ → Bool
+is_kept path = is_misread path || has_root path
+
+-- the text of a target in a page
+abbrev pub target_text : List ℕ → Target → List ℕ
+target_text page target = between target.start target.end page
+
+-- the page has the target: it stands between two ends of characters, and its path is one from the page's directory
+pub record IsTarget (page : List ℕ) (target : Target) : Type 0 where
+  pub order : target.start ≤ target.end
+  pub within : target.end ≤ length page
+  pub start : IsCharBoundary page target.start
+  pub end : IsCharBoundary page target.end
+  pub relative : is_kept (path_of (target_text page target)) ≡ false
+
+-- from byte `at` on the page has these targets, each after the end of the one before
+abbrev pub HasTargets : List ℕ → ℕ → List Target → Type 0
+HasTargets page at [] = ⊤
+HasTargets page at (target ∷ targets) =
+    (at ≤ target.start) × IsTarget page target × HasTargets page target.end targets
+
+-- the target stands between `<` and `>`
+abbrev pub is_angled : List ℕ → Target → Bool
+is_angled page target =
+    get_or (take target.start page) (target.start - 1) 0 == 60 && get_or (drop target.end page) 0 0 == 62

@@ -1,0 +1,89 @@
+//! Targets of links: where they stand in a page, and what of each is its path.
+ghost use Rattle.std.specs.Prelude.{◌≡◌, ◌-◌, ◌==◌, ◌↔◌, length, get_or, IsTrue};
+ghost use Rattle.std.specs.List.{position};
+ghost use Rattle.relative_path_uses.specs.Targets.{ends_path, path_of, tail_of, is_kept, target_text, IsTarget, is_angled};
+
+use crate::reference::is_misread;
+
+/// Where the target of a link stands in a page: from byte `start` to before byte `end`. The angle
+/// brackets that may stand around it and the title after it aren't part of it.
+///
+/// ```
+/// let page = "[a](b.md#top \"A title\")";
+/// let target = Target { start: 4, end: 12 };
+/// assert_eq!(rt; &page[target.start..target.end], "b.md#top");
+/// ```
+#[derive(Clone, Copy, Debug, PartialEq, Eq)]
+pub struct Target {
+    /// Its first byte.
+    pub start: usize,
+    /// The byte after its last one.
+    pub end: usize,
+}
+
+impl Target {
+    // Whether a page has this target, and its path is one from the page's directory.
+    pub(crate) fn is_of(self, page: &str) -> bool
+        ensures { IsTrue result ↔ IsTarget page.now self }
+    {
+        self.start <= self.end
+            && page.is_char_boundary(self.start)
+            && page.is_char_boundary(self.end)
+            && !is_kept(split_path(&page[self.start..self.end]).0)
+    }
+
+    // Its text in a page that has it.
+    pub(crate) fn text(self, page: &str) -> &str
+        requires { IsTarget page.now self }
+        ensures { result.now ≡ target_text page.now self }
+    {
+        &page[self.start..self.end]
+    }
+
+    // Whether it stands between `<` and `>`.
+    pub(crate) fn is_angled(self, page: &str) -> bool
+        requires { IsTarget page.now self }
+        ensures { result ≡ is_angled page.now self }
+    {
+        ends_in_bracket(&page[..self.start]) && begins_with_bracket(&page[self.end..])
+    }
+}
+
+// Whether the last byte of a text is `<`.
+fn ends_in_bracket(text: &str) -> bool
+    ensures { result ≡ (get_or text.now (length text.now - 1) 0 == 60) }
+{
+    text.bytes().last().is_some_and(|b| b == b'<')
+}
+
+// Whether the first byte of a text is `>`.
+fn begins_with_bracket(text: &str) -> bool
+    ensures { result ≡ (get_or text.now 0 0 == 62) }
+{
+    text.bytes().next().is_some_and(|b| b == b'>')
+}
+
+// The path of a target, and what stands after it.
+pub(crate) fn split_path(target: &str) -> (&str, &str)
+    ensures path { result.0.now ≡ path_of target.now }
+    ensures tail { result.1.now ≡ tail_of target.now }
+{
+    match path_end(target) {
+        Some(end) => target.split_at(end),
+        None => (target, ""),
+    }
+}
+
+// Where the path of a target ends, if something stands after it.
+fn path_end(target: &str) -> Option<usize>
+    ensures { result ≡ position ends_path target.now }
+{
+    target.bytes().position(|b| b == b'#' || b == b'?')
+}
+
+// Whether a path isn't one from the page's directory.
+fn is_kept(path: &str) -> bool
+    ensures { result ≡ is_kept path.now }
+{
+    is_misread(path) || path.starts_with('/')
+}
