@@ -15,7 +15,7 @@ pub(crate) struct BacktickRuns {
 impl BacktickRuns {
     // No run was seen.
     pub(crate) fn new(alloc: Global) -> Result<BacktickRuns, AllocError> {
-        let mut last = Vec::new(alloc);
+        let mut last = Vec::with_capacity(alloc, LONGEST_RUN + 1)?;
         for _ in 0..=LONGEST_RUN {
             last.push(0)?;
         }
