@@ -32,10 +32,10 @@ same_brackets cs ds es first last left right from_left from_right onto_left onto
     })
 
 -- the empty path after a normal text changes nothing
-pub same_empty_behind : (text other : List ℕ) → IsNormalText text
+pub same_empty_after : (text other : List ℕ) → IsNormalText text
     → IsNormalTextOf (components text ++ components []) other → other ≡ text
 unfolding components pieces
-same_empty_behind text other normal of =
+same_empty_after text other normal of =
     sym (of.only text normal (record { everywhere = λ base. ap (walk base) (append-nil (components text)) }))
 
 -- nor does it before one

@@ -129,9 +129,9 @@ pub fn associative(
 /// refused.
 ///
 /// ```
-/// let (normal, empty_behind, empty_before) = unit(alloc, RelativePath::new("a//b/."))?;
+/// let (normal, empty_after, empty_before) = unit(alloc, RelativePath::new("a//b/."))?;
 /// assert_eq!(rt; normal.as_relative_path().as_str(), "a/b");
-/// assert_eq!(rt; empty_behind.as_relative_path().as_str(), "a/b");
+/// assert_eq!(rt; empty_after.as_relative_path().as_str(), "a/b");
 /// assert_eq!(rt; empty_before.as_relative_path().as_str(), "a/b");
 /// ```
 pub fn unit(
@@ -139,16 +139,16 @@ pub fn unit(
     path: RelativePath<'_>,
 ) -> Result<(RelativePathBuf, RelativePathBuf, RelativePathBuf), AllocError>
     ensures normal_form { IfOk result (λ r. IsNormalTextOf (path_components path.entry) r.0.text) }
-    ensures empty_behind { IfOk result
+    ensures empty_after { IfOk result
         (λ r. IsNormalTextOf (components r.0.text ++ components []) r.1.text) }
     ensures empty_before { IfOk result
         (λ r. IsNormalTextOf (components [] ++ components r.0.text) r.2.text) }
-    ensures same_behind { IfOk result (λ r. r.1.text ≡ r.0.text) }
+    ensures same_after { IfOk result (λ r. r.1.text ≡ r.0.text) }
     ensures same_before { IfOk result (λ r. r.2.text ≡ r.0.text) }
 {
     let empty = RelativePath::new("");
     let normal = path.normalize(alloc)?;
-    let empty_behind = normal.as_relative_path().join_normalized(alloc, empty)?;
+    let empty_after = normal.as_relative_path().join_normalized(alloc, empty)?;
     let empty_before = empty.join_normalized(alloc, normal.as_relative_path())?;
-    Ok((normal, empty_behind, empty_before))
+    Ok((normal, empty_after, empty_before))
 }

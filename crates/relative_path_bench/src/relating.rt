@@ -43,9 +43,9 @@ pub fn leads_back(
 /// Both paths in normal form, and where they lead apart.
 ///
 /// The two texts are the same exactly if from every base both paths climb above the top or both
-/// end in the same place, and exactly then the third answer is `None`. Else it is the least number
-/// of names of a base from which they don't. It asks for memory for these, and fails only where
-/// that is refused.
+/// end in the same place. Exactly then the third answer is `None`. Else it is the least number of
+/// names of a base from which they don't. It asks for memory for these, and fails only where that
+/// is refused.
 ///
 /// ```
 /// let path = RelativePath::new("a//b");

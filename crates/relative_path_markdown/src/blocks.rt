@@ -61,7 +61,7 @@ struct Blocks<'a> {
     containers: Vec<Container>,
     // The innermost block.
     leaf: Leaf,
-    // Whether the innermost block is a list item of which only the marker was read.
+    // Whether the innermost block is a list item with only its marker read.
     is_item_empty: bool,
 }
 

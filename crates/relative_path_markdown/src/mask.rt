@@ -24,7 +24,7 @@ pub(crate) struct Mask<'a> {
 }
 
 impl<'a> Mask<'a> {
-    // The mask of a page, of which nothing is made.
+    // The mask of a page with nothing masked yet.
     pub(crate) fn new(alloc: Global, page: &'a [u8]) -> Result<Mask<'a>, AllocError> {
         let bytes = Vec::with_capacity(alloc, page.len())?;
         Ok(Mask { page, bytes })

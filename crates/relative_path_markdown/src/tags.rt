@@ -64,7 +64,7 @@ impl Endings {
             .or_else(|| self.html_end(text, name))
     }
 
-    // The end of the HTML, of which the angle that opens it was read.
+    // The end of the HTML after the angle that opens it.
     fn html_end(&mut self, text: &[u8], name: usize) -> Option<usize> {
         match at(text, name)? {
             b'!' => self.declared_end(text, name.saturating_add(1)),
@@ -74,7 +74,7 @@ impl Endings {
         }
     }
 
-    // The end of a comment, a CDATA section or a declaration, of which `<!` was read. The dashes
+    // The end of a comment, a CDATA section or a declaration after its `<!`. The dashes
     // that open a comment may be those that close it.
     fn declared_end(&mut self, text: &[u8], from: usize) -> Option<usize> {
         let rest = tail(text, from);

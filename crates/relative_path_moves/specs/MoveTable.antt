@@ -28,7 +28,7 @@ pub record LeadToTarget (moves : List Move) (place cs : List Step) : Type 0 wher
   pub only : (other : List Step) → IsTarget moves place other → other ≡ target
   pub same : IsSame target cs
 
--- what the components are to a directory where this is the way to them, of which P holds, or why there is none; an
+-- P holds of the answer, a way from the directory to the components, or the refusal says why there is none; an
 -- allocation failure tells nothing
 abbrev pub IsWay : {T : Type 0} → List Step → List Step → (T → Type 0) → Result T ReferenceError → Type 0
 IsWay directory cs P (Ok way) = (place_of cs ≢ None) × P way

@@ -1,4 +1,4 @@
-//! Relative paths in a box, behind a shared pointer or perhaps borrowed, and as JSON strings.
+//! Relative paths in a box, shared or perhaps borrowed, and as JSON strings.
 #![tactic(auto)]
 
 pub use self::json::{FromValueError, boxed_from_value, from_value, to_value, view_value};

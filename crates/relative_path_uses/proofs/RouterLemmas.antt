@@ -65,7 +65,7 @@ unportable-names : (place : List (List ℕ)) → list_any is_unportable_step (ma
 unportable-names [] = refl
 unportable-names (n ∷ place) = ap (λ others. is_unportable n || others) (unportable-names place)
 
--- plain steps that are names, none of which is read otherwise
+-- the names of plain steps that no platform reads otherwise
 plain_names : (place : List (List ℕ)) → AllByRecursion IsPlainStep (map name place)
     → list_any is_unportable place ≡ false → AllByRecursion IsPlainName place
 plain_names [] plain none = tt

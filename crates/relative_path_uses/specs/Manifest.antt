@@ -26,8 +26,8 @@ item_list (item d ds) = d ∷ item_list ds
 abbrev pub entries_of : Data → Option (List Data)
 entries_of manifest = option_map item_list (option_and_then as_array (get (codes "files") manifest))
 
--- the entry is a path with a place from the top that has a name, all its names plain, and the file is the normal text of
--- where `base` and entry lead in turn: from every base at that place, below the directory that the member `base` names
+-- the entry is a path with a place from the top, of one plain name at least and no other names; the file is the normal
+-- text of where `base` and the entry lead in turn, and that is this place below the directory that `base` names
 pub record IsFileOf (base : List Step) (entry : Data) (file : List ℕ) : Type 0 where
   pub path : List ℕ
   pub place : List (List ℕ)

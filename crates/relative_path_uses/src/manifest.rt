@@ -90,7 +90,7 @@ impl<T: Drop> From<AllocFailed<T>> for ManifestError {
 /// and comes back climbs above it too.
 ///
 /// The directory, as it is written, may hold no such name either. Where the directory leads is
-/// the caller's own business: one that climbs stands in front of each file as it climbs. Slashes at
+/// the caller's own business: each file begins with the climb of such a directory. Slashes at
 /// the start count nothing: `/etc` is `etc`, and `/a` is `a`. Two entries may name one file, and one
 /// may be a directory. What other members the manifest has doesn't count.
 ///

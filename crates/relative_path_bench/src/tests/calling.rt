@@ -43,8 +43,8 @@ pub fn way_back(
     Ok(back)
 }
 
-/// What a page's link has to be in a copy of the page in another directory, if a path leads from there
-/// to what the link means a step above the page.
+/// The link to write in a copy of the page kept elsewhere, so that it still leads where `link` led
+/// from the page's directory.
 pub fn relink(
     alloc: Global,
     page: RelativePath<'_>,

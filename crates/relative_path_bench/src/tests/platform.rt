@@ -103,7 +103,7 @@ const BEHIND: [(&str, &str, &str); 7] = [
 ];
 
 // After a text, and after a `Path`.
-fn puts_behind(alloc: Global, text: &str, base: &str, expected: &str) -> Result<(), Fail> {
+fn puts_after(alloc: Global, text: &str, base: &str, expected: &str) -> Result<(), Fail> {
     let path = RelativePath::new(text);
     let made = unix::to_path(alloc, path, base)?;
     same(text, &made.as_str(), &expected)?;
@@ -112,9 +112,9 @@ fn puts_behind(alloc: Global, text: &str, base: &str, expected: &str) -> Result<
 }
 
 #[test]
-fn puts_paths_behind_platform_paths(rt: HostRuntime) -> Result<(), Fail> {
+fn puts_paths_after_platform_paths(rt: HostRuntime) -> Result<(), Fail> {
     for (text, base, expected) in &BEHIND {
-        puts_behind(rt.alloc(), text, base, expected)?;
+        puts_after(rt.alloc(), text, base, expected)?;
     }
     Ok(())
 }
@@ -260,9 +260,9 @@ const WORKED: [Way; 5] = [
     ("é/ü", "é/日本//.", "../ü"),
 ];
 
-// Here the original crate answers something else: it climbs once for each component of the root, `.` and `..` too, where
-// the path has nothing left of its own, and it puts the path's first component before the climb where the root's own part
-// begins with `.`.
+// Here the original crate answers something else. Where the path has nothing left of its own, it climbs once for each
+// component of the root, `.` and `..` too. Where the root's own part begins with `.`, it writes the path's first component
+// before the climb.
 const OWN_RULES: [Way; 10] = [
     ("", ".", ""),
     ("", "./a", ".."),

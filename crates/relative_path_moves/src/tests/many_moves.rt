@@ -125,11 +125,11 @@ fn numbered(
     alloc: Global,
     count: usize,
     before: &str,
-    behind: &str,
+    after: &str,
 ) -> Result<Vec<String>, AllocError> {
     let mut paths = Vec::new(alloc);
     for k in 0..count {
-        paths.push(format!(in alloc; "{before}{k}{behind}")?)?;
+        paths.push(format!(in alloc; "{before}{k}{after}")?)?;
     }
     Ok(paths)
 }

@@ -1,10 +1,10 @@
-use Rattle.relative_path_bench.proofs.JoiningLemmas.{same_empty_behind, same_empty_before}
+use Rattle.relative_path_bench.proofs.JoiningLemmas.{same_empty_after, same_empty_before}
 use Rattle.relative_path_bench.proofs.joining.unit.Goals as goal
 
-pub returns-clause-same_behind : goal.returns-clause-same_behind
-returns-clause-same_behind c =
-    same_empty_behind _ _ c.in_ok-normal.ensures.normal_form.normal_text
-    (rw (c.as_relative_path.ensures, c.new-empty.ensures) at c.in_ok-empty_behind.ensures.normal_form)
+pub returns-clause-same_after : goal.returns-clause-same_after
+returns-clause-same_after c =
+    same_empty_after _ _ c.in_ok-normal.ensures.normal_form.normal_text
+    (rw (c.as_relative_path.ensures, c.new-empty.ensures) at c.in_ok-empty_after.ensures.normal_form)
 
 pub returns-clause-same_before : goal.returns-clause-same_before
 returns-clause-same_before c =

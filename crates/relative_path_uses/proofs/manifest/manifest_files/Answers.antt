@@ -1,4 +1,4 @@
--- The manifest has this directory and these entries, of which the files are made.
+-- The manifest has this directory and these entries, and the files are made from both.
 use Rattle.std.proofs.Common.{◌≡◌, rules, map, codes, Some, option_and_then, refl, sym, ◌∙◌}
 use Rattle.std.proofs.lemmas.Result.{IfOk-weaker, IfErr-weaker}
 use Rattle.serde_json.specs.Find.{get, as_array}

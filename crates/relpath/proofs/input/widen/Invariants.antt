@@ -1,4 +1,4 @@
--- The bytes that were there stay in front, and the length stays within the one that is wanted.
+-- The bytes that were there stay first, and the length stays within the one that is wanted.
 use Rattle.std.proofs.Common.{◌≡◌, ◌-◌, ◌≤◌, take, vec_len, max}
 use Rattle.std.specs.Vec.{vec_capacity}
 use Rattle.relpath.proofs.input.widen.Given as goal
