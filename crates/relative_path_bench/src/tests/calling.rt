@@ -1,7 +1,8 @@
-//! The callers that the page on proving shows.
-ghost use Rattle.std.specs.Prelude.{◌∷◌, [], ◌≡◌, IsSome, IsTrue, length};
+//! The callers that CALLING.md of `relative_path` shows.
+ghost use Rattle.std.specs.Prelude.{◌∷◌, [], ◌≡◌, ℕ, IsSome, IsTrue, List, length};
+ghost use Rattle.std.specs.List.{All};
 ghost use Rattle.relative_path.specs.Steps.{up};
-ghost use Rattle.relative_path.specs.Walk.{walk};
+ghost use Rattle.relative_path.specs.Walk.{walk, LeadsBelow};
 ghost use Rattle.std.specs.Prelude.{◌++◌, ◌↔◌, IfOk, IfSome, IsNone};
 ghost use Rattle.relative_path.specs.RelativePath.{path_components};
 ghost use Rattle.relative_path.specs.Relating.{IsReachable, IsShortestText};
@@ -27,24 +28,8 @@ pub fn carry(
     to.try_relative(alloc, target.as_relative_path())
 }
 
-/// The shortest way back from what a link means to the link's directory, if there is one.
-pub fn way_back(
-    alloc: Global,
-    directory: RelativePath<'_>,
-    link: RelativePath<'_>,
-) -> Result<RelativePathBuf, AllocError>
-    ensures { IfOk result (λ back. IsReachable
-        (path_components directory.entry ++ path_components link.entry) (path_components directory.entry)
-        → IsShortestText (path_components directory.entry ++ path_components link.entry)
-        (path_components directory.entry) back.text) }
-{
-    let target = directory.join_normalized(alloc, link)?;
-    let back = target.as_relative_path().relative(alloc, directory)?;
-    Ok(back)
-}
-
-/// The link to write in a copy of the page kept elsewhere, so that it still leads where `link` led
-/// from the page's directory.
+/// The link to write in a copy of the page kept in `archive`, so that it still leads where `link` led
+/// from the page's directory, if a path leads there.
 pub fn relink(
     alloc: Global,
     page: RelativePath<'_>,
@@ -62,11 +47,24 @@ pub fn relink(
     Ok(copied)
 }
 
-/// Whether a path never leads above its base: it has a place even from the top.
+/// Whether a path stays below its base. Then there is one place below each base where it leads.
 pub fn stays_below(path: RelativePath<'_>) -> bool
-    ensures { IsTrue result ↔ IsSome (walk [] (path_components path.entry)) }
+    ensures answer { IsTrue result ↔ IsSome (walk [] (path_components path.entry)) }
+    ensures place { IsTrue result → (place : List (List ℕ)) × LeadsBelow [] place (path_components path.entry) }
 {
     path.climb() == 0
+}
+
+/// Whether each of some paths stays below its base.
+pub fn all_stay_below(paths: &[RelativePath<'_>]) -> bool
+    ensures { IsTrue result ↔ All (λ path. IsSome (walk [] (path_components path))) paths.now }
+{
+    for path in paths {
+        if path.climb() > 0 {
+            return false;
+        }
+    }
+    true
 }
 
 /// How many components a path has.
@@ -85,14 +83,6 @@ fn carries_a_link(rt: HostRuntime) -> Result<(), std::test::Fail> {
 }
 
 #[test]
-fn finds_the_way_back(rt: HostRuntime) -> Result<(), std::test::Fail> {
-    let [docs, link] = ["docs/guide", "../img"].map(RelativePath::new);
-    let back = way_back(rt.alloc(), docs, link)?;
-    assert_eq!(rt; back.as_relative_path().as_str(), "../guide");
-    Ok(())
-}
-
-#[test]
 fn links_from_a_copy(rt: HostRuntime) -> Result<(), std::test::Fail> {
     let [page, link, archive] = ["docs/guide.md", "img/a.png", "old/2024"].map(RelativePath::new);
     let copied = relink(rt.alloc(), page, link, archive)?;
@@ -104,6 +94,11 @@ fn links_from_a_copy(rt: HostRuntime) -> Result<(), std::test::Fail> {
 fn refuses_what_climbs(rt: HostRuntime) -> Result<(), std::test::Fail> {
     let [inside, outside] = ["img/../docs", "img/../../docs"].map(RelativePath::new);
     assert_eq!(rt; (stays_below(inside), stays_below(outside)), (true, false));
+    let paths = [inside, outside];
+    assert_eq!(rt;
+        (all_stay_below(&paths), all_stay_below(&paths[..1])),
+        (false, true)
+    );
     assert_eq!(rt; (depth(inside), depth(outside)), (3, 4));
     Ok(())
 }

@@ -1,4 +1,4 @@
-use super::pages::{FRONT_PAGE, REWRITER};
+use super::pages::{FRONT_PAGE, PAGE};
 use super::same;
 use crate::{Left, RewrittenPage, rewritten, targets};
 use relative_path::RelativePath;
@@ -190,33 +190,33 @@ fn moves_the_front_page_and_back(rt: HostRuntime) -> Result<(), Fail> {
     moves_and_back(rt.alloc(), &there, FRONT_PAGE, &parts, FRONT_PAGE)
 }
 
-// Parts of the page of the docs, as it is after its moves.
+// Parts of the page, as it is after its moves.
 const PARTS: [&str; 8] = [
     "[the callers](calling.md), which move too",
     "[the errors](calling.md#errors), with a fragment",
     "[the decisions](../docs/DECISIONS.md \"why it is made so\")",
     "[the contracts](../docs/contracts/)",
     "[this page](links.md)",
-    "[the front page](../README.md), [a part of this page](#links-of-pages-that-move)",
+    "[the front page](../README.md), [a part of this page](#links-of-a-page-that-moves)",
     "`[the callers](CALLING.md)`, in code",
     "[calling]: calling.md\n",
 ];
 
-// The page of the docs with the two links that still lead to their targets from where it was, which
+// The page with the two links that still lead to their targets from where it was, which
 // are written as it had them between.
 fn as_moved_back(alloc: Global) -> Result<String, Fail> {
-    let (before, rest) = REWRITER.split_once("(DECISIONS.md ").ok_or("decisions")?;
+    let (before, rest) = PAGE.split_once("(DECISIONS.md ").ok_or("decisions")?;
     let (between, after) = rest.split_once("(contracts/)").ok_or("contracts")?;
     Ok(format!(in alloc; "{before}(../docs/DECISIONS.md {between}(../docs/contracts/){after}")?)
 }
 
 #[test]
-fn moves_the_page_of_the_docs_and_back(rt: HostRuntime) -> Result<(), Fail> {
+fn moves_a_page_and_back(rt: HostRuntime) -> Result<(), Fail> {
     let there = [
-        ("docs/REWRITER.md", "guide/links.md"),
+        ("docs/PAGE.md", "guide/links.md"),
         ("docs/CALLING.md", "guide/calling.md"),
     ]
     .map(as_paths);
     let expected = as_moved_back(rt.alloc())?;
-    moves_and_back(rt.alloc(), &there, REWRITER, &PARTS, expected.as_str())
+    moves_and_back(rt.alloc(), &there, PAGE, &PARTS, expected.as_str())
 }
