@@ -47,6 +47,13 @@ pub fn relink(
     Ok(copied)
 }
 
+/// How many components a path has.
+pub fn depth(path: RelativePath<'_>) -> usize
+    ensures { result ≡ length (path_components path.entry) }
+{
+    path.components().count()
+}
+
 /// Whether a path stays below its base. Then there is one place below each base where it leads.
 pub fn stays_below(path: RelativePath<'_>) -> bool
     ensures answer { IsTrue result ↔ IsSome (walk [] (path_components path.entry)) }
@@ -65,13 +72,6 @@ pub fn all_stay_below(paths: &[RelativePath<'_>]) -> bool
         }
     }
     true
-}
-
-/// How many components a path has.
-pub fn depth(path: RelativePath<'_>) -> usize
-    ensures { result ≡ length (path_components path.entry) }
-{
-    path.components().count()
 }
 
 #[test]

@@ -12,6 +12,7 @@ use std::test::Fail;
 // A text of ten bytes.
 const SHORT: &str = "//a/b/./c/";
 
+// Requests: 10 = 1, 1048576 = 1
 #[test]
 fn from_text(rt: HostRuntime) -> Result<(), Fail> {
     let long = long_text(rt.alloc())?;
@@ -23,6 +24,7 @@ fn from_text(rt: HostRuntime) -> Result<(), Fail> {
     Ok(())
 }
 
+// Requests: 10 = 1, 1048576 = 1
 #[test]
 fn with_capacity(rt: HostRuntime) -> Result<(), Fail> {
     for capacity in &[10, 1_048_576] {
@@ -40,6 +42,7 @@ fn with_capacity(rt: HostRuntime) -> Result<(), Fail> {
     Ok(())
 }
 
+// Requests: 10 = 1, 1048576 = 1
 #[test]
 fn clone(rt: HostRuntime) -> Result<(), Fail> {
     let long = long_text(rt.alloc())?;
@@ -52,6 +55,7 @@ fn clone(rt: HostRuntime) -> Result<(), Fail> {
     Ok(())
 }
 
+// Requests: 10 = 1, 1048576 = 1
 #[test]
 fn to_relative_path_buf(rt: HostRuntime) -> Result<(), Fail> {
     let long = long_text(rt.alloc())?;
@@ -63,6 +67,7 @@ fn to_relative_path_buf(rt: HostRuntime) -> Result<(), Fail> {
     Ok(())
 }
 
+// Requests: 10 = 1, 1048576 = 1
 #[test]
 fn join(rt: HostRuntime) -> Result<(), Fail> {
     let long = long_text(rt.alloc())?;
@@ -77,6 +82,7 @@ fn join(rt: HostRuntime) -> Result<(), Fail> {
     Ok(())
 }
 
+// Requests: 10 = 0, 1048580 = 0
 #[test]
 fn push(rt: HostRuntime) -> Result<(), Fail> {
     let long = long_text(rt.alloc())?;
@@ -94,6 +100,7 @@ fn push(rt: HostRuntime) -> Result<(), Fail> {
 }
 
 // A push and an `extend` of a buffer that has room for them.
+// Requests: = 0, = 0
 #[test]
 fn fits(rt: HostRuntime) -> Result<(), Fail> {
     let mut buf = RelativePathBuf::with_capacity(rt.alloc(), 15)?;
@@ -109,6 +116,7 @@ fn fits(rt: HostRuntime) -> Result<(), Fail> {
 }
 
 // A long name goes.
+// Requests: = 0
 #[test]
 fn pop(rt: HostRuntime) -> Result<(), Fail> {
     let long = "b".repeat(rt.alloc(), 1_048_576)?;
@@ -152,12 +160,14 @@ fn asks_for_nothing_of(alloc: Global, text: &str) -> Result<(), Fail> {
     same("texts", &(text_of(&empty), taken.as_str()), &("", text))
 }
 
+// Requests: = 0, = 0
 #[test]
 fn asks_for_nothing(rt: HostRuntime) -> Result<(), Fail> {
     asks_for_nothing_of(rt.alloc(), SHORT)?;
     asks_for_nothing_of(rt.alloc(), long_text(rt.alloc())?.as_str())
 }
 
+// Requests: 8 = 1, 1048576 = 1
 #[test]
 fn from_paths(rt: HostRuntime) -> Result<(), Fail> {
     let long = long_text(rt.alloc())?;
@@ -194,6 +204,7 @@ pub fn is_left(answer: Result<(), AllocError>, text: &str, name: &str, left: Opt
     }
 }
 
+// Requests: 4098 8196 = 0
 #[test]
 fn extend(rt: HostRuntime) -> Result<(), Fail> {
     let name = long_name(rt.alloc())?;

@@ -44,6 +44,7 @@ fn same_three(
     }
 }
 
+// Requests: 4 = 1
 #[test]
 fn join_law_of_two(rt: HostRuntime) -> Result<(), Fail> {
     let [path, other] = ["a/", "//b"].map(RelativePath::new);
@@ -56,6 +57,7 @@ fn join_law_of_two(rt: HostRuntime) -> Result<(), Fail> {
     }
 }
 
+// Requests: 8 8 = 2
 #[test]
 fn from_paths_law_of_four(rt: HostRuntime) -> Result<(), Fail> {
     let paths = ["a", "/b", "", "c"].map(RelativePath::new);
@@ -64,6 +66,7 @@ fn from_paths_law_of_four(rt: HostRuntime) -> Result<(), Fail> {
     same_texts(rt.alloc(), &answer, ("a/b/c", "a/b/c"))
 }
 
+// Requests: 4s 3 8 4s 3 = 2
 #[test]
 fn join_normalized_law_of_two(rt: HostRuntime) -> Result<(), Fail> {
     let [path, other] = ["x/y", "../z"].map(RelativePath::new);
@@ -72,6 +75,7 @@ fn join_normalized_law_of_two(rt: HostRuntime) -> Result<(), Fail> {
     same_texts(rt.alloc(), &answer, ("x/z", "x/z"))
 }
 
+// Requests: 3s 2 3s 7 2s 4 4s 4 = 2
 #[test]
 fn associative_of_three(rt: HostRuntime) -> Result<(), Fail> {
     let [a, b, c] = ["a", "../..", "b"].map(RelativePath::new);
@@ -80,6 +84,7 @@ fn associative_of_three(rt: HostRuntime) -> Result<(), Fail> {
     same_texts(rt.alloc(), &answer, ("../b", "../b"))
 }
 
+// Requests: 3s 3 2s 3 2s 3 = 3
 #[test]
 fn unit_of_one(rt: HostRuntime) -> Result<(), Fail> {
     begin(rt.alloc());
@@ -87,6 +92,7 @@ fn unit_of_one(rt: HostRuntime) -> Result<(), Fail> {
     same_three(rt.alloc(), &answer, ("a/b", "a/b", "a/b"))
 }
 
+// Requests: 3s 3 2s 3 = 2
 #[test]
 fn normalize_twice_of_one(rt: HostRuntime) -> Result<(), Fail> {
     begin(rt.alloc());
@@ -104,12 +110,14 @@ fn normalized_law_of(alloc: Global, text: &str, expected: (bool, &str)) -> Resul
     }
 }
 
+// Requests: 2s 7 = 1, 3s 7 = 1
 #[test]
 fn normalized_law_of_one(rt: HostRuntime) -> Result<(), Fail> {
     normalized_law_of(rt.alloc(), "foo//bar", (true, "foo/bar"))?;
     normalized_law_of(rt.alloc(), "foo/./bar", (false, "foo/bar"))
 }
 
+// Requests: 4s 4 = 1
 #[test]
 fn climb_law_of_one(rt: HostRuntime) -> Result<(), Fail> {
     begin(rt.alloc());
@@ -139,6 +147,7 @@ fn same_law_of(
     }
 }
 
+// Requests: 2s 3 3s 3 2s 3s = 2, 1s 2 2s 5 1s 2s = 2
 #[test]
 fn same_law_of_two(rt: HostRuntime) -> Result<(), Fail> {
     same_law_of(rt.alloc(), "a//b", "a/./b", ("a/b", "a/b", None))?;
@@ -151,6 +160,7 @@ fn leads_back_of(alloc: Global, from: &str, to: &str, expected: (&str, &str)) ->
     same_texts(alloc, &answer, expected)
 }
 
+// Requests: 2s 2s 4 4s 3 2s 3 = 2, 1s 1s 1s 2 1s 1 = 2
 #[test]
 fn leads_back_to_a_target(rt: HostRuntime) -> Result<(), Fail> {
     leads_back_of(rt.alloc(), "a/b", "a/c", ("a/c", "a/c"))?;
@@ -172,6 +182,7 @@ fn try_law_of(
     }
 }
 
+// Requests: 2s 2s 4 4s 3 = 2, 1s 1s = 0, 1s 2s 1s 1 = 1
 #[test]
 fn try_law_to_a_target(rt: HostRuntime) -> Result<(), Fail> {
     try_law_of(rt.alloc(), "a/b", "a/c", Some(("../c", "a/c")))?;
@@ -179,6 +190,7 @@ fn try_law_to_a_target(rt: HostRuntime) -> Result<(), Fail> {
     try_law_of(rt.alloc(), "a", "a/.", Some(("", "a")))
 }
 
+// Requests: 2s 1s 7 2s 1s 2 1s 1s 4 = 3
 #[test]
 fn triangle_of_three(rt: HostRuntime) -> Result<(), Fail> {
     let [a, b, c] = ["a/b", "a", "c"].map(RelativePath::new);
@@ -187,6 +199,7 @@ fn triangle_of_three(rt: HostRuntime) -> Result<(), Fail> {
     same_three(rt.alloc(), &answer, ("../../c", "..", "../c"))
 }
 
+// Requests: 8 = 1
 #[test]
 fn strip_law_of_a_base(rt: HostRuntime) -> Result<(), Fail> {
     let [path, base] = ["//foo/bar/", "foo"].map(RelativePath::new);
@@ -204,6 +217,7 @@ fn strip_law_of_a_base(rt: HostRuntime) -> Result<(), Fail> {
     Ok(())
 }
 
+// Requests: 3 8 = 1
 #[test]
 fn extension_law_of_a_file(rt: HostRuntime) -> Result<(), Fail> {
     begin(rt.alloc());
@@ -215,6 +229,7 @@ fn extension_law_of_a_file(rt: HostRuntime) -> Result<(), Fail> {
     }
 }
 
+// Requests: 10 = 1
 #[test]
 fn relative_to_law_of_texts(rt: HostRuntime) -> Result<(), Fail> {
     begin(rt.alloc());
@@ -234,6 +249,7 @@ const TAKEN: [Option<Component<'static>>; 3] = [
     Some(Component::CurDir),
 ];
 
+// Requests: 128 = 1
 #[test]
 fn take_in_turn_from_a_path(rt: HostRuntime) -> Result<(), Fail> {
     begin(rt.alloc());

@@ -6,6 +6,7 @@ use relative_path::{RelativePath, RelativePathBuf};
 use std::alloc::Global;
 use std::test::Fail;
 
+// Requests: 10 = 1, 1048576 = 1
 #[test]
 fn with_file_name(rt: HostRuntime) -> Result<(), Fail> {
     let long = long_text(rt.alloc())?;
@@ -20,6 +21,7 @@ fn with_file_name(rt: HostRuntime) -> Result<(), Fail> {
     Ok(())
 }
 
+// Requests: 10 = 1, 1048576 = 1
 #[test]
 fn with_extension(rt: HostRuntime) -> Result<(), Fail> {
     let long = long_text(rt.alloc())?;
@@ -44,12 +46,14 @@ fn set_file_name_of(alloc: Global, file_name: &str) -> Result<(), Fail> {
     same("a name", &text_of(&buf).strip_prefix("f/"), &Some(left))
 }
 
+// Requests: 10 = 0, 1048576 = 0
 #[test]
 fn set_file_name(rt: HostRuntime) -> Result<(), Fail> {
     set_file_name_of(rt.alloc(), "barbarba")?;
     set_file_name_of(rt.alloc(), "b".repeat(rt.alloc(), 1_048_574)?.as_str())
 }
 
+// Requests: 4100 = 0
 #[test]
 fn set_a_long_file_name(rt: HostRuntime) -> Result<(), Fail> {
     let letters = "b".repeat(rt.alloc(), 4_096)?;
@@ -65,6 +69,7 @@ fn set_a_long_file_name(rt: HostRuntime) -> Result<(), Fail> {
     same("a name", &text_of(&buf).strip_prefix("foo/"), &Some(name))
 }
 
+// Requests: = 0
 #[test]
 fn set_file_name_that_fits(rt: HostRuntime) -> Result<(), Fail> {
     let mut buf = RelativePathBuf::from_text(rt.alloc(), "foo/bar")?;
@@ -74,6 +79,7 @@ fn set_file_name_that_fits(rt: HostRuntime) -> Result<(), Fail> {
     same("set_file_name", &text_of(&buf), &"foo/baz")
 }
 
+// Requests: 10 = 0, 1048576 = 0
 #[test]
 fn set_extension(rt: HostRuntime) -> Result<(), Fail> {
     let letters = "b".repeat(rt.alloc(), 1_048_574)?;
@@ -101,6 +107,7 @@ const FITTING: [(&str, usize, &str, &str, bool); 4] = [
     ("foo/..", 6, "bar", "foo/..", false),
 ];
 
+// Requests: = 0, = 0, = 0, = 0
 #[test]
 fn set_extension_that_fits(rt: HostRuntime) -> Result<(), Fail> {
     for (text, room, extension, left, is_set) in &FITTING {

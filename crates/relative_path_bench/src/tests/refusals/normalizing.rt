@@ -5,6 +5,7 @@ use crate::tests::{same, text_of};
 use relative_path::{RelativePath, RelativePathBuf};
 use std::test::Fail;
 
+// Requests: 3s 10 = 1, 7s 3 = 1, 4s 19 = 1, 524288s 1048576 = 1, = 0
 #[test]
 fn normalize(rt: HostRuntime) -> Result<(), Fail> {
     let long = long_text(rt.alloc())?;
@@ -22,6 +23,7 @@ fn normalize(rt: HostRuntime) -> Result<(), Fail> {
     Ok(())
 }
 
+// Requests: = 0, = 0
 #[test]
 fn normalize_into(rt: HostRuntime) -> Result<(), Fail> {
     let long = long_text(rt.alloc())?;
@@ -35,6 +37,7 @@ fn normalize_into(rt: HostRuntime) -> Result<(), Fail> {
     Ok(())
 }
 
+// Requests: 13s 6 = 1, 524288s 1048576 = 1, = 0
 #[test]
 fn join_normalized(rt: HostRuntime) -> Result<(), Fail> {
     let long = long_text(rt.alloc())?;

@@ -51,6 +51,7 @@ fn end_with_text(
     }
 }
 
+// Requests: 11 = 1, 11 = 1, 1048576 = 1, 1048576 = 1
 #[test]
 fn from_path(rt: HostRuntime) -> Result<(), Fail> {
     let long = long_text(rt.alloc())?;
@@ -64,6 +65,7 @@ fn from_path(rt: HostRuntime) -> Result<(), Fail> {
     Ok(())
 }
 
+// Requests: = 0
 #[test]
 fn from_path_of_a_root(rt: HostRuntime) -> Result<(), Fail> {
     begin(rt.alloc());
@@ -77,6 +79,7 @@ fn from_path_of_a_root(rt: HostRuntime) -> Result<(), Fail> {
     Ok(())
 }
 
+// Requests: 18 = 1, 18 = 1, 1048577 = 1, 1048577 = 1
 #[test]
 fn to_path(rt: HostRuntime) -> Result<(), Fail> {
     let long = long_text(rt.alloc())?;
@@ -94,6 +97,7 @@ fn to_path(rt: HostRuntime) -> Result<(), Fail> {
     Ok(())
 }
 
+// Requests: 14 = 1, 14 = 1, 1048577 = 1, 1048577 = 1
 #[test]
 fn to_logical_path(rt: HostRuntime) -> Result<(), Fail> {
     let long = long_text(rt.alloc())?;
@@ -113,6 +117,7 @@ fn to_logical_path(rt: HostRuntime) -> Result<(), Fail> {
 }
 
 // From a text, a `Path` and a `PathBuf`.
+// Requests: 13 = 1, 13 = 1, 13 = 1, 1048576 = 1, 1048576 = 1, 1048576 = 1
 #[test]
 fn relative_to(rt: HostRuntime) -> Result<(), Fail> {
     let long = long_text(rt.alloc())?;
@@ -133,6 +138,7 @@ fn relative_to(rt: HostRuntime) -> Result<(), Fail> {
     Ok(())
 }
 
+// Requests: = 0
 #[test]
 fn relative_to_another_prefix(rt: HostRuntime) -> Result<(), Fail> {
     begin(rt.alloc());
@@ -146,6 +152,7 @@ fn relative_to_another_prefix(rt: HostRuntime) -> Result<(), Fail> {
     Ok(())
 }
 
+// Requests: = 0
 #[test]
 fn relative_to_what_climbs(rt: HostRuntime) -> Result<(), Fail> {
     begin(rt.alloc());

@@ -5,6 +5,7 @@ use crate::tests::{same, text_of};
 use relative_path::{RelativePath, RelativePathBuf};
 use std::test::Fail;
 
+// Requests: 4s 4s 10 = 1, 1s 1 = 1, = 0, 524288s 1048576 = 1
 #[test]
 fn relative(rt: HostRuntime) -> Result<(), Fail> {
     let long = long_text(rt.alloc())?;
@@ -21,6 +22,7 @@ fn relative(rt: HostRuntime) -> Result<(), Fail> {
     Ok(())
 }
 
+// Requests: 2s 2s 4 = 1, 1s 1s = 0, 1s 2 = 1, = 0, 524288s 1048576 = 1
 #[test]
 fn try_relative(rt: HostRuntime) -> Result<(), Fail> {
     let long = long_text(rt.alloc())?;
@@ -43,6 +45,7 @@ fn try_relative(rt: HostRuntime) -> Result<(), Fail> {
     Ok(())
 }
 
+// Requests: 2s 2s = 0, 1s = 0, = 0, 524288s 524288s = 0
 #[test]
 fn leads_apart(rt: HostRuntime) -> Result<(), Fail> {
     let long = long_text(rt.alloc())?;

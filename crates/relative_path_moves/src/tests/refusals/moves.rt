@@ -20,6 +20,8 @@ fn end_with_way(
     }
 }
 
+// Requests: 2s 9 488 4s 9 2s 1s 2s 2s 15 = 1,
+// 524288s 1048576 488 524288s 1048573 524287s 1s 524287s 1048573 = 1
 #[test]
 fn one_move(rt: HostRuntime) -> Result<(), Fail> {
     let long = long_text(rt.alloc())?;
@@ -42,6 +44,7 @@ fn one_move(rt: HostRuntime) -> Result<(), Fail> {
     Ok(())
 }
 
+// Requests: 1s 4 488 1s 4 1s 4 2s 1s 1s 2s 9 = 1
 #[test]
 fn two_moves(rt: HostRuntime) -> Result<(), Fail> {
     let moves = [("a.md", "x/a.md"), ("b.md", "y/b.md")].map(as_paths);
@@ -51,6 +54,7 @@ fn two_moves(rt: HostRuntime) -> Result<(), Fail> {
     end_with_way(rt.alloc(), answer, "../y/b.md")
 }
 
+// Requests: = 0
 #[test]
 fn a_move_without_a_file_name(rt: HostRuntime) -> Result<(), Fail> {
     let moves = [("a", "b"), ("..", "c"), ("./a", "d")].map(as_paths);
@@ -71,6 +75,7 @@ fn makes(alloc: Global, moves: &[(RelativePath<'_>, RelativePath<'_>)]) -> Resul
     }
 }
 
+// Requests: 1s 4 488 1s 4 = 3, 524288s 1048576 488 = 2
 #[test]
 fn a_table(rt: HostRuntime) -> Result<(), Fail> {
     makes(
@@ -81,6 +86,7 @@ fn a_table(rt: HostRuntime) -> Result<(), Fail> {
     makes(rt.alloc(), &[as_paths((long.as_str(), "b"))])
 }
 
+// Requests: 1s 1 488 2s 1 = 0
 #[test]
 fn a_table_with_one_old_path_twice(rt: HostRuntime) -> Result<(), Fail> {
     let moves = [("a", "b"), ("./a", "c")].map(as_paths);
@@ -116,6 +122,8 @@ fn ask(alloc: Global, table: &MoveTable<'_>, long: &str) -> Result<(), Fail> {
     end_with_way(alloc, answer.map_err(MoveError::from), long)
 }
 
+// Requests: 1s 4 2s 1s 1s 2s 9 = 1, 2s 7 2s 1s = 0,
+// 524288s 1048576 524288s 1s 1s 524288s 1048579 = 1
 #[test]
 fn a_reference_of_a_table(rt: HostRuntime) -> Result<(), Fail> {
     let moves = [("a.md", "x/a.md"), ("b.md", "y/b.md")].map(as_paths);
@@ -136,6 +144,7 @@ fn ask_of_a_file(alloc: Global, table: &MoveTable<'_>, file: &str, now: &str) ->
     }
 }
 
+// Requests: 2s 4 = 0, 524288s 1048576 = 0
 #[test]
 fn the_path_of_a_file(rt: HostRuntime) -> Result<(), Fail> {
     let moves = [("a.md", "x/a.md"), ("b.md", "y/b.md")].map(as_paths);
@@ -162,6 +171,8 @@ fn ask_in_a_page(
     }
 }
 
+// Requests: 2s 6 3s 4 2s 1s 9 3s 2s 1s 2s 9 = 1, 2s 6 3s 6 2s 1s 8 3s 2s = 0,
+// 2s 6 524289s 1048578 524289s 1s 1048578 524289s 524289s = 0
 #[test]
 fn a_reference_of_a_page(rt: HostRuntime) -> Result<(), Fail> {
     let moves = [("a.md", "x/a.md"), ("b.md", "y/b.md")].map(as_paths);

@@ -18,6 +18,7 @@ fn to_value_of_a_path_of(alloc: Global, text: &str) -> Result<(), Fail> {
     }
 }
 
+// Requests: 4 = 1, 1048576 = 1
 #[test]
 fn to_value_of_a_path(rt: HostRuntime) -> Result<(), Fail> {
     to_value_of_a_path_of(rt.alloc(), "a//b")?;
@@ -38,6 +39,7 @@ fn from_value_of_a_string_of(alloc: Global, text: &str) -> Result<(), Fail> {
     }
 }
 
+// Requests: 4 = 1, 1048576 = 1
 #[test]
 fn from_value_of_a_string(rt: HostRuntime) -> Result<(), Fail> {
     from_value_of_a_string_of(rt.alloc(), "a//b")?;
@@ -55,12 +57,14 @@ fn boxed_from_value_of_a_string_of(alloc: Global, text: &str) -> Result<(), Fail
     }
 }
 
+// Requests: 4 = 1, 1048576 = 1
 #[test]
 fn boxed_from_value_of_a_string(rt: HostRuntime) -> Result<(), Fail> {
     boxed_from_value_of_a_string_of(rt.alloc(), "a//b")?;
     boxed_from_value_of_a_string_of(rt.alloc(), long_text(rt.alloc())?.as_str())
 }
 
+// Requests: = 0
 #[test]
 fn from_value_of_null(rt: HostRuntime) -> Result<(), Fail> {
     begin(rt.alloc());
@@ -69,6 +73,7 @@ fn from_value_of_null(rt: HostRuntime) -> Result<(), Fail> {
     same("null", &error, &Some(FromValueError::NotAString))
 }
 
+// Requests: = 0
 #[test]
 fn boxed_from_value_of_null(rt: HostRuntime) -> Result<(), Fail> {
     begin(rt.alloc());

@@ -20,6 +20,7 @@ fn boxed_from_text_of(alloc: Global, text: &str) -> Result<(), Fail> {
     }
 }
 
+// Requests: 4 = 1, 1048576 = 1
 #[test]
 fn boxed_from_text(rt: HostRuntime) -> Result<(), Fail> {
     boxed_from_text_of(rt.alloc(), "a//b")?;
@@ -37,6 +38,7 @@ fn boxed_clone_of(alloc: Global, text: &str) -> Result<(), Fail> {
     }
 }
 
+// Requests: 4 = 1, 1048576 = 1
 #[test]
 fn boxed_clone(rt: HostRuntime) -> Result<(), Fail> {
     boxed_clone_of(rt.alloc(), "a//b")?;
@@ -52,6 +54,7 @@ fn boxed_from_buf_of(alloc: Global, text: &str) -> Result<(), Fail> {
     shows("a box", boxed.as_relative_path(), text)
 }
 
+// Requests: = 0, = 0
 #[test]
 fn boxed_from_buf(rt: HostRuntime) -> Result<(), Fail> {
     boxed_from_buf_of(rt.alloc(), "a//b")?;
@@ -67,6 +70,7 @@ fn into_boxed_relative_path_of(alloc: Global, text: &str) -> Result<(), Fail> {
     shows("a box", boxed.as_relative_path(), text)
 }
 
+// Requests: = 0, = 0
 #[test]
 fn into_boxed_relative_path(rt: HostRuntime) -> Result<(), Fail> {
     into_boxed_relative_path_of(rt.alloc(), "a//b")?;
@@ -83,6 +87,7 @@ fn rc_from_path_text_of(alloc: Global, text: &str) -> Result<(), Fail> {
     }
 }
 
+// Requests: 4 40 = 2, 1048576 40 = 2
 #[test]
 fn rc_from_path_text(rt: HostRuntime) -> Result<(), Fail> {
     rc_from_path_text_of(rt.alloc(), "a//b")?;
@@ -100,6 +105,7 @@ fn rc_from_buf_of(alloc: Global, text: &str) -> Result<(), Fail> {
     }
 }
 
+// Requests: 4 40 = 1, 1048576 40 = 1
 #[test]
 fn rc_from_buf(rt: HostRuntime) -> Result<(), Fail> {
     rc_from_buf_of(rt.alloc(), "a//b")?;
@@ -116,6 +122,7 @@ fn rc_share_of(alloc: Global, text: &str) -> Result<(), Fail> {
     shows("the first owner", first.as_relative_path(), text)
 }
 
+// Requests: = 0, = 0
 #[test]
 fn rc_share(rt: HostRuntime) -> Result<(), Fail> {
     rc_share_of(rt.alloc(), "a//b")?;
@@ -159,6 +166,7 @@ fn asks_for_nothing_of(alloc: Global, text: &str) -> Result<(), Fail> {
     same("lengths", &lens, &[text.len(); 3])
 }
 
+// Requests: = 0, = 0
 #[test]
 fn asks_for_nothing(rt: HostRuntime) -> Result<(), Fail> {
     asks_for_nothing_of(rt.alloc(), "a//b")?;

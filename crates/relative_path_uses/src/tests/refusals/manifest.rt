@@ -20,6 +20,7 @@ fn marked(
     Ok(answer)
 }
 
+// Requests: 4 3s 5 96 3 3s 3 = 3
 #[test]
 fn two_files(rt: HostRuntime) -> Result<(), Fail> {
     let manifest = Value::from_str(rt.alloc(), r#"{"base": "a", "files": ["b//c", "./d"]}"#)?;
@@ -29,6 +30,7 @@ fn two_files(rt: HostRuntime) -> Result<(), Fail> {
     }
 }
 
+// Requests: 1048576 524288s 1048576 96 = 2
 #[test]
 fn a_long_file(rt: HostRuntime) -> Result<(), Fail> {
     let long = long_text(rt.alloc())?;
@@ -40,6 +42,7 @@ fn a_long_file(rt: HostRuntime) -> Result<(), Fail> {
     }
 }
 
+// Requests: = 0
 #[test]
 fn a_manifest_without_a_base(rt: HostRuntime) -> Result<(), Fail> {
     let manifest = Value::from_str(rt.alloc(), r#"{"files": ["b"]}"#)?;
@@ -47,6 +50,7 @@ fn a_manifest_without_a_base(rt: HostRuntime) -> Result<(), Fail> {
     same("a base", &error, &Some(ManifestError::NoBase))
 }
 
+// Requests: 1 2s 3 96 = 0
 #[test]
 fn a_file_that_climbs(rt: HostRuntime) -> Result<(), Fail> {
     let manifest = Value::from_str(rt.alloc(), r#"{"base": "a", "files": ["b", "../c"]}"#)?;

@@ -25,6 +25,7 @@ fn served_of(alloc: Global, request: &str, expected: Option<&str>) -> Result<(),
     end_with_file(alloc, answer, expected)
 }
 
+// Requests: 14 14 = 1, 1048576 1048585 = 1
 #[test]
 fn a_file(rt: HostRuntime) -> Result<(), Fail> {
     served_of(rt.alloc(), "/css//../a.css", Some("/srv/www/a.css"))?;
@@ -33,12 +34,14 @@ fn a_file(rt: HostRuntime) -> Result<(), Fail> {
     served_of(rt.alloc(), long.as_str(), Some(file.as_str()))
 }
 
+// Requests: = 0, 3 = 0
 #[test]
 fn a_refused_request(rt: HostRuntime) -> Result<(), Fail> {
     served_of(rt.alloc(), "/../secrets", None)?;
     served_of(rt.alloc(), r"a\b", None)
 }
 
+// Requests: 8 = 1
 #[test]
 fn an_empty_request(rt: HostRuntime) -> Result<(), Fail> {
     served_of(rt.alloc(), "", Some("/srv/www"))
