@@ -113,6 +113,9 @@ impl<'a> MoveTable<'a> {
     /// It is the shortest path from that file's new directory to the reference's target: where it led
     /// before, or where that file is now, if it moved too.
     ///
+    /// It asks for memory as `join_normalized` and `try_relative` do, and fails with `OutOfMemory` only
+    /// where that is refused.
+    ///
     /// ```
     /// let moves = [("a.md", "x/a.md"), ("b.md", "y/b.md")]
     ///     .map(|(old, new)| (RelativePath::new(old), RelativePath::new(new)));
@@ -148,6 +151,9 @@ impl<'a> MoveTable<'a> {
     ///
     /// So a caller that writes a page touches only what the moves broke. In a page that stays these
     /// are the references to files that moved.
+    ///
+    /// It asks for memory for the page's normal form, for the reference joined to its directory, and
+    /// then as [`MoveTable::moved`] does.
     ///
     /// ```
     /// let moves = [(RelativePath::new("img/x.png"), RelativePath::new("art/y.png"))];
