@@ -25,10 +25,11 @@ ghost use Rattle.std.proofs.Common.{refl};
 
 use crate::component::Component;
 use crate::editing::{dotted_len, needs_separator, pushed_len, strip_slash};
-use crate::from_path_error::FromPathError;
+use crate::from_path_error::{FromPathError, FromPathErrorKind};
 use crate::naming::{base_of, parent_of, without_extension};
 use crate::path::RelativePath;
-use crate::unix;
+use crate::unix_components::{UnixComponents, has_root};
+use crate::unix_texts::push_components;
 use std::alloc::{AllocError, Global};
 use std::cmp::Ordering;
 use std::fmt;
@@ -122,7 +123,13 @@ impl RelativePathBuf {
         ensures kind { IfErr result (λ error. from_path_kind error
             ≡ (if has_root (path_bytes path.entry) then NonRelative else OutOfMemory)) }
     {
-        unix::from_path(alloc, path.as_str())
+        let path = path.as_str();
+        if has_root(path) {
+            return Err(FromPathErrorKind::NonRelative.into());
+        }
+        let mut text = String::with_capacity(alloc, path.len())?;
+        push_components(&mut text, UnixComponents::without_curs(path));
+        Ok(text.into())
     }
 
     /// The paths that the iterator gives, pushed in order onto the empty path. The iterator has to

@@ -1,7 +1,7 @@
 //! Portable relative paths: a text cut at `/` on every platform, which names a place only relative to a base.
 //!
-//! Each module uses those below it, and of its own layer those that stand before it; `path`, `buf`
-//! and `unix` know each other.
+//! Each module uses those below it, and of its own layer those that stand before it; `path`
+//! and `buf` know each other.
 //!
 //! ```text
 //! what callers see      from_path_error  relative_to_error    path  buf  unix

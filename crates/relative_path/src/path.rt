@@ -23,12 +23,13 @@ ghost use Rattle.std.specs.Path.{path_bytes, path_buf_bytes};
 use crate::buf::RelativePathBuf;
 use crate::component::{Component, Components, Iter, compare};
 use crate::editing::{dotted_len, pushed_len};
-use crate::from_path_error::FromPathError;
+use crate::from_path_error::{FromPathError, FromPathErrorKind};
 use crate::naming::{base_of, last_component, parent_of, split_name, without_extension};
 use crate::normal_form::NormalForm;
 use crate::prefixing::text_after;
 use crate::relating::{Way, parting};
-use crate::unix;
+use crate::unix_components::has_root;
+use crate::unix_texts::{joined, joined_logically};
 use std::alloc::{AllocError, Global};
 use std::cmp::Ordering;
 use std::fmt;
@@ -83,7 +84,11 @@ impl<'a> RelativePath<'a> {
         ensures ok { IfOk result (λ view. path_text view ≡ path_bytes path.entry) }
         ensures kind { IfErr result (λ error. from_path_kind error ≡ NonRelative) }
     {
-        unix::view(path.as_str())
+        let text = path.as_str();
+        if has_root(text) {
+            return Err(FromPathErrorKind::NonRelative.into());
+        }
+        Ok(RelativePath::new(text))
     }
 
     /// The path's text.
@@ -188,11 +193,11 @@ impl<'a> RelativePath<'a> {
         ensures { IfOk result
             (λ path. path_buf_bytes path ≡ onto (path_bytes base.entry) (path_components self.entry)) }
     {
-        unix::to_path(alloc, self, base.as_str()).map(PathBuf::from)
+        joined(alloc, base.as_str(), self.text).map(PathBuf::from)
     }
 
     /// The platform path to which this path leads from another one: `.` stays, `..` goes up as
-    /// [`unix::parent_text`] does, and a name is added after a slash, unless nothing stands before
+    /// [`parent_text`](crate::unix::parent_text) does, and a name is added after a slash, unless nothing stands before
     /// it.
     ///
     /// It asks for memory once, for the bytes of both and one more, and fails only where that is
@@ -206,7 +211,7 @@ impl<'a> RelativePath<'a> {
         ensures { IfOk result (λ path. IsLogical (path_bytes base.entry) (path_components self.entry)
             (path_buf_bytes path)) }
     {
-        unix::to_logical_path(alloc, self, base.as_str()).map(PathBuf::from)
+        joined_logically(alloc, base.as_str(), self.text).map(PathBuf::from)
     }
 
     /// The path without each `.` at its end and one component more. Only the empty path has none.
