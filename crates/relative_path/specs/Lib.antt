@@ -17,5 +17,4 @@ pub mod Comparing
 pub mod ComparingLaws
 pub mod Unix
 pub mod UnixComponents
-pub mod FromPathError
-pub mod RelativeToError
+pub mod Error

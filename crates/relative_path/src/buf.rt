@@ -1,12 +1,12 @@
 //! The owned relative path.
 ghost use Rattle.std.specs.Prelude.{◌≡◌, ◌≢◌, ◌≤◌, ◌<◌, ◌+◌, ◌↔◌, ◌++◌, [], ◌∷◌, if◌then◌else◌, ℕ, List, length, take, None, Some, false, IsSome, IfErr, IfOk, IsOk, OnOk, OnErr, MatchResult, IsTrue, string_bytes};
-ghost use Rattle.relative_path.specs.FromPathError.{from_path_kind};
+ghost use Rattle.relative_path.specs.Error.{from_path_kind};
 ghost use Rattle.relative_path.specs.Steps.{Step, name, slash, step_text, components, spell};
 ghost use Rattle.relative_path.specs.Components.{step_of};
 ghost use Rattle.relative_path.specs.Normalizing.{IsNormalText};
 ghost use Rattle.relative_path.specs.Walk.{IsSame};
 ghost use Rattle.relative_path.specs.Unix.{has_root, unix_components};
-ghost use Rattle.relative_path.specs.declared.from_path_error.FromPathErrorKind.TheVariants.{NonRelative, OutOfMemory};
+ghost use Rattle.relative_path.specs.declared.error.FromPathErrorKind.TheVariants.{NonRelative, OutOfMemory};
 ghost use Rattle.std.specs.Path.{path_bytes};
 ghost use Rattle.relative_path.specs.Editing.{pushed, with_separator, without_curs, IsPopped};
 ghost use Rattle.relative_path.specs.Naming.{file_name_of, extension_of, is_plain_extension, dotted, IsNamed, IsExtended};
@@ -25,7 +25,7 @@ ghost use Rattle.std.proofs.Common.{refl};
 
 use crate::component::Component;
 use crate::editing::{dotted_len, needs_separator, pushed_len, strip_slash};
-use crate::from_path_error::{FromPathError, FromPathErrorKind};
+use crate::error::{FromPathError, FromPathErrorKind};
 use crate::naming::{base_of, parent_of, without_extension};
 use crate::path::RelativePath;
 use crate::unix_components::{UnixComponents, has_root};

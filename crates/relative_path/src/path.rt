@@ -15,15 +15,15 @@ ghost use Rattle.relative_path.specs.Relating.{Leads, IsReachable, IsShortestTex
 ghost use Rattle.relative_path.specs.Walk.{walk, IsSame, LeadsBelow, LeadsInTurn};
 ghost use Rattle.relative_path.specs.Prefixing.{StartsWith, EndsWith, IsDropped};
 ghost use Rattle.relative_path.specs.RelativePath.{path_text, path_components, display_text};
-ghost use Rattle.relative_path.specs.FromPathError.{from_path_kind};
+ghost use Rattle.relative_path.specs.Error.{from_path_kind};
 ghost use Rattle.relative_path.specs.Unix.{has_root, onto, IsLogical};
-ghost use Rattle.relative_path.specs.declared.from_path_error.FromPathErrorKind.TheVariants.{NonRelative};
+ghost use Rattle.relative_path.specs.declared.error.FromPathErrorKind.TheVariants.{NonRelative};
 ghost use Rattle.std.specs.Path.{path_bytes, path_buf_bytes};
 
 use crate::buf::RelativePathBuf;
 use crate::component::{Component, Components, Iter, compare};
 use crate::editing::{dotted_len, pushed_len};
-use crate::from_path_error::{FromPathError, FromPathErrorKind};
+use crate::error::{FromPathError, FromPathErrorKind};
 use crate::naming::{base_of, last_component, parent_of, split_name, without_extension};
 use crate::normal_form::NormalForm;
 use crate::prefixing::text_after;

@@ -5,19 +5,17 @@
 ghost use Rattle.std.specs.Prelude.{◌≡◌, ◌≢◌, ◌↔◌, ◌++◌, List, ℕ, IfOk, IfErr, IsErr, IsErrAnd, IsTrue, Some, None, false, if◌then◌else◌, string_bytes};
 ghost use Rattle.std.specs.Path.{path_bytes, path_buf_bytes};
 ghost use Rattle.relative_path.specs.Editing.{without_curs};
-ghost use Rattle.relative_path.specs.FromPathError.{from_path_kind};
+ghost use Rattle.relative_path.specs.Error.{from_path_kind, relative_to_kind};
 ghost use Rattle.relative_path.specs.RelativePath.{path_text, path_components};
-ghost use Rattle.relative_path.specs.RelativeToError.{relative_to_kind};
 ghost use Rattle.relative_path.specs.Steps.{Step, components, spell};
 ghost use Rattle.relative_path.specs.Unix.{has_root, unix_components, onto, way_to, IsLogical};
 ghost use Rattle.relative_path.specs.Walk.{IsSame};
-ghost use Rattle.relative_path.specs.declared.from_path_error.FromPathErrorKind.TheVariants as from_path_kinds;
-ghost use Rattle.relative_path.specs.declared.relative_to_error.RelativeToErrorKind.TheVariants as relative_to_kinds;
+ghost use Rattle.relative_path.specs.declared.error.FromPathErrorKind.TheVariants as from_path_kinds;
+ghost use Rattle.relative_path.specs.declared.error.RelativeToErrorKind.TheVariants as relative_to_kinds;
 
 use crate::buf::RelativePathBuf;
-use crate::from_path_error::FromPathError;
+use crate::error::{FromPathError, RelativeToError, RelativeToErrorKind};
 use crate::path::RelativePath;
-use crate::relative_to_error::{RelativeToError, RelativeToErrorKind};
 use crate::unix_components::{depth, has_root, without_shared};
 pub use crate::unix_texts::parent_text;
 use crate::unix_texts::{climbed, joined, joined_logically};
