@@ -5,6 +5,7 @@ pub mod Counting
 pub mod Relating
 pub mod Slices
 pub mod Editing
+pub mod Writing
 pub mod Spans
 pub mod NormalForm
 pub mod Prefixing

@@ -159,21 +159,6 @@ impl RelativePathBuf {
         Ok(buf)
     }
 
-    // A copy of the text, with room for `room` bytes.
-    pub(crate) fn with_room(
-        alloc: Global,
-        text: &str,
-        room: usize,
-    ) -> Result<RelativePathBuf, AllocError>
-        requires { length text.now ≤ room }
-        ensures text { IfOk result (λ buf. buf.text ≡ text.now) }
-        ensures room { IfOk result (λ buf. room ≤ buf.room) }
-    {
-        let mut buf = RelativePathBuf::with_capacity(alloc, room)?;
-        buf.text.push_str(text).unwrap();
-        Ok(buf)
-    }
-
     /// A copy of the path.
     ///
     /// It asks for memory once, if the path isn't empty, and fails only where that is refused.

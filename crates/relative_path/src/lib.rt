@@ -7,7 +7,7 @@
 //! what callers see      error    path  buf  unix
 //! computed from them    naming  prefixing  normal_form  relating  unix_components  unix_texts
 //! components            component
-//! texts                 slashes  counting  editing  climbs  spans
+//! texts                 slashes  counting  editing  writing  spans
 //! ```
 #![tactic(auto)]
 
@@ -18,7 +18,6 @@ pub use self::path::{Display, RelativePath, StripPrefixError};
 pub use self::unix::PathExt;
 
 mod buf;
-mod climbs;
 mod component;
 mod counting;
 mod editing;
@@ -33,3 +32,4 @@ mod spans;
 pub mod unix;
 mod unix_components;
 mod unix_texts;
+mod writing;

@@ -30,6 +30,7 @@ use crate::prefixing::text_after;
 use crate::relating::{Way, parting};
 use crate::unix_components::has_root;
 use crate::unix_texts::{joined, joined_logically};
+use crate::writing::with_room;
 use std::alloc::{AllocError, Global};
 use std::cmp::Ordering;
 use std::fmt;
@@ -132,7 +133,7 @@ impl<'a> RelativePath<'a> {
             (path_components path.entry) (components joined.text)) }
     {
         let len = pushed_len(self.text, path.text);
-        let mut joined = RelativePathBuf::with_room(alloc, self.text, len)?;
+        let mut joined = RelativePathBuf::from(with_room(alloc, self.text, len)?);
         joined.push_reserved(path);
         Ok(joined)
     }
@@ -445,7 +446,7 @@ impl<'a> RelativePath<'a> {
             return self.to_relative_path_buf(alloc);
         };
         let len = front.len() + dotted_len(extension);
-        let mut extended = RelativePathBuf::with_room(alloc, front, len)?;
+        let mut extended = RelativePathBuf::from(with_room(alloc, front, len)?);
         extended.push_extension(extension);
         Ok(extended)
     }

@@ -5,10 +5,9 @@ ghost use Rattle.relative_path.specs.Steps.{up, components, spell};
 ghost use Rattle.relative_path.specs.Unix.{onto, IsAbove, IsLogical};
 ghost use Rattle.relative_path.specs.UnixComponents.{unix_left};
 
-use crate::climbs::push_climb;
 use crate::component::{Component, Components};
-use crate::editing::add_piece;
 use crate::unix_components::{UnixComponents, has_root, without_idle_end};
+use crate::writing::{add_piece, push_climb, with_room};
 use std::alloc::{AllocError, Global};
 
 /// The text that going up from a platform path leaves: the shortest part of its front that has the
@@ -35,22 +34,11 @@ pub fn parent_text(text: &str) -> &str
     }
 }
 
-// The text, with room for a path after it. It asks for memory once.
-pub(crate) fn base_with_room(alloc: Global, base: &str, path: &str) -> Result<String, AllocError>
-    ensures text { IfOk result (λ text. string_bytes text ≡ base.now) }
-    ensures room { IfOk result
-        (λ text. length base.now + length path.now + 1 ≤ string_capacity text) }
-{
-    let mut text = String::with_capacity(alloc, base.len() + path.len() + 1)?;
-    text.push_str(base).unwrap();
-    Ok(text)
-}
-
 // The text with the components of a path after it, as `to_path` answers it. It asks for memory once.
 pub(crate) fn joined(alloc: Global, base: &str, path: &str) -> Result<String, AllocError>
     ensures { IfOk result (λ text. string_bytes text ≡ onto base.now (components path.now)) }
 {
-    let mut text = base_with_room(alloc, base, path)?;
+    let mut text = with_room(alloc, base, base.len() + path.len() + 1)?;
     for component in Components::new(path) {
         add_piece(&mut text, component.as_str());
     }
@@ -61,7 +49,7 @@ pub(crate) fn joined(alloc: Global, base: &str, path: &str) -> Result<String, Al
 pub(crate) fn joined_logically(alloc: Global, base: &str, path: &str) -> Result<String, AllocError>
     ensures { IfOk result (λ text. IsLogical base.now (components path.now) (string_bytes text)) }
 {
-    let mut text = base_with_room(alloc, base, path)?;
+    let mut text = with_room(alloc, base, base.len() + path.len() + 1)?;
     for component in Components::new(path) {
         match component {
             Component::CurDir => {}

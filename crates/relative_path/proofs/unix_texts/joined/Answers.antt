@@ -1,6 +1,6 @@
 use Rattle.std.proofs.Common.{◌∙◌, refl, sym, ap, length, string_bytes, arith}
 use Rattle.relative_path.specs.Components.{components_left, step_of}
-use Rattle.relative_path.specs.Editing.{with_piece}
+use Rattle.relative_path.specs.Writing.{with_piece}
 use Rattle.relative_path.specs.NormalForm.{padded_len}
 use Rattle.relative_path.specs.Unix.{onto}
 use Rattle.relative_path.proofs.UnixTextsLemmas.{length-with_piece_le, padded_len-components}
