@@ -26,7 +26,7 @@ use crate::editing::{dotted_len, pushed_len};
 use crate::error::{FromPathError, FromPathErrorKind};
 use crate::naming::{base_of, last_component, parent_of, split_name, without_extension};
 use crate::normal_form::NormalForm;
-use crate::prefixing::text_after;
+use crate::prefixing::{ends_with, text_after};
 use crate::relating::{Way, parting};
 use crate::unix_components::has_root;
 use crate::unix_texts::{joined, joined_logically};
@@ -305,14 +305,7 @@ impl<'a> RelativePath<'a> {
         ensures { IsTrue result
             ↔ EndsWith (path_components self.entry) (path_components child.entry) }
     {
-        let mut left = self.components();
-        let mut child_left = child.components();
-        while let Some(component) = child_left.next_back() {
-            if left.next_back() != Some(component) {
-                return false;
-            }
-        }
-        true
+        ends_with(self.text, child.text)
     }
 
     /// How many names a base must have for this path to lead anywhere from it. A path whose climb is
