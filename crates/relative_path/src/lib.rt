@@ -1,10 +1,10 @@
 //! Portable relative paths: a text cut at `/` on every platform, which names a place only relative to a base.
 //!
-//! Each module uses those below it, and of its own layer those that stand before it; `path`
-//! and `buf` know each other.
+//! Each module uses those below it, and of its own layer those that stand before it; `path` and `buf`
+//! know each other.
 //!
 //! ```text
-//! what callers see      error    path  buf  unix
+//! what callers see      error  path  buf  unix
 //! computed from them    naming  prefixing  normal_form  relating  unix_components  unix_texts
 //! components            component
 //! texts                 slashes  counting  editing  writing  spans

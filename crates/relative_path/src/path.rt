@@ -198,8 +198,8 @@ impl<'a> RelativePath<'a> {
     }
 
     /// The platform path to which this path leads from another one: `.` stays, `..` goes up as
-    /// [`parent_text`](crate::unix::parent_text) does, and a name is added after a slash, unless nothing stands before
-    /// it.
+    /// [`crate::unix::parent_text`] does, and a name is added after a slash, unless nothing stands
+    /// before it.
     ///
     /// It asks for memory once, for the bytes of both and one more, and fails only where that is
     /// refused.
