@@ -14,7 +14,7 @@ pub mod NormalizingLemmas
 pub mod CountingLemmas
 pub mod SpansLemmas
 pub mod NormalFormLemmas
-pub mod ClimbsLemmas
+pub mod WritingLemmas
 pub mod RelatingLemmas
 pub mod UnixComponentsLemmas
 pub mod UnixLemmas

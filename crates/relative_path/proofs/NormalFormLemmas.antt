@@ -6,7 +6,7 @@ use Rattle.std.proofs.lemmas.List.Elements.{recursion_from_All, All-from_recursi
 use Rattle.std.proofs.lemmas.List.Sums.{fold-append}
 use Rattle.std.proofs.lemmas.List.{nil_from_length, map_push}
 use Rattle.relative_path.specs.Steps.{Step, cur, up, name, slash, step_text, components, spell}
-use Rattle.relative_path.specs.Editing.{with_piece}
+use Rattle.relative_path.specs.Writing.{with_piece}
 use Rattle.relative_path.specs.Walk.{IsSame}
 use Rattle.relative_path.specs.Normalizing.{AreNames, IsNormal, IsNormalTextOf}
 use Rattle.relative_path.specs.declared.normal_form.NormalForm.{NormalForm}

@@ -13,7 +13,7 @@ use Rattle.relative_path.specs.declared.spans.Span.{Span}
 use Rattle.relative_path.specs.Spans.{source_text, span_text, IsRun, Cuts, CutsName, IsFirstRun, IsOrdered, rest_len, spans_len}
 use Rattle.relative_path.proofs.StepsLemmas.{HasNoSlash, IsProper, AreProper, AreProper-components, components-append, components-nil, components_whole, nonempty_proper, step_text-classed}
 use Rattle.relative_path.proofs.SlashesLemmas.{IsCharBoundary-piece}
-use Rattle.relative_path.specs.Editing.{with_piece}
+use Rattle.relative_path.specs.Writing.{with_piece}
 
 -- ---- the first component
 

@@ -5,10 +5,11 @@ use Rattle.std.proofs.lemmas.Bool.{cases_Bool, cond-true, cond-false}
 use Rattle.std.proofs.lemmas.List.{map-append}
 use Rattle.std.proofs.lemmas.List.Sums.{fold-append}
 use Rattle.relative_path.specs.Steps.{Step, cur, up, name, slash, step_text, components, spell}
-use Rattle.relative_path.specs.Editing.{is_cur, with_piece, without_curs}
+use Rattle.relative_path.specs.Editing.{is_cur, without_curs}
+use Rattle.relative_path.specs.Writing.{with_piece}
 use Rattle.relative_path.specs.Unix.{has_root, without_inner_curs, counted, onto, unix_components}
 use Rattle.relative_path.proofs.StepsLemmas.{AreProper, AreProper-append, AreProper-components, IsProper-up}
-use Rattle.relative_path.proofs.ClimbsLemmas.{map_step_text-ups}
+use Rattle.relative_path.proofs.WritingLemmas.{map_step_text-ups}
 use Rattle.relative_path.proofs.NormalFormLemmas.{length-spell, length-with_pieces_le, padded_len-append, with_pieces-spell}
 use Rattle.relative_path.specs.NormalForm.{padded_len}
 use Rattle.relative_path.proofs.NormalizingLemmas.{length-spell-components}

@@ -35,8 +35,3 @@ kept_len cs = length cs - suffix_len is_cur cs - 1
 -- p is the shortest prefix with the components that a parent keeps: what `pop` leaves, and `parent` answers
 abbrev pub IsPopped : List ℕ → List ℕ → Type 0
 IsPopped text p = IsCut text (kept_len (components text)) p
-
--- the text, a slash unless it is empty, and the piece
-abbrev pub with_piece : List ℕ → List ℕ → List ℕ
-with_piece [] piece = piece
-with_piece (b ∷ bs) piece = (b ∷ bs) ++ slash ∷ piece

@@ -5,6 +5,7 @@ pub mod Counting
 pub mod Relating
 pub mod Slices
 pub mod Editing
+pub mod Writing
 pub mod Spans
 pub mod NormalForm
 pub mod Prefixing
@@ -17,5 +18,4 @@ pub mod Comparing
 pub mod ComparingLaws
 pub mod Unix
 pub mod UnixComponents
-pub mod FromPathError
-pub mod RelativeToError
+pub mod Error

@@ -7,7 +7,7 @@ use Rattle.relative_path.specs.declared.spans.Source.{Source}
 use Rattle.relative_path.specs.declared.spans.Source.TheVariants.{First, Second}
 use Rattle.relative_path.specs.declared.spans.Sources.{Sources}
 use Rattle.relative_path.specs.declared.spans.Span.{Span}
-use Rattle.relative_path.specs.Editing.{with_piece}
+use Rattle.relative_path.specs.Writing.{with_piece}
 use Rattle.relative_path.specs.Steps.{Step, name, slash, step_text, components}
 
 -- the text of a source

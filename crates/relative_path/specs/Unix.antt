@@ -6,7 +6,8 @@ use Rattle.std.specs.List.{common_prefix_len}
 use Rattle.std.specs.Option.{option_map}
 use Rattle.relative_path.specs.Steps.{Step, cur, up, name, is_slash, step_text, components}
 use Rattle.relative_path.specs.Walk.{walk}
-use Rattle.relative_path.specs.Editing.{with_piece, without_curs}
+use Rattle.relative_path.specs.Editing.{without_curs}
+use Rattle.relative_path.specs.Writing.{with_piece}
 use Rattle.relative_path.specs.Comparing.{step_eq}
 
 -- the text begins with a slash

@@ -1,12 +1,12 @@
 //! The owned relative path.
 ghost use Rattle.std.specs.Prelude.{◌≡◌, ◌≢◌, ◌≤◌, ◌<◌, ◌+◌, ◌↔◌, ◌++◌, [], ◌∷◌, if◌then◌else◌, ℕ, List, length, take, None, Some, false, IsSome, IfErr, IfOk, IsOk, OnOk, OnErr, MatchResult, IsTrue, string_bytes};
-ghost use Rattle.relative_path.specs.FromPathError.{from_path_kind};
+ghost use Rattle.relative_path.specs.Error.{from_path_kind};
 ghost use Rattle.relative_path.specs.Steps.{Step, name, slash, step_text, components, spell};
 ghost use Rattle.relative_path.specs.Components.{step_of};
 ghost use Rattle.relative_path.specs.Normalizing.{IsNormalText};
 ghost use Rattle.relative_path.specs.Walk.{IsSame};
 ghost use Rattle.relative_path.specs.Unix.{has_root, unix_components};
-ghost use Rattle.relative_path.specs.declared.from_path_error.FromPathErrorKind.TheVariants.{NonRelative, OutOfMemory};
+ghost use Rattle.relative_path.specs.declared.error.FromPathErrorKind.TheVariants.{NonRelative, OutOfMemory};
 ghost use Rattle.std.specs.Path.{path_bytes};
 ghost use Rattle.relative_path.specs.Editing.{pushed, with_separator, without_curs, IsPopped};
 ghost use Rattle.relative_path.specs.Naming.{file_name_of, extension_of, is_plain_extension, dotted, IsNamed, IsExtended};
@@ -25,10 +25,11 @@ ghost use Rattle.std.proofs.Common.{refl};
 
 use crate::component::Component;
 use crate::editing::{dotted_len, needs_separator, pushed_len, strip_slash};
-use crate::from_path_error::FromPathError;
+use crate::error::{FromPathError, FromPathErrorKind};
 use crate::naming::{base_of, parent_of, without_extension};
 use crate::path::RelativePath;
-use crate::unix;
+use crate::unix_components::{UnixComponents, has_root};
+use crate::unix_texts::push_components;
 use std::alloc::{AllocError, Global};
 use std::cmp::Ordering;
 use std::fmt;
@@ -122,7 +123,13 @@ impl RelativePathBuf {
         ensures kind { IfErr result (λ error. from_path_kind error
             ≡ (if has_root (path_bytes path.entry) then NonRelative else OutOfMemory)) }
     {
-        unix::from_path(alloc, path.as_str())
+        let path = path.as_str();
+        if has_root(path) {
+            return Err(FromPathErrorKind::NonRelative.into());
+        }
+        let mut text = String::with_capacity(alloc, path.len())?;
+        push_components(&mut text, UnixComponents::without_curs(path));
+        Ok(text.into())
     }
 
     /// The paths that the iterator gives, pushed in order onto the empty path. The iterator has to
@@ -149,21 +156,6 @@ impl RelativePathBuf {
     {
         let mut buf = RelativePathBuf::new(alloc);
         buf.extend(paths)?;
-        Ok(buf)
-    }
-
-    // A copy of the text, with room for `room` bytes.
-    pub(crate) fn with_room(
-        alloc: Global,
-        text: &str,
-        room: usize,
-    ) -> Result<RelativePathBuf, AllocError>
-        requires { length text.now ≤ room }
-        ensures text { IfOk result (λ buf. buf.text ≡ text.now) }
-        ensures room { IfOk result (λ buf. room ≤ buf.room) }
-    {
-        let mut buf = RelativePathBuf::with_capacity(alloc, room)?;
-        buf.text.push_str(text).unwrap();
         Ok(buf)
     }
 

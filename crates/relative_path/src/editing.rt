@@ -1,7 +1,6 @@
 //! The pieces of an edit, and how long the texts are that edits leave.
-ghost use Rattle.std.specs.Prelude.{◌≡◌, ◌≤◌, ◌++◌, [], ◌∷◌, if◌then◌else◌, length, string_bytes};
-ghost use Rattle.std.specs.String.{string_capacity};
-ghost use Rattle.relative_path.specs.Editing.{pushed, unslashed, with_piece, with_separator};
+ghost use Rattle.std.specs.Prelude.{◌≡◌, ◌++◌, [], ◌∷◌, if◌then◌else◌, length};
+ghost use Rattle.relative_path.specs.Editing.{pushed, unslashed, with_separator};
 ghost use Rattle.relative_path.specs.Naming.{dotted};
 ghost use Rattle.relative_path.specs.Steps.{slash};
 
@@ -35,16 +34,4 @@ pub(crate) fn strip_slash(text: &str) -> &str
     ensures { result.now ≡ unslashed text.now }
 {
     text.strip_prefix('/').unwrap_or(text)
-}
-
-// Adds a piece to a text with room for it: after a slash, or alone to the empty text.
-pub(crate) fn add_piece(text: &mut String, piece: &str)
-    requires { length (with_piece (string_bytes text.old) piece.now) ≤ string_capacity text.old }
-    ensures text { string_bytes text.new ≡ with_piece (string_bytes text.old) piece.now }
-    ensures room { string_capacity text.old ≤ string_capacity text.new }
-{
-    if !text.is_empty() {
-        text.push_str("/").unwrap();
-    }
-    text.push_str(piece).unwrap();
 }

@@ -1,37 +1,35 @@
 //! Portable relative paths: a text cut at `/` on every platform, which names a place only relative to a base.
 //!
-//! Each module uses those below it, and of its own layer those that stand before it; `path`, `buf`
-//! and `unix` know each other.
+//! Each module uses those below it, and of its own layer those that stand before it; `path` and `buf`
+//! know each other.
 //!
 //! ```text
-//! what callers see      from_path_error  relative_to_error    path  buf  unix
+//! what callers see      error  path  buf  unix
 //! computed from them    naming  prefixing  normal_form  relating  unix_components  unix_texts
 //! components            component
-//! texts                 slashes  counting  editing  climbs  spans
+//! texts                 slashes  counting  editing  writing  spans
 //! ```
 #![tactic(auto)]
 
 pub use self::buf::RelativePathBuf;
 pub use self::component::{Component, Components, Iter};
-pub use self::from_path_error::{FromPathError, FromPathErrorKind};
+pub use self::error::{FromPathError, FromPathErrorKind, RelativeToError, RelativeToErrorKind};
 pub use self::path::{Display, RelativePath, StripPrefixError};
-pub use self::relative_to_error::{RelativeToError, RelativeToErrorKind};
 pub use self::unix::PathExt;
 
 mod buf;
-mod climbs;
 mod component;
 mod counting;
 mod editing;
-mod from_path_error;
+mod error;
 mod naming;
 mod normal_form;
 mod path;
 mod prefixing;
 mod relating;
-mod relative_to_error;
 mod slashes;
 mod spans;
 pub mod unix;
 mod unix_components;
 mod unix_texts;
+mod writing;

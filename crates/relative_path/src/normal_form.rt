@@ -7,12 +7,11 @@ ghost use Rattle.relative_path.specs.Spans.{source_text, span_text, spans_len, r
 ghost use Rattle.relative_path.specs.Steps.{components, spell};
 ghost use Rattle.relative_path.specs.declared.spans.Sources.{Sources};
 
-use crate::climbs::push_climb;
 use crate::component::{Component, Components};
 use crate::counting::component_count;
-use crate::editing::add_piece;
 use crate::slashes::without_leading_slashes;
 use crate::spans::{Source, Sources, Span, first_run, spans_len};
+use crate::writing::{add_piece, push_climb};
 use std::alloc::{AllocError, Global};
 
 // A normal list of components: as many `..` as it climbs, and then the names, each a span of a source.

@@ -15,20 +15,22 @@ ghost use Rattle.relative_path.specs.Relating.{Leads, IsReachable, IsShortestTex
 ghost use Rattle.relative_path.specs.Walk.{walk, IsSame, LeadsBelow, LeadsInTurn};
 ghost use Rattle.relative_path.specs.Prefixing.{StartsWith, EndsWith, IsDropped};
 ghost use Rattle.relative_path.specs.RelativePath.{path_text, path_components, display_text};
-ghost use Rattle.relative_path.specs.FromPathError.{from_path_kind};
+ghost use Rattle.relative_path.specs.Error.{from_path_kind};
 ghost use Rattle.relative_path.specs.Unix.{has_root, onto, IsLogical};
-ghost use Rattle.relative_path.specs.declared.from_path_error.FromPathErrorKind.TheVariants.{NonRelative};
+ghost use Rattle.relative_path.specs.declared.error.FromPathErrorKind.TheVariants.{NonRelative};
 ghost use Rattle.std.specs.Path.{path_bytes, path_buf_bytes};
 
 use crate::buf::RelativePathBuf;
 use crate::component::{Component, Components, Iter, compare};
 use crate::editing::{dotted_len, pushed_len};
-use crate::from_path_error::FromPathError;
+use crate::error::{FromPathError, FromPathErrorKind};
 use crate::naming::{base_of, last_component, parent_of, split_name, without_extension};
 use crate::normal_form::NormalForm;
-use crate::prefixing::text_after;
+use crate::prefixing::{ends_with, text_after};
 use crate::relating::{Way, parting};
-use crate::unix;
+use crate::unix_components::has_root;
+use crate::unix_texts::{joined, joined_logically};
+use crate::writing::with_room;
 use std::alloc::{AllocError, Global};
 use std::cmp::Ordering;
 use std::fmt;
@@ -83,7 +85,11 @@ impl<'a> RelativePath<'a> {
         ensures ok { IfOk result (λ view. path_text view ≡ path_bytes path.entry) }
         ensures kind { IfErr result (λ error. from_path_kind error ≡ NonRelative) }
     {
-        unix::view(path.as_str())
+        let text = path.as_str();
+        if has_root(text) {
+            return Err(FromPathErrorKind::NonRelative.into());
+        }
+        Ok(RelativePath::new(text))
     }
 
     /// The path's text.
@@ -127,7 +133,7 @@ impl<'a> RelativePath<'a> {
             (path_components path.entry) (components joined.text)) }
     {
         let len = pushed_len(self.text, path.text);
-        let mut joined = RelativePathBuf::with_room(alloc, self.text, len)?;
+        let mut joined = RelativePathBuf::from(with_room(alloc, self.text, len)?);
         joined.push_reserved(path);
         Ok(joined)
     }
@@ -188,12 +194,12 @@ impl<'a> RelativePath<'a> {
         ensures { IfOk result
             (λ path. path_buf_bytes path ≡ onto (path_bytes base.entry) (path_components self.entry)) }
     {
-        unix::to_path(alloc, self, base.as_str()).map(PathBuf::from)
+        joined(alloc, base.as_str(), self.text).map(PathBuf::from)
     }
 
     /// The platform path to which this path leads from another one: `.` stays, `..` goes up as
-    /// [`unix::parent_text`] does, and a name is added after a slash, unless nothing stands before
-    /// it.
+    /// [`crate::unix::parent_text`] does, and a name is added after a slash, unless nothing stands
+    /// before it.
     ///
     /// It asks for memory once, for the bytes of both and one more, and fails only where that is
     /// refused.
@@ -206,7 +212,7 @@ impl<'a> RelativePath<'a> {
         ensures { IfOk result (λ path. IsLogical (path_bytes base.entry) (path_components self.entry)
             (path_buf_bytes path)) }
     {
-        unix::to_logical_path(alloc, self, base.as_str()).map(PathBuf::from)
+        joined_logically(alloc, base.as_str(), self.text).map(PathBuf::from)
     }
 
     /// The path without each `.` at its end and one component more. Only the empty path has none.
@@ -299,14 +305,7 @@ impl<'a> RelativePath<'a> {
         ensures { IsTrue result
             ↔ EndsWith (path_components self.entry) (path_components child.entry) }
     {
-        let mut left = self.components();
-        let mut child_left = child.components();
-        while let Some(component) = child_left.next_back() {
-            if left.next_back() != Some(component) {
-                return false;
-            }
-        }
-        true
+        ends_with(self.text, child.text)
     }
 
     /// How many names a base must have for this path to lead anywhere from it. A path whose climb is
@@ -440,7 +439,7 @@ impl<'a> RelativePath<'a> {
             return self.to_relative_path_buf(alloc);
         };
         let len = front.len() + dotted_len(extension);
-        let mut extended = RelativePathBuf::with_room(alloc, front, len)?;
+        let mut extended = RelativePathBuf::from(with_room(alloc, front, len)?);
         extended.push_extension(extension);
         Ok(extended)
     }

@@ -1,6 +1,6 @@
-//! What a path has beyond the components of another.
-ghost use Rattle.std.specs.Prelude.{◌≡◌, ◌↔◌, ◌++◌, IfSome, IsSome, length};
-ghost use Rattle.relative_path.specs.Prefixing.{StartsWith, IsDropped};
+//! What a path has beyond the components of another, and whether it ends with them.
+ghost use Rattle.std.specs.Prelude.{◌≡◌, ◌↔◌, ◌++◌, IfSome, IsSome, IsTrue, length};
+ghost use Rattle.relative_path.specs.Prefixing.{StartsWith, EndsWith, IsDropped};
 ghost use Rattle.relative_path.specs.Steps.{components};
 
 use crate::component::Components;
@@ -21,4 +21,18 @@ pub(crate) fn text_after<'a>(text: &'a str, base: &str) -> Option<&'a str>
         }
     }
     Some(left.as_str())
+}
+
+// Whether the components of the text end with those of `child`.
+pub(crate) fn ends_with(text: &str, child: &str) -> bool
+    ensures { IsTrue result ↔ EndsWith (components text.now) (components child.now) }
+{
+    let mut left = Components::new(text);
+    let mut child_left = Components::new(child);
+    while let Some(component) = child_left.next_back() {
+        if left.next_back() != Some(component) {
+            return false;
+        }
+    }
+    true
 }

@@ -5,49 +5,22 @@
 ghost use Rattle.std.specs.Prelude.{◌≡◌, ◌≢◌, ◌↔◌, ◌++◌, List, ℕ, IfOk, IfErr, IsErr, IsErrAnd, IsTrue, Some, None, false, if◌then◌else◌, string_bytes};
 ghost use Rattle.std.specs.Path.{path_bytes, path_buf_bytes};
 ghost use Rattle.relative_path.specs.Editing.{without_curs};
-ghost use Rattle.relative_path.specs.FromPathError.{from_path_kind};
+ghost use Rattle.relative_path.specs.Error.{from_path_kind, relative_to_kind};
 ghost use Rattle.relative_path.specs.RelativePath.{path_text, path_components};
-ghost use Rattle.relative_path.specs.RelativeToError.{relative_to_kind};
 ghost use Rattle.relative_path.specs.Steps.{Step, components, spell};
-ghost use Rattle.relative_path.specs.Unix.{has_root, unix_components, onto, way_to, IsAbove, IsLogical};
+ghost use Rattle.relative_path.specs.Unix.{has_root, unix_components, onto, way_to, IsLogical};
 ghost use Rattle.relative_path.specs.Walk.{IsSame};
-ghost use Rattle.relative_path.specs.declared.from_path_error.FromPathErrorKind.TheVariants as from_path_kinds;
-ghost use Rattle.relative_path.specs.declared.relative_to_error.RelativeToErrorKind.TheVariants as relative_to_kinds;
+ghost use Rattle.relative_path.specs.declared.error.FromPathErrorKind.TheVariants as from_path_kinds;
+ghost use Rattle.relative_path.specs.declared.error.RelativeToErrorKind.TheVariants as relative_to_kinds;
 
 use crate::buf::RelativePathBuf;
-use crate::component::{Component, Components};
-use crate::editing::add_piece;
-use crate::from_path_error::{FromPathError, FromPathErrorKind};
+use crate::error::{FromPathError, RelativeToError, RelativeToErrorKind};
 use crate::path::RelativePath;
-use crate::relative_to_error::{RelativeToError, RelativeToErrorKind};
-use crate::unix_components::{UnixComponents, depth, has_root, without_idle_end, without_shared};
-use crate::unix_texts::{base_with_room, climbed, push_components};
+use crate::unix_components::{depth, has_root, without_shared};
+pub use crate::unix_texts::parent_text;
+use crate::unix_texts::{climbed, joined, joined_logically};
 use std::alloc::{AllocError, Global};
 use std::path::{Path, PathBuf};
-
-/// The text that going up from a platform path leaves: the shortest part of its front that has the
-/// same root and all its components but the last. A text without a component stays as it is.
-///
-/// The answer takes no memory.
-///
-/// ```
-/// assert_eq!(rt; unix::parent_text("//foo/./bar"), "//foo");
-/// ```
-pub fn parent_text(text: &str) -> &str
-    ensures { IsAbove text.now result.now }
-{
-    let rooted = has_root(text);
-    let mut components = Components::new(without_idle_end(text, rooted));
-    if components.next_back().is_none() {
-        return text;
-    }
-    let parent = without_idle_end(components.as_str(), rooted);
-    if rooted && parent.is_empty() {
-        "/"
-    } else {
-        parent
-    }
-}
 
 /// The platform path as a relative path, unless it begins with a slash.
 ///
@@ -61,10 +34,7 @@ pub fn view(text: &str) -> Result<RelativePath<'_>, FromPathError>
     ensures ok { IfOk result (λ path. path_text path ≡ text.now) }
     ensures kind { IfErr result (λ error. from_path_kind error ≡ from_path_kinds.NonRelative) }
 {
-    if has_root(text) {
-        return Err(FromPathErrorKind::NonRelative.into());
-    }
-    Ok(RelativePath::new(text))
+    RelativePath::from_path(Path::new(text))
 }
 
 /// The components of a platform path but each `.`, with single slashes between, unless it begins
@@ -84,10 +54,7 @@ pub fn from_path(alloc: Global, text: &str) -> Result<RelativePathBuf, FromPathE
     ensures kind { IfErr result (λ error. from_path_kind error
         ≡ (if has_root text.now then from_path_kinds.NonRelative else from_path_kinds.OutOfMemory)) }
 {
-    let components = UnixComponents::without_curs(view(text)?.as_str());
-    let mut path = String::with_capacity(alloc, text.len())?;
-    push_components(&mut path, components);
-    Ok(path.into())
+    RelativePathBuf::from_path(alloc, Path::new(text))
 }
 
 /// The platform path with the components of a relative path after it, each as its text, with a
@@ -103,11 +70,7 @@ pub fn from_path(alloc: Global, text: &str) -> Result<RelativePathBuf, FromPathE
 pub fn to_path(alloc: Global, path: RelativePath<'_>, base: &str) -> Result<String, AllocError>
     ensures { IfOk result (λ text. string_bytes text ≡ onto base.now (path_components path.entry)) }
 {
-    let mut text = base_with_room(alloc, base, path.as_str())?;
-    for component in path.components() {
-        add_piece(&mut text, component.as_str());
-    }
-    Ok(text)
+    joined(alloc, base, path.as_str())
 }
 
 /// The platform path to which a relative path leads from another one: `.` stays, `..` goes up as
@@ -128,18 +91,7 @@ pub fn to_logical_path(
     ensures { IfOk result
         (λ text. IsLogical base.now (path_components path.entry) (string_bytes text)) }
 {
-    let mut text = base_with_room(alloc, base, path.as_str())?;
-    for component in path.components() {
-        match component {
-            Component::CurDir => {}
-            Component::ParentDir => {
-                let parent_len = parent_text(text.as_str()).len();
-                text.truncate(parent_len);
-            }
-            Component::Normal(name) => add_piece(&mut text, name),
-        }
-    }
-    Ok(text)
+    joined_logically(alloc, base, path.as_str())
 }
 
 /// The relative path from one platform path, the root, to another: without what both begin with, one

@@ -91,8 +91,6 @@ pub(crate) fn depth(left: UnixComponents<'_>) -> Option<usize>
         (λ depth. (place : List (List ℕ)) × (walk [] (unix_left left.entry) ≡ Some place)
         × (depth ≡ length place)) }
 {
-    // A text has fewer components than a number can count.
-    prove!(left.left.len() < usize::MAX);
     let mut depth: usize = 0;
     for component in left {
         match component {

@@ -1,23 +1,65 @@
-//! Texts that are written into room made for them at once.
+//! Texts of platform paths. Each new one is written into room made for it at once.
 ghost use Rattle.std.specs.Prelude.{◌≡◌, ◌≤◌, ◌+◌, ◌^◌, ◌++◌, length, replicate, IfOk, MatchOption, string_bytes};
 ghost use Rattle.std.specs.String.{string_capacity};
-ghost use Rattle.relative_path.specs.Steps.{up, spell};
-ghost use Rattle.relative_path.specs.Unix.{onto};
+ghost use Rattle.relative_path.specs.Steps.{up, components, spell};
+ghost use Rattle.relative_path.specs.Unix.{onto, IsAbove, IsLogical};
 ghost use Rattle.relative_path.specs.UnixComponents.{unix_left};
 
-use crate::climbs::push_climb;
-use crate::editing::add_piece;
-use crate::unix_components::UnixComponents;
+use crate::component::{Component, Components};
+use crate::unix_components::{UnixComponents, has_root, without_idle_end};
+use crate::writing::{add_piece, push_climb, with_room};
 use std::alloc::{AllocError, Global};
 
-// The text, with room for a path after it. It asks for memory once.
-pub(crate) fn base_with_room(alloc: Global, base: &str, path: &str) -> Result<String, AllocError>
-    ensures text { IfOk result (λ text. string_bytes text ≡ base.now) }
-    ensures room { IfOk result
-        (λ text. length base.now + length path.now + 1 ≤ string_capacity text) }
+/// The text that going up from a platform path leaves: the shortest part of its front that has the
+/// same root and all its components but the last. A text without a component stays as it is.
+///
+/// The answer takes no memory.
+///
+/// ```
+/// assert_eq!(rt; unix::parent_text("//foo/./bar"), "//foo");
+/// ```
+pub fn parent_text(text: &str) -> &str
+    ensures { IsAbove text.now result.now }
 {
-    let mut text = String::with_capacity(alloc, base.len() + path.len() + 1)?;
-    text.push_str(base).unwrap();
+    let rooted = has_root(text);
+    let mut components = Components::new(without_idle_end(text, rooted));
+    if components.next_back().is_none() {
+        return text;
+    }
+    let parent = without_idle_end(components.as_str(), rooted);
+    if rooted && parent.is_empty() {
+        "/"
+    } else {
+        parent
+    }
+}
+
+// The text with the components of a path after it, as `to_path` answers it. It asks for memory once.
+pub(crate) fn joined(alloc: Global, base: &str, path: &str) -> Result<String, AllocError>
+    ensures { IfOk result (λ text. string_bytes text ≡ onto base.now (components path.now)) }
+{
+    let mut text = with_room(alloc, base, base.len() + path.len() + 1)?;
+    for component in Components::new(path) {
+        add_piece(&mut text, component.as_str());
+    }
+    Ok(text)
+}
+
+// The text to which the components of a path lead from it, as `to_logical_path` answers it. It asks for memory once.
+pub(crate) fn joined_logically(alloc: Global, base: &str, path: &str) -> Result<String, AllocError>
+    ensures { IfOk result (λ text. IsLogical base.now (components path.now) (string_bytes text)) }
+{
+    let mut text = with_room(alloc, base, base.len() + path.len() + 1)?;
+    for component in Components::new(path) {
+        match component {
+            Component::CurDir => {}
+            Component::ParentDir => {
+                let parent_len = parent_text(text.as_str()).len();
+                text.truncate(parent_len);
+            }
+            Component::Normal(name) => add_piece(&mut text, name),
+        }
+    }
     Ok(text)
 }
 

@@ -1,10 +1,10 @@
 //! The path from one platform path to another.
 ghost use Rattle.std.specs.Prelude.{◌≡◌, ◌≢◌, ◌↔◌, ◌++◌, List, None, Some, IfOk, IfErr, IsErrAnd};
-ghost use Rattle.relative_path.specs.RelativeToError.{relative_to_kind};
+ghost use Rattle.relative_path.specs.Error.{relative_to_kind};
 ghost use Rattle.relative_path.specs.Steps.{Step, components, spell};
 ghost use Rattle.relative_path.specs.Unix.{has_root, unix_components, way_to};
 ghost use Rattle.relative_path.specs.Walk.{IsSame};
-ghost use Rattle.relative_path.specs.declared.relative_to_error.RelativeToErrorKind.TheVariants as kinds;
+ghost use Rattle.relative_path.specs.declared.error.RelativeToErrorKind.TheVariants as kinds;
 
 use relative_path::{RelativePathBuf, RelativeToError, unix};
 use std::alloc::Global;

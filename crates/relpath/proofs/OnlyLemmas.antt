@@ -5,8 +5,8 @@ use Rattle.std.proofs.lemmas.Slice.Eq.{bytes_eq-Decides}
 use Rattle.std.proofs.lemmas.Bool.{cases_order}
 use Rattle.relative_path.specs.Steps.{Step, components, spell}
 use Rattle.relative_path.specs.Unix.{way_to}
-use Rattle.relative_path.specs.RelativeToError.{relative_to_words}
-use Rattle.relative_path.specs.declared.relative_to_error.RelativeToErrorKind.TheVariants.{AmbiguousTraversal}
+use Rattle.relative_path.specs.Error.{relative_to_words}
+use Rattle.relative_path.specs.declared.error.RelativeToErrorKind.TheVariants.{AmbiguousTraversal}
 use Rattle.relative_path.specs.Normalizing.{IsNormalTextOf}
 use Rattle.relative_path.specs.Relating.{IsReachable, IsShortestText}
 use Rattle.relpath.specs.Command.{path_answer, words_answer, GivesPath, IsWayText, TellsWay, field, command_named, arity_of, TellsWayBack, AnswersArguments, AnswersCommand, TellsMoved, moved_answer, one_move}

@@ -6,8 +6,8 @@ use Rattle.relative_path.specs.Normalizing.{IsNormalTextOf}
 use Rattle.relative_path.specs.Editing.{pushed}
 use Rattle.relative_path.specs.Relating.{IsReachable, IsShortestText}
 use Rattle.relative_path.specs.Unix.{has_root, way_to}
-use Rattle.relative_path.specs.RelativeToError.{relative_to_words}
-use Rattle.relative_path.specs.declared.relative_to_error.RelativeToErrorKind.TheVariants.{PrefixMismatch, AmbiguousTraversal}
+use Rattle.relative_path.specs.Error.{relative_to_words}
+use Rattle.relative_path.specs.declared.error.RelativeToErrorKind.TheVariants.{PrefixMismatch, AmbiguousTraversal}
 use Rattle.relative_path_moves.specs.declared.move_error.MoveError.{MoveError}
 use Rattle.relative_path_moves.specs.MoveError.{refusal_text}
 use Rattle.relative_path_moves.specs.Moves.{Move as FileMove}

@@ -16,8 +16,8 @@ ghost use Rattle.relpath.specs.Command.{
   path_answer,
   words_answer,
 };
-ghost use Rattle.relative_path.specs.RelativeToError.{relative_to_kind, relative_to_words};
-ghost use Rattle.relative_path.specs.declared.relative_to_error.RelativeToErrorKind.TheVariants as RelativeToErrorKind;
+ghost use Rattle.relative_path.specs.Error.{relative_to_kind, relative_to_words};
+ghost use Rattle.relative_path.specs.declared.error.RelativeToErrorKind.TheVariants as RelativeToErrorKind;
 ghost use Rattle.relative_path_moves.specs.MoveError.{refusal_text};
 
 use crate::lines::{MAX_FIELDS, split_fields};

@@ -1,5 +1,5 @@
 use Rattle.std.proofs.Common.{[], arith, ap, ◌∙◌, fold, length, replicate}
-use Rattle.relative_path.specs.Editing.{with_piece}
+use Rattle.relative_path.specs.Writing.{with_piece}
 use Rattle.relative_path.specs.Steps.{up, step_text}
 use Rattle.relative_path.specs.Unix.{onto}
 use Rattle.relative_path.specs.UnixComponents.{unix_left}

@@ -1,5 +1,5 @@
 use Rattle.std.proofs.Common.{arith, ap, length, string_bytes}
-use Rattle.relative_path.specs.Editing.{with_piece}
+use Rattle.relative_path.specs.Writing.{with_piece}
 use Rattle.relative_path.specs.Components.{step_of}
 use Rattle.relative_path.specs.Steps.{step_text}
 use Rattle.relative_path.specs.Unix.{onto}

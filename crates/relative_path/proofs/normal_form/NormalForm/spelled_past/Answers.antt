@@ -1,5 +1,5 @@
 use Rattle.std.proofs.Common.{rules, [], ap, ◌∙◌, arith, drop, fold, length, map, replicate, string_bytes}
-use Rattle.relative_path.specs.Editing.{with_piece}
+use Rattle.relative_path.specs.Writing.{with_piece}
 use Rattle.relative_path.specs.NormalForm.{form_names, form_steps}
 use Rattle.relative_path.specs.Spans.{span_text}
 use Rattle.relative_path.specs.Steps.{up, step_text, components, spell}

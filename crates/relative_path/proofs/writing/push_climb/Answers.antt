@@ -1,8 +1,8 @@
 use Rattle.std.proofs.Common.{string_bytes, ◌≡◌, ◌<◌, ◌≤◌, ◌∙◌, ap, sym, ◌-◌, fold, length, replicate, arith}
-use Rattle.relative_path.specs.Editing.{with_piece}
+use Rattle.relative_path.specs.Writing.{with_piece}
 use Rattle.relative_path.specs.Steps.{up, step_text}
-use Rattle.relative_path.proofs.ClimbsLemmas.{climbs_boundary, climbs_cut, with_pieces-some_climbs, some_climbs_fit}
-use Rattle.relative_path.proofs.climbs.push_climb.Goals as goal
+use Rattle.relative_path.proofs.WritingLemmas.{climbs_boundary, climbs_cut, with_pieces-some_climbs, some_climbs_fit}
+use Rattle.relative_path.proofs.writing.push_climb.Goals as goal
 
 pub range-requires-clause-end_boundary : goal.range-requires-clause-end_boundary
 range-requires-clause-end_boundary c =

@@ -1,28 +1,26 @@
 use Rattle.std.proofs.Common.{◌∙◌, refl, sym, ap, length, string_bytes, arith}
 use Rattle.relative_path.specs.Components.{components_left, step_of}
-use Rattle.relative_path.specs.Editing.{with_piece}
+use Rattle.relative_path.specs.Writing.{with_piece}
 use Rattle.relative_path.specs.NormalForm.{padded_len}
 use Rattle.relative_path.specs.Unix.{onto}
-use Rattle.relative_path.specs.RelativePath.{path_text}
 use Rattle.relative_path.proofs.UnixTextsLemmas.{length-with_piece_le, padded_len-components}
-use Rattle.relative_path.proofs.unix.to_path.Goals as goal
+use Rattle.relative_path.proofs.unix_texts.joined.Goals as goal
 
 pub loop-component-init : goal.loop-component-init
 loop-component-init c =
     let room = c.in_ok-text.ensures.room in
-    let len = ap length c.as_str.ensures in
     rw
-    (c.into_iter-component-iterator.ensures.into_iter_gives, c.components-component-items.ensures.text, c.in_ok-text.ensures.text) (
+    (c.into_iter-component-iterator.ensures.into_iter_gives, c.new-component-items.ensures, c.in_ok-text.ensures.text) (
       refl,
       omega
-          (arith, padded_len-components (path_text c.args.path), room, len),
+          (arith, padded_len-components c.args.path.now, room),
     )
 
 pub add_piece-requires : goal.add_piece-requires
 add_piece-requires c =
     let text = string_bytes c.loop-component.text in
     let first = ap padded_len c.in-Some.ensures.steps.0 in
-    let piece = ap (λ p. length (with_piece text p)) c.as_str-in-loop-component.ensures in
+    let piece = ap (λ p. length (with_piece text p)) c.as_str.ensures in
     omega (arith, c.loop-component.invariant.1, first, piece, length-with_piece_le text (step_of c.in-Some.component))
 
 pub loop-component-preserved : goal.loop-component-preserved
@@ -30,7 +28,7 @@ loop-component-preserved c =
     let text = string_bytes c.loop-component.text in
     let before = c.loop-component.invariant in
     let first = c.in-Some.ensures.steps.0 in
-    let added = c.add_piece.ensures.text ∙ ap (with_piece text) c.as_str-in-loop-component.ensures in
+    let added = c.add_piece.ensures.text ∙ ap (with_piece text) c.as_str.ensures in
     let joined = ap (λ t. onto t (components_left c.next.new.self)) added ∙ sym (ap (onto text) first) in (
       joined ∙ before.0,
       omega (

@@ -1,8 +1,8 @@
 use Rattle.std.proofs.Common.{◌≡◌, ◌≤◌, fold, replicate, string_bytes}
 use Rattle.std.specs.String.{string_capacity}
-use Rattle.relative_path.specs.Editing.{with_piece}
+use Rattle.relative_path.specs.Writing.{with_piece}
 use Rattle.relative_path.specs.Steps.{up, step_text}
-use Rattle.relative_path.proofs.climbs.push_climb.Given as goal
+use Rattle.relative_path.proofs.writing.push_climb.Given as goal
 
 abbrev pub invariant-loop-left : goal.invariant-loop-left
 invariant-loop-left l = record {

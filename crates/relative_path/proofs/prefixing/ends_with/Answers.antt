@@ -1,7 +1,7 @@
 use Rattle.std.proofs.Common.{true≢false, sym, ◌∙◌}
 use Rattle.relative_path.specs.Components.{components_left}
 use Rattle.relative_path.proofs.PrefixingLemmas.{AgreesBack-taken, EndsWith-other}
-use Rattle.relative_path.proofs.path.RelativePath.ends_with.Goals as goal
+use Rattle.relative_path.proofs.prefixing.ends_with.Goals as goal
 
 pub returns-then-ne : goal.returns-then-ne
 returns-then-ne c =

@@ -6,7 +6,7 @@ use Rattle.std.proofs.lemmas.List.{replicate-append-replicate}
 use Rattle.std.proofs.lemmas.List.Sums.{fold-append}
 use Rattle.std.proofs.lemmas.Str.{IsCharBoundary-from_ascii}
 use Rattle.relative_path.specs.Steps.{up, slash, dot, step_text, spell}
-use Rattle.relative_path.specs.Editing.{with_piece}
+use Rattle.relative_path.specs.Writing.{with_piece}
 use Rattle.relative_path.proofs.NormalFormLemmas.{length-with_pieces_le, with_pieces-solid, with_pieces-climbed}
 
 -- ---- the table that climbs are cut out of

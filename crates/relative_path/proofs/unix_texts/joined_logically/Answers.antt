@@ -2,26 +2,24 @@ use Rattle.std.proofs.Common.{ap, length, arith, string_bytes}
 use Rattle.relative_path.specs.NormalForm.{padded_len}
 use Rattle.relative_path.specs.Steps.{name}
 use Rattle.std.proofs.lemmas.Str.{IsUtf8-string_bytes}
-use Rattle.relative_path.specs.RelativePath.{path_text}
 use Rattle.relative_path.proofs.SlicesLemmas.{IsPrefix, IsCharBoundary-IsPrefix}
 use Rattle.relative_path.proofs.UnixTextsLemmas.{length-with_piece_le, padded_len-components}
-use Rattle.relative_path.proofs.unix.to_logical_path.Goals as goal
+use Rattle.relative_path.proofs.unix_texts.joined_logically.Goals as goal
 
 pub loop-component-init : goal.loop-component-init
 loop-component-init c =
     let room = c.in_ok-text.ensures.room in
-    let len = ap length c.as_str.ensures in
     rw
-    (c.into_iter-component-iterator.ensures.into_iter_gives, c.components-component-items.ensures.text, c.in_ok-text.ensures.text) (
+    (c.into_iter-component-iterator.ensures.into_iter_gives, c.new-component-items.ensures, c.in_ok-text.ensures.text) (
       λ end leads. leads,
       omega
-          (arith, padded_len-components (path_text c.args.path), room, len),
+          (arith, padded_len-components c.args.path.now, room),
     )
 
 pub truncate-requires : goal.truncate-requires
 truncate-requires c =
     let front : IsPrefix (string_bytes c.loop-component.text) c.parent_text-parent_len.result.now =
-    rw (← c.as_str-in-ParentDir.ensures.value) (record { front = c.parent_text-parent_len.ensures.prefix }) in
+    rw (← c.as_str.ensures.value) (record { front = c.parent_text-parent_len.ensures.prefix }) in
     let boundary =
     IsCharBoundary-IsPrefix front (IsUtf8-string_bytes c.loop-component.text) c.parent_text-parent_len.utf8 in
     λ _. (boundary.0, λ _. boundary.1)

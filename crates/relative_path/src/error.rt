@@ -1,0 +1,195 @@
+//! Why a platform path is no relative path, and why no relative path leads from one to another.
+ghost use Rattle.std.specs.Prelude.{◌≡◌, Some, ⊤};
+ghost use Rattle.std.specs.Fmt.{styled_text};
+ghost use Rattle.relative_path.specs.Error.{from_path_kind, from_path_words, relative_to_kind, relative_to_words};
+ghost use Rattle.relative_path.specs.declared.error.FromPathErrorKind.TheVariants as from_path_kinds;
+ghost use Rattle.relative_path.specs.declared.error.RelativeToErrorKind.TheVariants as relative_to_kinds;
+
+use std::alloc::AllocError;
+use std::error::Error;
+use std::fmt;
+
+/// The kind of a [`FromPathError`].
+///
+/// A platform path is UTF-8 here and is cut at `/`, so `NonUtf8` and `BadSeparator` are never
+/// answered.
+///
+/// ```
+/// let refused = unix::view("/foo").unwrap_err();
+/// assert_eq!(rt; refused.kind(), FromPathErrorKind::NonRelative);
+/// ```
+#[derive(Clone, Copy, Debug, PartialEq, Eq)]
+pub enum FromPathErrorKind {
+    /// The path begins with a slash.
+    NonRelative,
+    /// A component isn't UTF-8. This is never answered.
+    NonUtf8,
+    /// A component holds a separator of the platform. This is never answered.
+    BadSeparator,
+    /// Memory was refused.
+    OutOfMemory,
+}
+
+impl FromPathErrorKind {
+    // The words that an error of this kind prints.
+    fn words(self) -> &'static str
+        ensures { result.now ≡ from_path_words self }
+    {
+        match self {
+            FromPathErrorKind::NonRelative => "path contains non-relative component",
+            FromPathErrorKind::NonUtf8 => "path contains non-utf8 component",
+            FromPathErrorKind::BadSeparator => "path contains platform-specific path separator",
+            FromPathErrorKind::OutOfMemory => "out of memory",
+        }
+    }
+}
+
+/// Why a platform path is no relative path: what a `from_path` refuses with.
+///
+/// It prints the words for its kind, and two are equal if their kinds are.
+///
+/// ```
+/// let refused = unix::view("/foo").unwrap_err();
+/// assert_eq!(rt; refused.to_string(alloc)?.as_str(), "path contains non-relative component");
+/// ```
+#[derive(Clone, Debug, PartialEq, Eq, Drop)]
+pub struct FromPathError {
+    kind: FromPathErrorKind,
+}
+
+impl FromPathError {
+    /// What went wrong.
+    ///
+    /// ```
+    /// let error = FromPathError::from(FromPathErrorKind::NonRelative);
+    /// assert_eq!(rt; error.kind(), FromPathErrorKind::NonRelative);
+    /// ```
+    pub fn kind(&self) -> FromPathErrorKind
+        ensures { result ≡ from_path_kind self.now }
+    {
+        self.kind
+    }
+}
+
+impl From<FromPathErrorKind> for FromPathError {
+    ghost from_gives = { λ kind error. from_path_kind error ≡ kind };
+
+    fn from(kind: FromPathErrorKind) -> Self {
+        FromPathError { kind }
+    }
+}
+
+impl From<AllocError> for FromPathError {
+    ghost from_gives = { λ _ error. from_path_kind error ≡ from_path_kinds.OutOfMemory };
+
+    fn from(_: AllocError) -> Self {
+        FromPathErrorKind::OutOfMemory.into()
+    }
+}
+
+impl fmt::Display for FromPathError {
+    ghost output = { λ error. Some (from_path_words (from_path_kind error)) };
+
+    ghost styled_output = { λ error spec. Some (styled_text spec (from_path_words (from_path_kind error))) };
+
+    fn fmt<W: fmt::Write>(&self, f: &mut fmt::Formatter<W>) -> fmt::Result {
+        f.pad(self.kind.words())
+    }
+}
+
+impl Error for FromPathError {}
+
+/// The kind of a [`RelativeToError`].
+///
+/// A platform path is UTF-8 here and has no prefix but the root, so `NonUtf8` and
+/// `IllegalComponent` are never answered.
+///
+/// ```
+/// let refused = unix::relative_to(alloc, "foo", "/bar").unwrap_err();
+/// assert_eq!(rt; refused.kind(), RelativeToErrorKind::PrefixMismatch);
+/// ```
+#[derive(Clone, Copy, Debug, PartialEq, Eq)]
+pub enum RelativeToErrorKind {
+    /// A component isn't UTF-8. This is never answered.
+    NonUtf8,
+    /// One of the paths begins with a slash, and the other doesn't.
+    PrefixMismatch,
+    /// The root climbs above what it shares with the path, so the names on the way back aren't
+    /// known.
+    AmbiguousTraversal,
+    /// A component is neither `.` nor `..` nor a name. This is never answered.
+    IllegalComponent,
+    /// Memory was refused.
+    OutOfMemory,
+}
+
+impl RelativeToErrorKind {
+    // The words that an error of this kind prints.
+    fn words(self) -> &'static str
+        ensures { result.now ≡ relative_to_words self }
+    {
+        match self {
+            RelativeToErrorKind::NonUtf8 => "path contains non-utf8 component",
+            RelativeToErrorKind::PrefixMismatch => "paths contain different absolute prefixes",
+            RelativeToErrorKind::AmbiguousTraversal => "path traversal cannot be determined",
+            RelativeToErrorKind::IllegalComponent => "path contains illegal components",
+            RelativeToErrorKind::OutOfMemory => "out of memory",
+        }
+    }
+}
+
+/// Why no relative path leads from one platform path to another: what a `relative_to` refuses
+/// with.
+///
+/// It prints the words for its kind, and two are equal if their kinds are.
+///
+/// ```
+/// let refused = unix::relative_to(alloc, ".", "a/../..").unwrap_err();
+/// assert_eq!(rt; refused.to_string(alloc)?.as_str(), "path traversal cannot be determined");
+/// ```
+#[derive(Clone, Debug, PartialEq, Eq, Drop)]
+pub struct RelativeToError {
+    kind: RelativeToErrorKind,
+}
+
+impl RelativeToError {
+    /// What went wrong.
+    ///
+    /// ```
+    /// let error = RelativeToError::from(RelativeToErrorKind::PrefixMismatch);
+    /// assert_eq!(rt; error.kind(), RelativeToErrorKind::PrefixMismatch);
+    /// ```
+    pub fn kind(&self) -> RelativeToErrorKind
+        ensures { result ≡ relative_to_kind self.now }
+    {
+        self.kind
+    }
+}
+
+impl From<RelativeToErrorKind> for RelativeToError {
+    ghost from_gives = { λ kind error. relative_to_kind error ≡ kind };
+
+    fn from(kind: RelativeToErrorKind) -> Self {
+        RelativeToError { kind }
+    }
+}
+
+impl From<AllocError> for RelativeToError {
+    ghost from_gives = { λ _ error. relative_to_kind error ≡ relative_to_kinds.OutOfMemory };
+
+    fn from(_: AllocError) -> Self {
+        RelativeToErrorKind::OutOfMemory.into()
+    }
+}
+
+impl fmt::Display for RelativeToError {
+    ghost output = { λ error. Some (relative_to_words (relative_to_kind error)) };
+
+    ghost styled_output = { λ error spec. Some (styled_text spec (relative_to_words (relative_to_kind error))) };
+
+    fn fmt<W: fmt::Write>(&self, f: &mut fmt::Formatter<W>) -> fmt::Result {
+        f.pad(self.kind.words())
+    }
+}
+
+impl Error for RelativeToError {}
