@@ -21,7 +21,7 @@ use crate::from_path_error::{FromPathError, FromPathErrorKind};
 use crate::path::RelativePath;
 use crate::relative_to_error::{RelativeToError, RelativeToErrorKind};
 use crate::unix_components::{UnixComponents, depth, has_root, without_idle_end, without_shared};
-use crate::unix_texts::{base_with_room, climbed, push_components};
+use crate::unix_texts::{base_with_room, climbed_text, push_components};
 use std::alloc::{AllocError, Global};
 use std::path::{Path, PathBuf};
 
@@ -177,7 +177,7 @@ pub fn relative_to(
     }
     let (path, root) = without_shared(path, root);
     let climb = depth(root).ok_or(RelativeToErrorKind::AmbiguousTraversal)?;
-    let way = climbed(alloc, climb, path)?;
+    let way = climbed_text(alloc, climb, path)?;
     Ok(way.into())
 }
 
