@@ -88,7 +88,7 @@ fn answer_command(
         (string_bytes output.old) (string_bytes output.new)) }
 {
     let Some(command) = Command::named(name) else {
-        return output.push_str("! unknown command");
+        return add_words(output, "unknown command");
     };
     if arguments.len() != command.arity() {
         return add_words(output, "wrong number of fields");
