@@ -1,5 +1,5 @@
 -- Where a file name stands among the components, what it is cut into, and what a new extension makes of it.
-use Rattle.std.proofs.Common.{◌≡◌, ◌≢◌, ◌⊎◌, ℕ, zero, suc, ◌-◌, ◌<◌, Bool, true, false, true≢false, not, List, [], ◌∷◌, ◌++◌, All, length, get_or, take, drop, replicate, reverse, Option, Some, None, inl, inr, sym, refl, ap, ◌∙◌, subst, arith, append_assoc, length-append, eqb-true, take-append-drop}
+use Rattle.std.proofs.Common.{◌≡◌, ◌≢◌, ◌⊎◌, ℕ, zero, suc, ◌-◌, ◌<◌, true, false, true≢false, List, [], ◌∷◌, ◌++◌, All, length, get_or, take, drop, replicate, reverse, Option, Some, None, inl, inr, sym, refl, ap, ◌∙◌, subst, arith, append_assoc, length-append, eqb-true, take-append-drop}
 use Rattle.std.proofs.Math.Seq.{drop-cons}
 use Rattle.std.proofs.lemmas.Bool.{cond_both, and_parts, not-false, not-true, eqb-false}
 use Rattle.std.proofs.lemmas.List.{get_or-reverse, length-reverse, take_more}
