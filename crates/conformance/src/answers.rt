@@ -7,6 +7,9 @@ use std::alloc::{AllocError, Global};
 use std::path::Path;
 
 /// Makes the call that a line names, and gives the fields of its answer, with tabs between.
+///
+/// The calls stand in five groups, each a `match` that hands on to the next, since one `match` of
+/// all thirty-four took a quarter of the crate's proof.
 pub fn answer(alloc: Global, line: &str) -> Result<String, Refusal> {
     let call = Call::parse(alloc, line)?;
     match call.command {

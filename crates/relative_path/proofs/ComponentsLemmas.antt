@@ -105,8 +105,8 @@ pub record IsTrimmedEnd (text trimmed : List ℕ) : Type 0 where
   pub same : components trimmed ≡ components text
 
 -- a slash put after a text ends it
-pub ends_in_slash : (xs : List ℕ) → get_or (xs ++ slash ∷ []) (length (xs ++ slash ∷ []) - 1) 0 ≡ slash
-ends_in_slash xs =
+pub last-append_slash : (xs : List ℕ) → get_or (xs ++ slash ∷ []) (length (xs ++ slash ∷ []) - 1) 0 ≡ slash
+last-append_slash xs =
     let index : length (xs ++ slash ∷ []) - 1 ≡ length xs = omega (arith, length-append xs (slash ∷ [])) in
     ap (λ i. get_or (xs ++ slash ∷ []) i 0) index ∙ get_or_at xs slash [] 0 (length xs) refl
 
@@ -121,7 +121,7 @@ module _ (text trimmed piece front left : List ℕ) (trim : IsTrimmedEnd text tr
   last_nonempty : (trimmed ≡ front ++ slash ∷ piece) ⊎ ((trimmed ≡ piece) × (front ≡ [])) → trimmed ≢ [] → piece ≢ []
   last_nonempty (inl joined) some empty =
       let ended = joined ∙ ap (λ x. front ++ slash ∷ x) empty in
-      trim.end (ap (λ x. get_or x (length x - 1) 0) ended ∙ ends_in_slash front)
+      trim.end (ap (λ x. get_or x (length x - 1) 0) ended ∙ last-append_slash front)
   last_nonempty (inr (joined, none)) some empty = some (joined ∙ empty)
 
   last_components : (trimmed ≡ front ++ slash ∷ piece) ⊎ ((trimmed ≡ piece) × (front ≡ [])) → piece ≢ []

@@ -1,5 +1,5 @@
 -- Where a file name stands among the components, what it is cut into, and what a new extension makes of it.
-use Rattle.std.proofs.Common.{◌≡◌, ◌≢◌, ◌⊎◌, ℕ, zero, suc, ◌-◌, ◌<◌, Bool, true, false, true≢false, not, List, [], ◌∷◌, ◌++◌, All, length, get_or, take, drop, replicate, reverse, Option, Some, None, inl, inr, sym, refl, ap, ◌∙◌, subst, arith, append_assoc, length-append, eqb-true, take-append-drop}
+use Rattle.std.proofs.Common.{◌≡◌, ◌≢◌, ◌⊎◌, ℕ, zero, suc, ◌-◌, ◌<◌, true, false, true≢false, List, [], ◌∷◌, ◌++◌, All, length, get_or, take, drop, replicate, reverse, Option, Some, None, inl, inr, sym, refl, ap, ◌∙◌, subst, arith, append_assoc, length-append, eqb-true, take-append-drop}
 use Rattle.std.proofs.Math.Seq.{drop-cons}
 use Rattle.std.proofs.lemmas.Bool.{cond_both, and_parts, not-false, not-true, eqb-false}
 use Rattle.std.proofs.lemmas.List.{get_or-reverse, length-reverse, take_more}
@@ -14,7 +14,7 @@ use Rattle.relative_path.specs.Editing.{is_cur, kept_len}
 use Rattle.relative_path.specs.Naming.{name_of, last_name, file_name_of, is_dot, has_stem, stem_of, extension_of, is_plain_byte, is_plain_extension, dotted, IsExtended}
 use Rattle.relative_path.proofs.StepsLemmas.{HasNoSlash, HasNoSlash-append, IsProper, AreProper, components-nil, components-append, components-trailing_slash, components_whole, step_text-classed, AreProper-components, HasNoSlash-proper, nonempty_proper}
 use Rattle.relative_path.proofs.EditingLemmas.{kept_len-curs, kept_len-push}
-use Rattle.relative_path.proofs.NamingLemmas.{IsExtendedAt, IsSplit-dot, last_slash, last_same, slice_get-at, without_curs-curs, last_other-at}
+use Rattle.relative_path.proofs.NamingLemmas.{no_dot, IsExtendedAt, IsSplit-dot, last_slash, last_same, slice_get-at, without_curs-curs, last_other-at}
 
 -- ---- where the file name stands
 
@@ -67,10 +67,6 @@ slice_get-last_name cs n named = elim (ends_in cs) [
 ]
 
 -- ---- what a name is cut into
-
--- the byte is no dot
-abbrev no_dot : ℕ → Bool
-no_dot b = not (is_dot b)
 
 -- the byte before those that are no dots is a dot
 last_is_dot : (n : List ℕ) → suffix_len no_dot n < length n → get_or n (length n - suffix_len no_dot n - 1) 0 ≡ dot

@@ -15,14 +15,14 @@ use Rattle.relative_path.specs.Editing.{is_cur, kept_len, pushed, without_curs, 
 use Rattle.relative_path.specs.Naming.{name_of, last_other, last_name, file_name_of, is_dot, has_stem, stem_of, extension_of, dotted, IsBase, IsNamed, IsExtended}
 use Rattle.relative_path.specs.RelativePathBuf.{ExceedsRoom}
 use Rattle.relative_path.proofs.StepsLemmas.{HasNoSlash, components-nil, components-append, components_whole, step_text-classed}
-use Rattle.relative_path.proofs.ComponentsLemmas.{ends_in_slash}
+use Rattle.relative_path.proofs.ComponentsLemmas.{last-append_slash}
 use Rattle.relative_path.proofs.SlicesLemmas.{IsPrefix, IsPrefix-take, IsPrefix-append_left, IsPrefix-trans, IsPrefix-shortest, IsShortestPrefix-unique}
 use Rattle.relative_path.proofs.EditingLemmas.{LosesCurs, IsPopped-none, IsPopped-front, IsCut-through}
 
 -- ---- a name cut at its last dot
 
 -- the byte is no dot
-abbrev no_dot : ℕ → Bool
+abbrev pub no_dot : ℕ → Bool
 no_dot b = not (is_dot b)
 
 -- the bytes after the last dot are no dots
@@ -127,7 +127,7 @@ pub ends_in_last : (text : List ℕ) (cs : List Step) (c : Step) → get_or text
     → components text ≡ cs ++ c ∷ [] → (head : List ℕ) × (text ≡ head ++ step_text c)
 ends_in_last text cs c end last = elim (last_slash text) [
   | inl none ↦ ([], whole text none last)
-  | inr (xs, [], joined, none) ↦ absurd (end (ap (λ x. get_or x (length x - 1) 0) joined ∙ ends_in_slash xs))
+  | inr (xs, [], joined, none) ↦ absurd (end (ap (λ x. get_or x (length x - 1) 0) joined ∙ last-append_slash xs))
   | inr (xs, b ∷ bs, joined, none) ↦
       let parts =
       ap components joined ∙ components-append xs (b ∷ bs)

@@ -6,7 +6,7 @@ use Rattle.std.specs.Str.{IsUtf8, IsCharBoundary}
 use Rattle.std.proofs.lemmas.Str.{IsCharBoundary-from_take}
 use Rattle.relative_path.specs.Steps.{slash, Step, components}
 use Rattle.relative_path.specs.Slices.{IsShortestPrefix}
-use Rattle.relative_path.proofs.StepsLemmas.{components-nil, total_len-components, solid_len, solid_len-append, ends_in_slash}
+use Rattle.relative_path.proofs.StepsLemmas.{components-nil, total_len-components, solid_len, solid_len-append, last-not_solid}
 
 -- p is the front of the text
 pub record IsPrefix (text p : List ℕ) : Type 0 where
@@ -53,7 +53,7 @@ ends_in_slash_after p k short same =
     let counts = solid_len-components (take k p) p same in
     let whole = ap solid_len (sym (take-append-drop k p)) ∙ solid_len-append (take k p) (drop k p) in
     let left : 0 < length (drop k p) = omega (arith, length-drop k p) in
-    let last = ends_in_slash (drop k p) (omega (arith, counts, whole)) left in
+    let last = last-not_solid (drop k p) (omega (arith, counts, whole)) left in
     let index : length p - 1 ≡ k + (length (drop k p) - 1) = omega (arith, length-drop k p) in
     ap (λ i. get_or p i 0) index ∙ sym (get_or-drop k p (length (drop k p) - 1) 0) ∙ last
 

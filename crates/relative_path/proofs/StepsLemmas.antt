@@ -210,16 +210,16 @@ solid_len_le (b ∷ bs) =
     (λ _. omega (arith, solid_len_le bs)) (λ _. omega (arith, solid_len_le bs))
 
 -- a text without a solid byte ends in a slash, if it has a byte
-pub ends_in_slash : (bs : List ℕ) → solid_len bs ≡ 0 → 0 < length bs → get_or bs (length bs - 1) 0 ≡ slash
-ends_in_slash [] none nonempty = absurd (omega arith)
-ends_in_slash (b ∷ []) none nonempty =
+pub last-not_solid : (bs : List ℕ) → solid_len bs ≡ 0 → 0 < length bs → get_or bs (length bs - 1) 0 ≡ slash
+last-not_solid [] none nonempty = absurd (omega arith)
+last-not_solid (b ∷ []) none nonempty =
     ⊎_elim
     (λ e. eqb-true b slash e)
     (λ e. absurd (let h = rw (cond-false {A = ℕ} (is_slash b) 0 1 e) at none in omega (arith, h)))
     (cases_Bool (is_slash b))
-ends_in_slash (b ∷ c ∷ bs) none nonempty =
+last-not_solid (b ∷ c ∷ bs) none nonempty =
     let rest : solid_len (c ∷ bs) ≡ 0 = omega (arith, solid_len-append (b ∷ []) (c ∷ bs)) in
-    end-append (b ∷ []) (c ∷ bs) (omega arith) ∙ ends_in_slash (c ∷ bs) rest (omega arith)
+    end-append (b ∷ []) (c ∷ bs) (omega arith) ∙ last-not_solid (c ∷ bs) rest (omega arith)
 
 HasNoSlash-from_solid : (bs : List ℕ) → solid_len bs ≡ length bs → HasNoSlash bs
 HasNoSlash-from_solid [] solid = tt

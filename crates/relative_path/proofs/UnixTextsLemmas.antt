@@ -76,10 +76,10 @@ onto-with_pieces : (base : List ℕ) (cs : List Step) → onto base cs ≡ fold 
 onto-with_pieces base [] = refl
 onto-with_pieces base (c ∷ cs) = onto-with_pieces (with_piece base (step_text c)) cs
 
-pub length-with_piece_le : (text : List ℕ) (c : Step)
+pub length-with_step_le : (text : List ℕ) (c : Step)
     → length (with_piece text (step_text c)) ≤ length text + padded_len (c ∷ [])
-length-with_piece_le [] c = omega arith
-length-with_piece_le (b ∷ bs) c = omega (arith, length-append (b ∷ bs) (slash ∷ step_text c))
+length-with_step_le [] c = omega arith
+length-with_step_le (b ∷ bs) c = omega (arith, length-append (b ∷ bs) (slash ∷ step_text c))
 
 pub length-onto_le : (base : List ℕ) (cs : List Step) → length base ≤ length (onto base cs)
 length-onto_le base cs = omega (arith, length-with_pieces_le base (map step_text cs), ap length (onto-with_pieces base cs))

@@ -64,9 +64,9 @@ way_to-from path root own_path own_root place is_path is_root leads =
     ap₂ way_back (sym is_root) (sym is_path) ∙ ap (option_map (λ p. replicate (length p) up ++ own_path)) leads
 
 -- after the root, the way leads where the path leads
-pub IsSame-way : (path root : List ℕ) (way : List Step) → way_to path root ≡ Some way
+pub IsSame-way_to : (path root : List ℕ) (way : List Step) → way_to path root ≡ Some way
     → IsSame (unix_components root ++ components (spell way)) (unix_components path)
-IsSame-way path root way is = leads (walk [] from) refl is
+IsSame-way_to path root way is = leads (walk [] from) refl is
   where
     shared : ℕ
     shared = shared_len (unix_components path) (unix_components root)

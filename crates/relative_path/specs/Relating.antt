@@ -1,5 +1,5 @@
 -- The lists that lead from one path to another, the shortest of them, and where two paths begin to lead apart.
-use Rattle.std.specs.Prelude.{◌≡◌, ◌≢◌, ◌<◌, ◌⊎◌, ℕ, List, ◌++◌, length}
+use Rattle.std.specs.Prelude.{◌≡◌, ◌≢◌, ◌<◌, ◌⊎◌, ℕ, List, [], ◌++◌, length}
 use Rattle.relative_path.specs.Steps.{Step, components, spell}
 use Rattle.relative_path.specs.Walk.{walk, IsSame}
 
@@ -20,6 +20,11 @@ pub record IsShortest (f r t : List Step) : Type 0 where
 pub record IsShortestText (f t : List Step) (text : List ℕ) : Type 0 where
   pub spelled : text ≡ spell (components text)
   pub shortest : IsShortest f (components text) t
+
+-- the text spells the shortest list that leads from f to t; where none leads, it is empty
+pub record IsWayText (f t : List Step) (text : List ℕ) : Type 0 where
+  pub shortest : IsReachable f t → IsShortestText f t text
+  pub unreachable : ¬ IsReachable f t → text ≡ []
 
 -- from every base of n names they lead to different places, or one of them to none; from every base of fewer names to
 -- the same

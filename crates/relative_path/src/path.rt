@@ -11,7 +11,7 @@ ghost use Rattle.std.specs.Option.{option_copied, option_map, option_and_then};
 ghost use Rattle.std.specs.Ordering.{on, as_partial_cmp};
 ghost use Rattle.std.proofs.Common.{refl};
 ghost use Rattle.relative_path.specs.Normalizing.{IsNormal, IsNormalTextOf, IsNormalForm, climb};
-ghost use Rattle.relative_path.specs.Relating.{Leads, IsReachable, IsShortestText, LeadsApart};
+ghost use Rattle.relative_path.specs.Relating.{Leads, IsReachable, IsShortestText, IsWayText, LeadsApart};
 ghost use Rattle.relative_path.specs.Walk.{walk, IsSame, LeadsBelow, LeadsInTurn};
 ghost use Rattle.relative_path.specs.Prefixing.{StartsWith, EndsWith, IsDropped};
 ghost use Rattle.relative_path.specs.RelativePath.{path_text, path_components, display_text};
@@ -541,18 +541,14 @@ impl<'a> RelativePath<'a> {
         alloc: Global,
         to: RelativePath<'_>,
     ) -> Result<RelativePathBuf, AllocError>
-        ensures shortest { IfOk result
-            (λ way. IsReachable (path_components self.entry) (path_components to.entry)
-            → IsShortestText (path_components self.entry) (path_components to.entry) way.text) }
+        ensures way { IfOk result
+            (λ way. IsWayText (path_components self.entry) (path_components to.entry) way.text) }
         ensures shortest_from { IfOk result (λ way. (from : List Step)
             → IsNormalTextOf from (path_text self.entry) → IsReachable from (path_components to.entry)
             → IsShortestText from (path_components to.entry) way.text) }
         ensures shortest_to { IfOk result (λ way. (target : List Step)
             → IsNormalTextOf target (path_text to.entry) → IsReachable (path_components self.entry) target
             → IsShortestText (path_components self.entry) target way.text) }
-        ensures unreachable { IfOk result
-            (λ way. ¬ IsReachable (path_components self.entry) (path_components to.entry)
-            → way.text ≡ []) }
         ensures climbs { (from_steps to_steps : List Step)
             → IsNormalForm (path_components self.entry) from_steps
             → IsNormalForm (path_components to.entry) to_steps

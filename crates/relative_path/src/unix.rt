@@ -18,7 +18,7 @@ use crate::error::{FromPathError, RelativeToError, RelativeToErrorKind};
 use crate::path::RelativePath;
 use crate::unix_components::{depth, has_root, without_shared};
 pub use crate::unix_texts::parent_text;
-use crate::unix_texts::{climbed, joined, joined_logically};
+use crate::unix_texts::{climbed_text, joined, joined_logically};
 use std::alloc::{AllocError, Global};
 use std::path::{Path, PathBuf};
 
@@ -129,7 +129,7 @@ pub fn relative_to(
     }
     let (path, root) = without_shared(path, root);
     let climb = depth(root).ok_or(RelativeToErrorKind::AmbiguousTraversal)?;
-    let way = climbed(alloc, climb, path)?;
+    let way = climbed_text(alloc, climb, path)?;
     Ok(way.into())
 }
 

@@ -78,7 +78,7 @@ pub(crate) fn climbed_len(climb: usize, components: UnixComponents<'_>) -> Optio
 }
 
 // The text of `climb` times `..` and the components after them. It asks for memory once, for just this text.
-pub(crate) fn climbed(
+pub(crate) fn climbed_text(
     alloc: Global,
     climb: usize,
     components: UnixComponents<'_>,

@@ -1,8 +1,7 @@
--- When two paths lead to the same, in the words of someone who follows them, and the way from one to another.
-use Rattle.std.specs.Prelude.{◌≡◌, ◌⊎◌, ℕ, List, [], Some, None}
+-- When two paths lead to the same, in the words of someone who follows them.
+use Rattle.std.specs.Prelude.{◌≡◌, ◌⊎◌, ℕ, List, Some, None}
 use Rattle.relative_path.specs.Steps.{Step}
 use Rattle.relative_path.specs.Walk.{walk}
-use Rattle.relative_path.specs.Relating.{IsReachable, IsShortestText}
 
 -- both lead to this place
 abbrev pub EndAt : List (List ℕ) → List Step → List Step → List (List ℕ) → Type 0
@@ -15,8 +14,3 @@ ClimbAway base cs ds = (walk base cs ≡ None) × (walk base ds ≡ None)
 -- from every base, both climb above the top or both end in the same place: `IsSame`, told by its two cases
 abbrev pub EndAlike : List Step → List Step → Type 0
 EndAlike cs ds = (base : List (List ℕ)) → ClimbAway base cs ds ⊎ ((place : List (List ℕ)) × EndAt base cs ds place)
-
--- the text spells the shortest list that leads from f to t; where none leads, it is empty
-pub record IsWay (f t : List Step) (text : List ℕ) : Type 0 where
-  pub shortest : IsReachable f t → IsShortestText f t text
-  pub unreachable : ¬ IsReachable f t → text ≡ []

@@ -1,10 +1,10 @@
 //! The way from one path to another, and paths that lead to the same.
 ghost use Rattle.std.specs.Prelude.{◌≡◌, ◌≤◌, ◌↔◌, ◌+◌, ◌++◌, ℕ, List, length, IfOk, IfSome, IsNone, Some};
 ghost use Rattle.relative_path.specs.Normalizing.{IsNormalTextOf};
-ghost use Rattle.relative_path.specs.Relating.{Leads, IsReachable, IsShortestText, LeadsApart};
+ghost use Rattle.relative_path.specs.Relating.{Leads, IsReachable, IsShortestText, IsWayText, LeadsApart};
 ghost use Rattle.relative_path.specs.RelativePath.{path_components};
 ghost use Rattle.relative_path.specs.Steps.{Step, components};
-ghost use Rattle.relative_path_bench.specs.Relating.{EndAlike, IsWay};
+ghost use Rattle.relative_path_bench.specs.Relating.{EndAlike};
 
 use relative_path::{RelativePath, RelativePathBuf};
 use std::alloc::{AllocError, Global};
@@ -93,11 +93,11 @@ pub fn triangle(
     c: RelativePath<'_>,
 ) -> Result<(RelativePathBuf, RelativePathBuf, RelativePathBuf), AllocError>
     ensures a_c { IfOk result
-        (λ ways. IsWay (path_components a.entry) (path_components c.entry) ways.0.text) }
+        (λ ways. IsWayText (path_components a.entry) (path_components c.entry) ways.0.text) }
     ensures a_b { IfOk result
-        (λ ways. IsWay (path_components a.entry) (path_components b.entry) ways.1.text) }
+        (λ ways. IsWayText (path_components a.entry) (path_components b.entry) ways.1.text) }
     ensures b_c { IfOk result
-        (λ ways. IsWay (path_components b.entry) (path_components c.entry) ways.2.text) }
+        (λ ways. IsWayText (path_components b.entry) (path_components c.entry) ways.2.text) }
     ensures transitive { (r s : List Step)
         → Leads (path_components a.entry) r (path_components b.entry)
         → Leads (path_components b.entry) s (path_components c.entry)

@@ -2,7 +2,7 @@
 use Rattle.std.proofs.Common.{◌≡◌, ℕ, ◌<◌, ◌≤◌, ◌+◌, ◌⊎◌, List, length, take, Option, Some, None, MatchOption, IfSome, inl, inr, [], sym, ◌∙◌, arith}
 use Rattle.std.proofs.lemmas.Bool.{cases_lt}
 use Rattle.std.proofs.lemmas.List.{get_or-take}
-use Rattle.relative_path_moves.specs.Moves.{Move, move_at, HaveSameOld, IsFirstPair, AreApart}
+use Rattle.relative_path_moves.specs.Moves.{Move, move_at, HaveSameOld}
 use Rattle.relative_path_moves.specs.PlaceIndex.{path_at, IsFirstAt}
 use Rattle.relative_path_moves.specs.MoveTable.{olds_of}
 use Rattle.relative_path_moves.proofs.MovesLemmas.{old_at}
@@ -108,12 +108,3 @@ HasPair-next moves n first pair next within is has one earlier later =
         | inl less ↦ rw (later l less) (HasPair-later moves n first (Some (j, k)) (here l) from less has)
         | inr no_less ↦ rw (earlier no_less) (HasPair-earlier moves n first j k from no_less has)
       ]
-
--- with all the moves
-pub HasPair-whole : (moves : List Move) (pair : Option (ℕ × ℕ)) → HasPair moves (length moves) pair
-    → MatchOption pair (AreApart moves) (λ pair. IsFirstPair moves pair.0 pair.1)
-HasPair-whole moves None has = λ a b same. has a b same.within same
-HasPair-whole moves (Some (j, k)) (l, pair, least) = record {
-  pair = pair;
-  first = λ a b same. least a b same.within same;
-}

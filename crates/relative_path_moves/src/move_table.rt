@@ -142,7 +142,7 @@ impl<'a> MoveTable<'a> {
     {
         let (old, new) = self.paths(i);
         let meant = directory(old).join_normalized(alloc, reference)?;
-        way_to(alloc, directory(new), self.target(&meant))
+        way_or_refusal(alloc, directory(new), self.target(&meant))
     }
 
     /// What the reference becomes in the page that was at this path before the moves, whether or not
@@ -284,7 +284,7 @@ fn first_pair(pair: Option<(usize, usize)>, first: usize, k: usize) -> Option<(u
 }
 
 // The way from a directory to a target, unless that climbs above the root.
-fn way_to(
+fn way_or_refusal(
     alloc: Global,
     directory: RelativePath<'_>,
     target: RelativePath<'_>,

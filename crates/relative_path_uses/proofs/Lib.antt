@@ -1,7 +1,7 @@
-pub mod PlacesLemmas
+pub mod FromTopLemmas
 pub mod RouterLemmas
 pub mod ManifestLemmas
-pub mod ReferenceLemmas
+pub mod UrlReferenceLemmas
 pub mod UrlPathLemmas
 pub mod SiteMapLemmas
 pub mod TargetsLemmas

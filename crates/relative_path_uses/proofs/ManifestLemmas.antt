@@ -13,12 +13,12 @@ use Rattle.relative_path.specs.RelativePathBuf.{Buffer}
 use Rattle.relative_path_uses.specs.declared.manifest.ManifestError.{ManifestError}
 use Rattle.relative_path_uses.specs.declared.manifest.ManifestError.TheVariants.{NoBase, NoFiles, NotAString, ClimbsAbove, LeadsToBase, Foreign, ForeignBase, OutOfMemory}
 use Rattle.relative_path_moves.specs.Places.{place_of}
-use Rattle.relative_path_uses.specs.Places.{SpellsPlace}
+use Rattle.relative_path_uses.specs.FromTop.{SpellsPlace}
 use Rattle.std.specs.List.{list_any}
 use Rattle.relative_path_uses.specs.Names.{is_unportable_step}
-use Rattle.relative_path_uses.proofs.PlacesLemmas.{SpellsPlace-some}
+use Rattle.relative_path_uses.proofs.FromTopLemmas.{SpellsPlace-some}
 use Rattle.relative_path_uses.proofs.RouterLemmas.{All-IsPlainName}
-use Rattle.relative_path_uses.specs.Manifest.{base_of, item_list, entries_of, OfManifest, Refuses, IsFileOf, AreFiles, IsRefusedFor, file_text}
+use Rattle.relative_path_uses.specs.Manifest.{base_member, item_list, entries_of, OfManifest, IsRefusedManifest, IsFileOf, AreFiles, IsRefusedFor, file_text}
 
 -- the file of an entry whose path has a place with a name
 pub IsFileOf-place : (base : List Step) (entry : Data) (path place file : List ℕ) → as_str entry ≡ Some path
@@ -59,22 +59,22 @@ AreFiles-next base values none files file k l are is =
 
 -- what holds of the entries of a manifest with this directory
 pub OfManifest-of : (manifest : Data) (base : List ℕ) (entries : List Data) (P : List Step → List Data → Type 0)
-    → base_of manifest ≡ Some base → entries_of manifest ≡ Some entries → P (components base) entries
+    → base_member manifest ≡ Some base → entries_of manifest ≡ Some entries → P (components base) entries
     → OfManifest manifest P
 OfManifest-of manifest base entries P based listed holds = (base, entries, based, listed, holds)
 
 -- the manifest whose entries are refused
-pub Refuses-entries : (manifest : Data) (base : List ℕ) (entries : List Data) (refusal : ManifestError)
-    → base_of manifest ≡ Some base → entries_of manifest ≡ Some entries
-    → IsRefusedFor refusal (components base) entries → Refuses manifest refusal
-Refuses-entries manifest base entries NoBase based listed is = absurd is
-Refuses-entries manifest base entries NoFiles based listed is = absurd is
-Refuses-entries manifest base entries (NotAString k) based listed is = (base, entries, based, listed, is)
-Refuses-entries manifest base entries (ClimbsAbove k) based listed is = (base, entries, based, listed, is)
-Refuses-entries manifest base entries (LeadsToBase k) based listed is = (base, entries, based, listed, is)
-Refuses-entries manifest base entries (Foreign k) based listed is = (base, entries, based, listed, is)
-Refuses-entries manifest base entries ForeignBase based listed is = absurd is
-Refuses-entries manifest base entries OutOfMemory based listed is = tt
+pub IsRefusedManifest-entries : (manifest : Data) (base : List ℕ) (entries : List Data) (refusal : ManifestError)
+    → base_member manifest ≡ Some base → entries_of manifest ≡ Some entries
+    → IsRefusedFor refusal (components base) entries → IsRefusedManifest manifest refusal
+IsRefusedManifest-entries manifest base entries NoBase based listed is = absurd is
+IsRefusedManifest-entries manifest base entries NoFiles based listed is = absurd is
+IsRefusedManifest-entries manifest base entries (NotAString k) based listed is = (base, entries, based, listed, is)
+IsRefusedManifest-entries manifest base entries (ClimbsAbove k) based listed is = (base, entries, based, listed, is)
+IsRefusedManifest-entries manifest base entries (LeadsToBase k) based listed is = (base, entries, based, listed, is)
+IsRefusedManifest-entries manifest base entries (Foreign k) based listed is = (base, entries, based, listed, is)
+IsRefusedManifest-entries manifest base entries ForeignBase based listed is = absurd is
+IsRefusedManifest-entries manifest base entries OutOfMemory based listed is = tt
 
 -- the list of entries that are these values
 pub entries_of-values : (manifest : Data) (values : List Value)

@@ -9,7 +9,7 @@ use Rattle.relative_path.proofs.StepsLemmas.{components-trailing_slash}
 use Rattle.relative_path_moves.specs.Moves.{Move}
 use Rattle.relative_path_uses.specs.declared.target.Target.{Target}
 use Rattle.relative_path_uses.specs.declared.rewriter.Left.{Left}
-use Rattle.relative_path_uses.specs.Reference.{IsReference}
+use Rattle.relative_path_uses.specs.UrlReference.{IsReference}
 use Rattle.relative_path_uses.specs.Targets.{ends_path, path_of, tail_of, is_kept}
 use Rattle.relative_path_uses.specs.Rewriter.{StillLeads, IsWayNow, with_slash, IsNewPath, is_unfit, has_unfit, Part, BecomesPart, Becomes, with_parts, left_of, told, IsRewritten}
 use Rattle.relative_path_uses.proofs.TargetsLemmas.{or_false, path_of-moved, is_kept-reference, is_kept-slash}
@@ -71,7 +71,8 @@ BecomesPart-moved moves file angled target path new tail is_path is_tail is fit 
 
 -- some targets have their parts, the text has these and what stands between them, and the rest of the targets
 -- and of the page is to come
-pub record Progress (moves : List Move) (file : List Step) (page : List ℕ) (targets : List Target) (at : ℕ) (rest : List Target) (text : List ℕ) (left : List (ℕ × Left)) : Type 0 where
+pub record Progress (moves : List Move) (file : List Step) (page : List ℕ) (targets : List Target) (at : ℕ)
+    (rest : List Target) (text : List ℕ) (left : List (ℕ × Left)) : Type 0 where
   pub parts : List Part
   pub become : (more : List Part) → AllZip (Becomes moves file page) rest more
       → AllZip (Becomes moves file page) targets (parts ++ more)

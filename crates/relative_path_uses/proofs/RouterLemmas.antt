@@ -7,7 +7,7 @@ use Rattle.std.specs.List.{All, AllByRecursion, filter, slice_split, onto_first,
 use Rattle.std.specs.Str.{bytes_eq}
 use Rattle.relative_path.specs.Steps.{Step, cur, up, name, is_slash, is_not_empty, pieces, classed, components, spell}
 use Rattle.relative_path.specs.Editing.{with_separator, unslashed}
-use Rattle.relative_path_uses.specs.Places.{SpellsPlace}
+use Rattle.relative_path_uses.specs.FromTop.{SpellsPlace}
 use Rattle.relative_path_uses.specs.Names.{is_unportable, is_unportable_step, IsPlainName}
 use Rattle.relative_path_uses.specs.Router.{IsRefused, below, added, IsServed}
 

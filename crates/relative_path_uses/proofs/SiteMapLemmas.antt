@@ -21,7 +21,7 @@ use Rattle.relative_path.specs.RelativePath.{path_components}
 use Rattle.relative_path.specs.declared.path.RelativePath.{RelativePath}
 use Rattle.relative_path_moves.specs.PlaceIndex.{path_at, Indexes}
 use Rattle.relative_path_moves.specs.declared.place_index.PlaceIndex.{PlaceIndex}
-use Rattle.relative_path_uses.specs.Reference.{is_misread, IsReference}
+use Rattle.relative_path_uses.specs.UrlReference.{is_misread, IsReference}
 use Rattle.relative_path_uses.specs.UrlPath.{url_path, resolved, Resolves}
 use Rattle.relative_path_uses.proofs.UrlPathLemmas.{IsProper-cur, AreProper-walk, spell-dotted, resolved-walk}
 use Rattle.std.proofs.lemmas.Bool.{cond_both}

@@ -1,5 +1,5 @@
 -- A target cut after its path.
-use Rattle.std.proofs.Common.{◌≡◌, ◌≢◌, ℕ, ◌<◌, ◌+◌, Bool, true, false, ◌||◌, List, [], ◌∷◌, ◌++◌, length, take, drop, get_or, not, suc, cond, Some, refl, sym, ap, ◌∙◌, subst, arith, append_assoc, append-nil, ◌≤◌}
+use Rattle.std.proofs.Common.{◌≡◌, ◌≢◌, ℕ, ◌<◌, ◌+◌, Bool, true, false, ◌||◌, List, [], ◌∷◌, ◌++◌, length, take, drop, get_or, not, suc, cond, Some, refl, sym, ap, ◌∙◌, subst, arith, append-nil}
 use Rattle.std.proofs.lemmas.Bool.{cond_both}
 use Rattle.std.proofs.lemmas.List.Sums.{passes_at_first}
 use Rattle.std.proofs.lemmas.Str.{IsCharBoundary-before_ascii}
@@ -8,8 +8,8 @@ use Rattle.std.specs.Str.{IsCharBoundary}
 use Rattle.relative_path.specs.Steps.{Step, slash, is_slash, step_text, components, spell}
 use Rattle.relative_path.specs.Unix.{has_root}
 use Rattle.relative_path.proofs.StepsLemmas.{AreProper, AreProper-components, HasNoSlash-start, HasNoSlash-proper, nonempty_proper}
-use Rattle.relative_path_uses.specs.Reference.{is_misread, has_scheme, IsReference}
-use Rattle.relative_path_uses.specs.Targets.{ends_path, path_of, tail_of, is_kept, IsTarget, HasTargets}
+use Rattle.relative_path_uses.specs.UrlReference.{is_misread, has_scheme, IsReference}
+use Rattle.relative_path_uses.specs.Targets.{ends_path, path_of, tail_of, is_kept, HasTargets}
 use Rattle.relative_path_uses.specs.declared.target.Target.{Target}
 
 -- the first place at which a byte passes
@@ -110,19 +110,6 @@ is_kept-slash (b ∷ bs) relative = ap (λ scheme. scheme || is_slash b) (has_sc
 -- the page has the targets so far, and after them those that it has from byte `at` on
 pub record HasSoFar (page : List ℕ) (targets : List Target) (at : ℕ) : Type 0 where
   pub with : (more : List Target) → HasTargets page at more → HasTargets page 0 (targets ++ more)
-
-pub HasSoFar-none : (page : List ℕ) (targets : List Target) → targets ≡ [] → HasSoFar page targets 0
-HasSoFar-none page targets none = record { with = λ more has. rw none has }
-
--- with the next target
-pub HasSoFar-next : (page : List ℕ) (targets all : List Target) (at : ℕ) (target : Target) → HasSoFar page targets at
-    → all ≡ targets ++ target ∷ [] → at ≤ target.start → IsTarget page target → HasSoFar page all target.end
-HasSoFar-next page targets all at target so_far is after has = record {
-  with = λ more others.
-      rw is
-      (subst (HasTargets page 0) (sym (append_assoc targets (target ∷ []) more))
-      (so_far.with (target ∷ more) (after, has, others)));
-}
 
 -- after the last target there are no more
 pub HasTargets-whole : (page : List ℕ) (targets : List Target) (at : ℕ) → HasSoFar page targets at

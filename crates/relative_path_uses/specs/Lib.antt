@@ -1,8 +1,8 @@
 pub mod Names
-pub mod Places
+pub mod FromTop
 pub mod Router
 pub mod Manifest
-pub mod Reference
+pub mod UrlReference
 pub mod UrlPath
 pub mod SiteMap
 pub mod Targets

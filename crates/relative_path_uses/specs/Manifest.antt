@@ -14,8 +14,8 @@ use Rattle.relative_path_uses.specs.declared.manifest.ManifestError.TheVariants.
 use Rattle.relative_path_moves.specs.Places.{place_of}
 
 -- the text of the member `base`, if it is a string
-abbrev pub base_of : Data → Option (List ℕ)
-base_of manifest = option_and_then as_str (get (codes "base") manifest)
+abbrev pub base_member : Data → Option (List ℕ)
+base_member manifest = option_and_then as_str (get (codes "base") manifest)
 
 -- the items of a list
 abbrev pub item_list : Items → List Data
@@ -68,7 +68,7 @@ pub record IsFirst (Case : Data → Type 0) (base : List Step) (entries : List D
 -- P holds of the components of the manifest's member `base`, and of its entries
 abbrev pub OfManifest : Data → (List Step → List Data → Type 0) → Type 0
 OfManifest manifest P = (base : List ℕ) × (entries : List Data)
-    × (base_of manifest ≡ Some base) × (entries_of manifest ≡ Some entries) × P (components base) entries
+    × (base_member manifest ≡ Some base) × (entries_of manifest ≡ Some entries) × P (components base) entries
 
 -- these are the files of the entries, in order
 abbrev pub AreFiles : List (List ℕ) → List Step → List Data → Type 0
@@ -86,15 +86,15 @@ IsRefusedFor ForeignBase base entries = ⊥
 IsRefusedFor OutOfMemory base entries = ⊤
 
 -- what the manifest is where it is refused so
-abbrev pub Refuses : Data → ManifestError → Type 0
-Refuses manifest NoBase = base_of manifest ≡ None
-Refuses manifest NoFiles = (base_of manifest ≢ None) × (entries_of manifest ≡ None)
-Refuses manifest (NotAString k) = OfManifest manifest (IsRefusedFor (NotAString k))
-Refuses manifest (ClimbsAbove k) = OfManifest manifest (IsRefusedFor (ClimbsAbove k))
-Refuses manifest (LeadsToBase k) = OfManifest manifest (IsRefusedFor (LeadsToBase k))
-Refuses manifest (Foreign k) = OfManifest manifest (IsRefusedFor (Foreign k))
-Refuses manifest ForeignBase = OfManifest manifest IsForeignBase
-Refuses manifest OutOfMemory = ⊤
+abbrev pub IsRefusedManifest : Data → ManifestError → Type 0
+IsRefusedManifest manifest NoBase = base_member manifest ≡ None
+IsRefusedManifest manifest NoFiles = (base_member manifest ≢ None) × (entries_of manifest ≡ None)
+IsRefusedManifest manifest (NotAString k) = OfManifest manifest (IsRefusedFor (NotAString k))
+IsRefusedManifest manifest (ClimbsAbove k) = OfManifest manifest (IsRefusedFor (ClimbsAbove k))
+IsRefusedManifest manifest (LeadsToBase k) = OfManifest manifest (IsRefusedFor (LeadsToBase k))
+IsRefusedManifest manifest (Foreign k) = OfManifest manifest (IsRefusedFor (Foreign k))
+IsRefusedManifest manifest ForeignBase = OfManifest manifest IsForeignBase
+IsRefusedManifest manifest OutOfMemory = ⊤
 
 -- what the entry with this number is where it is refused so
 abbrev pub IsEntryRefused : Data → ℕ → ManifestError → Type 0

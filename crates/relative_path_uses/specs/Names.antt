@@ -3,7 +3,7 @@ use Rattle.std.specs.Prelude.{◌≡◌, ◌≢◌, ℕ, ◌-◌, Bool, ◌==◌
 use Rattle.std.specs.List.{list_any, before_first}
 use Rattle.std.specs.Str.{str_eq_ignore_ascii_case}
 use Rattle.relative_path.specs.Steps.{Step, cur, up, name, is_slash}
-use Rattle.relative_path_uses.specs.Reference.{is_colon}
+use Rattle.relative_path_uses.specs.UrlReference.{is_colon}
 
 -- `b'\\'`
 abbrev pub backslash : ℕ

@@ -5,7 +5,7 @@ use Rattle.relative_path.specs.Steps.{Step, slash, is_slash, components}
 use Rattle.relative_path.specs.Walk.{IsSame}
 use Rattle.relative_path.specs.Relating.{Leads, IsReachable, IsShortestText}
 use Rattle.relative_path_moves.specs.Moves.{Move, OfLink, ClimbsAbove, BelowTop}
-use Rattle.relative_path_uses.specs.Reference.{IsReference}
+use Rattle.relative_path_uses.specs.UrlReference.{IsReference}
 use Rattle.relative_path_uses.specs.Targets.{path_of, tail_of, is_kept, target_text, is_angled}
 use Rattle.relative_path_uses.specs.declared.target.Target.{Target}
 use Rattle.relative_path_uses.specs.declared.rewriter.Left.{Left}
@@ -115,7 +115,8 @@ left_of (target ∷ targets) [] = []
 left_of (target ∷ targets) (part ∷ parts) = told target.start part.left ++ left_of targets parts
 
 -- the page becomes the text: each target becomes its part, and all else stays; these targets are left
-pub record IsRewritten (moves : List Move) (file : List Step) (page : List ℕ) (targets : List Target) (text : List ℕ) (left : List (ℕ × Left)) : Type 0 where
+pub record IsRewritten (moves : List Move) (file : List Step) (page : List ℕ) (targets : List Target) (text : List ℕ)
+    (left : List (ℕ × Left)) : Type 0 where
   pub parts : List Part
   pub become : AllZip (Becomes moves file page) targets parts
   pub text_is : text ≡ with_parts page 0 targets parts

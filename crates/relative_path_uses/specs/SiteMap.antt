@@ -4,7 +4,7 @@ use Rattle.relative_path.specs.Steps.{Step, up, name, components, spell}
 use Rattle.relative_path.specs.Naming.{last_name}
 use Rattle.relative_path.specs.Relating.{Leads, IsReachable, IsShortestText}
 use Rattle.relative_path_moves.specs.PlaceIndex.{path_at}
-use Rattle.relative_path_uses.specs.Reference.{IsReference}
+use Rattle.relative_path_uses.specs.UrlReference.{IsReference}
 use Rattle.relative_path_uses.specs.declared.site_map.SiteMapError.{SiteMapError}
 use Rattle.relative_path_uses.specs.declared.site_map.SiteMapError.TheVariants.{NoFileName, OutOfMemory}
 

@@ -3,7 +3,7 @@ use Rattle.std.specs.Prelude.{◌≡◌, ◌≤◌, ℕ, ◌-◌, Bool, false, �
 use Rattle.std.specs.List.{before_first, between}
 use Rattle.std.specs.Str.{IsCharBoundary}
 use Rattle.relative_path.specs.Unix.{has_root}
-use Rattle.relative_path_uses.specs.Reference.{is_misread}
+use Rattle.relative_path_uses.specs.UrlReference.{is_misread}
 use Rattle.relative_path_uses.specs.declared.target.Target.{Target}
 
 -- the byte is `#` or `?`, which begins a fragment or a query

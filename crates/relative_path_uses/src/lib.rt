@@ -1,4 +1,11 @@
 //! Users of relative paths, each proved from the public contracts of the crates below.
+//!
+//! Each module uses those below it, and of its own layer those that stand before it.
+//!
+//! ```text
+//! what callers see      manifest  router  site_map  target  finder  rewriter
+//! paths and names       from_top  names  url_reference
+//! ```
 #![tactic(auto)]
 
 pub use self::finder::targets;
@@ -9,13 +16,13 @@ pub use self::site_map::{SiteMap, SiteMapError};
 pub use self::target::Target;
 
 mod finder;
+mod from_top;
 mod manifest;
 mod names;
-mod places;
-mod reference;
 mod rewriter;
 mod router;
 mod site_map;
 mod target;
 #[cfg(test)]
 mod tests;
+mod url_reference;

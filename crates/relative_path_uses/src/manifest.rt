@@ -2,10 +2,10 @@
 ghost use Rattle.std.specs.Prelude.{◌≡◌, ◌≢◌, ◌↔◌, map, IfErr, IfOk, IsErrOf, None, Some};
 ghost use Rattle.relative_path.specs.RelativePath.{path_components};
 ghost use Rattle.serde_json.specs.View.{view};
-ghost use Rattle.relative_path_uses.specs.Manifest.{base_of, entries_of, file_text, AreFiles, IsEntryRefused, IsFileOf, IsForeignBase, IsRefusedFor, OfManifest, Refuses};
+ghost use Rattle.relative_path_uses.specs.Manifest.{base_member, entries_of, file_text, AreFiles, IsEntryRefused, IsFileOf, IsForeignBase, IsRefusedFor, OfManifest, IsRefusedManifest};
 
+use crate::from_top::place_from_top;
 use crate::names::has_unportable_name;
-use crate::places::place_from_top;
 use relative_path::{RelativePath, RelativePathBuf};
 use relative_path_shared::view_value;
 use serde_json::Value;
@@ -109,10 +109,10 @@ pub fn manifest_files(
 ) -> Result<Vec<RelativePathBuf>, ManifestError>
     ensures files { IfOk result
         (λ files. OfManifest (view manifest.now) (AreFiles (map file_text files.items))) }
-    ensures refused { IfErr result (Refuses (view manifest.now)) }
-    ensures no_base { IsErrOf result ManifestError.NoBase ↔ (base_of (view manifest.now) ≡ None) }
+    ensures refused { IfErr result (IsRefusedManifest (view manifest.now)) }
+    ensures no_base { IsErrOf result ManifestError.NoBase ↔ (base_member (view manifest.now) ≡ None) }
     ensures no_files { IsErrOf result ManifestError.NoFiles
-        ↔ (base_of (view manifest.now) ≢ None) × (entries_of (view manifest.now) ≡ None) }
+        ↔ (base_member (view manifest.now) ≢ None) × (entries_of (view manifest.now) ≡ None) }
     ensures foreign_base { IsErrOf result ManifestError.ForeignBase
         ↔ OfManifest (view manifest.now) IsForeignBase }
 {

@@ -16,8 +16,8 @@ ghost use Rattle.relative_path_uses.specs.Rewriter.{
   with_slash,
 };
 
-use crate::reference::reference;
 use crate::target::{Target, split_path};
+use crate::url_reference::url_reference;
 use relative_path::RelativePath;
 use relative_path_moves::{MoveTable, ReferenceError};
 use std::alloc::{AllocError, Global};
@@ -175,7 +175,7 @@ fn new_path(
         Err(ReferenceError::NoPath) => return Err(PathError::Left(Left::NoPath)),
         Err(ReferenceError::OutOfMemory) => return Err(PathError::OutOfMemory),
     };
-    let new = with_slash(path, reference(alloc, way)?)?;
+    let new = with_slash(path, url_reference(alloc, way)?)?;
     if has_unfit(angled, &new) {
         return Err(PathError::Left(Left::Unwritable));
     }

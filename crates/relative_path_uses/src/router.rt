@@ -4,8 +4,8 @@ ghost use Rattle.relative_path.specs.Steps.{components};
 ghost use Rattle.relative_path.specs.RelativePath.{path_text};
 ghost use Rattle.relative_path_uses.specs.Router.{added, IsRefused, IsServed};
 
+use crate::from_top::place_from_top;
 use crate::names::has_unportable_name;
-use crate::places::place_from_top;
 use relative_path::RelativePath;
 use std::alloc::{AllocError, Global};
 

@@ -9,7 +9,7 @@ ghost use Rattle.relative_path_moves.specs.PlaceIndex.{path_at, Indexes, IsFirst
 ghost use Rattle.relative_path_uses.specs.SiteMap.{AreNamed, IsFirstNameless, IsLink, IsHref};
 ghost use Rattle.relative_path_uses.specs.UrlPath.{Resolves};
 
-use crate::reference::reference;
+use crate::url_reference::url_reference;
 use relative_path::{RelativePath, RelativePathBuf};
 use relative_path_moves::{PlaceIndex, directory};
 use std::alloc::{AllocError, Global};
@@ -209,7 +209,7 @@ impl<'a> SiteMap<'a> {
             return Ok(None);
         };
         link.push(RelativePath::new(self.file_name(to)))?;
-        Ok(Some(reference(alloc, link)?))
+        Ok(Some(url_reference(alloc, link)?))
     }
 
     // The path of a page.

@@ -3,7 +3,7 @@ ghost use Rattle.std.specs.Prelude.{◌≡◌, ◌-◌, ◌==◌, ◌↔◌, len
 ghost use Rattle.std.specs.List.{position};
 ghost use Rattle.relative_path_uses.specs.Targets.{ends_path, path_of, tail_of, is_kept, target_text, IsTarget, is_angled};
 
-use crate::reference::is_misread;
+use crate::url_reference::is_misread;
 
 /// Where the target of a link stands in a page: from byte `start` to before byte `end`. The angle
 /// brackets that may stand around it and the title after it aren't part of it.

@@ -11,13 +11,13 @@ use lib.Count.{count_trailing_zeros}
 use lib.Lanes.{zip2, mask_l, top}
 
 -- a bit for each byte of a block, set where it is the one that is looked for
-abbrev pub places : List ℕ → ℕ → ℕ → ℕ
-places block n byte =
+abbrev pub bits_set : List ℕ → ℕ → ℕ → ℕ
+bits_set block n byte =
     mask_l (map (top 7) (zip2 (λ a b. cond (eqb a b) 255 0) block (replicate n byte))) % 18446744073709551616
 
 -- no bit is set where the byte isn't in the block
 pub position-none : (block : List ℕ) (n byte : ℕ) → length block ≡ n → n ≤ 64
-    → places block n byte ≡ 0 → n ≡ position_or_len (λ b. b == byte) block
+    → bits_set block n byte ≡ 0 → n ≡ position_or_len (λ b. b == byte) block
 position-none block n byte long small none =
     let mask = bitmask_splat w8 eqb block n byte long small in
     sym (leading_from_mask_l (λ b. b == byte) block (sym mask ∙ none) ∙ long)
@@ -29,9 +29,9 @@ positive m some = elim (cases_lt 0 m) [
 ]
 
 -- and else the lowest bit is the first place
-pub position-some : (block : List ℕ) (byte : ℕ) → length block ≡ 16 → places block 16 byte ≢ 0
-    → (count_trailing_zeros 64 (places block 16 byte) < 16)
-    × (count_trailing_zeros 64 (places block 16 byte) ≡ position_or_len (λ b. b == byte) block)
+pub position-some : (block : List ℕ) (byte : ℕ) → length block ≡ 16 → bits_set block 16 byte ≢ 0
+    → (count_trailing_zeros 64 (bits_set block 16 byte) < 16)
+    × (count_trailing_zeros 64 (bits_set block 16 byte) ≡ position_or_len (λ b. b == byte) block)
 position-some block byte long some =
     let is_one : ℕ → Bool = λ b. b == byte in
     let mask = bitmask_splat w8 eqb block 16 byte long (omega arith) in

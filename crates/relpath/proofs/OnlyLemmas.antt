@@ -8,8 +8,8 @@ use Rattle.relative_path.specs.Unix.{way_to}
 use Rattle.relative_path.specs.Error.{relative_to_words}
 use Rattle.relative_path.specs.declared.error.RelativeToErrorKind.TheVariants.{AmbiguousTraversal}
 use Rattle.relative_path.specs.Normalizing.{IsNormalTextOf}
-use Rattle.relative_path.specs.Relating.{IsReachable, IsShortestText}
-use Rattle.relpath.specs.Command.{path_answer, words_answer, GivesPath, IsWayText, TellsWay, field, command_named, arity_of, TellsWayBack, AnswersArguments, AnswersCommand, TellsMoved, moved_answer, one_move}
+use Rattle.relative_path.specs.Relating.{IsReachable, IsShortestText, IsWayText}
+use Rattle.relpath.specs.Command.{path_answer, words_answer, GivesPath, TellsWay, field, command_named, arity_of, AnswersRelativeTo, AnswersArguments, AnswersCommand, TellsMoved, moved_answer, one_move}
 use Rattle.relpath.specs.declared.command.Command.{Command}
 use Rattle.relpath.specs.declared.command.Command.TheVariants.{Normalize, Join, Relative, TryRelative, RelativeTo, Move}
 use Rattle.relative_path_moves.specs.Moves.{Move as FileMove, OfTarget, ClimbsAbove, BelowTop, IsBeyond, IsMovedText, AreNamed, AreApart, IsFirstNameless, IsFirstPair}
@@ -57,7 +57,7 @@ IsWayText-IsOfOne f t one other h k = tell (bytes_eq other one) (bytes_eq-Decide
   tell true (is, _) = is refl
   tell false (_, isnt) =
       let none : ¬ IsReachable f t = λ leads. absurd (true≢false (sym (isnt
-      (IsShortestText-IsOfOne f t one other (h.reachable leads) (k.reachable leads))))) in
+      (IsShortestText-IsOfOne f t one other (h.shortest leads) (k.shortest leads))))) in
       k.unreachable none ∙ sym (h.unreachable none)
 
 TellsWay-IsOfOne : (f t : List Step) → IsOfOne (TellsWay f t)
@@ -146,11 +146,11 @@ TellsMoved-IsOfOne : (old new reference : List Step) → IsOfOne (TellsMoved old
 TellsMoved-IsOfOne old new reference one other (outcome, is, e) (outcome_2, is_2, f) =
     f ∙ ap moved_answer (IsAnswered-only (one_move old new) 0 reference outcome outcome_2 is is_2) ∙ sym e
 
-TellsWayBack-IsOfOne : (path root : List ℕ) → IsOfOne (TellsWayBack path root)
-TellsWayBack-IsOfOne path root one other (inl (differ, e)) (inl (differ_2, f)) = f ∙ sym e
-TellsWayBack-IsOfOne path root one other (inl (differ, e)) (inr (same, f)) = absurd (differ same)
-TellsWayBack-IsOfOne path root one other (inr (same, e)) (inl (differ, f)) = absurd (differ same)
-TellsWayBack-IsOfOne path root one other (inr (same, e)) (inr (same_2, f)) = tell (way_to path root) e f where
+AnswersRelativeTo-IsOfOne : (path root : List ℕ) → IsOfOne (AnswersRelativeTo path root)
+AnswersRelativeTo-IsOfOne path root one other (inl (differ, e)) (inl (differ_2, f)) = f ∙ sym e
+AnswersRelativeTo-IsOfOne path root one other (inl (differ, e)) (inr (same, f)) = absurd (differ same)
+AnswersRelativeTo-IsOfOne path root one other (inr (same, e)) (inl (differ, f)) = absurd (differ same)
+AnswersRelativeTo-IsOfOne path root one other (inr (same, e)) (inr (same_2, f)) = tell (way_to path root) e f where
   tell : (found : Option (List Step))
       → MatchOption found (one ≡ words_answer (relative_to_words AmbiguousTraversal)) (λ way. one ≡ path_answer (spell way))
       → MatchOption found (other ≡ words_answer (relative_to_words AmbiguousTraversal))
@@ -164,7 +164,7 @@ AnswersArguments-IsOfOne Normalize arguments = GivesPath-IsOfOne _ (IsNormalText
 AnswersArguments-IsOfOne Join arguments = is-IsOfOne _
 AnswersArguments-IsOfOne Relative arguments = GivesPath-IsOfOne _ (IsWayText-IsOfOne _ _)
 AnswersArguments-IsOfOne TryRelative arguments = TellsWay-IsOfOne _ _
-AnswersArguments-IsOfOne RelativeTo arguments = TellsWayBack-IsOfOne (field arguments 0) (field arguments 1)
+AnswersArguments-IsOfOne RelativeTo arguments = AnswersRelativeTo-IsOfOne (field arguments 0) (field arguments 1)
 AnswersArguments-IsOfOne Move arguments = TellsMoved-IsOfOne _ _ _
 
 AnswersCommand-IsOfOne : (name : List ℕ) (arguments : List (List ℕ)) → IsOfOne (AnswersCommand name arguments)

@@ -4,7 +4,7 @@ use Rattle.std.specs.Str.{bytes_eq}
 use Rattle.relative_path.specs.Steps.{Step, components, spell}
 use Rattle.relative_path.specs.Normalizing.{IsNormalTextOf}
 use Rattle.relative_path.specs.Editing.{pushed}
-use Rattle.relative_path.specs.Relating.{IsReachable, IsShortestText}
+use Rattle.relative_path.specs.Relating.{IsReachable, IsShortestText, IsWayText}
 use Rattle.relative_path.specs.Unix.{has_root, way_to}
 use Rattle.relative_path.specs.Error.{relative_to_words}
 use Rattle.relative_path.specs.declared.error.RelativeToErrorKind.TheVariants.{PrefixMismatch, AmbiguousTraversal}
@@ -27,11 +27,6 @@ words_answer words = codes "! " ++ words
 -- the answer gives a path whose text is P
 abbrev pub GivesPath : (List ℕ → Type 0) → List ℕ → Type 0
 GivesPath P answer = (text : List ℕ) × P text × (answer ≡ path_answer text)
-
--- the text spells the shortest list that leads from f to t, and is empty where none leads
-pub record IsWayText (f t : List Step) (text : List ℕ) : Type 0 where
-  pub reachable : IsReachable f t → IsShortestText f t text
-  pub unreachable : (¬ IsReachable f t) → text ≡ []
 
 -- the answer gives the path that spells the shortest list from f to t, or says that none leads
 abbrev pub TellsWay : List Step → List Step → List ℕ → Type 0
@@ -58,17 +53,13 @@ AnswersRelative from to = GivesPath (IsWayText (components from) (components to)
 abbrev pub AnswersTryRelative : List ℕ → List ℕ → List ℕ → Type 0
 AnswersTryRelative from to = TellsWay (components from) (components to)
 
--- the answer gives the way from the root to the path, two platform paths, or says why none is known
-abbrev pub TellsWayBack : List ℕ → List ℕ → List ℕ → Type 0
-TellsWayBack path root answer =
+-- `relative_to`, path, root: the relative path from the root to the path, both platform paths, or why none is known
+abbrev pub AnswersRelativeTo : List ℕ → List ℕ → List ℕ → Type 0
+AnswersRelativeTo path root answer =
     ((has_root path ≢ has_root root) × (answer ≡ words_answer (relative_to_words PrefixMismatch)))
     ⊎ (has_root path ≡ has_root root)
     × MatchOption (way_to path root) (answer ≡ words_answer (relative_to_words AmbiguousTraversal))
     (λ way. answer ≡ path_answer (spell way))
-
--- `relative_to`, path, root: the relative path from the root to the path, both platform paths, or why none is known
-abbrev pub AnswersRelativeTo : List ℕ → List ℕ → List ℕ → Type 0
-AnswersRelativeTo path root = TellsWayBack path root
 
 -- the answer gives the path, or refuses in the refusal's words
 abbrev pub moved_answer : Result (List ℕ) MoveError → List ℕ

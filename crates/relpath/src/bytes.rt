@@ -58,11 +58,11 @@ fn find_in_block(bytes: &[u8], start: usize, byte: u8) -> Option<usize>
         × (at ≡ position_or_len (λ b. b == byte) (take BLOCK (drop start bytes.now)))) }
 {
     let same = u8x16::from_slice(&bytes[start..]).simd_eq(u8x16::splat(byte));
-    let places = same.to_bitmask();
-    if places == 0 {
+    let bits_set = same.to_bitmask();
+    if bits_set == 0 {
         None
     } else {
-        Some(places.trailing_zeros() as usize)
+        Some(bits_set.trailing_zeros() as usize)
     }
 }
 

@@ -88,7 +88,7 @@ fn answer_command(
         (string_bytes output.old) (string_bytes output.new)) }
 {
     let Some(command) = Command::named(name) else {
-        return output.push_str("! unknown command");
+        return add_words(output, "unknown command");
     };
     if arguments.len() != command.arity() {
         return add_words(output, "wrong number of fields");
@@ -108,13 +108,14 @@ fn answer_arguments(
         (Adds (AnswersArguments command (map (λ field. field.now) arguments.now))
         (string_bytes output.old) (string_bytes output.new)) }
 {
-    match command {
-        Command::Normalize => answer_normalize(alloc, arguments[0], output),
-        Command::Join => answer_join(alloc, arguments[0], arguments[1], output),
-        Command::Relative => answer_relative(alloc, arguments[0], arguments[1], output),
-        Command::TryRelative => answer_try_relative(alloc, arguments[0], arguments[1], output),
-        Command::RelativeTo => answer_relative_to(alloc, arguments[0], arguments[1], output),
-        Command::Move => answer_move(alloc, arguments[0], arguments[1], arguments[2], output),
+    match (command, arguments) {
+        (Command::Normalize, [path]) => answer_normalize(alloc, path, output),
+        (Command::Join, [path, more]) => answer_join(alloc, path, more, output),
+        (Command::Relative, [from, to]) => answer_relative(alloc, from, to, output),
+        (Command::TryRelative, [from, to]) => answer_try_relative(alloc, from, to, output),
+        (Command::RelativeTo, [path, root]) => answer_relative_to(alloc, path, root, output),
+        (Command::Move, [old, new, reference]) => answer_move(alloc, old, new, reference, output),
+        _ => unreachable!(),
     }
 }
 

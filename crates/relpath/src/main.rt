@@ -4,6 +4,16 @@
 //! $ printf 'normalize\ta/../b\n' | relpath
 //! = b
 //! ```
+//!
+//! Each module uses those below it, and of its own layer those that stand before it.
+//!
+//! ```text
+//! the whole run       run  report
+//! bytes in and out    input  output
+//! a line's answer     command
+//! what that needs     bytes  lines  mover
+//! what all share      fault  meter
+//! ```
 #![tactic(auto)]
 
 use crate::meter::Meter;

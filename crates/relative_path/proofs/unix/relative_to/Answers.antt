@@ -3,7 +3,7 @@ use Rattle.relative_path.specs.Steps.{up, components, spell}
 use Rattle.relative_path.specs.Walk.{IsSame}
 use Rattle.relative_path.specs.UnixComponents.{unix_left}
 use Rattle.relative_path.specs.Unix.{unix_components}
-use Rattle.relative_path.proofs.UnixWaysLemmas.{way_to-from, IsSame-way}
+use Rattle.relative_path.proofs.UnixWaysLemmas.{way_to-from, IsSame-way_to}
 use Rattle.relative_path.proofs.unix.relative_to.Goals as goal
 
 pub returns-clause-ok : goal.returns-clause-ok
@@ -19,4 +19,4 @@ returns-clause-leads c =
     let found = returns-clause-ok c in
     subst (λ text. IsSame
     (unix_components c.args.root.now ++ components text) (unix_components c.args.path.now)) (sym found.2)
-    (IsSame-way c.args.path.now c.args.root.now found.0 found.1)
+    (IsSame-way_to c.args.path.now c.args.root.now found.0 found.1)

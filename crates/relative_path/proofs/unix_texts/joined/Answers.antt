@@ -3,7 +3,7 @@ use Rattle.relative_path.specs.Components.{components_left, step_of}
 use Rattle.relative_path.specs.Writing.{with_piece}
 use Rattle.relative_path.specs.NormalForm.{padded_len}
 use Rattle.relative_path.specs.Unix.{onto}
-use Rattle.relative_path.proofs.UnixTextsLemmas.{length-with_piece_le, padded_len-components}
+use Rattle.relative_path.proofs.UnixTextsLemmas.{length-with_step_le, padded_len-components}
 use Rattle.relative_path.proofs.unix_texts.joined.Goals as goal
 
 pub loop-component-init : goal.loop-component-init
@@ -21,7 +21,7 @@ add_piece-requires c =
     let text = string_bytes c.loop-component.text in
     let first = ap padded_len c.in-Some.ensures.steps.0 in
     let piece = ap (λ p. length (with_piece text p)) c.as_str.ensures in
-    omega (arith, c.loop-component.invariant.1, first, piece, length-with_piece_le text (step_of c.in-Some.component))
+    omega (arith, c.loop-component.invariant.1, first, piece, length-with_step_le text (step_of c.in-Some.component))
 
 pub loop-component-preserved : goal.loop-component-preserved
 loop-component-preserved c =
@@ -36,7 +36,7 @@ loop-component-preserved c =
         before.1,
         ap padded_len first,
         ap length added,
-        length-with_piece_le text (step_of c.in-Some.component),
+        length-with_step_le text (step_of c.in-Some.component),
         c.add_piece.ensures.room,
       ),
     )

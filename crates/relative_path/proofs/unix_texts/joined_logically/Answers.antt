@@ -3,7 +3,7 @@ use Rattle.relative_path.specs.NormalForm.{padded_len}
 use Rattle.relative_path.specs.Steps.{name}
 use Rattle.std.proofs.lemmas.Str.{IsUtf8-string_bytes}
 use Rattle.relative_path.proofs.SlicesLemmas.{IsPrefix, IsCharBoundary-IsPrefix}
-use Rattle.relative_path.proofs.UnixTextsLemmas.{length-with_piece_le, padded_len-components}
+use Rattle.relative_path.proofs.UnixTextsLemmas.{length-with_step_le, padded_len-components}
 use Rattle.relative_path.proofs.unix_texts.joined_logically.Goals as goal
 
 pub loop-component-init : goal.loop-component-init
@@ -28,7 +28,7 @@ pub add_piece-requires : goal.add_piece-requires
 add_piece-requires c =
     let text = string_bytes c.loop-component.text in
     let first = ap padded_len (rw c.in-Normal.is at c.in-Some.ensures.steps.0) in
-    omega (arith, c.loop-component.invariant.1, first, length-with_piece_le text (name c.in-Normal.name.now))
+    omega (arith, c.loop-component.invariant.1, first, length-with_step_le text (name c.in-Normal.name.now))
 
 pub loop-component-preserved : goal.loop-component-preserved
 loop-component-preserved c =
@@ -42,7 +42,7 @@ loop-component-preserved c =
         before.1,
         ap padded_len first,
         ap length added,
-        length-with_piece_le text (name c.in-Normal.name.now),
+        length-with_step_le text (name c.in-Normal.name.now),
         c.add_piece.ensures.room,
       ),
     )

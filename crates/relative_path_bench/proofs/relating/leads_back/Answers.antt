@@ -10,7 +10,7 @@ returns-clause-stays c = λ none.
     let from = path_components c.args.from in
     let P = λ (x : List ℕ). IsNormalTextOf (from ++ components x) c.in_ok-back.back.text in
     let there = subst P c.as_relative_path.ensures c.in_ok-back.ensures.normal_form in
-    IsNormalTextOf-empty from _ _ (c.in_ok-way.ensures.unreachable none) there
+    IsNormalTextOf-empty from _ _ (c.in_ok-way.ensures.way.unreachable none) there
 
 pub returns-clause-same : goal.returns-clause-same
 returns-clause-same c =
@@ -21,5 +21,5 @@ returns-clause-same c =
     let to = path_components c.args.to in
     let texts = same_texts (from ++ components way) to _ _ there c.in_ok-normalize.ensures.normal_form in (
       λ same. (components way, texts.0 same),
-      λ reachable. texts.1 (c.in_ok-way.ensures.shortest reachable).shortest.leads,
+      λ reachable. texts.1 (c.in_ok-way.ensures.way.shortest reachable).shortest.leads,
     )

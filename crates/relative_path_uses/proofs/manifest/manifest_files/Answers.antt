@@ -3,14 +3,14 @@ use Rattle.std.proofs.Common.{◌≡◌, rules, map, codes, Some, option_and_the
 use Rattle.std.proofs.lemmas.Result.{IfOk-weaker, IfErr-weaker}
 use Rattle.serde_json.specs.Find.{get, as_array}
 use Rattle.serde_json.specs.View.{view, items_view}
-use Rattle.relative_path_uses.specs.Manifest.{base_of, AreFiles, file_text, IsForeignBase}
-use Rattle.relative_path_uses.proofs.ManifestLemmas.{OfManifest-of, Refuses-entries, entries_of-values}
+use Rattle.relative_path_uses.specs.Manifest.{base_member, AreFiles, file_text, IsForeignBase}
+use Rattle.relative_path_uses.proofs.ManifestLemmas.{OfManifest-of, IsRefusedManifest-entries, entries_of-values}
 use Rattle.relative_path_uses.proofs.manifest.manifest_files.Goals as goal
 
 pub returns-clause-files : goal.returns-clause-files
 returns-clause-files c =
     let manifest = view c.args.manifest.now in
-    let base : base_of (view c.args.manifest.now) ≡ Some c.in_ok-base.base.now = search rules in
+    let base : base_member (view c.args.manifest.now) ≡ Some c.in_ok-base.base.now = search rules in
     let listed : option_and_then as_array (get (codes "files") (view c.args.manifest.now))
     ≡ Some (items_view c.in_ok-files.files.now.items) = search rules in
     let entries = entries_of-values manifest c.in_ok-files.files.now.items listed in
@@ -21,18 +21,18 @@ returns-clause-files c =
 pub returns-clause-refused : goal.returns-clause-refused
 returns-clause-refused c =
     let manifest = view c.args.manifest.now in
-    let base : base_of (view c.args.manifest.now) ≡ Some c.in_ok-base.base.now = search rules in
+    let base : base_member (view c.args.manifest.now) ≡ Some c.in_ok-base.base.now = search rules in
     let listed : option_and_then as_array (get (codes "files") (view c.args.manifest.now))
     ≡ Some (items_view c.in_ok-files.files.now.items) = search rules in
     let entries = entries_of-values manifest c.in_ok-files.files.now.items listed in
     IfErr-weaker c.files_below.result _ _
-    (λ refusal is. Refuses-entries manifest _ _ refusal base entries is)
+    (λ refusal is. IsRefusedManifest-entries manifest _ _ refusal base entries is)
     (rw (c.new-base.ensures, c.deref.ensures.value) at c.files_below.ensures.refused)
 
 pub returns-then-has_unportable_name-clause-refused : goal.returns-then-has_unportable_name-clause-refused
 returns-then-has_unportable_name-clause-refused c =
     let manifest = view c.args.manifest.now in
-    let base : base_of (view c.args.manifest.now) ≡ Some c.in_ok-base.base.now = search rules in
+    let base : base_member (view c.args.manifest.now) ≡ Some c.in_ok-base.base.now = search rules in
     let listed : option_and_then as_array (get (codes "files") (view c.args.manifest.now))
     ≡ Some (items_view c.in_ok-files.files.now.items) = search rules in
     let entries = entries_of-values manifest c.in_ok-files.files.now.items listed in

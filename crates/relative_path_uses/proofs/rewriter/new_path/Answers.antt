@@ -9,30 +9,32 @@ pub returns-in-Ok-None-clause-new : goal.returns-in-Ok-None-clause-new
 returns-in-Ok-None-clause-new c = rw c.new.ensures at (c.in-Ok-None.ensures.stays.0 (ap is_some c.in-Ok-None.field-0-is))
 
 pub returns-in-Err-AboveRoot-clause-left : goal.returns-in-Err-AboveRoot-clause-left
-returns-in-Err-AboveRoot-clause-left c = rw c.new.ensures at (c.in-Err-AboveRoot.ensures.above_root.only (ap Err c.in-Err-AboveRoot.field-0-is))
+returns-in-Err-AboveRoot-clause-left c =
+    rw c.new.ensures at (c.in-Err-AboveRoot.ensures.above_root.only (ap Err c.in-Err-AboveRoot.field-0-is))
 
 pub returns-in-Err-NoPath-clause-left : goal.returns-in-Err-NoPath-clause-left
-returns-in-Err-NoPath-clause-left c = rw c.new.ensures at (c.in-Err-NoPath.ensures.no_path.only (ap Err c.in-Err-NoPath.field-0-is))
+returns-in-Err-NoPath-clause-left c =
+    rw c.new.ensures at (c.in-Err-NoPath.ensures.no_path.only (ap Err c.in-Err-NoPath.field-0-is))
 
 pub returns-then-has_unfit-clause-left : goal.returns-then-has_unfit-clause-left
 returns-then-has_unfit-clause-left c = (
   string_bytes c.in_ok-new.new,
   IsNewPath-way c.args.table.now (path_components c.args.from) c.args.path.now c.in-Ok-Some.way.text
-      (string_bytes c.in_ok-reference.field-0) (string_bytes c.in_ok-new.new)
+      (string_bytes c.in_ok-url_reference.field-0) (string_bytes c.in_ok-new.new)
       (λ still. IsNone-some c.in-Ok-Some.field-0 c.in-Ok-Some.way c.in-Ok-Some.field-0-is
       (c.in-Ok-Some.ensures.stays.1 (rw (sym c.new.ensures) at still)))
       (rw (c.in-Ok-Some.field-0-is, c.new.ensures) at c.in-Ok-Some.ensures.shortest)
-      c.in_ok-reference.ensures c.in_ok-new.ensures,
+      c.in_ok-url_reference.ensures c.in_ok-new.ensures,
   ap (has_unfit c.args.angled) (sym c.deref.ensures) ∙ sym c.has_unfit.ensures ∙ c.if-has_unfit.true,
 )
 
 pub returns-clause-new : goal.returns-clause-new
 returns-clause-new c = (
   IsNewPath-way c.args.table.now (path_components c.args.from) c.args.path.now c.in-Ok-Some.way.text
-      (string_bytes c.in_ok-reference.field-0) (string_bytes c.in_ok-new.new)
+      (string_bytes c.in_ok-url_reference.field-0) (string_bytes c.in_ok-new.new)
       (λ still. IsNone-some c.in-Ok-Some.field-0 c.in-Ok-Some.way c.in-Ok-Some.field-0-is
       (c.in-Ok-Some.ensures.stays.1 (rw (sym c.new.ensures) at still)))
       (rw (c.in-Ok-Some.field-0-is, c.new.ensures) at c.in-Ok-Some.ensures.shortest)
-      c.in_ok-reference.ensures c.in_ok-new.ensures,
+      c.in_ok-url_reference.ensures c.in_ok-new.ensures,
   ap (has_unfit c.args.angled) (sym c.deref.ensures) ∙ sym c.has_unfit.ensures ∙ c.if-has_unfit.false,
 )

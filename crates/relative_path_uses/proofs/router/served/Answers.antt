@@ -1,7 +1,7 @@
 -- Some platform reads a name of the place otherwise, or its names are plain and stand after the root.
 use Rattle.std.proofs.Common.{◌≡◌, refl, sym, ◌∙◌, true≢false, string_bytes}
 use Rattle.relative_path.specs.Steps.{components}
-use Rattle.relative_path_uses.specs.Places.{SpellsPlace}
+use Rattle.relative_path_uses.specs.FromTop.{SpellsPlace}
 use Rattle.relative_path_uses.specs.Router.{added}
 use Rattle.relative_path_uses.proofs.RouterLemmas.{IsServed-added, IsRefused-text}
 use Rattle.relative_path_uses.proofs.router.served.Goals as goal

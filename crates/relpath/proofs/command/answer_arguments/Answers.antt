@@ -7,55 +7,55 @@ use Rattle.relpath.proofs.command.answer_arguments.Goals as goal
 abbrev none : Bor (List ℕ)
 none = record { ref_ptr = (0, 0); now = [] }
 
-pub returns-in-Normalize : goal.returns-in-Normalize
-returns-in-Normalize c =
-    let count : length c.args.arguments.now ≡ 1 = c.requires ∙ ap arity_of c.in-Normalize.is in
+pub returns-in-Normalize-len1 : goal.returns-in-Normalize-len1
+returns-in-Normalize-len1 c =
+    let count : length c.args.arguments.now ≡ 1 = c.requires ∙ ap arity_of c.in-Normalize-len1.is-0 in
     rw (
-      c.in-Normalize.is,
+      c.in-Normalize-len1.is-0,
       field-map c.args.arguments.now 0 none (omega (arith, count)),
     ) c.answer_normalize.ensures
 
-pub returns-in-Join : goal.returns-in-Join
-returns-in-Join c =
-    let count : length c.args.arguments.now ≡ 2 = c.requires ∙ ap arity_of c.in-Join.is in
+pub returns-in-Join-len2 : goal.returns-in-Join-len2
+returns-in-Join-len2 c =
+    let count : length c.args.arguments.now ≡ 2 = c.requires ∙ ap arity_of c.in-Join-len2.is-0 in
     rw (
-      c.in-Join.is,
+      c.in-Join-len2.is-0,
       field-map c.args.arguments.now 0 none (omega (arith, count)),
       field-map c.args.arguments.now 1 none (omega (arith, count)),
     ) c.answer_join.ensures
 
-pub returns-in-Relative : goal.returns-in-Relative
-returns-in-Relative c =
-    let count : length c.args.arguments.now ≡ 2 = c.requires ∙ ap arity_of c.in-Relative.is in
+pub returns-in-Relative-len2 : goal.returns-in-Relative-len2
+returns-in-Relative-len2 c =
+    let count : length c.args.arguments.now ≡ 2 = c.requires ∙ ap arity_of c.in-Relative-len2.is-0 in
     rw (
-      c.in-Relative.is,
+      c.in-Relative-len2.is-0,
       field-map c.args.arguments.now 0 none (omega (arith, count)),
       field-map c.args.arguments.now 1 none (omega (arith, count)),
     ) c.answer_relative.ensures
 
-pub returns-in-TryRelative : goal.returns-in-TryRelative
-returns-in-TryRelative c =
-    let count : length c.args.arguments.now ≡ 2 = c.requires ∙ ap arity_of c.in-TryRelative.is in
+pub returns-in-TryRelative-len2 : goal.returns-in-TryRelative-len2
+returns-in-TryRelative-len2 c =
+    let count : length c.args.arguments.now ≡ 2 = c.requires ∙ ap arity_of c.in-TryRelative-len2.is-0 in
     rw (
-      c.in-TryRelative.is,
+      c.in-TryRelative-len2.is-0,
       field-map c.args.arguments.now 0 none (omega (arith, count)),
       field-map c.args.arguments.now 1 none (omega (arith, count)),
     ) c.answer_try_relative.ensures
 
-pub returns-in-RelativeTo : goal.returns-in-RelativeTo
-returns-in-RelativeTo c =
-    let count : length c.args.arguments.now ≡ 2 = c.requires ∙ ap arity_of c.in-RelativeTo.is in
+pub returns-in-RelativeTo-len2 : goal.returns-in-RelativeTo-len2
+returns-in-RelativeTo-len2 c =
+    let count : length c.args.arguments.now ≡ 2 = c.requires ∙ ap arity_of c.in-RelativeTo-len2.is-0 in
     rw (
-      c.in-RelativeTo.is,
+      c.in-RelativeTo-len2.is-0,
       field-map c.args.arguments.now 0 none (omega (arith, count)),
       field-map c.args.arguments.now 1 none (omega (arith, count)),
     ) c.answer_relative_to.ensures
 
-pub returns-in-Move : goal.returns-in-Move
-returns-in-Move c =
-    let count : length c.args.arguments.now ≡ 3 = c.requires ∙ ap arity_of c.in-Move.is in
+pub returns-in-Move-len3 : goal.returns-in-Move-len3
+returns-in-Move-len3 c =
+    let count : length c.args.arguments.now ≡ 3 = c.requires ∙ ap arity_of c.in-Move-len3.is-0 in
     rw (
-      c.in-Move.is,
+      c.in-Move-len3.is-0,
       field-map c.args.arguments.now 0 none (omega (arith, count)),
       field-map c.args.arguments.now 1 none (omega (arith, count)),
       field-map c.args.arguments.now 2 none (omega (arith, count)),

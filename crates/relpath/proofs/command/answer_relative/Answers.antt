@@ -1,7 +1,8 @@
 -- The answer is the way between the components of the two texts.
 use Rattle.std.proofs.Common.{rules}
 use Rattle.relative_path.specs.Steps.{components}
-use Rattle.relpath.specs.Command.{GivesPath, IsWayText}
+use Rattle.relative_path.specs.Relating.{IsWayText}
+use Rattle.relpath.specs.Command.{GivesPath}
 use Rattle.relpath.proofs.CommandLemmas.{Adds-two, OnOk-known}
 use Rattle.relpath.proofs.command.answer_relative.Goals as goal
 

@@ -36,8 +36,15 @@ returns-in-None-clause-shortest_to c = λ target normal reachable.
     let there = IsReachable-same self self target to (IsSame-refl self) normal.same reachable in
     absurd ((rw c.in-None.is at c.in_ok-way.ensures.none).0 refl there)
 
-pub returns-in-None-clause-shortest : goal.returns-in-None-clause-shortest
-returns-in-None-clause-shortest c = λ there. absurd ((rw c.in-None.is at c.in_ok-way.ensures.none).0 refl there)
+pub returns-in-None-clause-way : goal.returns-in-None-clause-way
+returns-in-None-clause-way c = record {
+  shortest = λ there. absurd ((rw c.in-None.is at c.in_ok-way.ensures.none).0 refl there);
+  unreachable = λ _. c.new.ensures;
+}
 
-pub returns-in-Some-clause-shortest : goal.returns-in-Some-clause-shortest
-returns-in-Some-clause-shortest c = λ _. rw c.in-Some.is at c.in_ok-way.ensures.shortest
+pub returns-in-Some-clause-way : goal.returns-in-Some-clause-way
+returns-in-Some-clause-way c =
+    let way = rw c.in-Some.is at c.in_ok-way.ensures.shortest in record {
+      shortest = λ _. way;
+      unreachable = λ none. absurd (none (_, way.shortest.leads));
+    }

@@ -21,4 +21,4 @@ returns c =
       c.in_ok-directory.ensures.components,
       ups,
     ) refl in
-    rw target at c.in_ok-copied.ensures.shortest
+    rw target at c.in_ok-copied.ensures.way.shortest

@@ -24,7 +24,7 @@ returns-in_default-clause-alike c page other same_page same_other =
     (returns-in_default-clause-href c) same_page same_other
 
 -- the link that the reference is made of
-link : (c : goal.In_ok-reference)
+link : (c : goal.In_ok-url_reference)
     → IsShortestNamed (above_page (path_at c.args.self.now c.args.from)) (path_at c.args.self.now c.args.to)
     c.push.new.self.text
 link c =
@@ -40,12 +40,12 @@ link c =
     (IsProper-name (path_at c.args.self.now c.args.to) c.file_name.result.now proper c.file_name.ensures) pushes
 
 pub returns-clause-href : goal.returns-clause-href
-returns-clause-href c = (c.push.new.self.text, link c, c.in_ok-reference.ensures)
+returns-clause-href c = (c.push.new.self.text, link c, c.in_ok-url_reference.ensures)
 
 pub returns-clause-alike : goal.returns-clause-alike
 returns-clause-alike c page other same_page same_other =
     IsHref-same (path_at c.args.self.now c.args.from) page (path_at c.args.self.now c.args.to) other
-    (Some (string_bytes c.in_ok-reference.field-0)) (returns-clause-href c) same_page same_other
+    (Some (string_bytes c.in_ok-url_reference.field-0)) (returns-clause-href c) same_page same_other
 
 pub returns-clause-resolves : goal.returns-clause-resolves
 returns-clause-resolves c =
@@ -53,4 +53,4 @@ returns-clause-resolves c =
     let proper : AreProper (path_at c.args.self.now c.args.from) =
     rw c.page.ensures.path at (AreProper-components (path_text c.page.result)) in
     Resolves-between (path_at c.args.self.now c.args.from) (path_at c.args.self.now c.args.to) m c.push.new.self.text
-    (string_bytes c.in_ok-reference.field-0) from_named proper (link c) c.in_ok-reference.ensures
+    (string_bytes c.in_ok-url_reference.field-0) from_named proper (link c) c.in_ok-url_reference.ensures

@@ -3,7 +3,7 @@ use Rattle.std.proofs.Common.{◌≡◌, refl}
 use Rattle.relative_path.specs.RelativePath.{path_text, path_components}
 use Rattle.relative_path_moves.specs.PlaceIndex.{path_at}
 use Rattle.relative_path_uses.specs.SiteMap.{above_page}
-use Rattle.relative_path_uses.proofs.PlacesLemmas.{components_up}
+use Rattle.relative_path_uses.proofs.FromTopLemmas.{components_up}
 use Rattle.relative_path_uses.proofs.SiteMapLemmas.{IsLink-way, IsLink-same}
 use Rattle.relative_path_uses.proofs.site_map.SiteMap.link.Goals as goal
 

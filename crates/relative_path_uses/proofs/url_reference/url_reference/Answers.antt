@@ -1,8 +1,8 @@
 -- A link that would be misread stands after `./`.
 use Rattle.std.proofs.Common.{◌≡◌, ◌++◌, codes, string_bytes, rules, true}
-use Rattle.relative_path_uses.specs.Reference.{is_misread}
-use Rattle.relative_path_uses.proofs.ReferenceLemmas.{IsReference-dotted}
-use Rattle.relative_path_uses.proofs.reference.reference.Goals as goal
+use Rattle.relative_path_uses.specs.UrlReference.{is_misread}
+use Rattle.relative_path_uses.proofs.UrlReferenceLemmas.{IsReference-dotted}
+use Rattle.relative_path_uses.proofs.url_reference.url_reference.Goals as goal
 
 pub returns-then-is_misread : goal.returns-then-is_misread
 returns-then-is_misread c =

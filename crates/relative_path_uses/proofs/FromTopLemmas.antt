@@ -4,7 +4,7 @@ use Rattle.relative_path.specs.Steps.{Step, cur, up, name, pieces, components, s
 use Rattle.relative_path.specs.Walk.{walk}
 use Rattle.relative_path.specs.Normalizing.{AreNames, IsNormal, IsNormalTextOf}
 use Rattle.relative_path_moves.specs.Places.{place_of}
-use Rattle.relative_path_uses.specs.Places.{SpellsPlace}
+use Rattle.relative_path_uses.specs.FromTop.{SpellsPlace}
 
 -- the one component of `..`
 pub components_up : (text : List ℕ) → text ≡ codes ".." → components text ≡ up ∷ []

@@ -2,7 +2,7 @@
 use Rattle.std.proofs.Common.{◌≡◌, ℕ, true, List, ◌++◌, codes, cond, refl, sym, ap}
 use Rattle.relative_path.specs.Steps.{pieces, components}
 use Rattle.relative_path.specs.Walk.{IsSame}
-use Rattle.relative_path_uses.specs.Reference.{is_misread, IsReference}
+use Rattle.relative_path_uses.specs.UrlReference.{is_misread, IsReference}
 
 -- after `./` a link has one component more, a `.`
 same_dotted : (link : List ℕ) → IsSame (components link) (components (codes "./" ++ link))

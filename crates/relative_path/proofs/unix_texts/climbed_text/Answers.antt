@@ -4,7 +4,7 @@ use Rattle.relative_path.specs.Steps.{up, step_text}
 use Rattle.relative_path.specs.Unix.{onto}
 use Rattle.relative_path.specs.UnixComponents.{unix_left}
 use Rattle.relative_path.proofs.UnixTextsLemmas.{AreProper-counted, length-onto_le, onto-ups}
-use Rattle.relative_path.proofs.unix_texts.climbed.Goals as goal
+use Rattle.relative_path.proofs.unix_texts.climbed_text.Goals as goal
 
 pub push_climb-requires : goal.push_climb-requires
 push_climb-requires c =

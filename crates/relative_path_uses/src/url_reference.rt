@@ -1,13 +1,13 @@
 //! Links as references of a page.
 ghost use Rattle.std.specs.Prelude.{◌≡◌, IfOk, string_bytes};
-ghost use Rattle.relative_path_uses.specs.Reference.{is_misread, has_scheme, IsReference};
+ghost use Rattle.relative_path_uses.specs.UrlReference.{is_misread, has_scheme, IsReference};
 
 use relative_path::RelativePathBuf;
 use std::alloc::{AllocError, Global};
 
 // The link as a reference: after `./` where it would be misread. It asks for memory there
 // alone, once.
-pub(crate) fn reference(alloc: Global, link: RelativePathBuf) -> Result<String, AllocError>
+pub(crate) fn url_reference(alloc: Global, link: RelativePathBuf) -> Result<String, AllocError>
     ensures { IfOk result (λ reference. IsReference link.text (string_bytes reference)) }
 {
     let link = link.into_string();

@@ -2,7 +2,7 @@
 ghost use Rattle.std.specs.Prelude.{◌≡◌, ◌↔◌, IfOk, IfSome, IsNone, None};
 ghost use Rattle.relative_path.specs.RelativePath.{path_components};
 ghost use Rattle.relative_path_moves.specs.Places.{place_of};
-ghost use Rattle.relative_path_uses.specs.Places.{SpellsPlace};
+ghost use Rattle.relative_path_uses.specs.FromTop.{SpellsPlace};
 
 use relative_path::{RelativePath, RelativePathBuf};
 use std::alloc::{AllocError, Global};

@@ -1,8 +1,8 @@
 -- A path that doesn't climb has a place, which its normal text spells.
 use Rattle.std.proofs.Common.{[], arith}
 use Rattle.relative_path.specs.RelativePath.{path_components}
-use Rattle.relative_path_uses.proofs.PlacesLemmas.{SpellsPlace-normal}
-use Rattle.relative_path_uses.proofs.places.place_from_top.Goals as goal
+use Rattle.relative_path_uses.proofs.FromTopLemmas.{SpellsPlace-normal}
+use Rattle.relative_path_uses.proofs.from_top.place_from_top.Goals as goal
 
 pub returns-clause-some : goal.returns-clause-some
 returns-clause-some c =
