@@ -26,12 +26,12 @@ pub use Rattle.relative_path.proofs.StepsLemmas.{IsProper, AreProper}
 
 -- ---- where lists lead
 
--- two lists in a row lead where the second one leads from where the first one led
+-- a list after another leads on from where the other led
 pub walk-append : (base : List (List ℕ)) (cs ds : List Step)
     → walk base (cs ++ ds) ≡ option_and_then (λ place. walk place ds) (walk base cs)
 walk-append = walks.walk-append
 
--- names alone lead from a base down to them
+-- names lead from a base down to them
 pub walk-names : (base ns : List (List ℕ)) → walk base (map name ns) ≡ Some (base ++ ns)
 walk-names base [] = ap Some (sym (append-nil base))
 walk-names base (n ∷ ns) = walk-names (base ++ n ∷ []) ns ∙ ap Some (append_assoc base (n ∷ []) ns)
@@ -47,27 +47,27 @@ walk-some cs =
       found None some = absurd (true≢false (sym some))
       found (Some place) some = (place, refl)
 
--- a list leads to the same as itself
+-- `IsSame` is reflexive
 pub IsSame-refl : (cs : List Step) → IsSame cs cs
 IsSame-refl = walks.IsSame-refl
 
--- of two lists that lead to the same, either may come first
+-- `IsSame` is symmetric
 pub IsSame-sym : {cs ds : List Step} → IsSame cs ds → IsSame ds cs
 IsSame-sym same = walks.IsSame-sym _ _ same
 
--- lists that lead to the same as a third lead to the same
+-- `IsSame` is transitive
 pub IsSame-trans : {cs ds es : List Step} → IsSame cs ds → IsSame ds es → IsSame cs es
 IsSame-trans first second = walks.IsSame-trans _ _ _ first second
 
--- lists that lead to the same do so after any list
+-- lists that lead to the same do so after any other list
 pub IsSame-append_left : (bs : List Step) {cs ds : List Step} → IsSame cs ds → IsSame (bs ++ cs) (bs ++ ds)
 IsSame-append_left bs same = walks.IsSame-append_left bs _ _ same
 
--- and before any list
+-- and they do so before any other list
 pub IsSame-append_right : {cs ds : List Step} (es : List Step) → IsSame cs ds → IsSame (cs ++ es) (ds ++ es)
 IsSame-append_right es same = walks.IsSame-append_right _ _ es same
 
--- a name and a `..` after it lead back
+-- a name and then a `..` at the end lead nowhere else
 pub IsSame-name_up : (cs : List Step) (n : List ℕ) → IsSame ((cs ++ name n ∷ []) ++ up ∷ []) cs
 IsSame-name_up cs n =
     subst (λ ds. IsSame ds cs) (sym (append_assoc cs (name n ∷ []) (up ∷ [])))
@@ -79,42 +79,42 @@ IsSame-place {cs} {place} is =
     let below = walks.LeadsBelow-in_turn [] cs cs place (walks.LeadsInTurn-same [] cs cs (IsSame-refl cs)) is in
     record { everywhere = λ base. below.everywhere base ∙ sym (walk-names base place) }
 
--- what leads where two lists lead in turn is what leads where they lead in a row
+-- a list leads where two lists lead in turn exactly if it leads where the one after the other leads
 pub LeadsInTurn-append : {cs ds es : List Step} → LeadsInTurn cs ds es ↔ IsSame (cs ++ ds) es
 LeadsInTurn-append {cs} {ds} {es} = (
   λ turn. record { everywhere = λ base. walk-append base cs ds ∙ sym (turn.everywhere base) },
   walks.LeadsInTurn-same cs ds es,
 )
 
--- what leads from one list to another leads between all that lead to the same as these
+-- a list that leads from f to t leads from what is the same as f to what is the same as t
 pub Leads-same : {f g t u : List Step} (r : List Step) → IsSame f g → IsSame t u → Leads f r t → Leads g r u
 Leads-same r from to leads = relating.Leads-same _ _ r _ _ from to leads
 
--- and so does some list
+-- some list does so, if some list leads from f to t
 pub IsReachable-same : {f g t u : List Step} → IsSame f g → IsSame t u → IsReachable f t → IsReachable g u
 IsReachable-same from to reachable = relating.IsReachable-same _ _ _ _ from to reachable
 
--- the text of the shortest list stays the same
+-- the shortest text from f to t is the shortest from what is the same as f to what is the same as t
 pub IsShortestText-same : {f g t u : List Step} {text : List ℕ} → IsSame f g → IsSame t u → IsShortestText f t text
     → IsShortestText g u text
 IsShortestText-same from to way = relating.IsShortestText-same _ _ _ _ _ (IsSame-sym from) (IsSame-sym to) way
 
 -- ---- what the components of a text are
 
--- `..` is one component
+-- a text that is `..` is one component
 pub components-up : (text : List ℕ) → text ≡ codes ".." → components text ≡ up ∷ []
 unfolding relative_path_on_literals
 components-up text is = ap components is
 
--- a slash at the end adds none
+-- a slash at the end of a text adds no component
 pub components-trailing_slash : (text : List ℕ) → components (text ++ slash ∷ []) ≡ components text
 components-trailing_slash = steps.components-trailing_slash
 
--- a push adds those of the path
+-- a push adds the components of the path
 pub components-pushed : (text path : List ℕ) → components (pushed text path) ≡ components text ++ components path
 components-pushed = editing.components-pushed
 
--- the components of a text are those that their own texts have
+-- the text of each component of a text has that component and no other
 pub AreProper-components : (text : List ℕ) → AreProper (components text)
 AreProper-components = steps.AreProper-components
 
@@ -134,7 +134,7 @@ components-place {cs} {text} {place} normal is =
 
 -- ---- the text of a component
 
--- the piece that it is has the component's class
+-- it is a piece that is classed as the component
 pub classed-proper : (c : Step) → IsProper c → classed (step_text c) ≡ c
 classed-proper c proper =
     ap (λ cs. get_or cs 0 c)
@@ -146,7 +146,7 @@ pub no_slash-proper : (c : Step) → IsProper c → All (λ b. is_slash b ≡ fa
 no_slash-proper c proper =
     All-from_recursion (λ b. is_slash b ≡ false) (step_text c) (steps.HasNoSlash-proper c proper)
 
--- that of a name is not empty, `.` or `..`
+-- a name is not empty, `.` or `..`
 pub name-proper : (n : List ℕ) → IsProper (name n) → (n ≢ []) × (n ≢ codes ".") × (n ≢ codes "..")
 unfolding relative_path_on_literals
 name-proper n proper = (
@@ -157,7 +157,7 @@ name-proper n proper = (
 
 -- ---- what spells components
 
--- with one component pushed onto it a text spells one more
+-- a push of a component onto a text that spells its own makes one that spells one more
 pub spell-pushed : (text : List ℕ) (c : Step) → text ≡ spell (components text) → IsProper c
     → pushed text (step_text c) ≡ spell (components text ++ c ∷ [])
 spell-pushed = normalizing.spell-pushed
@@ -166,7 +166,7 @@ has_root-solid : (n rest : List ℕ) → steps.HasNoSlash n → 0 < length n →
 has_root-solid [] rest none some = absurd (omega arith)
 has_root-solid (b ∷ bs) rest none some = none.0
 
--- it begins with no slash
+-- a text that spells components begins with no slash
 pub has_root-spell : (cs : List Step) → AreProper cs → has_root (spell cs) ≡ false
 has_root-spell [] proper = refl
 has_root-spell (c ∷ []) (first, rest) =
@@ -175,7 +175,7 @@ has_root-spell (c ∷ []) (first, rest) =
 has_root-spell (c ∷ d ∷ cs) (first, rest) =
     has_root-solid (step_text c) (slash ∷ spell (d ∷ cs)) (steps.HasNoSlash-proper c first) (steps.nonempty_proper c first)
 
--- so it is pushed as it is
+-- so a push takes it as it is
 pub unslashed-spell : (cs : List Step) → AreProper cs → unslashed (spell cs) ≡ spell cs
 unslashed-spell cs proper = whole (spell cs) (has_root-spell cs proper) where
   whole : (text : List ℕ) → has_root text ≡ false → unslashed text ≡ text
@@ -184,7 +184,7 @@ unslashed-spell cs proper = whole (spell cs) (has_root-spell cs proper) where
 
 -- ---- lists with a file name
 
--- some component that is no `.` is the last, or all are `.`
+-- the last component that is no `.` has only `.`s after it, or all are `.`
 ends_in : (cs : List Step) → ((k : ℕ) × (cs ≡ replicate k cur))
     ⊎ ((front : List Step) × (c : Step) × (k : ℕ) × (is_cur c ≡ false) × (cs ≡ front ++ c ∷ replicate k cur))
 ends_in [] = inl (0, refl)
@@ -198,7 +198,7 @@ ends_in (c ∷ cs) = elim (ends_in cs) [
   first up k alone = inr ([], up, k, refl, ap (λ ds. up ∷ ds) alone)
   first (name n) k alone = inr ([], name n, k, refl, ap (λ ds. name n ∷ ds) alone)
 
--- after its name come `.`s alone
+-- after the file name come `.`s alone
 named_split : (cs : List Step) (n : List ℕ) → last_name cs ≡ Some n
     → (k : ℕ) × (cs ≡ take (kept_len cs) cs ++ name n ∷ replicate k cur)
 named_split cs n named = elim (ends_in cs) [
@@ -221,7 +221,7 @@ named_split cs n named = elim (ends_in cs) [
   named_step up is = absurd (cc)
   named_step (name m) is = cc
 
--- such a list leads where the name leads from what a parent keeps
+-- a list with a file name leads where the name leads after what a parent keeps
 pub IsSame-last_name : (cs : List Step) (n : List ℕ) → last_name cs ≡ Some n
     → IsSame cs (take (kept_len cs) cs ++ name n ∷ [])
 IsSame-last_name cs n named =
@@ -232,7 +232,7 @@ IsSame-last_name cs n named =
       walk-curs base zero = refl
       walk-curs base (suc k) = walk-curs base k
 
--- and the name is one component, if each of the list is
+-- the file name of proper components is one component
 pub IsProper-last_name : (cs : List Step) (n : List ℕ) → AreProper cs → last_name cs ≡ Some n → IsProper (name n)
 IsProper-last_name cs n proper named =
     let (k, joined) = named_split cs n named in
