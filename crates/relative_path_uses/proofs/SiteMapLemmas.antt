@@ -1,7 +1,7 @@
 -- Links and references between pages that are spelt in other ways, and pages without file names.
 use Rattle.std.proofs.Common.{◌≡◌, ◌≢◌, inl, inr, ℕ, ◌<◌, ◌+◌, List, [], ◌∷◌, ◌++◌, length, take, map, append_assoc, length-append, get_or, Bool, true, false, not, ◌↔◌, Option, Some, None, is_some, IsSome, IsNone, IfSome, option_map, Bor, below_more, true≢false, codes, if◌then◌else◌, refl, sym, ap, ap₂, ◌∙◌, arith}
-use Rattle.std.proofs.lemmas.List.{get_or-map, length-map, take_more, length-take-le}
-use Rattle.std.proofs.lemmas.Option.{none-some}
+use Rattle.std.proofs.lemmas.List.{append_cancel_left, get_or-map, length-map, take_more, length-take-le}
+use Rattle.std.proofs.lemmas.Option.{none-some, same_Some}
 use Rattle.std.specs.Option.{option_and_then, option_copied}
 use Rattle.relative_path.specs.Steps.{Step, cur, up, name, components, spell}
 use Rattle.relative_path.specs.Walk.{walk, IsSame}
@@ -78,13 +78,6 @@ IsSome-answered (Some n) cs is named = refl
 
 -- ---- from one page to another by their directories
 
-some_same : {xs ys : List (List ℕ)} → Some xs ≡ Some ys → xs ≡ ys
-some_same e = cc
-
-last_same : (ns : List (List ℕ)) (k n : List ℕ) → ns ++ k ∷ [] ≡ ns ++ n ∷ [] → k ≡ n
-last_same [] k n e = cc
-last_same (m ∷ ns) k n e = last_same ns k n (cc)
-
 module _ (from to : List Step) (m n : List ℕ) (from_named : last_name from ≡ Some m)
     (to_named : last_name to ≡ Some n) where
   -- a list that leads from the page leads from its directory
@@ -127,7 +120,8 @@ module _ (from to : List Step) (m n : List ℕ) (from_named : last_name from ≡
       ∙ ap (option_and_then (λ place. walk place (name k ∷ []))) there in
       let other : walk base to ≡ Some (place ++ n ∷ []) = (IsSame-last_name to n to_named).everywhere base
       ∙ walk-append base (directory to) (name n ∷ []) ∙ ap (option_and_then (λ place. walk place (name n ∷ []))) is in
-      last_same place k n (some_same (sym one ∙ other))
+      let last = append_cancel_left place (k ∷ []) (n ∷ []) (same_Some _ _ (sym one ∙ other)) in
+      cc
 
   -- the way between the directories, and then the name, is the shortest list that ends in a name
   pub IsShortestNamed-between : (way link : List ℕ) → IsShortestText (directory from) (directory to) way
@@ -199,7 +193,7 @@ Resolves-between from to m link reference named proper is refers base target fro
           absurd (cc)
       tell (Some place) some =
           let whole : base ≡ place ++ m ∷ [] =
-          some_same (sym from_is ∙ (IsSame-last_name from m named).everywhere []
+          same_Some _ _ (sym from_is ∙ (IsSame-last_name from m named).everywhere []
           ∙ walk-append [] (directory from) (name m ∷ []) ∙ ap (option_and_then (λ place. walk place (name m ∷ []))) some) in
           let leads : walk place (components link) ≡ Some target =
           sym (ap (option_and_then (λ place. walk place (components link)))
