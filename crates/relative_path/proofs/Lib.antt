@@ -20,3 +20,5 @@ pub mod UnixComponentsLemmas
 pub mod UnixLemmas
 pub mod UnixTextsLemmas
 pub mod UnixWaysLemmas
+pub mod OnLiterals
+pub mod ForCallers

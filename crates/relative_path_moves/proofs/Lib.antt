@@ -1,3 +1,4 @@
+pub mod ForCallers
 pub mod PlacesLemmas
 pub mod PlaceIndexLemmas
 pub mod MovesLemmas

@@ -5,14 +5,15 @@ use Rattle.relative_path.specs.Steps.{Step}
 use Rattle.relative_path.specs.Walk.{walk, IsSame}
 use Rattle.relative_path.specs.Relating.{Leads, IsReachable, IsShortestText}
 use Rattle.relative_path.specs.RelativePathBuf.{Buffer}
+use Rattle.relative_path.proofs.ForCallers.{IsSame-refl, IsSame-sym, IsSame-trans, IsReachable-same, IsShortestText-same}
 use Rattle.relative_path_moves.specs.declared.move_error.ReferenceError.{ReferenceError}
 use Rattle.relative_path_moves.specs.declared.move_error.ReferenceError.TheVariants.{AboveRoot, NoPath, OutOfMemory}
 use Rattle.relative_path_moves.specs.Places.{place_of, directory}
 use Rattle.relative_path_moves.specs.PlaceIndex.{IsFirstAt, IsNoneAt}
 use Rattle.relative_path_moves.specs.Moves.{Move, move_at, MovesFrom, AreApart, IsTarget, After, OfLink, ClimbsAbove, BelowTop}
-use Rattle.relative_path_moves.specs.MovesLaws.{IsTarget-only}
 use Rattle.relative_path_moves.specs.MoveError.{Refuses}
 use Rattle.relative_path_moves.specs.MoveTable.{olds_of, LeadToTarget, IsWay, IsShortestBuffer, IsLink}
+use Rattle.relative_path_moves.proofs.ForCallers.{IsTarget-only}
 use Rattle.relative_path_moves.proofs.MovesLemmas.{old_at}
 
 -- the new path of the file at a place
@@ -56,23 +57,6 @@ LeadToTarget-kept moves place cs apart none same =
 place_kept : (target cs : List Step) → IsSame target cs → place_of cs ≢ None → place_of target ≢ None
 place_kept target cs same some none = some (sym (same.everywhere []) ∙ none)
 
--- the shortest list to the components is the shortest to what leads to the same
-IsShortestText-to_same : (f t u : List Step) (text : List ℕ) → IsSame u t → IsShortestText f t text
-    → IsShortestText f u text
-IsShortestText-to_same f t u text same way = record {
-  spelled = way.spelled;
-  shortest = record {
-    leads = record { everywhere = λ base. way.shortest.leads.everywhere base ∙ sym (same.everywhere base) };
-    shortest = λ s leads. way.shortest.shortest s
-        (record { everywhere = λ base. leads.everywhere base ∙ same.everywhere base });
-  };
-}
-
--- a list that leads to the components leads to what leads to the same
-IsReachable-to_same : (f t u : List Step) → IsSame t u → IsReachable f u → IsReachable f t
-IsReachable-to_same f t u same (r, leads) =
-    (r, record { everywhere = λ base. leads.everywhere base ∙ sym (same.everywhere base) })
-
 module _ (moves : List Move) (place from cs : List Step) (lead : LeadToTarget moves place cs)
   where
     -- what holds of all that leads where the components do holds of the target
@@ -88,12 +72,8 @@ module _ (moves : List Move) (place from cs : List Step) (lead : LeadToTarget mo
     -- a list of components leads to the target exactly if it leads to them
     pub After-leads : (r : List Step) → After moves place (Leads from r) ↔ Leads from r cs
     After-leads r = (
-      λ (target, is, leads). record {
-        everywhere = λ base. (rw (lead.only target is) at leads).everywhere base ∙ lead.same.everywhere base;
-      },
-      λ leads. After-all (Leads from r) (λ target same. record {
-        everywhere = λ base. leads.everywhere base ∙ sym (same.everywhere base);
-      }),
+      λ (target, is, leads). IsSame-trans (rw (lead.only target is) at leads) lead.same,
+      λ leads. After-all (Leads from r) (λ target same. IsSame-trans leads (IsSame-sym same)),
     )
 
     -- the target climbs above the top
@@ -115,19 +95,19 @@ module _ (moves : List Move) (place from cs : List Step) (lead : LeadToTarget mo
     beyond : place_of cs ≢ None → (¬ IsReachable from cs) → After moves place (BelowTop IsBeyond)
     beyond some none = After-all (BelowTop IsBeyond) (λ target same. (
       place_kept target cs same some,
-      λ reach. none (IsReachable-to_same _ cs target (record { everywhere = λ base. sym (same.everywhere base) }) reach),
+      λ reach. none (IsReachable-same (IsSame-refl from) same reach),
     ))
 
     -- a list leads to the target
     not_beyond : IsReachable from cs → ¬ After moves place (BelowTop IsBeyond)
     not_beyond reach = After-none (BelowTop IsBeyond)
-        (λ target same holds. holds.1 (IsReachable-to_same _ target cs same reach))
+        (λ target same holds. holds.1 (IsReachable-same (IsSame-refl from) (IsSame-sym same) reach))
 
     -- the shortest way to the components is the shortest to the target
     pub After-shortest : (text : List ℕ) → place_of cs ≢ None → IsShortestText from cs text
         → After moves place (BelowTop (λ target. IsShortestText from target text))
     After-shortest text some way = After-all (BelowTop (λ target. IsShortestText from target text))
-        (λ target same. (place_kept target cs same some, IsShortestText-to_same _ cs target text same way))
+        (λ target same. (place_kept target cs same some, IsShortestText-same (IsSame-refl from) (IsSame-sym same) way))
 
     pub above_root-way : {T : Type 0} (P : T → Type 0) (result : Result T ReferenceError) → IsWay from cs P result
         → Refuses result AboveRoot OutOfMemory (After moves place ClimbsAbove)

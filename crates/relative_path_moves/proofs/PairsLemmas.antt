@@ -2,6 +2,7 @@
 use Rattle.std.proofs.Common.{◌≡◌, ℕ, ◌<◌, ◌≤◌, ◌+◌, ◌⊎◌, List, length, take, Option, Some, None, MatchOption, IfSome, inl, inr, [], sym, ◌∙◌, arith}
 use Rattle.std.proofs.lemmas.Bool.{cases_lt}
 use Rattle.std.proofs.lemmas.List.{get_or-take}
+use Rattle.relative_path.proofs.ForCallers.{IsSame-sym}
 use Rattle.relative_path_moves.specs.Moves.{Move, move_at, HaveSameOld}
 use Rattle.relative_path_moves.specs.PlaceIndex.{path_at, IsFirstAt}
 use Rattle.relative_path_moves.specs.MoveTable.{olds_of}
@@ -85,14 +86,14 @@ HasPair-next moves n first pair next within is has one earlier later =
       from : (a : ℕ) → HaveSameOld moves a n → first ≤ a
       from a pair = elim (cases_lt a first) [
         | inl less ↦ absurd (is.first a less (rw (old a (omega (arith, pair.before)))
-            (record { everywhere = λ base. sym (pair.same.everywhere base) })))
+            (IsSame-sym pair.same)))
         | inr le ↦ le
       ]
 
       here : first < n → HaveSameOld moves first n
       here l =
           let same = rw (old first (omega (arith, l))) at is.same in
-          record { before = l; within = within; same = record { everywhere = λ base. sym (same.everywhere base) } }
+          record { before = l; within = within; same = IsSame-sym same }
 
       none : n ≤ first → (a : ℕ) → ¬ HaveSameOld moves a n
       none le a pair = omega (arith, le, from a pair, pair.before)

@@ -9,18 +9,15 @@ use Rattle.std.specs.Str.{bytes_eq}
 use Rattle.relative_path.specs.Steps.{Step}
 use Rattle.relative_path.specs.Walk.{IsSame}
 use Rattle.relative_path.specs.Normalizing.{IsNormalTextOf}
+use Rattle.relative_path.proofs.ForCallers.{IsSame-refl, IsSame-sym, IsSame-trans}
 use Rattle.relative_path_moves.specs.declared.place_index.PlaceIndex.{PlaceIndex}
 use Rattle.relative_path_moves.specs.PlaceIndex.{IsFirstAt, IsNoneAt, IsFoundAt, Indexes}
-
--- what has the same normal text leads to the same
-same_normal_text : (cs ds : List Step) (text : List ℕ) → IsNormalTextOf cs text → IsNormalTextOf ds text → IsSame cs ds
-same_normal_text cs ds text h k = record { everywhere = λ base. h.same.everywhere base ∙ sym (k.same.everywhere base) }
 
 -- what leads to the same has the same normal text
 normal_text_same : (cs ds : List Step) (one other : List ℕ) → IsSame cs ds → IsNormalTextOf cs one
     → IsNormalTextOf ds other → other ≡ one
 normal_text_same cs ds one other same h k =
-    h.only other k.normal_text (record { everywhere = λ base. same.everywhere base ∙ k.same.everywhere base })
+    h.only other k.normal_text (IsSame-trans same k.same)
 
 -- a path that was found is found among one more
 IsFirstAt-kept : (paths : List (List Step)) (path cs : List Step) (k : ℕ) → IsFirstAt paths cs k
@@ -102,7 +99,7 @@ Indexes-insert paths path old new text number normal inserted index next =
         tell true (same, _) is =
             let has_text = rw (sym (same refl)) at has in
             rw (is, sym next)
-            (IsFirstAt-or paths path cs _ (same_normal_text cs path text has_text normal)
+            (IsFirstAt-or paths path cs _ (IsSame-trans has_text.same (IsSame-sym normal.same))
             (index.found cs text has_text))
         tell false (_, differs) is =
             rw is
@@ -116,7 +113,7 @@ pub IsFirstAt-insert : (paths : List (List Step)) (path : List Step) (old : Plac
     → Indexes paths old → length paths ≡ number → IsFirstAt (paths ++ path ∷ []) path first
 IsFirstAt-insert paths path old text number first normal is index next =
     rw (is, sym next)
-    (IsFirstAt-or paths path path _ (record { everywhere = λ base. refl }) (index.found path text normal))
+    (IsFirstAt-or paths path path _ (IsSame-refl path) (index.found path text normal))
 
 -- a number that the index has is one of its paths'
 pub within-found : (index : PlaceIndex) (text : List ℕ) (found : Option ℕ) → found ≡ get_by_text index.by_text text

@@ -4,12 +4,13 @@ use Rattle.std.proofs.lemmas.Bool.{ne_eqb}
 use Rattle.std.proofs.lemmas.Option.{none-some}
 use Rattle.std.specs.Option.{option_eq}
 use lib.Dec.{eqb}
-use Rattle.relative_path.specs.Steps.{Step, up, pieces, components}
+use Rattle.relative_path.specs.Steps.{Step, up, components}
 use Rattle.relative_path.specs.Walk.{walk}
 use Rattle.relative_path.specs.Editing.{IsPopped}
 use Rattle.relative_path.specs.Relating.{LeadsApart}
 use Rattle.relative_path.specs.RelativePath.{path_text, path_components}
 use Rattle.relative_path.specs.declared.path.RelativePath.{RelativePath}
+use Rattle.relative_path.proofs.ForCallers.{components-up}
 use Rattle.relative_path_moves.specs.Places.{place_of, directory}
 
 -- the parent is the directory; without a parent there is no component
@@ -20,15 +21,11 @@ pub directory_parent : (file : RelativePath) (parent : Option RelativePath)
 directory_parent file None none popped = none ∙ ap directory (sym none)
 directory_parent file (Some parent) none popped = popped.same_components
 
-components_up : (text : List ℕ) → text ≡ codes ".." → components text ≡ up ∷ []
-unfolding components pieces
-components_up text e = ap components e
-
 -- a path leads apart from `..` at the top exactly if it has a place
 pub has_place-apart : (cs : List Step) (up_text : List ℕ) (apart : Option ℕ) → up_text ≡ codes ".."
     → ((n : ℕ) → (apart ≡ Some n) ↔ LeadsApart cs (components up_text) n)
     → IsTrue (option_eq eqb apart (Some 0)) ↔ IsSome (place_of cs)
-has_place-apart cs up_text apart e some = tell apart (rw (components_up up_text e) at some) where
+has_place-apart cs up_text apart e some = tell apart (rw (components-up up_text e) at some) where
   none : (apart : Option ℕ) → apart ≢ Some 0 → ((n : ℕ) → (apart ≡ Some n) ↔ LeadsApart cs (up ∷ []) n)
       → (found : Option (List (List ℕ))) → walk [] cs ≡ found → IsSome found → ⊥
   none apart other some None is has = true≢false (sym has)

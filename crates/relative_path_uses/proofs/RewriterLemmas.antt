@@ -5,7 +5,7 @@ use Rattle.std.specs.List.{AllZip, list_any, between}
 use Rattle.std.specs.Option.{IsNone}
 use Rattle.relative_path.specs.Steps.{Step, slash, components}
 use Rattle.relative_path.specs.Walk.{IsSame}
-use Rattle.relative_path.proofs.StepsLemmas.{components-trailing_slash}
+use Rattle.relative_path.proofs.ForCallers.{components-trailing_slash}
 use Rattle.relative_path_moves.specs.Moves.{Move}
 use Rattle.relative_path_uses.specs.declared.target.Target.{Target}
 use Rattle.relative_path_uses.specs.declared.rewriter.Left.{Left}

@@ -1,15 +1,15 @@
 -- A target cut after its path.
-use Rattle.std.proofs.Common.{◌≡◌, ◌≢◌, ℕ, ◌<◌, ◌+◌, Bool, true, false, ◌||◌, List, [], ◌∷◌, ◌++◌, length, take, drop, get_or, not, suc, cond, Some, refl, sym, ap, ◌∙◌, subst, arith, append-nil}
+use Rattle.std.proofs.Common.{◌≡◌, ℕ, ◌<◌, ◌+◌, Bool, true, false, ◌||◌, List, [], ◌∷◌, ◌++◌, length, take, drop, not, suc, cond, Some, refl, sym, ap, ◌∙◌, subst, arith, append_assoc, append-nil, ◌≤◌, ◌≢◌, get_or}
 use Rattle.std.proofs.lemmas.Bool.{cond_both}
 use Rattle.std.proofs.lemmas.List.Sums.{passes_at_first}
 use Rattle.std.proofs.lemmas.Str.{IsCharBoundary-before_ascii}
 use Rattle.std.specs.List.{position, position_or_len, list_any, before_first}
 use Rattle.std.specs.Str.{IsCharBoundary}
-use Rattle.relative_path.specs.Steps.{Step, slash, is_slash, step_text, components, spell}
+use Rattle.relative_path.specs.Steps.{slash, is_slash, components, spell}
 use Rattle.relative_path.specs.Unix.{has_root}
-use Rattle.relative_path.proofs.StepsLemmas.{AreProper, AreProper-components, HasNoSlash-start, HasNoSlash-proper, nonempty_proper}
+use Rattle.relative_path.proofs.ForCallers.{AreProper-components, has_root-spell}
 use Rattle.relative_path_uses.specs.UrlReference.{is_misread, has_scheme, IsReference}
-use Rattle.relative_path_uses.specs.Targets.{ends_path, path_of, tail_of, is_kept, HasTargets}
+use Rattle.relative_path_uses.specs.Targets.{ends_path, path_of, tail_of, is_kept, IsTarget, HasTargets}
 use Rattle.relative_path_uses.specs.declared.target.Target.{Target}
 
 -- the first place at which a byte passes
@@ -65,23 +65,9 @@ path_of-moved (b ∷ bs) target none =
 
 -- ---- a path from the page's directory
 
-has_root-not : (text : List ℕ) → get_or text 0 0 ≢ slash → has_root text ≡ false
-has_root-not [] first = refl
-has_root-not (b ∷ bs) first = grind (first, arith)
-
-spell_start : (cs : List Step) → AreProper cs → get_or (spell cs) 0 0 ≢ slash
-spell_start [] proper = λ e. absurd (omega (arith, e))
-spell_start (c ∷ []) proper = λ e.
-    HasNoSlash-start (step_text c) [] (nonempty_proper c proper.0) (HasNoSlash-proper c proper.0)
-    (ap (λ text. get_or text 0 0) (append-nil (step_text c)) ∙ e)
-spell_start (c ∷ d ∷ cs) proper =
-    HasNoSlash-start (step_text c) (slash ∷ spell (d ∷ cs)) (nonempty_proper c proper.0) (HasNoSlash-proper c proper.0)
-
 -- what spells components has no root
 has_root-spelled : (text : List ℕ) → text ≡ spell (components text) → has_root text ≡ false
-has_root-spelled text is =
-    has_root-not text
-    (subst (λ text. get_or text 0 0 ≢ slash) (sym is) (spell_start (components text) (AreProper-components text)))
+has_root-spelled text is = ap has_root is ∙ has_root-spell (components text) (AreProper-components text)
 
 -- the reference of such a text is a path from the page's directory
 pub is_kept-reference : (way reference : List ℕ) → way ≡ spell (components way) → IsReference way reference

@@ -1,12 +1,12 @@
 -- How a reference that spells its components resolves: as a walk from the directory of the base.
-use Rattle.std.proofs.Common.{◌≡◌, ℕ, zero, suc, ◌-◌, false, List, [], ◌∷◌, ◌++◌, All, map, length, take, drop, get_or, Some, codes, refl, sym, ap, ap₂, ◌∙◌, arith, append_assoc, append-nil, length-append, take_at}
+use Rattle.std.proofs.Common.{◌≡◌, ℕ, zero, suc, ◌-◌, List, [], ◌∷◌, ◌++◌, map, length, take, drop, Some, codes, refl, sym, ap, ap₂, ◌∙◌, arith, append_assoc, append-nil, length-append, take_at}
 use Rattle.std.specs.List.{slice_split}
 use Rattle.std.proofs.lemmas.List.{map-append}
-use Rattle.std.proofs.lemmas.List.Elements.{All-from_recursion}
 use Rattle.std.proofs.lemmas.List.Splits.{slice_split_none, slice_split_at}
 use Rattle.relative_path.specs.Steps.{Step, cur, up, name, slash, is_slash, step_text, classed, spell}
 use Rattle.relative_path.specs.Walk.{walk}
-use Rattle.relative_path.proofs.StepsLemmas.{IsProper, AreProper, components_whole, HasNoSlash-proper, nonempty_proper}
+use Rattle.relative_path.proofs.ForCallers.{IsProper, AreProper, classed-proper, no_slash-proper}
+use Rattle.relative_path.proofs.OnLiterals.{relative_path_on_literals}
 use Rattle.relative_path_uses.specs.UrlPath.{url_path, segments_of, without_last, merged, without_dots, resolved}
 
 without_last-cons : (n : List ℕ) (ns : List (List ℕ)) → without_last (n ∷ ns) ≡ take (length ns) (n ∷ ns)
@@ -37,32 +37,23 @@ without_dots-names (n ∷ ns) before cs =
     without_dots-names ns (before ++ n ∷ []) cs
     ∙ ap (λ ns. without_dots ns cs) (append_assoc before (n ∷ []) ns)
 
--- a component's text is classed as the component
-classed-step_text : (c : Step) → IsProper c → classed (step_text c) ≡ c
-classed-step_text c proper =
-    ap (λ cs. get_or cs 0 c)
-    (sym (components_whole (step_text c) (nonempty_proper c proper) (HasNoSlash-proper c proper)) ∙ proper)
-
+-- the texts of components are classed as these
 pub classed-step_texts : (cs : List Step) → AreProper cs → map classed (map step_text cs) ≡ cs
 classed-step_texts [] proper = refl
 classed-step_texts (c ∷ cs) (first, rest) =
-    ap₂ (λ c cs. c ∷ cs) (classed-step_text c first) (classed-step_texts cs rest)
+    ap₂ (λ c cs. c ∷ cs) (classed-proper c first) (classed-step_texts cs rest)
 
 pub classed-names : (ns : List (List ℕ)) → AreProper (map name ns) → map classed ns ≡ map name ns
 classed-names [] proper = refl
 classed-names (n ∷ ns) (first, rest) =
-    ap₂ (λ c cs. c ∷ cs) (classed-step_text (name n) first) (classed-names ns rest)
-
--- no byte of a component is a slash
-solid : (c : Step) → IsProper c → All (λ b. is_slash b ≡ false) (step_text c)
-solid c proper = All-from_recursion (λ b. is_slash b ≡ false) (step_text c) (HasNoSlash-proper c proper)
+    ap₂ (λ c cs. c ∷ cs) (classed-proper (name n) first) (classed-names ns rest)
 
 -- the slashes of a text that spells components cut it into theirs
 pub slice_split-spell : (c : Step) (cs : List Step) → AreProper (c ∷ cs)
     → slice_split is_slash (spell (c ∷ cs)) ≡ map step_text (c ∷ cs)
-slice_split-spell c [] (first, rest) = slice_split_none is_slash (step_text c) (solid c first)
+slice_split-spell c [] (first, rest) = slice_split_none is_slash (step_text c) (no_slash-proper c first)
 slice_split-spell c (d ∷ cs) (first, rest) =
-    slice_split_at is_slash (step_text c) slash (spell (d ∷ cs)) (solid c first) refl
+    slice_split_at is_slash (step_text c) slash (spell (d ∷ cs)) (no_slash-proper c first) refl
     ∙ ap (λ ps. step_text c ∷ ps) (slice_split-spell d cs rest)
 
 -- and those of a URL path into the empty text before it and its segments
@@ -71,10 +62,10 @@ slice_split-url_path : (ns : List (List ℕ)) → AreProper (map name ns)
 slice_split-url_path [] proper = refl
 slice_split-url_path (n ∷ []) (first, rest) =
     ap (λ text. [] ∷ slice_split is_slash text) (append-nil n)
-    ∙ ap (λ ps. [] ∷ ps) (slice_split_none is_slash n (solid (name n) first))
+    ∙ ap (λ ps. [] ∷ ps) (slice_split_none is_slash n (no_slash-proper (name n) first))
 slice_split-url_path (n ∷ m ∷ ns) (first, rest) =
     ap (λ ps. [] ∷ ps)
-    (slice_split_at is_slash n slash (m ++ url_path ns) (solid (name n) first) refl
+    (slice_split_at is_slash n slash (m ++ url_path ns) (no_slash-proper (name n) first) refl
     ∙ ap (λ ps. n ∷ drop 1 ps) (slice_split-url_path (m ∷ ns) rest))
 
 pub segments_of-url_path : (ns : List (List ℕ)) → AreProper (map name ns) → segments_of (url_path ns) ≡ ns
@@ -122,7 +113,8 @@ spell-dotted [] [] n ends = absurd (cc)
 spell-dotted [] (f ∷ front) n ends = absurd (cc)
 
 pub IsProper-cur : IsProper cur
-IsProper-cur = components_whole (step_text cur) (omega arith) (refl, tt)
+unfolding relative_path_on_literals
+IsProper-cur = refl
 
 AreProper-front : (ns : List (List ℕ)) (n : List ℕ) → AreProper (map name (ns ++ n ∷ [])) → AreProper (map name ns)
 AreProper-front [] n proper = tt

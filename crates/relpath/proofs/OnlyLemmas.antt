@@ -13,7 +13,7 @@ use Rattle.relpath.specs.Command.{path_answer, words_answer, GivesPath, TellsWay
 use Rattle.relpath.specs.declared.command.Command.{Command}
 use Rattle.relpath.specs.declared.command.Command.TheVariants.{Normalize, Join, Relative, TryRelative, RelativeTo, Move}
 use Rattle.relative_path_moves.specs.Moves.{Move as FileMove, OfTarget, ClimbsAbove, BelowTop, IsBeyond, IsMovedText, AreNamed, AreApart, IsFirstNameless, IsFirstPair}
-use Rattle.relative_path_moves.specs.MovesLaws.{IsTarget-only}
+use Rattle.relative_path_moves.proofs.ForCallers.{IsTarget-only}
 use Rattle.relative_path_moves.specs.Reference.{IsAnswered}
 use Rattle.relative_path_moves.specs.declared.move_error.MoveError.{MoveError}
 use Rattle.relative_path_moves.specs.declared.move_error.MoveError.TheVariants.{NoFileName, SameOld, AboveRoot, NoPath, OutOfMemory}

@@ -1,17 +1,13 @@
 -- The directory of a page has the page's components and one step up.
-use Rattle.std.proofs.Common.{◌≡◌, ℕ, List, [], ◌∷◌, ◌++◌, codes, refl, ap}
+use Rattle.std.proofs.Common.{◌≡◌, [], ◌∷◌, ◌++◌, refl}
 use Rattle.relative_path.specs.RelativePath.{path_text, path_components}
-use Rattle.relative_path.specs.Steps.{up, components, pieces}
+use Rattle.relative_path.specs.Steps.{up}
+use Rattle.relative_path.proofs.ForCallers.{components-up}
 use Rattle.relative_path_bench.proofs.tests.calling.relink.Goals as goal
-
--- the one component of `..`
-components_up : (text : List ℕ) → text ≡ codes ".." → components text ≡ up ∷ []
-unfolding components pieces
-components_up text e = ap components e
 
 pub returns : goal.returns
 returns c =
-    let ups = components_up (path_text c.new.result) c.new.ensures in
+    let ups = components-up (path_text c.new.result) c.new.ensures in
     let target : path_components c.as_relative_path-2.result
     ≡ (path_components c.args.page ++ up ∷ []) ++ path_components c.args.link =
     rw (

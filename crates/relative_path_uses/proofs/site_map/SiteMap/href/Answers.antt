@@ -2,11 +2,11 @@
 use Rattle.std.proofs.Common.{◌≡◌, ap, ◌∙◌, None, Some, string_bytes, rules}
 use Rattle.relative_path.specs.Editing.{pushed}
 use Rattle.relative_path.specs.RelativePath.{path_text, path_components}
-use Rattle.relative_path.proofs.StepsLemmas.{AreProper, AreProper-components}
+use Rattle.relative_path.proofs.ForCallers.{AreProper, AreProper-components, IsProper-last_name}
 use Rattle.relative_path_moves.specs.Places.{directory}
 use Rattle.relative_path_moves.specs.PlaceIndex.{path_at}
 use Rattle.relative_path_uses.specs.SiteMap.{above_page, IsShortestNamed}
-use Rattle.relative_path_uses.proofs.SiteMapLemmas.{some_name, none_of_way, some_of_way, none_between, IsProper-name, IsShortestNamed-between, IsHref-same, Resolves-between}
+use Rattle.relative_path_uses.proofs.SiteMapLemmas.{some_name, none_of_way, some_of_way, none_between, IsShortestNamed-between, IsHref-same, Resolves-between}
 use Rattle.relative_path_uses.proofs.site_map.SiteMap.href.Goals as goal
 
 pub returns-in_default-clause-href : goal.returns-in_default-clause-href
@@ -37,7 +37,7 @@ link c =
     (some_of_way (path_components c.directory.result) (path_components c.directory-2.result) _ _ c.in_ok-way.way
     c.in-Some.link c.in-Some.is (c.directory.ensures ∙ ap directory c.page.ensures.path)
     (c.directory-2.ensures ∙ ap directory c.page-page.ensures.path) c.in_ok-way.ensures.shortest)
-    (IsProper-name (path_at c.args.self.now c.args.to) c.file_name.result.now proper c.file_name.ensures) pushes
+    (IsProper-last_name (path_at c.args.self.now c.args.to) c.file_name.result.now proper c.file_name.ensures) pushes
 
 pub returns-clause-href : goal.returns-clause-href
 returns-clause-href c = (c.push.new.self.text, link c, c.in_ok-url_reference.ensures)

@@ -1,15 +1,15 @@
 -- The link is the shortest way from one step up from the page, whatever the spelling of both.
 use Rattle.std.proofs.Common.{◌≡◌, refl}
 use Rattle.relative_path.specs.RelativePath.{path_text, path_components}
+use Rattle.relative_path.proofs.ForCallers.{components-up}
 use Rattle.relative_path_moves.specs.PlaceIndex.{path_at}
 use Rattle.relative_path_uses.specs.SiteMap.{above_page}
-use Rattle.relative_path_uses.proofs.FromTopLemmas.{components_up}
 use Rattle.relative_path_uses.proofs.SiteMapLemmas.{IsLink-way, IsLink-same}
 use Rattle.relative_path_uses.proofs.site_map.SiteMap.link.Goals as goal
 
 pub returns-clause-link : goal.returns-clause-link
 returns-clause-link c =
-    let ups = components_up (path_text c.new.result) c.new.ensures in
+    let ups = components-up (path_text c.new.result) c.new.ensures in
     let directory : path_components c.as_relative_path.result ≡ above_page (path_at c.args.self.now c.args.from) =
     rw (c.as_relative_path.ensures, c.in_ok-directory.ensures.components, c.page.ensures.path, ups) refl in
     IsLink-way (path_at c.args.self.now c.args.from) (path_at c.args.self.now c.args.to)

@@ -1,8 +1,8 @@
--- A place has one target after moves that are apart.
-use Rattle.std.specs.Prelude.{◌≡◌, ℕ, List}
-use Rattle.std.proofs.Common.{inl, inr, sym, ap, ◌∙◌}
+-- What a caller's proof may cite of the moves: a place has one target after moves that are apart.
+use Rattle.std.proofs.Common.{◌≡◌, ℕ, List, inl, inr, sym, ap, ◌∙◌}
 use Rattle.std.proofs.lemmas.Bool.{cases_order}
 use Rattle.relative_path.specs.Steps.{Step}
+use Rattle.relative_path.proofs.ForCallers.{IsSame-sym, IsSame-trans}
 use Rattle.relative_path_moves.specs.Moves.{Move, move_at, AreApart, MovesFrom, IsTarget}
 
 -- of moves that are apart, one at most has a place as its old path
@@ -10,20 +10,10 @@ one_move : (moves : List Move) (place : List Step) (j k : ℕ) → AreApart move
     → MovesFrom moves place k → j ≡ k
 one_move moves place j k apart first second = elim (cases_order j k) [
   | inl same ↦ same
-  | inr (inl less) ↦ absurd (apart j k (record {
-    before = less;
-    within = second.within;
-    same = record {
-      everywhere = λ base. sym (first.same.everywhere base) ∙ second.same.everywhere base;
-    };
-  }))
-  | inr (inr more) ↦ absurd (apart k j (record {
-    before = more;
-    within = first.within;
-    same = record {
-      everywhere = λ base. sym (second.same.everywhere base) ∙ first.same.everywhere base;
-    };
-  }))
+  | inr (inl less) ↦ absurd (apart j k
+      (record { before = less; within = second.within; same = IsSame-trans (IsSame-sym first.same) second.same }))
+  | inr (inr more) ↦ absurd (apart k j
+      (record { before = more; within = first.within; same = IsSame-trans (IsSame-sym second.same) first.same }))
 ]
 
 -- so a place has one target

@@ -1,0 +1,242 @@
+-- What a caller's proof may cite, beside `OnLiterals`: where lists of components lead, and what the components of a
+-- text are. The other modules here change as the library does.
+use Rattle.std.proofs.Common.{◌≡◌, ◌≢◌, ◌⊎◌, ◌↔◌, ℕ, zero, suc, ◌-◌, ◌<◌, false, true≢false, All, List, [], ◌∷◌, ◌++◌, length, map, replicate, take, take_at, get_or, codes, Option, Some, None, IsSome, option_and_then, inl, inr, refl, sym, ap, ap₂, ◌∙◌, subst, arith, append_assoc, append-nil}
+use Rattle.std.specs.Prelude.{slice_get}
+use Rattle.std.proofs.lemmas.Bool.{cond-false}
+use Rattle.std.proofs.lemmas.List.{length-replicate}
+use Rattle.std.proofs.lemmas.List.Elements.{All-from_recursion}
+use Rattle.relative_path.specs.Steps.{Step, cur, up, name, slash, is_slash, step_text, classed, components, spell}
+use Rattle.relative_path.specs.Walk.{walk, IsSame, LeadsInTurn}
+use Rattle.relative_path.specs.Normalizing.{AreNames, IsNormal, IsNormalTextOf}
+use Rattle.relative_path.specs.Editing.{is_cur, kept_len, pushed, unslashed}
+use Rattle.relative_path.specs.Naming.{name_of, last_name}
+use Rattle.relative_path.specs.Relating.{Leads, IsReachable, IsShortestText}
+use Rattle.relative_path.specs.Unix.{has_root}
+use Rattle.relative_path.proofs.StepsLemmas as steps
+use Rattle.relative_path.proofs.WalkLemmas as walks
+use Rattle.relative_path.proofs.EditingLemmas as editing
+use Rattle.relative_path.proofs.NamingLemmas.{without_curs-curs, last_other-at}
+use Rattle.relative_path.proofs.NormalStepsLemmas.{normal_unique}
+use Rattle.relative_path.proofs.NormalizingLemmas as normalizing
+use Rattle.relative_path.proofs.ClimbingLemmas.{climb_after, IsSome-walk}
+use Rattle.relative_path.proofs.RelatingLemmas as relating
+use Rattle.relative_path.proofs.OnLiterals.{relative_path_on_literals}
+-- the text of a component has that component and no other; each component of a list is so
+pub use Rattle.relative_path.proofs.StepsLemmas.{IsProper, AreProper}
+
+-- ---- where lists lead
+
+-- a list after another leads on from where the other led
+pub walk-append : (base : List (List ℕ)) (cs ds : List Step)
+    → walk base (cs ++ ds) ≡ option_and_then (λ place. walk place ds) (walk base cs)
+walk-append = walks.walk-append
+
+-- names lead from a base down to them
+pub walk-names : (base ns : List (List ℕ)) → walk base (map name ns) ≡ Some (base ++ ns)
+walk-names base [] = ap Some (sym (append-nil base))
+walk-names base (n ∷ ns) = walk-names (base ++ n ∷ []) ns ∙ ap Some (append_assoc base (n ∷ []) ns)
+
+-- from some base a list leads to a place
+pub walk-some : (cs : List Step) → (base : List (List ℕ)) × (place : List (List ℕ)) × (walk base cs ≡ Some place)
+walk-some cs =
+    let base : List (List ℕ) = replicate (climb_after 0 0 cs) [] in
+    let level = length-replicate {A = List ℕ} (climb_after 0 0 cs) [] in
+    let (place, is) = found (walk base cs) ((IsSome-walk cs base).1 (omega (arith, level))) in
+    (base, place, is) where
+      found : (o : Option (List (List ℕ))) → IsSome o → (place : List (List ℕ)) × (o ≡ Some place)
+      found None some = absurd (true≢false (sym some))
+      found (Some place) some = (place, refl)
+
+-- `IsSame` is reflexive
+pub IsSame-refl : (cs : List Step) → IsSame cs cs
+IsSame-refl = walks.IsSame-refl
+
+-- `IsSame` is symmetric
+pub IsSame-sym : {cs ds : List Step} → IsSame cs ds → IsSame ds cs
+IsSame-sym same = walks.IsSame-sym _ _ same
+
+-- `IsSame` is transitive
+pub IsSame-trans : {cs ds es : List Step} → IsSame cs ds → IsSame ds es → IsSame cs es
+IsSame-trans first second = walks.IsSame-trans _ _ _ first second
+
+-- lists that lead to the same do so after any other list
+pub IsSame-append_left : (bs : List Step) {cs ds : List Step} → IsSame cs ds → IsSame (bs ++ cs) (bs ++ ds)
+IsSame-append_left bs same = walks.IsSame-append_left bs _ _ same
+
+-- and they do so before any other list
+pub IsSame-append_right : {cs ds : List Step} (es : List Step) → IsSame cs ds → IsSame (cs ++ es) (ds ++ es)
+IsSame-append_right es same = walks.IsSame-append_right _ _ es same
+
+-- a name and then a `..` at the end lead nowhere else
+pub IsSame-name_up : (cs : List Step) (n : List ℕ) → IsSame ((cs ++ name n ∷ []) ++ up ∷ []) cs
+IsSame-name_up cs n =
+    subst (λ ds. IsSame ds cs) (sym (append_assoc cs (name n ∷ []) (up ∷ [])))
+    (subst (IsSame (cs ++ name n ∷ up ∷ [])) (append-nil cs) (walks.IsSame-name_up cs [] n))
+
+-- a list with a place from the top leads where the place's names lead
+pub IsSame-place : {cs : List Step} {place : List (List ℕ)} → walk [] cs ≡ Some place → IsSame cs (map name place)
+IsSame-place {cs} {place} is =
+    let below = walks.LeadsBelow-in_turn [] cs cs place (walks.LeadsInTurn-same [] cs cs (IsSame-refl cs)) is in
+    record { everywhere = λ base. below.everywhere base ∙ sym (walk-names base place) }
+
+-- a list leads where two lists lead in turn exactly if it leads where the one after the other leads
+pub LeadsInTurn-append : {cs ds es : List Step} → LeadsInTurn cs ds es ↔ IsSame (cs ++ ds) es
+LeadsInTurn-append {cs} {ds} {es} = (
+  λ turn. record { everywhere = λ base. walk-append base cs ds ∙ sym (turn.everywhere base) },
+  walks.LeadsInTurn-same cs ds es,
+)
+
+-- a list that leads from f to t leads from what is the same as f to what is the same as t
+pub Leads-same : {f g t u : List Step} (r : List Step) → IsSame f g → IsSame t u → Leads f r t → Leads g r u
+Leads-same r from to leads = relating.Leads-same _ _ r _ _ from to leads
+
+-- some list does so, if some list leads from f to t
+pub IsReachable-same : {f g t u : List Step} → IsSame f g → IsSame t u → IsReachable f t → IsReachable g u
+IsReachable-same from to reachable = relating.IsReachable-same _ _ _ _ from to reachable
+
+-- the shortest text from f to t is the shortest from what is the same as f to what is the same as t
+pub IsShortestText-same : {f g t u : List Step} {text : List ℕ} → IsSame f g → IsSame t u → IsShortestText f t text
+    → IsShortestText g u text
+IsShortestText-same from to way = relating.IsShortestText-same _ _ _ _ _ (IsSame-sym from) (IsSame-sym to) way
+
+-- ---- what the components of a text are
+
+-- a text that is `..` is one component
+pub components-up : (text : List ℕ) → text ≡ codes ".." → components text ≡ up ∷ []
+unfolding relative_path_on_literals
+components-up text is = ap components is
+
+-- a slash at the end of a text adds no component
+pub components-trailing_slash : (text : List ℕ) → components (text ++ slash ∷ []) ≡ components text
+components-trailing_slash = steps.components-trailing_slash
+
+-- a push adds the components of the path
+pub components-pushed : (text path : List ℕ) → components (pushed text path) ≡ components text ++ components path
+components-pushed = editing.components-pushed
+
+-- the text of each component of a text has that component and no other
+pub AreProper-components : (text : List ℕ) → AreProper (components text)
+AreProper-components = steps.AreProper-components
+
+-- the normal text of a list with a place from the top has the place's names
+pub components-place : {cs : List Step} {text : List ℕ} {place : List (List ℕ)} → IsNormalTextOf cs text
+    → walk [] cs ≡ Some place → components text ≡ map name place
+components-place {cs} {text} {place} normal is =
+    normal_unique (components text) (map name place) normal.normal_text.normal (IsNormal-names place)
+    (IsSame-trans (IsSame-sym normal.same) (IsSame-place is)) where
+      AreNames-names : (ns : List (List ℕ)) → AreNames (map name ns)
+      AreNames-names [] = tt
+      AreNames-names (n ∷ ns) = AreNames-names ns
+
+      IsNormal-names : (ns : List (List ℕ)) → IsNormal (map name ns)
+      IsNormal-names [] = tt
+      IsNormal-names (n ∷ ns) = AreNames-names ns
+
+-- ---- the text of a component
+
+-- it is a piece that is classed as the component
+pub classed-proper : (c : Step) → IsProper c → classed (step_text c) ≡ c
+classed-proper c proper =
+    ap (λ cs. get_or cs 0 c)
+    (sym (steps.components_whole (step_text c) (steps.nonempty_proper c proper) (steps.HasNoSlash-proper c proper))
+    ∙ proper)
+
+-- none of its bytes is a slash
+pub no_slash-proper : (c : Step) → IsProper c → All (λ b. is_slash b ≡ false) (step_text c)
+no_slash-proper c proper =
+    All-from_recursion (λ b. is_slash b ≡ false) (step_text c) (steps.HasNoSlash-proper c proper)
+
+-- a name is not empty, `.` or `..`
+pub name-proper : (n : List ℕ) → IsProper (name n) → (n ≢ []) × (n ≢ codes ".") × (n ≢ codes "..")
+unfolding relative_path_on_literals
+name-proper n proper = (
+  λ e. let none = ap components (sym e) ∙ proper in absurd (cc),
+  λ e. let here = ap components (sym e) ∙ proper in absurd (cc),
+  λ e. let above = ap components (sym e) ∙ proper in absurd (cc),
+)
+
+-- ---- what spells components
+
+-- a push of a component onto a text that spells its own makes one that spells one more
+pub spell-pushed : (text : List ℕ) (c : Step) → text ≡ spell (components text) → IsProper c
+    → pushed text (step_text c) ≡ spell (components text ++ c ∷ [])
+spell-pushed = normalizing.spell-pushed
+
+has_root-solid : (n rest : List ℕ) → steps.HasNoSlash n → 0 < length n → has_root (n ++ rest) ≡ false
+has_root-solid [] rest none some = absurd (omega arith)
+has_root-solid (b ∷ bs) rest none some = none.0
+
+-- a text that spells components begins with no slash
+pub has_root-spell : (cs : List Step) → AreProper cs → has_root (spell cs) ≡ false
+has_root-spell [] proper = refl
+has_root-spell (c ∷ []) (first, rest) =
+    sym (ap has_root (append-nil (step_text c)))
+    ∙ has_root-solid (step_text c) [] (steps.HasNoSlash-proper c first) (steps.nonempty_proper c first)
+has_root-spell (c ∷ d ∷ cs) (first, rest) =
+    has_root-solid (step_text c) (slash ∷ spell (d ∷ cs)) (steps.HasNoSlash-proper c first) (steps.nonempty_proper c first)
+
+-- so a push takes it as it is
+pub unslashed-spell : (cs : List Step) → AreProper cs → unslashed (spell cs) ≡ spell cs
+unslashed-spell cs proper = whole (spell cs) (has_root-spell cs proper) where
+  whole : (text : List ℕ) → has_root text ≡ false → unslashed text ≡ text
+  whole [] none = refl
+  whole (b ∷ bs) none = cond-false _ _ _ none
+
+-- ---- lists with a file name
+
+-- the last component that is no `.` has only `.`s after it, or all are `.`
+ends_in : (cs : List Step) → ((k : ℕ) × (cs ≡ replicate k cur))
+    ⊎ ((front : List Step) × (c : Step) × (k : ℕ) × (is_cur c ≡ false) × (cs ≡ front ++ c ∷ replicate k cur))
+ends_in [] = inl (0, refl)
+ends_in (c ∷ cs) = elim (ends_in cs) [
+  | inl (k, alone) ↦ first c k alone
+  | inr (front, last, k, other, joined) ↦ inr (c ∷ front, last, k, other, ap (λ ds. c ∷ ds) joined)
+] where
+  first : (c : Step) (k : ℕ) → cs ≡ replicate k cur → ((k : ℕ) × (c ∷ cs ≡ replicate k cur))
+      ⊎ ((front : List Step) × (last : Step) × (k : ℕ) × (is_cur last ≡ false) × (c ∷ cs ≡ front ++ last ∷ replicate k cur))
+  first cur k alone = inl (suc k, ap (λ ds. cur ∷ ds) alone)
+  first up k alone = inr ([], up, k, refl, ap (λ ds. up ∷ ds) alone)
+  first (name n) k alone = inr ([], name n, k, refl, ap (λ ds. name n ∷ ds) alone)
+
+-- after the file name come `.`s alone
+named_split : (cs : List Step) (n : List ℕ) → last_name cs ≡ Some n
+    → (k : ℕ) × (cs ≡ take (kept_len cs) cs ++ name n ∷ replicate k cur)
+named_split cs n named = elim (ends_in cs) [
+  | inl (k, alone) ↦
+      let none = ap last_name alone
+      ∙ ap (λ ds. option_and_then name_of (slice_get ds (length ds - 1))) (without_curs-curs k) in
+      absurd (cc)
+  | inr (front, c, k, other, joined) ↦
+      let last = ap last_name joined ∙ ap (option_and_then name_of) (last_other-at front c k other) in
+      let is : c ≡ name n = named_step c (sym last ∙ named) in
+      let whole : cs ≡ (front ++ c ∷ []) ++ replicate k cur = joined ∙ sym (append_assoc front (c ∷ []) (replicate k cur)) in
+      let kept : kept_len cs ≡ length front =
+      ap kept_len whole ∙ editing.kept_len-curs (front ++ c ∷ []) k ∙ editing.kept_len-push front c other in
+      let firsts : take (kept_len cs) cs ≡ front =
+      ap (λ k. take k cs) kept ∙ ap (take (length front)) joined ∙ take_at front (c ∷ replicate k cur) (length front) refl in
+      (k, joined ∙ ap₂ (λ front c. front ++ c ∷ replicate k cur) (sym firsts) is)
+] where
+  named_step : (c : Step) → name_of c ≡ Some n → c ≡ name n
+  named_step cur is = absurd (cc)
+  named_step up is = absurd (cc)
+  named_step (name m) is = cc
+
+-- a list with a file name leads where the name leads after what a parent keeps
+pub IsSame-last_name : (cs : List Step) (n : List ℕ) → last_name cs ≡ Some n
+    → IsSame cs (take (kept_len cs) cs ++ name n ∷ [])
+IsSame-last_name cs n named =
+    let (k, joined) = named_split cs n named in
+    subst (λ ds. IsSame ds (take (kept_len cs) cs ++ name n ∷ [])) (sym joined)
+    (IsSame-append_left (take (kept_len cs) cs) (record { everywhere = λ base. walk-curs (base ++ n ∷ []) k })) where
+      walk-curs : (base : List (List ℕ)) (k : ℕ) → walk base (replicate k cur) ≡ Some base
+      walk-curs base zero = refl
+      walk-curs base (suc k) = walk-curs base k
+
+-- the file name of proper components is one component
+pub IsProper-last_name : (cs : List Step) (n : List ℕ) → AreProper cs → last_name cs ≡ Some n → IsProper (name n)
+IsProper-last_name cs n proper named =
+    let (k, joined) = named_split cs n named in
+    within (take (kept_len cs) cs) (replicate k cur) (subst AreProper joined proper) where
+      within : (front rest : List Step) → AreProper (front ++ name n ∷ rest) → IsProper (name n)
+      within [] rest (first, more) = first
+      within (c ∷ front) rest (first, more) = within front rest more
