@@ -8,12 +8,10 @@ use Rattle.relative_path.proofs.unix_texts.joined.Goals as goal
 
 pub loop-component-init : goal.loop-component-init
 loop-component-init c =
-    let room = c.in_ok-text.ensures.room in
     rw
     (c.into_iter-component-iterator.ensures.into_iter_gives, c.new-component-items.ensures, c.in_ok-text.ensures.text) (
       refl,
-      omega
-          (arith, padded_len-components c.args.path.now, room),
+      omega (arith, padded_len-components c.args.path.now, c.in_ok-text.ensures.room),
     )
 
 pub add_piece-requires : goal.add_piece-requires
