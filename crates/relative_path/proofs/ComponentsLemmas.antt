@@ -1,12 +1,13 @@
 -- Taking the first or the last component off a text: a trim, a cut at a slash, and a trim.
-use Rattle.std.proofs.Common.{◌≡◌, ◌≢◌, ◌⊎◌, ◌==◌, eqb-true, ℕ, ◌-◌, Bool, true, List, [], ◌∷◌, ◌++◌, All, length, get_or, take, drop, Option, Some, None, sym, refl, ap, ap₂, ◌∙◌, subst, inl, inr, append_assoc, append-nil, arith, ne_eqb, false, length-append, take_at}
+use Rattle.std.proofs.Common.{◌≡◌, ◌≢◌, ◌==◌, eqb-true, ℕ, ◌-◌, Bool, true, List, [], ◌∷◌, ◌++◌, length, get_or, take, drop, Option, Some, None, sym, refl, ap, ap₂, ◌∙◌, subst, inl, inr, arith, false, length-append, take_at}
 use Rattle.std.proofs.lemmas.Bool.{eqb-false}
 use Rattle.std.specs.Iterator.{MakesProgress, item_count}
-use Rattle.std.specs.Prelude.{⊤}
+use Rattle.std.specs.List.{position_or_len, before_first, after_first, before_last, after_last}
+use Rattle.std.specs.Prelude.{⊤, ◌+◌}
+use Rattle.relative_path.specs.Slashes.{last_start}
 use Rattle.std.proofs.lemmas.Iterator.{YieldsList}
 use Rattle.std.proofs.lemmas.Iterator.Consumers.{YieldsList-from_shown}
 use Rattle.std.proofs.lemmas.List.{nil_from_length, get_or_at, drop_all}
-use Rattle.std.proofs.lemmas.List.Elements.{All-weaker, recursion_from_All}
 use Rattle.std.specs.Borrow.{Bor}
 use Rattle.std.proofs.iter.runs.Sources.{from_front}
 use Rattle.relative_path.specs.declared.component.Component.{Component}
@@ -21,7 +22,8 @@ use Rattle.relative_path.specs.ComparingLaws.{steps_comparison}
 use Rattle.relative_path.specs.Slices.{IsRest, IsFront}
 use Rattle.relative_path.specs.Components.{step_of, text_left, components_left, TakesFirst, TakesLast, TakesFirstText, text_of, iter_text_left, texts_left, GivesComponents, GivesTextsOfComponents}
 use Rattle.relative_path.proofs.StepsLemmas.{HasNoSlash, components-nil, components-append, components_whole}
-use Rattle.relative_path.proofs.SlicesLemmas.{IsSuffix, IsSuffix-drop, IsSuffix-trans, IsPrefix, IsPrefix-append, IsPrefix-trans, IsShortestPrefix-from, IsShortestPrefix-nil}
+use Rattle.relative_path.proofs.SlashesLemmas.{joined_first, joined_last, HasNoSlash-before_first, HasNoSlash-after_last}
+use Rattle.relative_path.proofs.SlicesLemmas.{IsSuffix, IsSuffix-drop, IsSuffix-of_drop, IsSuffix-trans, IsPrefix, IsPrefix-take, IsPrefix-trans, IsShortestPrefix-from, IsShortestPrefix-nil}
 
 -- the text without the slashes at its start
 pub record IsTrimmedStart (text trimmed : List ℕ) : Type 0 where
@@ -29,15 +31,10 @@ pub record IsTrimmedStart (text trimmed : List ℕ) : Type 0 where
   pub start : get_or trimmed 0 0 ≢ slash
   pub same : components trimmed ≡ components text
 
-HasNoSlash-from_All : (p : List ℕ) → All (λ b. b ≢ slash) p → HasNoSlash p
-HasNoSlash-from_All p h =
-    recursion_from_All (λ b. is_slash b ≡ false) p
-    (All-weaker (λ b. b ≢ slash) (λ b. is_slash b ≡ false) (λ b other. ne_eqb b slash other) p h)
-
 -- a piece that has a byte is its one component
-pub components_piece : (p : List ℕ) → p ≢ [] → All (λ b. b ≢ slash) p → components p ≡ classed p ∷ []
+components_piece : (p : List ℕ) → p ≢ [] → HasNoSlash p → components p ≡ classed p ∷ []
 components_piece [] nonempty h = absurd (nonempty refl)
-components_piece (b ∷ bs) nonempty h = components_whole (b ∷ bs) (omega arith) (HasNoSlash-from_All (b ∷ bs) h)
+components_piece (b ∷ bs) nonempty h = components_whole (b ∷ bs) (omega arith) h
 
 -- with no component, the rest and the front are empty
 IsRest-none : (text r : List ℕ) → components text ≡ [] → r ≡ [] → IsRest text r
@@ -63,40 +60,39 @@ pub TakesFirst-none : (text trimmed : List ℕ) → IsTrimmedStart text trimmed 
 TakesFirst-none text trimmed trim empty =
     let none = sym trim.same ∙ ap components empty ∙ components-nil in (none, IsRest-none text trimmed none empty)
 
+-- a text that begins with no slash has a piece before its first slash
+first_nonempty : (text : List ℕ) → get_or text 0 0 ≢ slash → text ≢ [] → before_first is_slash text ≢ []
+first_nonempty text start some empty = elim (joined_first text) [
+  | inl joined ↦ start (ap (λ x. get_or x 0 0) (joined ∙ ap (λ x. x ++ slash ∷ after_first is_slash text) empty))
+  | inr (whole, none) ↦ some (whole ∙ empty)
+]
+
+components-first : (text : List ℕ) → before_first is_slash text ≢ []
+    → components text ≡ classed (before_first is_slash text) ∷ components (after_first is_slash text)
+components-first text nonempty =
+    let piece = components_piece (before_first is_slash text) nonempty (HasNoSlash-before_first text) in
+    elim (joined_first text) [
+      | inl joined ↦ ap components joined ∙ components-append (before_first is_slash text) (after_first is_slash text)
+          ∙ ap (λ cs. cs ++ components (after_first is_slash text)) piece
+      | inr (whole, none) ↦ ap components whole ∙ piece
+          ∙ ap (λ cs. classed (before_first is_slash text) ∷ cs) (sym (ap components none ∙ components-nil))
+    ]
+
 -- the component that stands first is the piece before the first slash, and the rest what stands after it
-module _ (text trimmed piece rest left : List ℕ) (trim : IsTrimmedStart text trimmed)
-    (whole : All (λ b. b ≢ slash) piece) (trim' : IsTrimmedStart rest left) where
-  first_nonempty : (trimmed ≡ piece ++ slash ∷ rest) ⊎ ((trimmed ≡ piece) × (rest ≡ [])) → trimmed ≢ [] → piece ≢ []
-  first_nonempty (inl joined) some empty =
-      trim.start (ap (λ x. get_or x 0 0) (joined ∙ ap (λ x. x ++ slash ∷ rest) empty))
-  first_nonempty (inr (joined, none)) some empty = some (joined ∙ empty)
-
-  first_components : (trimmed ≡ piece ++ slash ∷ rest) ⊎ ((trimmed ≡ piece) × (rest ≡ [])) → piece ≢ []
-      → components text ≡ classed piece ∷ components left
-  first_components (inl joined) nonempty =
-      sym trim.same ∙ ap components joined ∙ components-append piece rest
-      ∙ ap₂ (λ cs ds. cs ++ ds) (components_piece piece nonempty whole) (sym trim'.same)
-  first_components (inr (joined, none)) nonempty =
-      sym trim.same ∙ ap components joined ∙ components_piece piece nonempty whole
-      ∙ ap (λ cs. classed piece ∷ cs) (sym (trim'.same ∙ ap components none ∙ components-nil))
-
-  rest_suffix : (trimmed ≡ piece ++ slash ∷ rest) ⊎ ((trimmed ≡ piece) × (rest ≡ [])) → IsSuffix trimmed rest
-  rest_suffix (inl joined) =
-      record { front = piece ++ slash ∷ []; joined = joined ∙ sym (append_assoc piece (slash ∷ []) rest) }
-  rest_suffix (inr (joined, none)) =
-      record { front = trimmed; joined = sym (append-nil trimmed) ∙ ap (λ x. trimmed ++ x) (sym none) }
-
-  pub TakesFirst-some : (c : Component) → (trimmed ≡ piece ++ slash ∷ rest) ⊎ ((trimmed ≡ piece) × (rest ≡ []))
-      → trimmed ≢ [] → step_of c ≡ classed piece → TakesFirst text (Some c) left
-  TakesFirst-some c split some is =
-      let cs = first_components split (first_nonempty split some) in (
-        cs ∙ ap (λ d. d ∷ components left) (sym is),
-        record {
-          suffix = IsSuffix-drop (IsSuffix-trans trim.suffix (IsSuffix-trans (rest_suffix split) trim'.suffix));
-          no_leading_slash = trim'.start;
-          other_components = sym (ap (drop 1) cs);
-        },
-      )
+pub TakesFirst-some : (text trimmed left : List ℕ) (c : Component) → IsTrimmedStart text trimmed
+    → IsTrimmedStart (after_first is_slash trimmed) left → trimmed ≢ []
+    → step_of c ≡ classed (before_first is_slash trimmed) → TakesFirst text (Some c) left
+TakesFirst-some text trimmed left c trim trim' some is =
+    let cs : components text ≡ step_of c ∷ components left =
+    sym trim.same ∙ components-first trimmed (first_nonempty trimmed trim.start some) ∙ ap₂ (λ d ds. d ∷ ds) (sym is) (sym trim'.same) in
+    let rest = IsSuffix-of_drop (position_or_len is_slash trimmed + 1) trimmed in (
+      cs,
+      record {
+        suffix = IsSuffix-drop (IsSuffix-trans trim.suffix (IsSuffix-trans rest trim'.suffix));
+        no_leading_slash = trim'.start;
+        other_components = sym (ap (drop 1) cs);
+      },
+    )
 
 -- the text without the slashes at its end
 pub record IsTrimmedEnd (text trimmed : List ℕ) : Type 0 where
@@ -115,41 +111,43 @@ pub TakesLast-none : (text trimmed : List ℕ) → IsTrimmedEnd text trimmed →
 TakesLast-none text trimmed trim empty =
     let none = sym trim.same ∙ ap components empty ∙ components-nil in (none, IsFront-none text trimmed none empty)
 
+-- a text that ends in no slash has a piece after its last slash
+last_nonempty : (text : List ℕ) → get_or text (length text - 1) 0 ≢ slash → text ≢ [] → after_last is_slash text ≢ []
+last_nonempty text end some empty = elim (joined_last text) [
+  | inl joined ↦
+      let ended = joined ∙ ap (λ x. before_last is_slash text ++ slash ∷ x) empty in
+      end (ap (λ x. get_or x (length x - 1) 0) ended ∙ last-append_slash (before_last is_slash text))
+  | inr (whole, none) ↦ some (whole ∙ empty)
+]
+
+components-last : (text : List ℕ) → after_last is_slash text ≢ []
+    → components text ≡ components (before_last is_slash text) ++ classed (after_last is_slash text) ∷ []
+components-last text nonempty =
+    let piece = components_piece (after_last is_slash text) nonempty (HasNoSlash-after_last text) in
+    elim (joined_last text) [
+      | inl joined ↦ ap components joined ∙ components-append (before_last is_slash text) (after_last is_slash text)
+          ∙ ap (λ cs. components (before_last is_slash text) ++ cs) piece
+      | inr (whole, none) ↦ ap components whole ∙ piece
+          ∙ ap (λ cs. cs ++ classed (after_last is_slash text) ∷ []) (sym (ap components none ∙ components-nil))
+    ]
+
 -- the component that stands last is the piece after the last slash, and the front what stands before it
-module _ (text trimmed piece front left : List ℕ) (trim : IsTrimmedEnd text trimmed)
-    (whole : All (λ b. b ≢ slash) piece) (trim' : IsTrimmedEnd front left) where
-  last_nonempty : (trimmed ≡ front ++ slash ∷ piece) ⊎ ((trimmed ≡ piece) × (front ≡ [])) → trimmed ≢ [] → piece ≢ []
-  last_nonempty (inl joined) some empty =
-      let ended = joined ∙ ap (λ x. front ++ slash ∷ x) empty in
-      trim.end (ap (λ x. get_or x (length x - 1) 0) ended ∙ last-append_slash front)
-  last_nonempty (inr (joined, none)) some empty = some (joined ∙ empty)
-
-  last_components : (trimmed ≡ front ++ slash ∷ piece) ⊎ ((trimmed ≡ piece) × (front ≡ [])) → piece ≢ []
-      → components text ≡ components left ++ classed piece ∷ []
-  last_components (inl joined) nonempty =
-      sym trim.same ∙ ap components joined ∙ components-append front piece
-      ∙ ap₂ (λ cs ds. cs ++ ds) (sym trim'.same) (components_piece piece nonempty whole)
-  last_components (inr (joined, none)) nonempty =
-      sym trim.same ∙ ap components joined ∙ components_piece piece nonempty whole
-      ∙ ap (λ cs. cs ++ classed piece ∷ []) (sym (trim'.same ∙ ap components none ∙ components-nil))
-
-  front_prefix : (trimmed ≡ front ++ slash ∷ piece) ⊎ ((trimmed ≡ piece) × (front ≡ [])) → IsPrefix trimmed front
-  front_prefix (inl joined) = subst (λ x. IsPrefix x front) (sym joined) (IsPrefix-append front (slash ∷ piece))
-  front_prefix (inr (joined, none)) = rw none (record { front = refl })
-
-  pub TakesLast-some : (c : Component) → (trimmed ≡ front ++ slash ∷ piece) ⊎ ((trimmed ≡ piece) × (front ≡ []))
-      → trimmed ≢ [] → step_of c ≡ classed piece → TakesLast text (Some c) left
-  TakesLast-some c split some is =
-      let cs = last_components split (last_nonempty split some) in
-      let counted : length (components left) ≡ length (components text) - 1 =
-      omega (arith, ap length cs, length-append (components left) (classed piece ∷ [])) in
-      let firsts =
-      sym
-      (ap (take (length (components left))) cs ∙ take_at (components left) (classed piece ∷ []) (length (components left)) refl) in (
-        cs ∙ ap (λ d. components left ++ d ∷ []) (sym is),
-        IsShortestPrefix-from (IsPrefix-trans trim.prefix (IsPrefix-trans (front_prefix split) trim'.prefix))
-            (firsts ∙ ap (λ n. take n (components text)) counted) trim'.end,
-      )
+pub TakesLast-some : (text trimmed left : List ℕ) (c : Component) → IsTrimmedEnd text trimmed
+    → IsTrimmedEnd (before_last is_slash trimmed) left → trimmed ≢ []
+    → step_of c ≡ classed (after_last is_slash trimmed) → TakesLast text (Some c) left
+TakesLast-some text trimmed left c trim trim' some is =
+    let cs : components text ≡ components left ++ step_of c ∷ [] =
+    sym trim.same ∙ components-last trimmed (last_nonempty trimmed trim.end some)
+    ∙ ap₂ (λ ds d. ds ++ d ∷ []) (sym trim'.same) (sym is) in
+    let counted : length (components left) ≡ length (components text) - 1 =
+    omega (arith, ap length cs, length-append (components left) (step_of c ∷ [])) in
+    let firsts =
+    sym (ap (take (length (components left))) cs ∙ take_at (components left) (step_of c ∷ []) (length (components left)) refl) in (
+      cs,
+      IsShortestPrefix-from
+          (IsPrefix-trans trim.prefix (IsPrefix-trans (IsPrefix-take (last_start is_slash trimmed - 1) trimmed) trim'.prefix))
+          (firsts ∙ ap (λ n. take n (components text)) counted) trim'.end,
+    )
 
 -- ---- what follows of the lists of components, and that the iterators end
 

@@ -1,15 +1,17 @@
 -- Where the components of a text begin.
-use Rattle.std.proofs.Common.{◌≡◌, ℕ, zero, suc, ◌+◌, ◌-◌, ◌*◌, ◌/◌, ◌%◌, ◌^◌, ◌<◌, ◌≤◌, Bool, true, false, not, ◌&&◌, cond, List, [], ◌∷◌, filter, get_or, drop, length, refl, sym, ap, ap₂, ◌∙◌, subst, ⊎_elim, arith, min, w64}
+use Rattle.std.proofs.Common.{◌≡◌, ℕ, zero, suc, ◌+◌, ◌-◌, ◌*◌, ◌/◌, ◌%◌, ◌^◌, ◌<◌, ◌≤◌, Bool, true, false, not, ◌&&◌, cond, List, [], ◌∷◌, filter, map, get_or, take, drop, length, refl, sym, ap, ap₂, ◌∙◌, subst, ⊎_elim, arith, min, w64}
 use Rattle.std.specs.Int.{bit_at, bit_not}
 use Rattle.std.specs.Int.Bits.{bit_and}
 use Rattle.std.specs.Int.RustNames.{count_ones}
+use Rattle.std.specs.Simd.Lanes.{mask_l}
 use Rattle.std.specs.List.{slice_split, onto_first}
 use Rattle.std.proofs.lemmas.Bool.{cond-true, cond-false, cases_Bool}
 use Rattle.std.proofs.lemmas.List.{drop_more, length-map}
 use Rattle.std.proofs.lemmas.Nat.{and_le_l, ones_cat, ones-le, shr-shr, shr_below, shr_split}
 use Rattle.std.proofs.lemmas.Nat.Bits.{bit_at_lowest, bit_at-suc, bit_at_and, bit_at_not}
 use Rattle.relative_path.specs.Steps.{is_slash, is_not_empty, pieces, classed, components}
-use Rattle.relative_path.specs.Counting.{begun}
+use Rattle.relative_path.specs.Counting.{begun, begun_from}
+use Rattle.relative_path.proofs.SlashesLemmas.{mask_bound, mask_bit}
 
 -- how many pieces have a byte, without the first
 abbrev later : List (List ℕ) → ℕ
@@ -69,17 +71,16 @@ abbrev begins_at : List ℕ → ℕ → Bool
 begins_at bytes i = not (is_slash (get_or bytes i 0)) && is_slash (get_or bytes (i - 1) 0)
 
 -- one byte more
-begun-next : (behind here : Bool) (b : ℕ) (bs : List ℕ) → is_slash b ≡ here
-    → begun behind (b ∷ bs) ≡ cond (not here && behind) 1 0 + begun here bs
+begun-next : (after here : Bool) (b : ℕ) (bs : List ℕ) → is_slash b ≡ here
+    → begun after (b ∷ bs) ≡ cond (not here && after) 1 0 + begun here bs
 begun-next true true b bs is = omega (arith, cond-true (is_slash b) (begun true bs) (1 + begun false bs) is)
 begun-next false true b bs is = omega (arith, cond-true (is_slash b) (begun true bs) (begun false bs) is)
 begun-next true false b bs is = omega (arith, cond-false (is_slash b) (begun true bs) (1 + begun false bs) is)
 begun-next false false b bs is = omega (arith, cond-false (is_slash b) (begun true bs) (begun false bs) is)
 
-pub begun-at : (bytes : List ℕ) (i : ℕ) → i < length bytes
-    → begun (is_slash (get_or bytes (i - 1) 0)) (drop i bytes)
-    ≡ cond (begins_at bytes i) 1 0 + begun (is_slash (get_or bytes i 0)) (drop (i + 1) bytes)
-begun-at bytes i inside =
+begun_from-more : (bytes : List ℕ) (i : ℕ) → i < length bytes
+    → begun_from bytes i ≡ cond (begins_at bytes i) 1 0 + begun (is_slash (get_or bytes i 0)) (drop (i + 1) bytes)
+begun_from-more bytes i inside =
     ap (begun (is_slash (get_or bytes (i - 1) 0))) (drop_more bytes i 0 inside)
     ∙ begun-next (is_slash (get_or bytes (i - 1) 0)) (is_slash (get_or bytes i 0)) (get_or bytes i 0) (drop (i + 1) bytes) refl
 
@@ -100,15 +101,13 @@ ones-halved n =
 -- a number with a bit for each of some bytes, set where a component begins, counts those
 ones-begun : (bytes : List ℕ) (n mask i : ℕ) → i + n ≤ length bytes → mask < 2 ^ n
     → ((k : ℕ) → k < n → bit_at mask k ≡ cond (begins_at bytes (i + k)) 1 0)
-    → count_ones mask + begun (is_slash (get_or bytes (i + n - 1) 0)) (drop (i + n) bytes)
-    ≡ begun (is_slash (get_or bytes (i - 1) 0)) (drop i bytes)
+    → count_ones mask + begun_from bytes (i + n) ≡ begun_from bytes i
 unfolding count_ones
 ones-begun bytes zero mask i inside bound bits =
     let empty : mask ≡ 0 = omega (arith, bound) in
     let none : count_ones 0 ≡ 0 = refl in
     let here : i + 0 ≡ i = omega arith in
-    let same = ap (λ j. begun (is_slash (get_or bytes (j - 1) 0)) (drop j bytes)) here in
-    omega (arith, ap count_ones empty, none, same)
+    omega (arith, ap count_ones empty, none, ap (begun_from bytes) here)
 ones-begun bytes (suc n) mask i inside bound bits =
     let count : suc n ≡ n + 1 = omega arith in
     let half : mask / 2 < 2 ^ n = shr_below mask n 1 (subst (λ k. mask < 2 ^ k) count bound) in
@@ -120,10 +119,9 @@ ones-begun bytes (suc n) mask i inside bound bits =
     let first : mask % 2 ≡ cond (begins_at bytes i) 1 0 =
     sym (bit_at_lowest mask) ∙ bits 0 (omega arith) ∙ ap (λ j. cond (begins_at bytes j) 1 0) start in
     let end : i + 1 + n ≡ i + suc n = omega arith in
-    let ends = ap (λ j. begun (is_slash (get_or bytes (j - 1) 0)) (drop j bytes)) end in
     let next : i + 1 - 1 ≡ i = omega arith in
-    let behind = ap (λ j. begun (is_slash (get_or bytes j 0)) (drop (i + 1) bytes)) next in
-    omega (arith, ones-halved mask, first, rest, ends, behind, begun-at bytes i (omega (arith, inside)))
+    let after = ap (λ j. begun (is_slash (get_or bytes j 0)) (drop (i + 1) bytes)) next in
+    omega (arith, ones-halved mask, first, rest, ap (begun_from bytes) end, after, begun_from-more bytes i (omega (arith, inside)))
 
 -- no slash here, and one before, as bits
 min_bits : (before here : Bool) → min (cond before 1 0) (1 - cond here 1 0) ≡ cond (not here && before) 1 0
@@ -133,40 +131,44 @@ min_bits false true = refl
 min_bits false false = refl
 
 -- the slashes of a block, and those of the block a byte before it
-module _ (bytes : List ℕ) (start skipped before here : ℕ) (some : 0 < start) (inside : start + 16 ≤ length bytes)
-    (few : skipped < 16) (small : before < 2 ^ 16) (small' : here < 2 ^ 16)
-    (bits : (k : ℕ) → k < 16 → bit_at before k ≡ cond (is_slash (get_or bytes (start - 1 + k) 0)) 1 0)
-    (bits' : (k : ℕ) → k < 16 → bit_at here k ≡ cond (is_slash (get_or bytes (start + k) 0)) 1 0) where
+module _ (bytes : List ℕ) (start skipped : ℕ) (some : 0 < start) (inside : start + 16 ≤ length bytes)
+    (few : skipped < 16) where
+  abbrev slashes : ℕ → ℕ
+  slashes at = mask_l (map is_slash (take 16 (drop at bytes)))
+
   abbrev both : ℕ
-  both = bit_and before (bit_not w64 here)
+  both = bit_and (slashes (start - 1)) (bit_not w64 (slashes start))
+
+  early : start - 1 + 16 ≤ length bytes
+  early = omega (arith, inside)
 
   both_bits : (k : ℕ) → k < 16 - skipped
       → bit_at (both / 2 ^ skipped) k ≡ cond (begins_at bytes (start + skipped + k)) 1 0
   both_bits k h =
       let j : skipped + k < 16 = omega (arith, h, few) in
-      let here_at : start + (skipped + k) ≡ start + skipped + k = omega arith in
-      let before_at : start - 1 + (skipped + k) ≡ start + skipped + k - 1 = omega (arith, some) in
-      ap (λ n. n % 2) (shr-shr both skipped k) ∙ bit_at_and before (bit_not w64 here) (skipped + k)
-      ∙ ap₂ min (bits (skipped + k) j)
-      (bit_at_not w64 here (skipped + k) (omega (arith, small')) (omega (arith, j)) ∙ ap (λ b. 1 - b) (bits' (skipped + k) j))
+      let here : start + (skipped + k) ≡ start + skipped + k = omega arith in
+      let before : start - 1 + (skipped + k) ≡ start + skipped + k - 1 = omega (arith, some) in
+      let none = bit_at_not w64 (slashes start) (skipped + k) (omega (arith, mask_bound bytes start inside)) (omega (arith, j)) in
+      ap (λ n. n % 2) (shr-shr both skipped k) ∙ bit_at_and (slashes (start - 1)) (bit_not w64 (slashes start)) (skipped + k)
+      ∙ ap₂ min (mask_bit bytes (start - 1) early (skipped + k) j)
+      (none ∙ ap (λ b. 1 - b) (mask_bit bytes start inside (skipped + k) j))
       ∙ min_bits (is_slash (get_or bytes (start - 1 + (skipped + k)) 0)) (is_slash (get_or bytes (start + (skipped + k)) 0))
-      ∙ ap₂ (λ p q. cond (not (is_slash (get_or bytes q 0)) && is_slash (get_or bytes p 0)) 1 0) before_at here_at
+      ∙ ap₂ (λ p q. cond (not (is_slash (get_or bytes q 0)) && is_slash (get_or bytes p 0)) 1 0) before here
 
   both_small : both / 2 ^ skipped < 2 ^ (16 - skipped)
   both_small =
       let width : 16 ≡ 16 - skipped + skipped = omega (arith, few) in
-      let less : both < 2 ^ 16 = omega (arith, and_le_l before (bit_not w64 here), small) in
+      let less : both < 2 ^ 16 =
+      omega (arith, and_le_l (slashes (start - 1)) (bit_not w64 (slashes start)), mask_bound bytes (start - 1) early) in
       shr_below both (16 - skipped) skipped (subst (λ k. both < 2 ^ k) width less)
 
   -- where components begin in the block, but for its first bytes
-  pub begun-block : count_ones (both / 2 ^ skipped)
-      + begun (is_slash (get_or bytes (start + 16 - 1) 0)) (drop (start + 16) bytes)
-      ≡ begun (is_slash (get_or bytes (start + skipped - 1) 0)) (drop (start + skipped) bytes)
-  begun-block =
+  pub begun_from-block : count_ones (both / 2 ^ skipped) + begun_from bytes (start + 16) ≡ begun_from bytes (start + skipped)
+  begun_from-block =
       let end : start + skipped + (16 - skipped) ≡ start + 16 = omega (arith, few) in
       let counted =
       ones-begun bytes (16 - skipped) (both / 2 ^ skipped) (start + skipped) (omega (arith, end, inside)) both_small both_bits in
-      omega (arith, counted, ap (λ j. begun (is_slash (get_or bytes (j - 1) 0)) (drop j bytes)) end)
+      omega (arith, counted, ap (begun_from bytes) end)
 
   pub ones-block : count_ones (both / 2 ^ skipped) ≤ 16 - skipped
   ones-block = ones-le (16 - skipped) (both / 2 ^ skipped) both_small

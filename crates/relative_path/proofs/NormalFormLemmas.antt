@@ -181,11 +181,11 @@ with_pieces-solid b bs c (d ∷ cs) =
 pub with_pieces-spell : (cs : List Step) → AreProper cs → fold with_piece [] (map step_text cs) ≡ spell cs
 with_pieces-spell [] proper = refl
 with_pieces-spell (c ∷ []) proper = refl
-with_pieces-spell (c ∷ d ∷ cs) proper = behind (step_text c) (nonempty_proper c proper.0)
+with_pieces-spell (c ∷ d ∷ cs) proper = after (step_text c) (nonempty_proper c proper.0)
   where
-    behind : (p : List ℕ) → 0 < length p → fold with_piece p (map step_text (d ∷ cs)) ≡ p ++ slash ∷ spell (d ∷ cs)
-    behind [] none = absurd (omega arith)
-    behind (b ∷ bs) some = with_pieces-solid b bs d cs
+    after : (p : List ℕ) → 0 < length p → fold with_piece p (map step_text (d ∷ cs)) ≡ p ++ slash ∷ spell (d ∷ cs)
+    after [] none = absurd (omega arith)
+    after (b ∷ bs) some = with_pieces-solid b bs d cs
 
 map_step_text-names : (names : List (List ℕ)) → map step_text (map name names) ≡ names
 map_step_text-names [] = refl

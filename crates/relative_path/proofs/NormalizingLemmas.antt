@@ -79,7 +79,7 @@ Normalizes-cur source limit text left h = record {
 -- a component pushed after the text that spells others
 pushed-spell : (cs : List Step) (c : Step) → AreProper cs → IsProper c
     → pushed (spell cs) (step_text c) ≡ spell (cs ++ c ∷ [])
-pushed-spell cs c propers proper = ap (λ x. with_separator (spell cs) ++ x) solid ∙ behind cs propers
+pushed-spell cs c propers proper = ap (λ x. with_separator (spell cs) ++ x) solid ∙ after cs propers
   where
     solid : unslashed (step_text c) ≡ step_text c
     solid =
@@ -87,9 +87,9 @@ pushed-spell cs c propers proper = ap (λ x. with_separator (spell cs) ++ x) sol
         (subst (λ x. get_or x 0 0 ≢ slash) (append-nil (step_text c))
         (HasNoSlash-start (step_text c) [] (nonempty_proper c proper) (HasNoSlash-proper c proper)))
 
-    behind : (ds : List Step) → AreProper ds → with_separator (spell ds) ++ step_text c ≡ spell (ds ++ c ∷ [])
-    behind [] h = refl
-    behind (d ∷ ds) h =
+    after : (ds : List Step) → AreProper ds → with_separator (spell ds) ++ step_text c ≡ spell (ds ++ c ∷ [])
+    after [] h = refl
+    after (d ∷ ds) h =
         ap (λ x. x ++ step_text c)
         (with_separator-solid (spell (d ∷ ds)) (spell_nonempty d ds h.0) (spell_end (d ∷ ds) h))
         ∙ append_assoc (spell (d ∷ ds)) (slash ∷ []) (step_text c) ∙ sym (spell-append d ds c [])

@@ -124,15 +124,15 @@ module _ {cs child child_left : List Step} {left : List ℕ} (h : AgreesBack cs 
       → EndsWith cs child → ⊥
   EndsWith-other t takes last other (start, ends) = differs t takes other
     where
-      behind : List Step
-      behind = step_of c ∷ h.taken
+      later : List Step
+      later = step_of c ∷ h.taken
 
-      whole : cs ≡ start ++ (child_front ++ behind)
+      whole : cs ≡ start ++ (child_front ++ later)
       whole = ends ∙ ap (λ x. start ++ x) (taken_last _ _ _ _ _ h.child_joined last)
 
-      parts : start ++ (child_front ++ behind) ≡ ((start ++ child_front) ++ step_of c ∷ []) ++ h.taken
+      parts : start ++ (child_front ++ later) ≡ ((start ++ child_front) ++ step_of c ∷ []) ++ h.taken
       parts =
-          sym (append_assoc start child_front behind)
+          sym (append_assoc start child_front later)
           ∙ sym (append_assoc (start ++ child_front) (step_of c ∷ []) h.taken)
 
       same : components left ≡ (start ++ child_front) ++ step_of c ∷ []

@@ -1,19 +1,25 @@
 -- A text trimmed of the slashes at an end, and cut at its first or its last slash.
-use Rattle.std.proofs.Common.{◌≡◌, ◌≢◌, ◌<◌, ℕ, suc, zero, cond, List, [], ◌∷◌, ◌++◌, All, take, drop, replicate, Option, Some, None, MatchOption, Bor, refl, sym, subst, ap, ap₂, ◌∙◌, lit<, take-append-drop, append-nil, ◌+◌, ◌-◌, ◌*◌, ◌^◌, length, get_or, get_or-drop, length-take, length-drop, arith, take_all, ◌≤◌, ⊎_elim, eqb-true, ◌⊎◌, inl, inr, w64}
+use Rattle.std.proofs.Common.{◌≡◌, ◌≢◌, ◌<◌, ℕ, suc, zero, cond, List, [], ◌∷◌, ◌++◌, All, take, drop, replicate, Option, Some, None, MatchOption, Bor, refl, sym, subst, ap, ap₂, ◌∙◌, lit<, take-append-drop, append-nil, ◌+◌, ◌-◌, ◌*◌, ◌^◌, length, get_or, get_or-drop, length-take, length-drop, arith, take_all, ◌≤◌, ⊎_elim, eqb-true, ◌⊎◌, inl, inr, w64, append_assoc, Bool, false, not, map, reverse, ne_eqb}
 use Rattle.std.proofs.Math.Nat.{pow-suc, eq-or-lt_of_le}
 use Rattle.std.specs.Int.{bit_at, trailing_zeros}
 use Rattle.std.specs.Int.Count.{count_leading_zeros}
-use Rattle.std.proofs.lemmas.Bool.{cases_Bool, cases_lt, cond-false}
-use Rattle.std.proofs.lemmas.Nat.{leading_top}
-use Rattle.std.proofs.lemmas.Nat.Bits.{bit_at-trailing_zeros, bit_at-zero, bit_at_above, bit_at_cat_high}
+use Rattle.std.proofs.lemmas.Bool.{cases_Bool, cases_lt, not-false, eq-eqb}
+use Rattle.std.proofs.lemmas.List.Folds.{prefix_len-append}
+use Rattle.std.proofs.lemmas.List.Sums.{position_or_len_is, passes_at_first, fails_before_first, split_at_first, prefix_len_stops, prefix_len-le-length, suffix_len_is, suffix_len-le-length}
+use Rattle.std.proofs.lemmas.Simd.{chunk-drop, length-chunk, get_or-chunk, bit_mask_l, mask_l-lt, leading_from_mask_l, trailing_mask_l}
+use Rattle.std.specs.List.{position, position_or_len, suffix_len, before_first, after_first, before_last, after_last}
+use Rattle.relative_path.specs.Slashes.{last_start}
+use Rattle.std.specs.Simd.Lanes.{mask_l}
+use Rattle.std.proofs.lemmas.Nat.{leading_length}
+use Rattle.std.proofs.lemmas.Nat.Bits.{bit_at_above, bit_at_cat_high}
 use Rattle.std.specs.Str.{IsUtf8, IsCharBoundary}
 use Rattle.std.specs.Str.Pattern.{RFindsChar, FindsTextPrefix, FindsTextSuffix, SplitsAroundMatch, StripsPrefix, StripsSuffix, FindsCharPrefix, FindsCharSuffix, IsTrimStartMatches, IsTrimEndMatches, CutsPrefixes, CutsSuffixes}
-use Rattle.std.proofs.lemmas.List.Elements.{All-from_get_or}
+use Rattle.std.proofs.lemmas.List.Elements.{All-from_get_or, recursion_from_All}
 use Rattle.std.proofs.lemmas.Str.Pattern.{NoCharPasses-char, drop_at_char}
 use Rattle.relative_path.specs.Steps.{slash, is_slash, components}
-use Rattle.std.proofs.lemmas.List.{drop_all, drop_more, take_more, get_or-take}
+use Rattle.std.proofs.lemmas.List.{get_or-map, drop_all, drop_more, take_more, get_or-take, get_or-reverse, reverse-append, length-reverse, length-map}
 use Rattle.std.proofs.lemmas.Str.{encode_ascii, IsCharBoundary-after_ascii, IsCharBoundary-before_ascii, IsCharBoundary-start, IsCharBoundary-end}
-use Rattle.relative_path.proofs.StepsLemmas.{components-nil, components-append, components-slash, components-trailing_slash}
+use Rattle.relative_path.proofs.StepsLemmas.{components-nil, components-append, components-slash, components-trailing_slash, HasNoSlash}
 use Rattle.relative_path.proofs.SlicesLemmas.{IsSuffix-from, IsSuffix-drop, IsSuffix-trans, IsPrefix-trans}
 
 -- ---- trimmed
@@ -105,7 +111,61 @@ pub prefix-strip_suffix : (n : ℕ) (text left : List ℕ)
 prefix-strip_suffix n text left (m, _, is, counted) =
     let len : length text - m ≡ length left = omega arith in is ∙ ap (λ k. take k text) len
 
--- ---- searched by blocks: a mask has a bit for each of sixteen bytes, set where that is a slash
+-- ---- the first and the last slash
+
+-- the byte is no slash
+abbrev is_solid : ℕ → Bool
+is_solid b = not (is_slash b)
+
+-- where the first slash stands, or the end
+pub position_is : (bytes : List ℕ) (n : ℕ) → n ≤ length bytes → ((k : ℕ) → k < n → get_or bytes k 0 ≢ slash)
+    → (n < length bytes → get_or bytes n 0 ≡ slash) → n ≡ position_or_len is_slash bytes
+position_is bytes n inside before at =
+    sym (position_or_len_is is_slash bytes n 0 inside (λ k h. ne_eqb _ _ (before k h)) (λ h. eq-eqb _ _ (at h)))
+
+-- where the bytes after the last slash begin, or the start
+pub last_start_is : (bytes : List ℕ) (n : ℕ) → n ≤ length bytes
+    → ((k : ℕ) → n ≤ k → k < length bytes → get_or bytes k 0 ≢ slash) → (0 < n → get_or bytes (n - 1) 0 ≡ slash)
+    → n ≡ last_start is_slash bytes
+last_start_is bytes n inside after at =
+    let counted =
+    suffix_len_is is_solid bytes n 0 inside (λ k from to. ap not (ne_eqb _ _ (after k from to)))
+    (λ h. ap not (eq-eqb _ _ (at h))) in omega (arith, inside, counted)
+
+pub last_start_none : (bytes : List ℕ) → ((k : ℕ) → k < length bytes → get_or bytes k 0 ≢ slash)
+    → 0 ≡ last_start is_slash bytes
+last_start_none bytes none = last_start_is bytes 0 (omega arith) (λ k _ to. none k to) (λ h. absurd (omega (arith, h)))
+
+slash_at_first : (bytes : List ℕ) → position_or_len is_slash bytes < length bytes
+    → get_or bytes (position_or_len is_slash bytes) 0 ≡ slash
+slash_at_first bytes some = eqb-true _ _ (passes_at_first is_slash bytes 0 some)
+
+slash_before_last : (bytes : List ℕ) → 0 < last_start is_slash bytes
+    → get_or bytes (last_start is_slash bytes - 1) 0 ≡ slash
+slash_before_last bytes some =
+    let n = suffix_len is_solid bytes in
+    let at : length bytes - 1 - n ≡ last_start is_slash bytes - 1 = omega arith in
+    let stops = prefix_len_stops is_solid (reverse bytes) 0 (omega (arith, some, length-reverse bytes)) in
+    eqb-true _ _
+    (not-false _ (ap is_solid (ap (λ i. get_or bytes i 0) (sym at) ∙ sym (get_or-reverse bytes n 0 (omega (arith, some)))) ∙ stops))
+
+-- no more bytes stand before the first slash than there are
+pub position_le : (bytes : List ℕ) → position_or_len is_slash bytes ≤ length bytes
+position_le = prefix_len-le-length is_solid
+
+-- ---- searched by blocks of sixteen bytes: a mask has a bit for each, set where that is a slash
+
+-- the first slash, in the second of three parts without one in the first, or after it
+module _ (xs ys zs : List ℕ) (after : length xs ≤ position_or_len is_slash (xs ++ (ys ++ zs))) where
+  first-in : position_or_len is_slash ys < length ys
+      → position_or_len is_slash (xs ++ (ys ++ zs)) ≡ length xs + position_or_len is_slash ys
+  first-in some =
+      grind (arith, after, some, prefix_len-append is_solid xs (ys ++ zs), prefix_len-append is_solid ys zs, position_le xs)
+
+  first-after : position_or_len is_slash ys ≡ length ys
+      → length xs + length ys ≤ position_or_len is_slash (xs ++ (ys ++ zs))
+  first-after none =
+      grind (arith, after, none, prefix_len-append is_solid xs (ys ++ zs), prefix_len-append is_solid ys zs, position_le xs)
 
 -- the highest power of two in a number is a bit of it
 top_bit : (n j : ℕ) → 2 ^ j ≤ n → n < 2 ^ suc j → bit_at n j ≡ 1
@@ -115,57 +175,113 @@ top_bit n j least most =
     let none : j - j ≡ 0 = omega arith in
     ap (λ m. bit_at m j) whole ∙ bit_at_cat_high 1 j (n - 2 ^ j) j less (omega arith) ∙ ap (bit_at 1) none
 
-module _ (bytes : List ℕ) (start mask : ℕ)
-    (bits : (k : ℕ) → k < 16 → bit_at mask k ≡ cond (is_slash (get_or bytes (start + k) 0)) 1 0) where
-  slash_at : (k : ℕ) → k < 16 → bit_at mask k ≡ 1 → get_or bytes (start + k) 0 ≡ slash
-  slash_at k inside set =
-      let bit = sym (bits k inside) ∙ set in
-      ⊎_elim (λ e. eqb-true _ _ e)
-      (λ e. absurd (omega (arith, bit, cond-false {A = ℕ} (is_slash (get_or bytes (start + k) 0)) 1 0 e)))
-      (cases_Bool (is_slash (get_or bytes (start + k) 0)))
+some_slash : (bytes : List ℕ) → 0 < mask_l (map is_slash bytes) → position_or_len is_slash bytes < length bytes
+some_slash [] some = absurd (omega (arith, some))
+some_slash (b ∷ bs) some = ⊎_elim
+    (λ e. grind (arith, e))
+    (λ e. grind (arith, e, some, some_slash bs))
+    (cases_Bool (is_slash b))
 
-  no_slash_at : (k : ℕ) → start ≤ k → k < start + 16 → bit_at mask (k - start) ≡ 0 → get_or bytes k 0 ≢ slash
-  no_slash_at k from to clear e =
-      let at : start + (k - start) ≡ k = omega (arith, from) in
-      let bit = sym (bits (k - start) (omega (arith, from, to))) ∙ clear in
-      let slashed = ap is_slash (ap (λ i. get_or bytes i 0) at ∙ e) in
-      omega (arith, bit, ap {B = ℕ} (λ b. cond b 1 0) slashed)
+module _ (bytes : List ℕ) (start : ℕ) (inside : start + 16 ≤ length bytes) where
+  abbrev front : List ℕ
+  front = take start bytes
 
-  pub no_slash_in : mask ≡ 0 → (k : ℕ) → start ≤ k → k < start + 16 → get_or bytes k 0 ≢ slash
-  no_slash_in none k from to =
-      no_slash_at k from to (ap (λ n. bit_at n (k - start)) none ∙ bit_at-zero (k - start))
+  abbrev block : List ℕ
+  block = take 16 (drop start bytes)
 
-  pub first_slash_in : mask < 2 ^ 16 → mask ≢ 0 → (trailing_zeros w64 mask < 16)
-      × (get_or bytes (start + trailing_zeros w64 mask) 0 ≡ slash)
-      × ((k : ℕ) → start ≤ k → k < start + trailing_zeros w64 mask → get_or bytes k 0 ≢ slash)
-  first_slash_in bound some =
-      let lowest = bit_at-trailing_zeros w64 mask (omega (arith, some)) (omega (arith, bound)) in
-      let within : trailing_zeros w64 mask < 16 =
-      ⊎_elim (λ h. h)
-      (λ h. absurd (omega (arith, lowest.1, bit_at_above mask 16 (trailing_zeros w64 mask) bound h)))
-      (cases_lt (trailing_zeros w64 mask) 16) in (
-        within,
-        slash_at (trailing_zeros w64 mask) within lowest.1,
-        λ k from to. no_slash_at k from (omega (arith, to, within)) (lowest.2 (k - start) (omega (arith, from, to))),
-      )
+  abbrev rest : List ℕ
+  rest = drop (start + 16) bytes
 
-  pub last_slash_in : mask < 2 ^ 16 → mask ≢ 0 → (0 < 64 - count_leading_zeros 64 mask)
-      × (64 - count_leading_zeros 64 mask ≤ 16)
-      × (get_or bytes (start + (64 - count_leading_zeros 64 mask) - 1) 0 ≡ slash)
-      × ((k : ℕ) → start + (64 - count_leading_zeros 64 mask) ≤ k → k < start + 16 → get_or bytes k 0 ≢ slash)
-  last_slash_in bound some =
-      let (j, counted, least, most) = leading_top 64 mask (omega (arith, some)) (omega (arith, bound)) in
-      let len : 64 - count_leading_zeros 64 mask ≡ j + 1 = omega (arith, counted) in
-      let set = top_bit mask j least most in
-      let within : j < 16 =
-      ⊎_elim (λ h. h) (λ h. absurd (omega (arith, set, bit_at_above mask 16 j bound h))) (cases_lt j 16) in
-      let at : start + (64 - count_leading_zeros 64 mask) - 1 ≡ start + j = omega (arith, len) in (
-        omega (arith, len),
-        omega (arith, len, within),
-        ap (λ i. get_or bytes i 0) at ∙ slash_at j within set,
-        λ k from to. no_slash_at k (omega (arith, len, from)) to
-            (bit_at_above mask (suc j) (k - start) most (omega (arith, len, from))),
-      )
+  abbrev mask : ℕ
+  mask = mask_l (map is_slash block)
+
+  long : length block ≡ 16
+  long = length-chunk start 16 bytes inside
+
+  joined : bytes ≡ front ++ (block ++ rest)
+  joined = sym (take-append-drop start bytes) ∙ ap (λ x. front ++ x) (chunk-drop start 16 bytes)
+
+  backwards : reverse bytes ≡ reverse rest ++ (reverse block ++ reverse front)
+  backwards =
+      ap reverse joined ∙ reverse-append front (block ++ rest)
+      ∙ ap (λ x. x ++ reverse front) (reverse-append block rest)
+      ∙ append_assoc (reverse rest) (reverse block) (reverse front)
+
+  lengths : (length front ≡ start) × (length (reverse rest) ≡ length bytes - (start + 16)) × (length (reverse block) ≡ 16)
+  lengths =
+      (omega (arith, length-take start bytes, inside), length-reverse rest ∙ length-drop (start + 16) bytes, length-reverse block ∙ long)
+
+  -- where no slash stands before the block, the first one stands in it or after it
+  pub position_some : (len : ℕ) → start ≤ position_or_len is_slash bytes → Some len ≡ position is_slash block
+      → start + len ≡ position_or_len is_slash bytes
+  position_some len after found =
+      let whole = ap (position_or_len is_slash) joined in
+      let at : (len ≡ position_or_len is_slash block) × (position_or_len is_slash block < length block) = grind (arith, found) in
+      omega (arith, whole, at, lengths, first-in front block rest (omega (arith, after, whole, lengths)) at.1)
+
+  pub position_none : start ≤ position_or_len is_slash bytes → None ≡ position is_slash block
+      → start + 16 ≤ position_or_len is_slash bytes
+  position_none after none =
+      let whole = ap (position_or_len is_slash) joined in
+      let all : position_or_len is_slash block ≡ length block = grind (arith, none, position_le block) in
+      omega (arith, whole, lengths, long, first-after front block rest (omega (arith, after, whole, lengths)) all)
+
+  -- where no slash stands after the block, the last one stands in it or before it
+  module _ (before : last_start is_slash bytes ≤ start + 16) where
+    turned : length (reverse rest) ≤ position_or_len is_slash (reverse rest ++ (reverse block ++ reverse front))
+    turned = omega (arith, before, ap (position_or_len is_slash) backwards, lengths, inside)
+
+    pub last_some : 0 < last_start is_slash block → start + last_start is_slash block ≡ last_start is_slash bytes
+    last_some some =
+        let found = first-in (reverse rest) (reverse block) (reverse front) turned (omega (arith, some, lengths, long)) in
+        omega (arith, ap (position_or_len is_slash) backwards, some, lengths, long, inside, found)
+
+    pub last_none : last_start is_slash block ≡ 0 → last_start is_slash bytes ≤ start
+    last_none none =
+        let found =
+        first-after (reverse rest) (reverse block) (reverse front) turned
+        (omega (arith, none, lengths, long, suffix_len-le-length is_solid block)) in
+        omega (arith, ap (position_or_len is_slash) backwards, lengths, inside, found)
+
+  pub mask_bound : mask < 2 ^ 16
+  mask_bound =
+      subst (λ n. mask < 2 ^ n) (length-map block is_slash ∙ long) (mask_l-lt (map is_slash block))
+
+  pub mask_bit : (k : ℕ) → k < 16 → bit_at mask k ≡ cond (is_slash (get_or bytes (start + k) 0)) 1 0
+  mask_bit k h =
+      bit_mask_l (map is_slash block) k
+      ∙ ap (λ b. cond b 1 0) (get_or-map is_slash block k 0 false (omega (arith, h, long))
+      ∙ ap is_slash (get_or-chunk start 16 bytes k 0 h))
+
+  pub position-none : mask ≡ 0 → None ≡ position is_slash block
+  position-none none = grind (arith, leading_from_mask_l is_slash block none)
+
+  pub position-some : mask ≢ 0 → Some (trailing_zeros w64 mask) ≡ position is_slash block
+  position-some some =
+      let set : 0 < mask = omega (arith, some) in
+      let short : length block ≤ 64 = omega (arith, long) in
+      grind (arith, trailing_mask_l is_slash 64 block short set, some_slash block set)
+
+  bit_at_block : (k : ℕ) → k < 16 → bit_at mask k ≡ cond (is_slash (get_or block k 0)) 1 0
+  bit_at_block k h = mask_bit k h ∙ ap (λ b. cond (is_slash b) 1 0) (sym (get_or-chunk start 16 bytes k 0 h))
+
+  pub last_start-block : 64 - count_leading_zeros 64 mask ≡ last_start is_slash block
+  last_start-block =
+      let (m, counted, most, least) = leading_length 64 mask (omega (arith, mask_bound)) in
+      let top : 0 < m → bit_at mask (m - 1) ≡ 1 = λ some.
+      let same : suc (m - 1) ≡ m = omega (arith, some) in
+      top_bit mask (m - 1) (omega (arith, least, pow-suc 2 (m - 1), ap (λ i. 2 ^ i) same)) (omega (arith, most, ap (λ i. 2 ^ i) same)) in
+      let within : m ≤ 16 = ⊎_elim
+      (λ h. absurd (omega (arith, top (omega (arith, h)), bit_at_above mask 16 (m - 1) mask_bound (omega (arith, h)))))
+      (λ h. h)
+      (cases_lt 16 m) in
+      let is : 64 - count_leading_zeros 64 mask ≡ m = omega (arith, counted) in
+      is ∙ last_start_is block m (omega (arith, within, long))
+      (λ k from to e. omega (arith, bit_at_block k (omega (arith, to, long)), bit_at_above mask m k most from, ap {B = ℕ} (λ b. cond (is_slash b) 1 0) e))
+      (λ some. ⊎_elim
+      (λ e. eqb-true _ _ e)
+      (λ e. absurd (omega (arith, top some, bit_at_block (m - 1) (omega (arith, within, some)), ap {B = ℕ} (λ b. cond b 1 0) e)))
+      (cases_Bool (is_slash (get_or block (m - 1) 0))))
 
 -- ---- cut
 
@@ -177,51 +293,80 @@ IsCharBoundary-piece text n inside at = elim (eq-or-lt_of_le inside) [
   | inr more ↦ IsCharBoundary-before_ascii text n more (omega (arith, at more))
 ]
 
--- a text may be cut after a slash
-pub IsCharBoundary-behind : (text : List ℕ) (n : ℕ) → IsUtf8 text → 0 < n → n ≤ length text
-    → get_or text (n - 1) 0 ≡ slash → IsCharBoundary text n
-IsCharBoundary-behind text n utf8 some inside at =
-    let same : n - 1 + 1 ≡ n = omega arith in
-    subst (IsCharBoundary text) same (IsCharBoundary-after_ascii text (n - 1) utf8 (omega arith) (omega (arith, at)))
+pub IsCharBoundary_first : (text : List ℕ) → IsCharBoundary text (position_or_len is_slash text)
+IsCharBoundary_first text =
+    IsCharBoundary-piece text (position_or_len is_slash text) (position_le text) (slash_at_first text)
 
-pub IsCharBoundary-before : (text : List ℕ) (n m : ℕ) → IsUtf8 text → n ≤ length text
-    → (0 < n → get_or text (n - 1) 0 ≡ slash) → m ≡ n - 1 → IsCharBoundary text m
-IsCharBoundary-before text n m utf8 inside at is =
+pub IsCharBoundary_after_first : (text : List ℕ) → IsUtf8 text → position_or_len is_slash text < length text
+    → IsCharBoundary text (position_or_len is_slash text + 1)
+IsCharBoundary_after_first text utf8 some =
+    IsCharBoundary-after_ascii text (position_or_len is_slash text) utf8 some (omega (arith, slash_at_first text some))
+
+-- and before its last slash, if it has one, and after it
+pub IsCharBoundary_before_last : (text : List ℕ) → IsUtf8 text → IsCharBoundary text (last_start is_slash text - 1)
+IsCharBoundary_before_last text utf8 =
     ⊎_elim
-    (λ some. IsCharBoundary-piece text m (omega (arith, is, inside)) (λ _. ap (λ i. get_or text i 0) is ∙ at some))
-    (λ none. let front : 0 ≡ m = omega (arith, is, none) in
+    (λ some. IsCharBoundary-piece text (last_start is_slash text - 1) (omega arith) (λ _. slash_before_last text some))
+    (λ none. let front : 0 ≡ last_start is_slash text - 1 = omega (arith, none) in
     subst (IsCharBoundary text) front (IsCharBoundary-start text utf8))
-    (cases_lt 0 n)
+    (cases_lt 0 (last_start is_slash text))
 
--- the text is what stands before its last slash, that slash and what stands after it
-pub joined_last : (text : List ℕ) (n m : ℕ) → n ≤ length text → (0 < n → get_or text (n - 1) 0 ≡ slash) → m ≡ n - 1
-    → (text ≡ take m text ++ slash ∷ drop n text) ⊎ ((text ≡ drop n text) × (take m text ≡ []))
-joined_last text n m inside at is =
+pub IsCharBoundary_last : (text : List ℕ) → IsUtf8 text → 0 < last_start is_slash text
+    → IsCharBoundary text (last_start is_slash text)
+IsCharBoundary_last text utf8 some =
+    let same : last_start is_slash text - 1 + 1 ≡ last_start is_slash text = omega (arith, some) in
+    subst (IsCharBoundary text) same
+    (IsCharBoundary-after_ascii text (last_start is_slash text - 1) utf8 (omega (arith, some))
+    (omega (arith, slash_before_last text some)))
+
+-- what stands before the first slash, and after the last one, has none
+pub HasNoSlash-before_first : (text : List ℕ) → HasNoSlash (before_first is_slash text)
+HasNoSlash-before_first text =
+    let n = position_or_len is_slash text in
+    recursion_from_All (λ b. is_slash b ≡ false) (take n text)
+    (All-from_get_or (λ b. is_slash b ≡ false) (take n text) 0
+    (λ k h. let inside : k < n = omega (arith, h, length-take n text) in
+    ap is_slash (get_or-take n text k 0 inside) ∙ fails_before_first is_slash text k 0 inside))
+
+pub HasNoSlash-after_last : (text : List ℕ) → HasNoSlash (after_last is_slash text)
+HasNoSlash-after_last text =
+    let n = last_start is_slash text in
+    recursion_from_All (λ b. is_slash b ≡ false) (drop n text)
+    (All-from_get_or (λ b. is_slash b ≡ false) (drop n text) 0
+    (λ k h.
+    let inside : n + k < length text = omega (arith, h, length-drop n text) in
+    let back : length text - 1 - (length text - 1 - (n + k)) ≡ n + k = omega (arith, inside) in
+    ap is_slash (get_or-drop n text k 0 ∙ ap (λ i. get_or text i 0) (sym back)
+    ∙ sym (get_or-reverse text (length text - 1 - (n + k)) 0 (omega (arith, inside))))
+    ∙ fails_before_first is_slash (reverse text) (length text - 1 - (n + k)) 0
+    (omega (arith, inside, suffix_len-le-length is_solid text))))
+
+-- the text is what stands before its first slash, that slash and what stands after it
+pub joined_first : (text : List ℕ) → (text ≡ before_first is_slash text ++ slash ∷ after_first is_slash text)
+    ⊎ ((text ≡ before_first is_slash text) × (after_first is_slash text ≡ []))
+joined_first text =
+    let n = position_or_len is_slash text in
+    ⊎_elim
+    (λ some. inl (split_at_first is_slash text 0 some
+    ∙ ap (λ b. before_first is_slash text ++ b ∷ after_first is_slash text) (slash_at_first text some)))
+    (λ none. inr (sym (take_all n text none), drop_all (n + 1) text (omega (arith, none))))
+    (cases_lt n (length text))
+
+-- and the same of its last slash
+pub joined_last : (text : List ℕ) → (text ≡ before_last is_slash text ++ slash ∷ after_last is_slash text)
+    ⊎ ((text ≡ after_last is_slash text) × (before_last is_slash text ≡ []))
+joined_last text =
+    let n = last_start is_slash text in
     ⊎_elim
     (λ some.
-    let next : m + 1 ≡ n = omega (arith, is, some) in
-    let before = ap (λ i. get_or text i 0) is ∙ at some in
-    let behind = drop_more text m 0 (omega (arith, is, some, inside)) ∙ ap₂ (λ b k. b ∷ drop k text) before next in
-    inl (sym (take-append-drop m text) ∙ ap (λ x. take m text ++ x) behind))
+    let next : n - 1 + 1 ≡ n = omega (arith, some) in
+    let last =
+    drop_more text (n - 1) 0 (omega (arith, some)) ∙ ap₂ (λ b k. b ∷ drop k text) (slash_before_last text some) next in
+    inl (sym (take-append-drop (n - 1) text) ∙ ap (λ x. take (n - 1) text ++ x) last))
     (λ none.
-    let first : n ≡ 0 = omega (arith, none) in
-    let front : m ≡ 0 = omega (arith, is, none) in
-    inr (sym (ap (λ k. drop k text) first), ap (λ k. take k text) front))
+    let start : n ≡ 0 = omega (arith, none) in
+    inr (sym (ap (λ k. drop k text) start), ap (λ k. take (k - 1) text) start))
     (cases_lt 0 n)
-
--- a stretch without a slash before n, and from n on
-pub All-take : (text : List ℕ) (n : ℕ) → ((k : ℕ) → k < n → get_or text k 0 ≢ slash)
-    → All (λ b. b ≢ slash) (take n text)
-All-take text n before =
-    All-from_get_or (λ b. b ≢ slash) (take n text) 0
-    (λ k h. let inside : k < n = omega (arith, length-take n text) in
-    rw (get_or-take n text k 0 inside) (before k inside))
-
-pub All-drop : (text : List ℕ) (n : ℕ) → ((k : ℕ) → n ≤ k → k < length text → get_or text k 0 ≢ slash)
-    → All (λ b. b ≢ slash) (drop n text)
-All-drop text n behind =
-    All-from_get_or (λ b. b ≢ slash) (drop n text) 0
-    (λ k h. rw (get_or-drop n text k 0) (behind (n + k) (omega arith) (omega (arith, length-drop n text))))
 
 -- what `rsplit_once` gives at an ASCII character
 pub rsplit_once_parts : (c : ℕ) (text : List ℕ) (r : Option (Bor (List ℕ) × Bor (List ℕ)))

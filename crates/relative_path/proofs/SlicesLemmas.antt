@@ -114,6 +114,9 @@ IsSuffix-from {text} {r} e =
       joined = sym (ap (λ x. take (length text - length r) text ++ x) e ∙ take-append-drop (length text - length r) text);
     }
 
+pub IsSuffix-of_drop : (n : ℕ) (text : List ℕ) → IsSuffix text (drop n text)
+IsSuffix-of_drop n text = record { front = take n text; joined = sym (take-append-drop n text) }
+
 pub IsSuffix-drop : {text r : List ℕ} → IsSuffix text r → r ≡ drop (length text - length r) text
 IsSuffix-drop {text} {r} h = sym (end_rest text r h.front h.joined)
 

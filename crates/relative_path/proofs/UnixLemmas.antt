@@ -43,10 +43,10 @@ components-before front = elim (last_slash front) [
 ]
 
 -- whatever stands before a text, only its first piece can change
-components-behind : (rest : List ℕ)
+components-after : (rest : List ℕ)
     → (cs : List Step) × (y : List ℕ) × HasNoSlash y
     × ((front : List ℕ) → components (front ++ rest) ≡ components (front ++ y) ++ cs)
-components-behind rest = elim (first_slash rest) [
+components-after rest = elim (first_slash rest) [
   | inl none ↦ ([], rest, none, λ front. sym (append-nil (components (front ++ rest))))
   | inr (xs, ys, joined, none) ↦ (
     components ys,
@@ -67,10 +67,10 @@ Continues front rest =
 continues : (front rest : List ℕ) → Continues front rest
 continues front rest =
     let before = components-before front in
-    let behind = components-behind rest in
-    joined before.0 behind.0 before.1 behind.1 before.2 behind.2
+    let later = components-after rest in
+    joined before.0 later.0 before.1 later.1 before.2 later.2
     (ap components (sym (append-nil front)) ∙ before.3 [] ∙ ap (λ t. before.0 ++ components t) (append-nil before.1))
-    (before.3 rest ∙ ap (λ cs. before.0 ++ cs) (behind.3 before.1))
+    (before.3 rest ∙ ap (λ cs. before.0 ++ cs) (later.3 before.1))
   where
     joined : (cs ds : List Step) (x y : List ℕ) → HasNoSlash x → HasNoSlash y → components front ≡ cs ++ components x
         → components (front ++ rest) ≡ cs ++ (components (x ++ y) ++ ds) → Continues front rest

@@ -1,4 +1,5 @@
 pub mod Steps
+pub mod Slashes
 pub mod Walk
 pub mod Normalizing
 pub mod Counting

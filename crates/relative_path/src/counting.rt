@@ -1,11 +1,11 @@
 //! How many components a text has.
-ghost use Rattle.std.specs.Prelude.{◌≡◌, ◌≤◌, ◌<◌, ◌+◌, ◌-◌, drop, length, slice_index};
-ghost use Rattle.relative_path.specs.Counting.{begun};
-ghost use Rattle.relative_path.specs.Steps.{components, is_slash};
+ghost use Rattle.std.specs.Prelude.{◌≡◌, ◌≤◌, ◌<◌, ◌+◌, ◌-◌, length};
+ghost use Rattle.relative_path.specs.Counting.{begun_from};
+ghost use Rattle.relative_path.specs.Steps.{components};
 
 use crate::slashes::{BLOCK, slashes_in};
 
-// How many components a text has. It counts where they begin: at a first byte that is no slash, and at each byte that
+// Counts the components of a text where they begin. One begins at a first byte that is no slash, and at each byte that
 // is none and stands after one.
 pub(crate) fn component_count(text: &str) -> usize
     ensures count { result ≡ length (components text.now) }
@@ -23,10 +23,10 @@ pub(crate) fn component_count(text: &str) -> usize
     begun + usize::from(*first != b'/')
 }
 
-// How many components begin after the first byte, block by block. The last block may begin within the one before it.
+// Counts the components that begin after the first byte, block by block. The last block may begin within the one before it.
 fn begun_by_blocks(bytes: &[u8]) -> usize
     requires { BLOCK < length bytes.now }
-    ensures count { result ≡ begun (is_slash (slice_index bytes.now 0)) (drop 1 bytes.now) }
+    ensures count { result ≡ begun_from bytes.now 1 }
     ensures bound { result < length bytes.now }
 {
     let last = bytes.len() - BLOCK;
@@ -39,24 +39,23 @@ fn begun_by_blocks(bytes: &[u8]) -> usize
     count + begun_in(bytes, last, at - last)
 }
 
-// How many components begin in a block, without its first `skipped` bytes.
+// Counts the components that begin in a block after its first `skipped` bytes.
 #[inline(always)]
 fn begun_in(bytes: &[u8], start: usize, skipped: usize) -> usize
     requires start { 0 < start }
     requires block { start + BLOCK ≤ length bytes.now }
     requires skipped { skipped < BLOCK }
-    ensures count { result + begun (is_slash (slice_index bytes.now (start + BLOCK - 1))) (drop (start + BLOCK) bytes.now)
-        ≡ begun (is_slash (slice_index bytes.now (start + skipped - 1))) (drop (start + skipped) bytes.now) }
+    ensures count { result + begun_from bytes.now (start + BLOCK) ≡ begun_from bytes.now (start + skipped) }
     ensures bound { result ≤ BLOCK - skipped }
 {
     let begun = slashes_in(bytes, start - 1) & !slashes_in(bytes, start);
     (begun >> skipped).count_ones() as usize
 }
 
-// How many components begin after the first byte, byte by byte.
+// Counts the components that begin after the first byte, byte by byte.
 fn begun_by_one(bytes: &[u8]) -> usize
     requires { 0 < length bytes.now }
-    ensures count { result ≡ begun (is_slash (slice_index bytes.now 0)) (drop 1 bytes.now) }
+    ensures count { result ≡ begun_from bytes.now 1 }
     ensures bound { result < length bytes.now }
 {
     let mut count = 0;

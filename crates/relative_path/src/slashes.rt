@@ -1,7 +1,8 @@
 //! A text cut at its slashes.
-ghost use Rattle.std.specs.Prelude.{◌≡◌, ◌≢◌, ◌≤◌, ◌<◌, ◌+◌, ◌-◌, ◌^◌, ◌⊎◌, ℕ, [], ◌∷◌, ◌++◌, MatchOption, drop, if◌then◌else◌, length, slice_index, take};
-ghost use Rattle.std.specs.List.{All};
-ghost use Rattle.std.specs.Int.{bit_at};
+ghost use Rattle.std.specs.Prelude.{◌≡◌, ◌≢◌, ◌≤◌, ◌+◌, ◌-◌, drop, length, map, slice_index, take};
+ghost use Rattle.std.specs.List.{position, position_or_len, before_first, after_first, before_last, after_last};
+ghost use Rattle.std.specs.Simd.Lanes.{mask_l};
+ghost use Rattle.relative_path.specs.Slashes.{last_start};
 ghost use Rattle.relative_path.specs.Steps.{slash, is_slash, components};
 
 use std::simd::prelude::*;
@@ -9,10 +10,10 @@ use std::simd::prelude::*;
 // How many bytes are compared side by side.
 pub(crate) const BLOCK: usize = 16;
 
-// Slashes are taken off by as many as these, and then one by one.
+// A run of slashes, dropped at once.
 const SLASHES: &str = "////////////////";
 
-// The text without the slashes at its start.
+// Answers the text without the slashes at its start.
 #[inline(always)]
 pub(crate) fn without_leading_slashes(text: &str) -> &str
     ensures suffix { result.now ≡ drop (length text.now - length result.now) text.now }
@@ -26,7 +27,7 @@ pub(crate) fn without_leading_slashes(text: &str) -> &str
     }
 }
 
-// The text without the slashes at its start, of which there is one at least.
+// Drops the slashes at the start of the text: first in runs of sixteen, then one by one.
 #[inline(never)]
 fn without_leading_run(text: &str) -> &str
     ensures suffix { result.now ≡ drop (length text.now - length result.now) text.now }
@@ -40,7 +41,7 @@ fn without_leading_run(text: &str) -> &str
     rest.trim_start_matches('/')
 }
 
-// The text without the slashes at its end.
+// Answers the text without the slashes at its end.
 #[inline(always)]
 pub(crate) fn without_trailing_slashes(text: &str) -> &str
     ensures prefix { result.now ≡ take (length result.now) text.now }
@@ -54,7 +55,7 @@ pub(crate) fn without_trailing_slashes(text: &str) -> &str
     }
 }
 
-// The text without the slashes at its end, of which there is one at least.
+// Drops the slashes at the end of the text: first in runs of sixteen, then one by one.
 #[inline(never)]
 fn without_trailing_run(text: &str) -> &str
     ensures prefix { result.now ≡ take (length result.now) text.now }
@@ -68,28 +69,27 @@ fn without_trailing_run(text: &str) -> &str
     front.trim_end_matches('/')
 }
 
-// What stands before the first slash, and what stands after it.
+// Answers the bytes before the first slash, and those after it.
 #[inline(always)]
+#[tactic(auto, using(crate::proofs::SlashesLemmas::position_le, crate::proofs::SlashesLemmas::IsCharBoundary_first, crate::proofs::SlashesLemmas::IsCharBoundary_after_first))]
 pub(crate) fn split_first(text: &str) -> (&str, &str)
-    ensures piece { All (λ b. b ≢ slash) result.0.now }
-    ensures joined { (text.now ≡ result.0.now ++ slash ∷ result.1.now)
-        ⊎ ((text.now ≡ result.0.now) × (result.1.now ≡ [])) }
+    ensures piece { result.0.now ≡ before_first is_slash text.now }
+    ensures rest { result.1.now ≡ after_first is_slash text.now }
 {
     let len = first_piece_len(text);
-    let behind = len + 1;
-    if behind < text.len() {
-        (&text[..len], &text[behind..])
+    let next = len + 1;
+    if next < text.len() {
+        (&text[..len], &text[next..])
     } else {
         (&text[..len], &text[text.len()..])
     }
 }
 
-// How many bytes stand before the first slash.
+// Counts the bytes before the first slash.
 #[inline(always)]
+#[tactic(auto, using(crate::proofs::SlashesLemmas::position_is))]
 fn first_piece_len(text: &str) -> usize
-    ensures bound { result ≤ length text.now }
-    ensures before { (k : ℕ) → k < result → slice_index text.now k ≢ slash }
-    ensures slash { result < length text.now → slice_index text.now result ≡ slash }
+    ensures { result ≡ position_or_len is_slash text.now }
 {
     let bytes = text.as_bytes();
     if bytes.len() >= BLOCK {
@@ -105,14 +105,13 @@ fn first_piece_len(text: &str) -> usize
     len
 }
 
-// The same, where no slash is in the first block. The last block may begin within the one before it.
+// Counts them where the first block has no slash. The last block may begin within the one before it.
 #[inline(never)]
+#[tactic(auto, using(crate::proofs::SlashesLemmas::position_none, crate::proofs::SlashesLemmas::position_le))]
 fn far_first_piece_len(bytes: &[u8]) -> usize
     requires block { BLOCK ≤ length bytes.now }
-    requires near { (k : ℕ) → k < BLOCK → slice_index bytes.now k ≢ slash }
-    ensures bound { result ≤ length bytes.now }
-    ensures before { (k : ℕ) → k < result → slice_index bytes.now k ≢ slash }
-    ensures slash { result < length bytes.now → slice_index bytes.now result ≡ slash }
+    requires near { BLOCK ≤ position_or_len is_slash bytes.now }
+    ensures { result ≡ position_or_len is_slash bytes.now }
 {
     let last = bytes.len() - BLOCK;
     let mut start = BLOCK;
@@ -128,14 +127,11 @@ fn far_first_piece_len(bytes: &[u8]) -> usize
     }
 }
 
-// How many bytes of a block stand before its first slash.
+// Counts the bytes of a block before its first slash, if it has one.
 #[inline(always)]
 fn first_in_block(bytes: &[u8], start: usize) -> Option<usize>
     requires { start + BLOCK ≤ length bytes.now }
-    ensures { MatchOption result
-        ((k : ℕ) → start ≤ k → k < start + BLOCK → slice_index bytes.now k ≢ slash)
-        (λ len. (len < BLOCK) × (slice_index bytes.now (start + len) ≡ slash)
-        × ((k : ℕ) → start ≤ k → k < start + len → slice_index bytes.now k ≢ slash)) }
+    ensures { result ≡ position is_slash (take BLOCK (drop start bytes.now)) }
 {
     let slashes = slashes_in(bytes, start);
     if slashes == 0 {
@@ -145,30 +141,31 @@ fn first_in_block(bytes: &[u8], start: usize) -> Option<usize>
     }
 }
 
-// What stands before the last slash, and what stands after it.
+// Answers the bytes before the last slash, and those after it.
 #[inline(always)]
+#[tactic(auto, using(crate::proofs::SlashesLemmas::IsCharBoundary_before_last, crate::proofs::SlashesLemmas::IsCharBoundary_last))]
 pub(crate) fn split_last(text: &str) -> (&str, &str)
-    ensures piece { All (λ b. b ≢ slash) result.1.now }
-    ensures joined { (text.now ≡ result.0.now ++ slash ∷ result.1.now)
-        ⊎ ((text.now ≡ result.1.now) × (result.0.now ≡ [])) }
+    ensures front { result.0.now ≡ before_last is_slash text.now }
+    ensures piece { result.1.now ≡ after_last is_slash text.now }
 {
     let start = last_piece_start(text);
     (&text[..start.saturating_sub(1)], &text[start..])
 }
 
-// Where the piece after the last slash begins.
+// Finds where the bytes after the last slash begin.
 #[inline(always)]
+#[tactic(auto, using(crate::proofs::SlashesLemmas::last_start_is, crate::proofs::SlashesLemmas::last_start_none, crate::proofs::SlashesLemmas::last_some, crate::proofs::SlashesLemmas::last_none))]
 fn last_piece_start(text: &str) -> usize
-    ensures bound { result ≤ length text.now }
-    ensures behind { (k : ℕ) → result ≤ k → k < length text.now → slice_index text.now k ≢ slash }
-    ensures slash { 0 < result → slice_index text.now (result - 1) ≡ slash }
+    ensures { result ≡ last_start is_slash text.now }
 {
     let bytes = text.as_bytes();
     if bytes.len() >= BLOCK {
         let start = bytes.len() - BLOCK;
-        return match last_in_block(bytes, start) {
-            Some(behind) => start + behind,
-            None => far_last_piece_start(bytes),
+        let len = last_in_block(bytes, start);
+        return if len > 0 {
+            start + len
+        } else {
+            far_last_piece_start(bytes)
         };
     }
     let mut start = bytes.len();
@@ -178,51 +175,40 @@ fn last_piece_start(text: &str) -> usize
     start
 }
 
-// The same, where no slash is in the last block. The first block may end within the one after it.
+// Finds it where the last block has no slash. The first block may end within the one after it.
 #[inline(never)]
+#[tactic(auto, using(crate::proofs::SlashesLemmas::last_some, crate::proofs::SlashesLemmas::last_none))]
 fn far_last_piece_start(bytes: &[u8]) -> usize
     requires block { BLOCK ≤ length bytes.now }
-    requires near { (k : ℕ) → length bytes.now - BLOCK ≤ k → k < length bytes.now
-        → slice_index bytes.now k ≢ slash }
-    ensures bound { result ≤ length bytes.now }
-    ensures behind { (k : ℕ) → result ≤ k → k < length bytes.now → slice_index bytes.now k ≢ slash }
-    ensures slash { 0 < result → slice_index bytes.now (result - 1) ≡ slash }
+    requires near { last_start is_slash bytes.now ≤ length bytes.now - BLOCK }
+    ensures { result ≡ last_start is_slash bytes.now }
 {
     let mut end = bytes.len() - BLOCK;
     while end > BLOCK {
         let start = end - BLOCK;
-        if let Some(behind) = last_in_block(bytes, start) {
-            return start + behind;
+        let len = last_in_block(bytes, start);
+        if len > 0 {
+            return start + len;
         }
         end = start;
     }
-    last_in_block(bytes, 0).unwrap_or(0)
+    last_in_block(bytes, 0)
 }
 
-// How many bytes of a block reach to the end of its last slash.
+// Finds where the bytes of a block after its last slash begin: 0 if it has none.
 #[inline(always)]
-fn last_in_block(bytes: &[u8], start: usize) -> Option<usize>
+fn last_in_block(bytes: &[u8], start: usize) -> usize
     requires { start + BLOCK ≤ length bytes.now }
-    ensures { MatchOption result
-        ((k : ℕ) → start ≤ k → k < start + BLOCK → slice_index bytes.now k ≢ slash)
-        (λ len. (0 < len) × (len ≤ BLOCK) × (slice_index bytes.now (start + len - 1) ≡ slash)
-        × ((k : ℕ) → start + len ≤ k → k < start + BLOCK → slice_index bytes.now k ≢ slash)) }
+    ensures { result ≡ last_start is_slash (take BLOCK (drop start bytes.now)) }
 {
-    let slashes = slashes_in(bytes, start);
-    if slashes == 0 {
-        None
-    } else {
-        Some(64 - slashes.leading_zeros() as usize)
-    }
+    64 - slashes_in(bytes, start).leading_zeros() as usize
 }
 
-// The slashes of a block, a bit for each byte.
+// Answers a bit for each byte of a block, set where it is a slash.
 #[inline(always)]
 pub(crate) fn slashes_in(bytes: &[u8], start: usize) -> u64
     requires { start + BLOCK ≤ length bytes.now }
-    ensures bits { (k : ℕ) → k < BLOCK
-        → bit_at result k ≡ (if is_slash (slice_index bytes.now (start + k)) then 1 else 0) }
-    ensures bound { result < 2 ^ BLOCK }
+    ensures { result ≡ mask_l (map is_slash (take BLOCK (drop start bytes.now))) }
 {
     u8x16::from_slice(&bytes[start..])
         .simd_eq(u8x16::splat(b'/'))

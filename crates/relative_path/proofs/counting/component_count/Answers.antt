@@ -1,7 +1,7 @@
-use Rattle.std.proofs.Common.{◌≡◌, ℕ, Bool, true, false, not, cond, refl, sym, ◌∙◌, ap, length, drop, slice_index, arith}
+use Rattle.std.proofs.Common.{◌≡◌, ℕ, Bool, true, false, not, cond, refl, sym, ◌∙◌, ap, length, slice_index, arith}
 use Rattle.std.proofs.lemmas.List.{nil_from_length}
 use mir.Val.{bool_byte}
-use Rattle.relative_path.specs.Counting.{begun}
+use Rattle.relative_path.specs.Counting.{begun, begun_from}
 use Rattle.relative_path.specs.Steps.{is_slash, components}
 use Rattle.relative_path.proofs.StepsLemmas.{components-nil}
 use Rattle.relative_path.proofs.CountingLemmas.{begun-components, begun-start}
@@ -22,7 +22,7 @@ as_number false = refl
 pub returns-clause-count : goal.returns-clause-count
 returns-clause-count c =
     let bytes = c.as_bytes-bytes.result.now in
-    let behind : c.if-bytes-gt-BLOCK.begun ≡ begun (is_slash (slice_index bytes 0)) (drop 1 bytes) =
+    let rest : c.if-bytes-gt-BLOCK.begun ≡ begun_from bytes 1 =
     elim c.if-bytes-gt-BLOCK.branch [
       | then-bytes-gt-BLOCK w ↦ w.begun-is ∙ w.begun_by_blocks-begun.ensures.count
       | else-bytes-gt-BLOCK w ↦ w.begun-is ∙ w.begun_by_one-begun.ensures.count
@@ -31,4 +31,4 @@ returns-clause-count c =
     let first : c.from.result ≡ cond (not (is_slash (slice_index bytes 0))) 1 0 =
     c.from.ensures ∙ as_number (not (is_slash c.in-Some.first.now)) ∙ ap {B = ℕ} (λ b. cond (not (is_slash b)) 1 0) (item.1 0) in
     let text = ap (begun true) c.as_bytes-bytes.ensures.value in
-    omega (arith, behind, first, text, begun-start bytes item.0, begun-components c.args.text.now)
+    omega (arith, rest, first, text, begun-start bytes item.0, begun-components c.args.text.now)

@@ -1,10 +1,11 @@
-use Rattle.std.proofs.Common.{◌≢◌, ℕ, ◌<◌, ◌≤◌, length, slice_index}
-use Rattle.relative_path.specs.Steps.{slash}
+use Rattle.std.proofs.Common.{◌≤◌, length}
+use Rattle.relative_path.specs.Slashes.{last_start}
+use Rattle.relative_path.specs.Steps.{is_slash}
 use Rattle.relative_path.proofs.slashes.far_last_piece_start.Given as goal
 
 abbrev pub invariant-loop-end : goal.invariant-loop-end
 invariant-loop-end l = record {
-  behind : (k : ℕ) → l.end ≤ k → k < length l.bytes → slice_index l.bytes k ≢ slash;
+  before : last_start is_slash l.bytes ≤ l.end;
   bound : l.end ≤ length l.bytes;
 }
 

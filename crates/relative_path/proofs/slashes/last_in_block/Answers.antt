@@ -1,11 +1,8 @@
-use Rattle.relative_path.proofs.SlashesLemmas.{no_slash_in, last_slash_in}
+use Rattle.std.proofs.Common.{◌∙◌, ◌-◌, ap}
+use Rattle.std.specs.Int.Count.{count_leading_zeros}
+use Rattle.relative_path.proofs.SlashesLemmas.{last_start-block}
 use Rattle.relative_path.proofs.slashes.last_in_block.Goals as goal
 
-pub returns-then-slashes-eq0 : goal.returns-then-slashes-eq0
-returns-then-slashes-eq0 c =
-    no_slash_in c.args.bytes.now c.args.start _ c.slashes_in-slashes.ensures.bits c.if-slashes-eq0.true
-
-pub returns-else-slashes-eq0 : goal.returns-else-slashes-eq0
-returns-else-slashes-eq0 c =
-    let mask = c.slashes_in-slashes.ensures in
-    last_slash_in c.args.bytes.now c.args.start _ mask.bits mask.bound c.if-slashes-eq0.false
+pub returns : goal.returns
+returns c =
+    ap (λ n. 64 - count_leading_zeros 64 n) c.slashes_in.ensures ∙ last_start-block c.args.bytes.now c.args.start c.requires

@@ -4,7 +4,7 @@ use Rattle.relative_path.proofs.slashes.last_piece_start.Given as goal
 
 abbrev pub invariant-loop-start : goal.invariant-loop-start
 invariant-loop-start l = record {
-  behind : (k : ℕ) → l.start ≤ k → k < length l.bytes → slice_index l.bytes k ≢ slash;
+  after : (k : ℕ) → l.start ≤ k → k < length l.bytes → slice_index l.bytes k ≢ slash;
   bound : l.start ≤ length l.bytes;
 }
 

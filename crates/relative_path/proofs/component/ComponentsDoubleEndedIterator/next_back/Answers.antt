@@ -1,6 +1,7 @@
-use Rattle.std.proofs.Common.{None, Some}
+use Rattle.std.proofs.Common.{None, Some, ◌∙◌, ap, subst}
+use Rattle.relative_path.specs.Steps.{classed}
 use Rattle.relative_path.specs.Components.{TakesLast}
-use Rattle.relative_path.proofs.ComponentsLemmas.{nil_from_is_empty, some_from_is_empty, TakesLast-none, TakesLast-some, MakesProgress-TakesLast}
+use Rattle.relative_path.proofs.ComponentsLemmas.{IsTrimmedEnd, nil_from_is_empty, some_from_is_empty, TakesLast-none, TakesLast-some, MakesProgress-TakesLast}
 use Rattle.relative_path.proofs.component.ComponentsDoubleEndedIterator.next_back.Goals as goal
 
 pub returns-then-is_empty : goal.returns-then-is_empty
@@ -19,8 +20,9 @@ returns c =
     let left = c.without_trailing_slashes-self.result in
     let some = some_from_is_empty _ _ c.is_empty.ensures c.if-is_empty.false in
     let taken : TakesLast c.args.self.now.text.now (Some c.component_of.result) left.now =
-    TakesLast-some _ _ _ _ _
-    (record { prefix = record { front = trim.prefix }; end = trim.end; same = trim.same }) c.split_last.ensures.piece
-    (record { prefix = record { front = trim'.prefix }; end = trim'.end; same = trim'.same })
-    c.component_of.result c.split_last.ensures.joined some c.component_of.ensures in
+    TakesLast-some c.args.self.now.text.now c.without_trailing_slashes-text.result.now left.now c.component_of.result
+    (record { prefix = record { front = trim.prefix }; end = trim.end; same = trim.same })
+    (subst (λ front. IsTrimmedEnd front left.now) c.split_last.ensures.front
+    (record { prefix = record { front = trim'.prefix }; end = trim'.end; same = trim'.same }))
+    some (c.component_of.ensures ∙ ap classed c.split_last.ensures.piece) in
     record { steps = taken; goes = MakesProgress-TakesLast c.args.self.now (record { text = left }) _ taken }

@@ -1,7 +1,8 @@
-use Rattle.std.proofs.Common.{None, Some}
+use Rattle.std.proofs.Common.{None, Some, ◌∙◌, ap, subst}
+use Rattle.relative_path.specs.Steps.{classed}
 use Rattle.relative_path.specs.Components.{TakesFirst}
 use Rattle.relative_path.proofs.SlicesLemmas.{IsSuffix-from}
-use Rattle.relative_path.proofs.ComponentsLemmas.{nil_from_is_empty, some_from_is_empty, TakesFirst-none, TakesFirst-some, MakesProgress-TakesFirst}
+use Rattle.relative_path.proofs.ComponentsLemmas.{IsTrimmedStart, nil_from_is_empty, some_from_is_empty, TakesFirst-none, TakesFirst-some, MakesProgress-TakesFirst}
 use Rattle.relative_path.proofs.component.ComponentsIterator.next.Goals as goal
 
 pub returns-then-is_empty : goal.returns-then-is_empty
@@ -20,8 +21,9 @@ returns c =
     let left = c.without_leading_slashes-self.result in
     let some = some_from_is_empty _ _ c.is_empty.ensures c.if-is_empty.false in
     let taken : TakesFirst c.args.self.now.text.now (Some c.component_of.result) left.now =
-    TakesFirst-some _ _ _ _ _
-    (record { suffix = IsSuffix-from trim.suffix; start = trim.start; same = trim.same }) c.split_first.ensures.piece
-    (record { suffix = IsSuffix-from trim'.suffix; start = trim'.start; same = trim'.same })
-    c.component_of.result c.split_first.ensures.joined some c.component_of.ensures in
+    TakesFirst-some c.args.self.now.text.now c.without_leading_slashes-text.result.now left.now c.component_of.result
+    (record { suffix = IsSuffix-from trim.suffix; start = trim.start; same = trim.same })
+    (subst (λ rest. IsTrimmedStart rest left.now) c.split_first.ensures.rest
+    (record { suffix = IsSuffix-from trim'.suffix; start = trim'.start; same = trim'.same }))
+    some (c.component_of.ensures ∙ ap classed c.split_first.ensures.piece) in
     record { steps = taken; goes = MakesProgress-TakesFirst c.args.self.now (record { text = left }) _ taken }

@@ -14,6 +14,6 @@ returns-clause-components c = ap components c.push_reserved.ensures.text ∙ com
 pub returns-clause-in_turn : goal.returns-clause-in_turn
 returns-clause-in_turn c =
     let front = path_components c.args.self in
-    let behind = path_components c.args.path in
-    subst (LeadsInTurn front behind) (sym (returns-clause-components c))
-    (LeadsInTurn-same front behind (front ++ behind) (IsSame-refl (front ++ behind)))
+    let rest = path_components c.args.path in
+    subst (LeadsInTurn front rest) (sym (returns-clause-components c))
+    (LeadsInTurn-same front rest (front ++ rest) (IsSame-refl (front ++ rest)))
