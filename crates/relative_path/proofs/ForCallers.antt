@@ -1,5 +1,5 @@
 -- What a caller's proof may cite, beside `OnLiterals`: where lists of components lead, and what the components of a
--- text are. The other modules here change as the library does.
+-- text are. No other crate can name the other modules here.
 use Rattle.std.proofs.Common.{◌≡◌, ◌≢◌, ◌⊎◌, ◌↔◌, ℕ, zero, suc, ◌-◌, ◌<◌, false, true≢false, All, List, [], ◌∷◌, ◌++◌, length, map, replicate, take, take_at, get_or, codes, Option, Some, None, IsSome, option_and_then, inl, inr, refl, sym, ap, ap₂, ◌∙◌, subst, arith, append_assoc, append-nil}
 use Rattle.std.specs.Prelude.{slice_get}
 use Rattle.std.proofs.lemmas.Bool.{cond-false}

@@ -1,24 +1,24 @@
-pub mod StepsLemmas
-pub mod SlicesLemmas
-pub mod WalkLemmas
-pub mod NormalStepsLemmas
-pub mod ClimbingLemmas
-pub mod SlashesLemmas
-pub mod ComponentsLemmas
-pub mod EditingLemmas
-pub mod PrefixingLemmas
-pub mod PushingLemmas
-pub mod NamingLemmas
-pub mod NamingExtensionLemmas
-pub mod NormalizingLemmas
-pub mod CountingLemmas
-pub mod SpansLemmas
-pub mod NormalFormLemmas
-pub mod WritingLemmas
-pub mod RelatingLemmas
-pub mod UnixComponentsLemmas
-pub mod UnixLemmas
-pub mod UnixTextsLemmas
-pub mod UnixWaysLemmas
+mod StepsLemmas
+mod SlicesLemmas
+mod WalkLemmas
+mod NormalStepsLemmas
+mod ClimbingLemmas
+mod SlashesLemmas
+mod ComponentsLemmas
+mod EditingLemmas
+mod PrefixingLemmas
+mod PushingLemmas
+mod NamingLemmas
+mod NamingExtensionLemmas
+mod NormalizingLemmas
+mod CountingLemmas
+mod SpansLemmas
+mod NormalFormLemmas
+mod WritingLemmas
+mod RelatingLemmas
+mod UnixComponentsLemmas
+mod UnixLemmas
+mod UnixTextsLemmas
+mod UnixWaysLemmas
 pub mod OnLiterals
 pub mod ForCallers

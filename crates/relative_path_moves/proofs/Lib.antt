@@ -1,7 +1,7 @@
 pub mod ForCallers
-pub mod PlacesLemmas
-pub mod PlaceIndexLemmas
-pub mod MovesLemmas
-pub mod MoveTableLemmas
-pub mod PairsLemmas
-pub mod ReferenceLemmas
+mod PlacesLemmas
+mod PlaceIndexLemmas
+mod MovesLemmas
+mod MoveTableLemmas
+mod PairsLemmas
+mod ReferenceLemmas
