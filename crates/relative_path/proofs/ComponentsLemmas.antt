@@ -60,21 +60,15 @@ pub TakesFirst-none : (text trimmed : List ℕ) → IsTrimmedStart text trimmed 
 TakesFirst-none text trimmed trim empty =
     let none = sym trim.same ∙ ap components empty ∙ components-nil in (none, IsRest-none text trimmed none empty)
 
--- a text that begins with no slash has a piece before its first slash
-first_nonempty : (text : List ℕ) → get_or text 0 0 ≢ slash → text ≢ [] → before_first is_slash text ≢ []
-first_nonempty text start some empty = elim (joined_first text) [
-  | inl joined ↦ start (ap (λ x. get_or x 0 0) (joined ∙ ap (λ x. x ++ slash ∷ after_first is_slash text) empty))
-  | inr (whole, none) ↦ some (whole ∙ empty)
-]
-
-components-first : (text : List ℕ) → before_first is_slash text ≢ []
+components-first : (text : List ℕ) → get_or text 0 0 ≢ slash → text ≢ []
     → components text ≡ classed (before_first is_slash text) ∷ components (after_first is_slash text)
-components-first text nonempty =
-    let piece = components_piece (before_first is_slash text) nonempty (HasNoSlash-before_first text) in
+components-first text start some =
+    let piece = λ (nonempty : before_first is_slash text ≢ []). components_piece (before_first is_slash text) nonempty (HasNoSlash-before_first text) in
     elim (joined_first text) [
       | inl joined ↦ ap components joined ∙ components-append (before_first is_slash text) (after_first is_slash text)
-          ∙ ap (λ cs. cs ++ components (after_first is_slash text)) piece
-      | inr (whole, none) ↦ ap components whole ∙ piece
+          ∙ ap (λ cs. cs ++ components (after_first is_slash text))
+          (piece (λ none. start (ap (λ x. get_or x 0 0) (joined ∙ ap (λ x. x ++ slash ∷ after_first is_slash text) none))))
+      | inr (whole, none) ↦ ap components whole ∙ piece (λ empty. some (whole ∙ empty))
           ∙ ap (λ cs. classed (before_first is_slash text) ∷ cs) (sym (ap components none ∙ components-nil))
     ]
 
@@ -84,7 +78,7 @@ pub TakesFirst-some : (text trimmed left : List ℕ) (c : Component) → IsTrimm
     → step_of c ≡ classed (before_first is_slash trimmed) → TakesFirst text (Some c) left
 TakesFirst-some text trimmed left c trim trim' some is =
     let cs : components text ≡ step_of c ∷ components left =
-    sym trim.same ∙ components-first trimmed (first_nonempty trimmed trim.start some) ∙ ap₂ (λ d ds. d ∷ ds) (sym is) (sym trim'.same) in
+    sym trim.same ∙ components-first trimmed trim.start some ∙ ap₂ (λ d ds. d ∷ ds) (sym is) (sym trim'.same) in
     let rest = IsSuffix-of_drop (position_or_len is_slash trimmed + 1) trimmed in (
       cs,
       record {
@@ -111,23 +105,17 @@ pub TakesLast-none : (text trimmed : List ℕ) → IsTrimmedEnd text trimmed →
 TakesLast-none text trimmed trim empty =
     let none = sym trim.same ∙ ap components empty ∙ components-nil in (none, IsFront-none text trimmed none empty)
 
--- a text that ends in no slash has a piece after its last slash
-last_nonempty : (text : List ℕ) → get_or text (length text - 1) 0 ≢ slash → text ≢ [] → after_last is_slash text ≢ []
-last_nonempty text end some empty = elim (joined_last text) [
-  | inl joined ↦
-      let ended = joined ∙ ap (λ x. before_last is_slash text ++ slash ∷ x) empty in
-      end (ap (λ x. get_or x (length x - 1) 0) ended ∙ last-append_slash (before_last is_slash text))
-  | inr (whole, none) ↦ some (whole ∙ empty)
-]
-
-components-last : (text : List ℕ) → after_last is_slash text ≢ []
+components-last : (text : List ℕ) → get_or text (length text - 1) 0 ≢ slash → text ≢ []
     → components text ≡ components (before_last is_slash text) ++ classed (after_last is_slash text) ∷ []
-components-last text nonempty =
-    let piece = components_piece (after_last is_slash text) nonempty (HasNoSlash-after_last text) in
+components-last text end some =
+    let piece = λ (nonempty : after_last is_slash text ≢ []). components_piece (after_last is_slash text) nonempty (HasNoSlash-after_last text) in
     elim (joined_last text) [
-      | inl joined ↦ ap components joined ∙ components-append (before_last is_slash text) (after_last is_slash text)
-          ∙ ap (λ cs. components (before_last is_slash text) ++ cs) piece
-      | inr (whole, none) ↦ ap components whole ∙ piece
+      | inl joined ↦
+          let ended = λ (none : after_last is_slash text ≡ []). joined ∙ ap (λ x. before_last is_slash text ++ slash ∷ x) none in
+          ap components joined ∙ components-append (before_last is_slash text) (after_last is_slash text)
+          ∙ ap (λ cs. components (before_last is_slash text) ++ cs)
+          (piece (λ none. end (ap (λ x. get_or x (length x - 1) 0) (ended none) ∙ last-append_slash (before_last is_slash text))))
+      | inr (whole, none) ↦ ap components whole ∙ piece (λ empty. some (whole ∙ empty))
           ∙ ap (λ cs. cs ++ classed (after_last is_slash text) ∷ []) (sym (ap components none ∙ components-nil))
     ]
 
@@ -137,7 +125,7 @@ pub TakesLast-some : (text trimmed left : List ℕ) (c : Component) → IsTrimme
     → step_of c ≡ classed (after_last is_slash trimmed) → TakesLast text (Some c) left
 TakesLast-some text trimmed left c trim trim' some is =
     let cs : components text ≡ components left ++ step_of c ∷ [] =
-    sym trim.same ∙ components-last trimmed (last_nonempty trimmed trim.end some)
+    sym trim.same ∙ components-last trimmed trim.end some
     ∙ ap₂ (λ ds d. ds ++ d ∷ []) (sym trim'.same) (sym is) in
     let counted : length (components left) ≡ length (components text) - 1 =
     omega (arith, ap length cs, length-append (components left) (step_of c ∷ [])) in

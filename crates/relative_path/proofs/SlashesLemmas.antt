@@ -1,23 +1,22 @@
 -- A text trimmed of the slashes at an end, and cut at its first or its last slash.
-use Rattle.std.proofs.Common.{◌≡◌, ◌≢◌, ◌<◌, ℕ, suc, zero, cond, List, [], ◌∷◌, ◌++◌, All, take, drop, replicate, Option, Some, None, MatchOption, Bor, refl, sym, subst, ap, ap₂, ◌∙◌, lit<, take-append-drop, append-nil, ◌+◌, ◌-◌, ◌*◌, ◌^◌, length, get_or, get_or-drop, length-take, length-drop, arith, take_all, ◌≤◌, ⊎_elim, eqb-true, ◌⊎◌, inl, inr, w64, append_assoc, Bool, false, not, map, reverse, ne_eqb}
+use Rattle.std.proofs.Common.{◌≡◌, ◌≢◌, ◌<◌, ℕ, suc, zero, cond, List, [], ◌∷◌, ◌++◌, All, take, drop, replicate, Option, Some, None, MatchOption, Bor, refl, sym, subst, ap, ap₂, ◌∙◌, lit<, take-append-drop, append-nil, ◌+◌, ◌-◌, ◌*◌, ◌^◌, length, get_or, get_or-drop, length-take, length-drop, arith, take_all, ◌≤◌, ⊎_elim, eqb-true, ◌⊎◌, inl, inr, w64, Bool, false, not, map, reverse, ne_eqb}
 use Rattle.std.proofs.Math.Nat.{pow-suc, eq-or-lt_of_le}
 use Rattle.std.specs.Int.{bit_at, trailing_zeros}
 use Rattle.std.specs.Int.Count.{count_leading_zeros}
-use Rattle.std.proofs.lemmas.Bool.{cases_Bool, cases_lt, not-false, eq-eqb}
-use Rattle.std.proofs.lemmas.List.Folds.{prefix_len-append}
+use Rattle.std.proofs.lemmas.Bool.{eqb-false, cases_Bool, cases_lt, not-false, eq-eqb}
 use Rattle.std.proofs.lemmas.List.Sums.{position_or_len_is, passes_at_first, fails_before_first, split_at_first, prefix_len_stops, prefix_len-le-length, suffix_len_is, suffix_len-le-length}
-use Rattle.std.proofs.lemmas.Simd.{chunk-drop, length-chunk, get_or-chunk, bit_mask_l, mask_l-lt, leading_from_mask_l, trailing_mask_l}
-use Rattle.std.specs.List.{position, position_or_len, suffix_len, before_first, after_first, before_last, after_last}
+use Rattle.std.proofs.lemmas.Simd.{length-chunk, get_or-chunk, bit_mask_l, mask_l-lt}
+use Rattle.std.specs.List.{position_or_len, suffix_len, before_first, after_first, before_last, after_last}
 use Rattle.relative_path.specs.Slashes.{last_start}
 use Rattle.std.specs.Simd.Lanes.{mask_l}
 use Rattle.std.proofs.lemmas.Nat.{leading_length}
-use Rattle.std.proofs.lemmas.Nat.Bits.{bit_at_above, bit_at_cat_high}
+use Rattle.std.proofs.lemmas.Nat.Bits.{bit_at-zero, bit_at-trailing_zeros, bit_at_above, bit_at_cat_high}
 use Rattle.std.specs.Str.{IsUtf8, IsCharBoundary}
 use Rattle.std.specs.Str.Pattern.{RFindsChar, FindsTextPrefix, FindsTextSuffix, SplitsAroundMatch, StripsPrefix, StripsSuffix, FindsCharPrefix, FindsCharSuffix, IsTrimStartMatches, IsTrimEndMatches, CutsPrefixes, CutsSuffixes}
 use Rattle.std.proofs.lemmas.List.Elements.{All-from_get_or, recursion_from_All}
 use Rattle.std.proofs.lemmas.Str.Pattern.{NoCharPasses-char, drop_at_char}
 use Rattle.relative_path.specs.Steps.{slash, is_slash, components}
-use Rattle.std.proofs.lemmas.List.{get_or-map, drop_all, drop_more, take_more, get_or-take, get_or-reverse, reverse-append, length-reverse, length-map}
+use Rattle.std.proofs.lemmas.List.{get_or-map, drop_all, drop_more, take_more, get_or-take, get_or-reverse, length-reverse, length-map}
 use Rattle.std.proofs.lemmas.Str.{encode_ascii, IsCharBoundary-after_ascii, IsCharBoundary-before_ascii, IsCharBoundary-start, IsCharBoundary-end}
 use Rattle.relative_path.proofs.StepsLemmas.{components-nil, components-append, components-slash, components-trailing_slash, HasNoSlash}
 use Rattle.relative_path.proofs.SlicesLemmas.{IsSuffix-from, IsSuffix-drop, IsSuffix-trans, IsPrefix-trans}
@@ -153,19 +152,15 @@ slash_before_last bytes some =
 pub position_le : (bytes : List ℕ) → position_or_len is_slash bytes ≤ length bytes
 position_le = prefix_len-le-length is_solid
 
+-- no slash stands after the last one
+fails_after_last : (bytes : List ℕ) (k : ℕ) → last_start is_slash bytes ≤ k → k < length bytes
+    → is_slash (get_or bytes k 0) ≡ false
+fails_after_last bytes k from to =
+    let back : length bytes - 1 - (length bytes - 1 - k) ≡ k = omega (arith, to) in
+    ap is_slash (ap (λ i. get_or bytes i 0) (sym back) ∙ sym (get_or-reverse bytes (length bytes - 1 - k) 0 (omega (arith, to))))
+    ∙ fails_before_first is_slash (reverse bytes) (length bytes - 1 - k) 0 (omega (arith, from, to, suffix_len-le-length is_solid bytes))
+
 -- ---- searched by blocks of sixteen bytes: a mask has a bit for each, set where that is a slash
-
--- the first slash, in the second of three parts without one in the first, or after it
-module _ (xs ys zs : List ℕ) (after : length xs ≤ position_or_len is_slash (xs ++ (ys ++ zs))) where
-  first-in : position_or_len is_slash ys < length ys
-      → position_or_len is_slash (xs ++ (ys ++ zs)) ≡ length xs + position_or_len is_slash ys
-  first-in some =
-      grind (arith, after, some, prefix_len-append is_solid xs (ys ++ zs), prefix_len-append is_solid ys zs, position_le xs)
-
-  first-after : position_or_len is_slash ys ≡ length ys
-      → length xs + length ys ≤ position_or_len is_slash (xs ++ (ys ++ zs))
-  first-after none =
-      grind (arith, after, none, prefix_len-append is_solid xs (ys ++ zs), prefix_len-append is_solid ys zs, position_le xs)
 
 -- the highest power of two in a number is a bit of it
 top_bit : (n j : ℕ) → 2 ^ j ≤ n → n < 2 ^ suc j → bit_at n j ≡ 1
@@ -175,113 +170,82 @@ top_bit n j least most =
     let none : j - j ≡ 0 = omega arith in
     ap (λ m. bit_at m j) whole ∙ bit_at_cat_high 1 j (n - 2 ^ j) j less (omega arith) ∙ ap (bit_at 1) none
 
-some_slash : (bytes : List ℕ) → 0 < mask_l (map is_slash bytes) → position_or_len is_slash bytes < length bytes
-some_slash [] some = absurd (omega (arith, some))
-some_slash (b ∷ bs) some = ⊎_elim
-    (λ e. grind (arith, e))
-    (λ e. grind (arith, e, some, some_slash bs))
-    (cases_Bool (is_slash b))
-
 module _ (bytes : List ℕ) (start : ℕ) (inside : start + 16 ≤ length bytes) where
-  abbrev front : List ℕ
-  front = take start bytes
-
-  abbrev block : List ℕ
-  block = take 16 (drop start bytes)
-
-  abbrev rest : List ℕ
-  rest = drop (start + 16) bytes
-
   abbrev mask : ℕ
-  mask = mask_l (map is_slash block)
-
-  long : length block ≡ 16
-  long = length-chunk start 16 bytes inside
-
-  joined : bytes ≡ front ++ (block ++ rest)
-  joined = sym (take-append-drop start bytes) ∙ ap (λ x. front ++ x) (chunk-drop start 16 bytes)
-
-  backwards : reverse bytes ≡ reverse rest ++ (reverse block ++ reverse front)
-  backwards =
-      ap reverse joined ∙ reverse-append front (block ++ rest)
-      ∙ ap (λ x. x ++ reverse front) (reverse-append block rest)
-      ∙ append_assoc (reverse rest) (reverse block) (reverse front)
-
-  lengths : (length front ≡ start) × (length (reverse rest) ≡ length bytes - (start + 16)) × (length (reverse block) ≡ 16)
-  lengths =
-      (omega (arith, length-take start bytes, inside), length-reverse rest ∙ length-drop (start + 16) bytes, length-reverse block ∙ long)
-
-  -- where no slash stands before the block, the first one stands in it or after it
-  pub position_some : (len : ℕ) → start ≤ position_or_len is_slash bytes → Some len ≡ position is_slash block
-      → start + len ≡ position_or_len is_slash bytes
-  position_some len after found =
-      let whole = ap (position_or_len is_slash) joined in
-      let at : (len ≡ position_or_len is_slash block) × (position_or_len is_slash block < length block) = grind (arith, found) in
-      omega (arith, whole, at, lengths, first-in front block rest (omega (arith, after, whole, lengths)) at.1)
-
-  pub position_none : start ≤ position_or_len is_slash bytes → None ≡ position is_slash block
-      → start + 16 ≤ position_or_len is_slash bytes
-  position_none after none =
-      let whole = ap (position_or_len is_slash) joined in
-      let all : position_or_len is_slash block ≡ length block = grind (arith, none, position_le block) in
-      omega (arith, whole, lengths, long, first-after front block rest (omega (arith, after, whole, lengths)) all)
-
-  -- where no slash stands after the block, the last one stands in it or before it
-  module _ (before : last_start is_slash bytes ≤ start + 16) where
-    turned : length (reverse rest) ≤ position_or_len is_slash (reverse rest ++ (reverse block ++ reverse front))
-    turned = omega (arith, before, ap (position_or_len is_slash) backwards, lengths, inside)
-
-    pub last_some : 0 < last_start is_slash block → start + last_start is_slash block ≡ last_start is_slash bytes
-    last_some some =
-        let found = first-in (reverse rest) (reverse block) (reverse front) turned (omega (arith, some, lengths, long)) in
-        omega (arith, ap (position_or_len is_slash) backwards, some, lengths, long, inside, found)
-
-    pub last_none : last_start is_slash block ≡ 0 → last_start is_slash bytes ≤ start
-    last_none none =
-        let found =
-        first-after (reverse rest) (reverse block) (reverse front) turned
-        (omega (arith, none, lengths, long, suffix_len-le-length is_solid block)) in
-        omega (arith, ap (position_or_len is_slash) backwards, lengths, inside, found)
+  mask = mask_l (map is_slash (take 16 (drop start bytes)))
 
   pub mask_bound : mask < 2 ^ 16
   mask_bound =
-      subst (λ n. mask < 2 ^ n) (length-map block is_slash ∙ long) (mask_l-lt (map is_slash block))
+      subst (λ n. mask < 2 ^ n) (length-map (take 16 (drop start bytes)) is_slash ∙ length-chunk start 16 bytes inside)
+      (mask_l-lt (map is_slash (take 16 (drop start bytes))))
 
   pub mask_bit : (k : ℕ) → k < 16 → bit_at mask k ≡ cond (is_slash (get_or bytes (start + k) 0)) 1 0
   mask_bit k h =
-      bit_mask_l (map is_slash block) k
-      ∙ ap (λ b. cond b 1 0) (get_or-map is_slash block k 0 false (omega (arith, h, long))
+      bit_mask_l (map is_slash (take 16 (drop start bytes))) k
+      ∙ ap (λ b. cond b 1 0) (get_or-map is_slash (take 16 (drop start bytes)) k 0 false (omega (arith, h, length-chunk start 16 bytes inside))
       ∙ ap is_slash (get_or-chunk start 16 bytes k 0 h))
 
-  pub position-none : mask ≡ 0 → None ≡ position is_slash block
-  position-none none = grind (arith, leading_from_mask_l is_slash block none)
+  slash_at : (k : ℕ) → k < 16 → bit_at mask k ≡ 1 → get_or bytes (start + k) 0 ≡ slash
+  slash_at k within set =
+      ⊎_elim (λ e. eqb-true _ _ e)
+      (λ e. absurd (omega (arith, set, mask_bit k within, ap {B = ℕ} (λ b. cond b 1 0) e)))
+      (cases_Bool (is_slash (get_or bytes (start + k) 0)))
 
-  pub position-some : mask ≢ 0 → Some (trailing_zeros w64 mask) ≡ position is_slash block
-  position-some some =
-      let set : 0 < mask = omega (arith, some) in
-      let short : length block ≤ 64 = omega (arith, long) in
-      grind (arith, trailing_mask_l is_slash 64 block short set, some_slash block set)
+  no_slash_at : (k : ℕ) → start ≤ k → k < start + 16 → bit_at mask (k - start) ≡ 0 → get_or bytes k 0 ≢ slash
+  no_slash_at k from to clear e =
+      let at : start + (k - start) ≡ k = omega (arith, from) in
+      omega (arith, clear, mask_bit (k - start) (omega (arith, from, to)), ap {B = ℕ} (λ i. cond (is_slash (get_or bytes i 0)) 1 0) at, ap {B = ℕ} (λ b. cond (is_slash b) 1 0) e)
 
-  bit_at_block : (k : ℕ) → k < 16 → bit_at mask k ≡ cond (is_slash (get_or block k 0)) 1 0
-  bit_at_block k h = mask_bit k h ∙ ap (λ b. cond (is_slash b) 1 0) (sym (get_or-chunk start 16 bytes k 0 h))
+  -- where no slash stands before the block
+  pub first_in : start ≤ position_or_len is_slash bytes → mask ≢ 0
+      → start + trailing_zeros w64 mask ≡ position_or_len is_slash bytes
+  first_in after some =
+      let n = trailing_zeros w64 mask in
+      let lowest = bit_at-trailing_zeros w64 mask (omega (arith, some)) (omega (arith, mask_bound)) in
+      let within : n < 16 =
+      ⊎_elim (λ h. h) (λ h. absurd (omega (arith, lowest.1, bit_at_above mask 16 n mask_bound h))) (cases_lt n 16) in
+      position_is bytes (start + n) (omega (arith, within, inside))
+      (λ k h. ⊎_elim
+      (λ early. eqb-false _ _ (fails_before_first is_slash bytes k 0 (omega (arith, early, after))))
+      (λ late. no_slash_at k late (omega (arith, h, within)) (lowest.2 (k - start) (omega (arith, h, late))))
+      (cases_lt k start))
+      (λ _. slash_at n within lowest.1)
 
-  pub last_start-block : 64 - count_leading_zeros 64 mask ≡ last_start is_slash block
-  last_start-block =
+  pub first_after : start ≤ position_or_len is_slash bytes → mask ≡ 0 → start + 16 ≤ position_or_len is_slash bytes
+  first_after after none =
+      let n = position_or_len is_slash bytes in
+      ⊎_elim
+      (λ h. absurd (no_slash_at n after h (ap (λ m. bit_at m (n - start)) none ∙ bit_at-zero (n - start)) (slash_at_first bytes (omega (arith, h, inside)))))
+      (λ h. h)
+      (cases_lt n (start + 16))
+
+  -- where no slash stands after the block
+  pub last_in : last_start is_slash bytes ≤ start + 16
+      → (64 - count_leading_zeros 64 mask ≡ 0 → last_start is_slash bytes ≤ start)
+      × (0 < 64 - count_leading_zeros 64 mask → start + (64 - count_leading_zeros 64 mask) ≡ last_start is_slash bytes)
+  last_in before =
       let (m, counted, most, least) = leading_length 64 mask (omega (arith, mask_bound)) in
+      let is : 64 - count_leading_zeros 64 mask ≡ m = omega (arith, counted) in
+      let none : (k : ℕ) → start + m ≤ k → k < length bytes → get_or bytes k 0 ≢ slash = λ k from to. ⊎_elim
+      (λ near. no_slash_at k (omega (arith, from)) near (bit_at_above mask m (k - start) most (omega (arith, from))))
+      (λ far. eqb-false _ _ (fails_after_last bytes k (omega (arith, far, before)) to))
+      (cases_lt k (start + 16)) in
       let top : 0 < m → bit_at mask (m - 1) ≡ 1 = λ some.
       let same : suc (m - 1) ≡ m = omega (arith, some) in
       top_bit mask (m - 1) (omega (arith, least, pow-suc 2 (m - 1), ap (λ i. 2 ^ i) same)) (omega (arith, most, ap (λ i. 2 ^ i) same)) in
       let within : m ≤ 16 = ⊎_elim
       (λ h. absurd (omega (arith, top (omega (arith, h)), bit_at_above mask 16 (m - 1) mask_bound (omega (arith, h)))))
       (λ h. h)
-      (cases_lt 16 m) in
-      let is : 64 - count_leading_zeros 64 mask ≡ m = omega (arith, counted) in
-      is ∙ last_start_is block m (omega (arith, within, long))
-      (λ k from to e. omega (arith, bit_at_block k (omega (arith, to, long)), bit_at_above mask m k most from, ap {B = ℕ} (λ b. cond (is_slash b) 1 0) e))
-      (λ some. ⊎_elim
-      (λ e. eqb-true _ _ e)
-      (λ e. absurd (omega (arith, top some, bit_at_block (m - 1) (omega (arith, within, some)), ap {B = ℕ} (λ b. cond b 1 0) e)))
-      (cases_Bool (is_slash (get_or block (m - 1) 0))))
+      (cases_lt 16 m) in (
+        λ zero. ⊎_elim
+            (λ h. absurd (none (last_start is_slash bytes - 1) (omega (arith, zero, is, h)) (omega (arith, h))
+            (slash_before_last bytes (omega (arith, h)))))
+            (λ h. h)
+            (cases_lt start (last_start is_slash bytes)),
+        λ some. ap (λ n. start + n) is ∙ last_start_is bytes (start + m) (omega (arith, within, inside)) none
+            (λ _. let at : start + (m - 1) ≡ start + m - 1 = omega (arith, some, is) in
+            ap (λ i. get_or bytes i 0) (sym at) ∙ slash_at (m - 1) (omega (arith, within, some, is)) (top (omega (arith, some, is)))),
+      )
 
 -- ---- cut
 
@@ -334,12 +298,7 @@ HasNoSlash-after_last text =
     recursion_from_All (λ b. is_slash b ≡ false) (drop n text)
     (All-from_get_or (λ b. is_slash b ≡ false) (drop n text) 0
     (λ k h.
-    let inside : n + k < length text = omega (arith, h, length-drop n text) in
-    let back : length text - 1 - (length text - 1 - (n + k)) ≡ n + k = omega (arith, inside) in
-    ap is_slash (get_or-drop n text k 0 ∙ ap (λ i. get_or text i 0) (sym back)
-    ∙ sym (get_or-reverse text (length text - 1 - (n + k)) 0 (omega (arith, inside))))
-    ∙ fails_before_first is_slash (reverse text) (length text - 1 - (n + k)) 0
-    (omega (arith, inside, suffix_len-le-length is_solid text))))
+    ap is_slash (get_or-drop n text k 0) ∙ fails_after_last text (n + k) (omega arith) (omega (arith, h, length-drop n text))))
 
 -- the text is what stands before its first slash, that slash and what stands after it
 pub joined_first : (text : List ℕ) → (text ≡ before_first is_slash text ++ slash ∷ after_first is_slash text)

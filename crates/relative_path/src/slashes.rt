@@ -1,6 +1,6 @@
 //! A text cut at its slashes.
-ghost use Rattle.std.specs.Prelude.{◌≡◌, ◌≢◌, ◌≤◌, ◌+◌, ◌-◌, drop, length, map, slice_index, take};
-ghost use Rattle.std.specs.List.{position, position_or_len, before_first, after_first, before_last, after_last};
+ghost use Rattle.std.specs.Prelude.{◌≡◌, ◌≢◌, ◌≤◌, ◌+◌, ◌-◌, ◌<◌, MatchOption, drop, length, map, slice_index, take};
+ghost use Rattle.std.specs.List.{position_or_len, before_first, after_first, before_last, after_last};
 ghost use Rattle.std.specs.Simd.Lanes.{mask_l};
 ghost use Rattle.relative_path.specs.Slashes.{last_start};
 ghost use Rattle.relative_path.specs.Steps.{slash, is_slash, components};
@@ -107,7 +107,7 @@ fn first_piece_len(text: &str) -> usize
 
 // Counts them where the first block has no slash. The last block may begin within the one before it.
 #[inline(never)]
-#[tactic(auto, using(crate::proofs::SlashesLemmas::position_none, crate::proofs::SlashesLemmas::position_le))]
+#[tactic(auto, using(crate::proofs::SlashesLemmas::position_le))]
 fn far_first_piece_len(bytes: &[u8]) -> usize
     requires block { BLOCK ≤ length bytes.now }
     requires near { BLOCK ≤ position_or_len is_slash bytes.now }
@@ -130,8 +130,10 @@ fn far_first_piece_len(bytes: &[u8]) -> usize
 // Counts the bytes of a block before its first slash, if it has one.
 #[inline(always)]
 fn first_in_block(bytes: &[u8], start: usize) -> Option<usize>
-    requires { start + BLOCK ≤ length bytes.now }
-    ensures { result ≡ position is_slash (take BLOCK (drop start bytes.now)) }
+    requires block { start + BLOCK ≤ length bytes.now }
+    requires after { start ≤ position_or_len is_slash bytes.now }
+    ensures { MatchOption result (start + BLOCK ≤ position_or_len is_slash bytes.now)
+        (λ len. start + len ≡ position_or_len is_slash bytes.now) }
 {
     let slashes = slashes_in(bytes, start);
     if slashes == 0 {
@@ -154,7 +156,7 @@ pub(crate) fn split_last(text: &str) -> (&str, &str)
 
 // Finds where the bytes after the last slash begin.
 #[inline(always)]
-#[tactic(auto, using(crate::proofs::SlashesLemmas::last_start_is, crate::proofs::SlashesLemmas::last_start_none, crate::proofs::SlashesLemmas::last_some, crate::proofs::SlashesLemmas::last_none))]
+#[tactic(auto, using(crate::proofs::SlashesLemmas::last_start_is, crate::proofs::SlashesLemmas::last_start_none))]
 fn last_piece_start(text: &str) -> usize
     ensures { result ≡ last_start is_slash text.now }
 {
@@ -177,7 +179,6 @@ fn last_piece_start(text: &str) -> usize
 
 // Finds it where the last block has no slash. The first block may end within the one after it.
 #[inline(never)]
-#[tactic(auto, using(crate::proofs::SlashesLemmas::last_some, crate::proofs::SlashesLemmas::last_none))]
 fn far_last_piece_start(bytes: &[u8]) -> usize
     requires block { BLOCK ≤ length bytes.now }
     requires near { last_start is_slash bytes.now ≤ length bytes.now - BLOCK }
@@ -198,8 +199,10 @@ fn far_last_piece_start(bytes: &[u8]) -> usize
 // Finds where the bytes of a block after its last slash begin: 0 if it has none.
 #[inline(always)]
 fn last_in_block(bytes: &[u8], start: usize) -> usize
-    requires { start + BLOCK ≤ length bytes.now }
-    ensures { result ≡ last_start is_slash (take BLOCK (drop start bytes.now)) }
+    requires block { start + BLOCK ≤ length bytes.now }
+    requires before { last_start is_slash bytes.now ≤ start + BLOCK }
+    ensures none { result ≡ 0 → last_start is_slash bytes.now ≤ start }
+    ensures some { 0 < result → start + result ≡ last_start is_slash bytes.now }
 {
     64 - slashes_in(bytes, start).leading_zeros() as usize
 }

@@ -1,8 +1,10 @@
-use Rattle.std.proofs.Common.{◌∙◌, ◌-◌, ap}
-use Rattle.std.specs.Int.Count.{count_leading_zeros}
-use Rattle.relative_path.proofs.SlashesLemmas.{last_start-block}
+use Rattle.relative_path.proofs.SlashesLemmas.{last_in}
 use Rattle.relative_path.proofs.slashes.last_in_block.Goals as goal
 
-pub returns : goal.returns
-returns c =
-    ap (λ n. 64 - count_leading_zeros 64 n) c.slashes_in.ensures ∙ last_start-block c.args.bytes.now c.args.start c.requires
+pub returns-clause-none : goal.returns-clause-none
+returns-clause-none c =
+    rw c.slashes_in.ensures (last_in c.args.bytes.now c.args.start c.requires.block c.requires.before).0
+
+pub returns-clause-some : goal.returns-clause-some
+returns-clause-some c =
+    rw c.slashes_in.ensures (last_in c.args.bytes.now c.args.start c.requires.block c.requires.before).1
