@@ -9,7 +9,7 @@ use Rattle.relative_path.specs.Steps.{Step, cur, up, name, is_slash, is_not_empt
 use Rattle.relative_path.specs.Editing.{with_separator, unslashed}
 use Rattle.relative_path_uses.specs.FromTop.{SpellsPlace}
 use Rattle.relative_path_uses.specs.Names.{is_unportable, is_unportable_step, IsPlainName}
-use Rattle.relative_path_uses.specs.Router.{IsRefused, below, added, IsServed}
+use Rattle.relative_path_uses.specs.Router.{IsRefusedRequest, below, added, IsServed}
 
 -- the text has no slash
 abbrev HasNoSlash : List ℕ → Type 0
@@ -130,9 +130,9 @@ IsServed-added root request text file spells none is =
     }
 
 -- a request with a place is refused exactly if some platform reads a component of the place's text otherwise
-pub IsRefused-text : (request : List Step) (text : List ℕ) → SpellsPlace request text
-    → IsRefused request ↔ IsTrue (list_any is_unportable_step (components text))
-IsRefused-text request text spells = (
+pub IsRefusedRequest-text : (request : List Step) (text : List ℕ) → SpellsPlace request text
+    → IsRefusedRequest request ↔ IsTrue (list_any is_unportable_step (components text))
+IsRefusedRequest-text request text spells = (
   λ refused. ap (list_any is_unportable_step) spells.names ∙ unportable-names spells.place
       ∙ (rw spells.named at refused),
   λ holds. rw spells.named
