@@ -8,7 +8,7 @@ use Rattle.relative_path.specs.Editing.{with_separator, unslashed}
 use Rattle.relative_path.proofs.ForCallers.{AreProper, AreProper-components, name-proper, no_slash-proper, unslashed-spell}
 use Rattle.relative_path_uses.specs.FromTop.{SpellsPlace}
 use Rattle.relative_path_uses.specs.Names.{is_unportable, is_unportable_step, IsPlainName}
-use Rattle.relative_path_uses.specs.Router.{IsRefused, below, added, IsServed}
+use Rattle.relative_path_uses.specs.Router.{IsRefusedRequest, below, added, IsServed}
 use Rattle.relative_path_uses.proofs.TargetsLemmas.{or_false}
 
 -- a component that is a name is read otherwise exactly if the name is
@@ -75,9 +75,9 @@ IsServed-added root request text file spells none is =
     }
 
 -- a request with a place is refused exactly if some platform reads a component of the place's text otherwise
-pub IsRefused-text : (request : List Step) (text : List ℕ) → SpellsPlace request text
-    → IsRefused request ↔ IsTrue (list_any is_unportable_step (components text))
-IsRefused-text request text spells = (
+pub IsRefusedRequest-text : (request : List Step) (text : List ℕ) → SpellsPlace request text
+    → IsRefusedRequest request ↔ IsTrue (list_any is_unportable_step (components text))
+IsRefusedRequest-text request text spells = (
   λ refused. ap (list_any is_unportable_step) spells.names ∙ unportable-names spells.place
       ∙ (rw spells.named at refused),
   λ holds. rw spells.named

@@ -19,22 +19,22 @@ use Rattle.relative_path_uses.specs.UrlReference.{is_misread, IsReference}
 use Rattle.relative_path_uses.specs.UrlPath.{url_path, resolved, Resolves}
 use Rattle.relative_path_uses.proofs.UrlPathLemmas.{IsProper-cur, AreProper-walk, spell-dotted, resolved-walk}
 use Rattle.std.proofs.lemmas.Bool.{cond_both}
-use Rattle.relative_path_uses.specs.SiteMap.{above_page, IsShortestNamed, IsFirstNameless, IsLink, IsHref}
+use Rattle.relative_path_uses.specs.SiteMap.{above_page, IsShortestNamed, IsFirstNamelessPage, IsPageLink, IsHref}
 
 -- the way from a directory to a page is the link
-pub IsLink-way : (from to directory target : List Step) (found : Option Buffer) → directory ≡ above_page from
+pub IsPageLink-way : (from to directory target : List Step) (found : Option Buffer) → directory ≡ above_page from
     → target ≡ to → (IsNone found ↔ (¬ IsReachable directory target))
     → IfSome found (λ way. IsShortestText directory target way.text)
-    → IsLink from to (option_map (λ way. way.text) found)
-IsLink-way from to directory target None at is none shortest = rw (at, is) at (none.0 refl)
-IsLink-way from to directory target (Some way) at is none shortest = rw (at, is) at shortest
+    → IsPageLink from to (option_map (λ way. way.text) found)
+IsPageLink-way from to directory target None at is none shortest = rw (at, is) at (none.0 refl)
+IsPageLink-way from to directory target (Some way) at is none shortest = rw (at, is) at shortest
 
 -- the link between two pages is the same whatever their spelling
-pub IsLink-same : (from page to other : List Step) (found : Option (List ℕ)) → IsLink from to found
-    → IsSame from page → IsSame to other → IsLink page other found
-IsLink-same from page to other None none same_from same_to = λ reach.
+pub IsPageLink-same : (from page to other : List Step) (found : Option (List ℕ)) → IsPageLink from to found
+    → IsSame from page → IsSame to other → IsPageLink page other found
+IsPageLink-same from page to other None none same_from same_to = λ reach.
     none (IsReachable-same (IsSame-sym (IsSame-append_right (up ∷ []) same_from)) (IsSame-sym same_to) reach)
-IsLink-same from page to other (Some link) is same_from same_to =
+IsPageLink-same from page to other (Some link) is same_from same_to =
     IsShortestText-same (IsSame-append_right (up ∷ []) same_from) same_to is
 
 -- and so is the reference
@@ -52,7 +52,7 @@ IsShortestNamed-same from page to other link same_from same_to is =
 pub IsHref-same : (from page to other : List Step) (found : Option (List ℕ)) → IsHref from to found
     → IsSame from page → IsSame to other → IsHref page other found
 IsHref-same from page to other None none same_from same_to =
-    IsLink-same from page to other None none same_from same_to
+    IsPageLink-same from page to other None none same_from same_to
 IsHref-same from page to other (Some href) (link, is, reference) same_from same_to =
     (link, IsShortestNamed-same from page to other link same_from same_to is, reference)
 
@@ -218,13 +218,13 @@ named-next pages none k (Some n) lacks within before is some has =
     (sym nameless ∙ ap last_name (get_or-map path_components pages k none [] within) ∙ sym is))
 
 -- the first page that answers no file name
-pub IsFirstNameless-here : (pages : List RelativePath) (none : RelativePath) (k : ℕ) (found : Option (Bor (List ℕ)))
+pub IsFirstNamelessPage-here : (pages : List RelativePath) (none : RelativePath) (k : ℕ) (found : Option (Bor (List ℕ)))
     (lacks : Bool) → k < length pages
     → ((j : ℕ) → j < k → last_name (path_at (map path_components pages) j) ≢ None)
     → option_copied found ≡ last_name (path_components (get_or pages k none)) → is_some found ≡ not lacks → lacks ≡ true
-    → IsFirstNameless (map path_components pages) k
-IsFirstNameless-here pages none k (Some n) lacks within before is some has = absurd (true≢false (some ∙ ap not has))
-IsFirstNameless-here pages none k None lacks within before is some has = record {
+    → IsFirstNamelessPage (map path_components pages) k
+IsFirstNamelessPage-here pages none k (Some n) lacks within before is some has = absurd (true≢false (some ∙ ap not has))
+IsFirstNamelessPage-here pages none k None lacks within before is some has = record {
   within = rw (length-map pages path_components) within;
   nameless = ap last_name (get_or-map path_components pages k none [] within) ∙ sym is;
   first = before;

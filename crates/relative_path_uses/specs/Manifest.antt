@@ -112,12 +112,12 @@ abbrev pub file_text : Buffer → List ℕ
 file_text file = file.text
 
 -- what is printed of a refusal
-abbrev pub refusal_text : ManifestError → List ℕ
-refusal_text NoBase = codes "no base directory"
-refusal_text NoFiles = codes "no list of files"
-refusal_text (NotAString k) = codes "file " ++ decimal k ++ codes " is no string"
-refusal_text (ClimbsAbove k) = codes "file " ++ decimal k ++ codes " climbs above the base"
-refusal_text (LeadsToBase k) = codes "file " ++ decimal k ++ codes " leads to the base"
-refusal_text (Foreign k) = codes "file " ++ decimal k ++ codes " has a name that isn't portable"
-refusal_text ForeignBase = codes "the base has a name that isn't portable"
-refusal_text OutOfMemory = codes "out of memory"
+abbrev pub manifest_error_text : ManifestError → List ℕ
+manifest_error_text NoBase = codes "no base directory"
+manifest_error_text NoFiles = codes "no list of files"
+manifest_error_text (NotAString k) = codes "file " ++ decimal k ++ codes " is no string"
+manifest_error_text (ClimbsAbove k) = codes "file " ++ decimal k ++ codes " climbs above the base"
+manifest_error_text (LeadsToBase k) = codes "file " ++ decimal k ++ codes " leads to the base"
+manifest_error_text (Foreign k) = codes "file " ++ decimal k ++ codes " has a name that isn't portable"
+manifest_error_text ForeignBase = codes "the base has a name that isn't portable"
+manifest_error_text OutOfMemory = codes "out of memory"

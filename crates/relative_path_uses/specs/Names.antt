@@ -3,6 +3,7 @@ use Rattle.std.specs.Prelude.{◌≡◌, ◌≢◌, ℕ, ◌-◌, Bool, ◌==◌
 use Rattle.std.specs.List.{list_any, before_first}
 use Rattle.std.specs.Str.{str_eq_ignore_ascii_case}
 use Rattle.relative_path.specs.Steps.{Step, cur, up, name, is_slash}
+use Rattle.relative_path.specs.Naming.{is_dot}
 use Rattle.relative_path_uses.specs.UrlReference.{is_colon}
 
 -- `b'\\'`
@@ -16,10 +17,6 @@ is_foreign b = nat_lt b 32 || b == backslash || is_colon b
 -- the name holds such a byte
 abbrev pub holds_foreign : List ℕ → Bool
 holds_foreign text = list_any is_foreign text
-
--- the byte is a dot
-abbrev pub is_dot : ℕ → Bool
-is_dot b = b == 46
 
 -- the byte is a dot or a space
 abbrev pub is_open : ℕ → Bool

@@ -67,9 +67,9 @@ IsLeft moves file angled path Unwritable =
     (new : List ℕ) × IsNewPath moves file path new × (has_unfit angled new ≡ true)
 
 -- why a path has no new one; an allocation failure says nothing of it
-abbrev pub IsRefused : List Move → List Step → Bool → List ℕ → PathError → Type 0
-IsRefused moves file angled path (refused.Left why) = IsLeft moves file angled path why
-IsRefused moves file angled path refused.OutOfMemory = ⊤
+abbrev pub IsRefusedPath : List Move → List Step → Bool → List ℕ → PathError → Type 0
+IsRefusedPath moves file angled path (refused.Left why) = IsLeft moves file angled path why
+IsRefusedPath moves file angled path refused.OutOfMemory = ⊤
 
 -- what a target becomes: its text, and why it is left, if it is
 pub record Part : Type 0 where

@@ -7,8 +7,8 @@ use Rattle.relative_path_moves.specs.Places.{place_of}
 use Rattle.relative_path_uses.specs.Names.{is_unportable, IsPlainName}
 
 -- the request climbs above the top, or some platform reads a name of its place otherwise
-abbrev pub IsRefused : List Step → Type 0
-IsRefused request = MatchOption (place_of request) ⊤ (λ place. IsTrue (list_any is_unportable place))
+abbrev pub IsRefusedRequest : List Step → Type 0
+IsRefusedRequest request = MatchOption (place_of request) ⊤ (λ place. IsTrue (list_any is_unportable place))
 
 -- the root as it is, with the names after it, single slashes between
 abbrev pub below : List ℕ → List (List ℕ) → List ℕ

@@ -9,11 +9,11 @@ use Rattle.relative_path_uses.specs.declared.site_map.SiteMapError.{SiteMapError
 use Rattle.relative_path_uses.specs.declared.site_map.SiteMapError.TheVariants.{NoFileName, OutOfMemory}
 
 -- each page has a file name
-abbrev pub AreNamed : List (List Step) → Type 0
-AreNamed pages = (k : ℕ) → k < length pages → last_name (path_at pages k) ≢ None
+abbrev pub AreNamedPages : List (List Step) → Type 0
+AreNamedPages pages = (k : ℕ) → k < length pages → last_name (path_at pages k) ≢ None
 
 -- k is the number of the first page without a file name
-pub record IsFirstNameless (pages : List (List Step)) (k : ℕ) : Type 0 where
+pub record IsFirstNamelessPage (pages : List (List Step)) (k : ℕ) : Type 0 where
   pub within : k < length pages
   pub nameless : last_name (path_at pages k) ≡ None
   pub first : (j : ℕ) → j < k → last_name (path_at pages j) ≢ None
@@ -23,8 +23,8 @@ abbrev pub above_page : List Step → List Step
 above_page page = page ++ up ∷ []
 
 -- found is the shortest link from the directory of a page to another page, or nothing, where no list leads there
-abbrev pub IsLink : List Step → List Step → Option (List ℕ) → Type 0
-IsLink from to found = MatchOption found (¬ IsReachable (above_page from) to) (IsShortestText (above_page from) to)
+abbrev pub IsPageLink : List Step → List Step → Option (List ℕ) → Type 0
+IsPageLink from to found = MatchOption found (¬ IsReachable (above_page from) to) (IsShortestText (above_page from) to)
 
 -- the list ends in a name
 abbrev pub EndsInName : List Step → Type 0
@@ -44,6 +44,6 @@ IsHref from to found = MatchOption found (¬ IsReachable (above_page from) to)
     (λ href. (link : List ℕ) × IsShortestNamed (above_page from) to link × IsReference link href)
 
 -- what is printed of a refusal
-abbrev pub refusal_text : SiteMapError → List ℕ
-refusal_text (NoFileName k) = codes "page " ++ decimal k ++ codes " lacks a file name"
-refusal_text OutOfMemory = codes "out of memory"
+abbrev pub site_map_error_text : SiteMapError → List ℕ
+site_map_error_text (NoFileName k) = codes "page " ++ decimal k ++ codes " lacks a file name"
+site_map_error_text OutOfMemory = codes "out of memory"

@@ -27,7 +27,7 @@ abbrev pub target_text : List ℕ → Target → List ℕ
 target_text page target = between target.start target.end page
 
 -- the page has the target: it stands between two ends of characters, and its path is one from the page's directory
-pub record IsTarget (page : List ℕ) (target : Target) : Type 0 where
+pub record HasTarget (page : List ℕ) (target : Target) : Type 0 where
   pub order : target.start ≤ target.end
   pub within : target.end ≤ length page
   pub start : IsCharBoundary page target.start
@@ -38,7 +38,7 @@ pub record IsTarget (page : List ℕ) (target : Target) : Type 0 where
 abbrev pub HasTargets : List ℕ → ℕ → List Target → Type 0
 HasTargets page at [] = ⊤
 HasTargets page at (target ∷ targets) =
-    (at ≤ target.start) × IsTarget page target × HasTargets page target.end targets
+    (at ≤ target.start) × HasTarget page target × HasTargets page target.end targets
 
 -- the target stands between `<` and `>`
 abbrev pub is_angled : List ℕ → Target → Bool

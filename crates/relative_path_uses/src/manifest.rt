@@ -42,9 +42,9 @@ pub enum ManifestError {
 }
 
 impl fmt::Display for ManifestError {
-    ghost use Rattle.relative_path_uses.specs.Manifest.{refusal_text};
+    ghost use Rattle.relative_path_uses.specs.Manifest.{manifest_error_text};
 
-    ghost output = { λ refusal. Some (refusal_text refusal) };
+    ghost output = { λ refusal. Some (manifest_error_text refusal) };
 
     fn fmt<W: fmt::Write>(&self, f: &mut fmt::Formatter<W>) -> fmt::Result {
         match self {

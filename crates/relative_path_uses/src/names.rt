@@ -3,8 +3,9 @@ ghost use Rattle.std.specs.Prelude.{◌≡◌};
 ghost use Rattle.std.specs.List.{before_first, list_any};
 ghost use Rattle.std.specs.Str.{str_eq_ignore_ascii_case};
 ghost use Rattle.relative_path.specs.Components.{step_of};
+ghost use Rattle.relative_path.specs.Naming.{is_dot};
 ghost use Rattle.relative_path.specs.RelativePath.{path_components};
-ghost use Rattle.relative_path_uses.specs.Names.{ends_open, holds_foreign, is_device, is_dot, is_unportable, is_unportable_step, names_device};
+ghost use Rattle.relative_path_uses.specs.Names.{ends_open, holds_foreign, is_device, is_unportable, is_unportable_step, names_device};
 
 use relative_path::{Component, RelativePath};
 

@@ -7,7 +7,7 @@ ghost use Rattle.relative_path_uses.specs.Rewriter.{
   BecomesPart,
   has_unfit,
   IsNewPath,
-  IsRefused,
+  IsRefusedPath,
   IsRewritten,
   is_unfit,
   Part,
@@ -166,7 +166,7 @@ fn new_path(
         (StillLeads table.now (path_components from.entry) path.now)
         (λ new. IsNewPath table.now (path_components from.entry) path.now (string_bytes new)
         × (has_unfit angled (string_bytes new) ≡ false))) }
-    ensures left { IfErr result (IsRefused table.now (path_components from.entry) angled path.now) }
+    ensures left { IfErr result (IsRefusedPath table.now (path_components from.entry) angled path.now) }
 {
     let way = match table.moved_in(alloc, from, RelativePath::new(path)) {
         Ok(Some(way)) => way,

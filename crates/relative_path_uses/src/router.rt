@@ -2,7 +2,7 @@
 ghost use Rattle.std.specs.Prelude.{◌≡◌, ◌↔◌, IfOk, IfSome, IsNone, string_bytes};
 ghost use Rattle.relative_path.specs.Steps.{components};
 ghost use Rattle.relative_path.specs.RelativePath.{path_text};
-ghost use Rattle.relative_path_uses.specs.Router.{added, IsRefused, IsServed};
+ghost use Rattle.relative_path_uses.specs.Router.{added, IsRefusedRequest, IsServed};
 
 use crate::from_top::place_from_top;
 use crate::names::has_unportable_name;
@@ -39,7 +39,7 @@ use std::alloc::{AllocError, Global};
 /// assert!(rt; served(alloc, "/srv/www", "/aux.txt")?.is_none());
 /// ```
 pub fn served(alloc: Global, root: &str, request: &str) -> Result<Option<String>, AllocError>
-    ensures refused { IfOk result (λ found. IsNone found ↔ IsRefused (components request.now)) }
+    ensures refused { IfOk result (λ found. IsNone found ↔ IsRefusedRequest (components request.now)) }
     ensures file { IfOk result (λ found. IfSome found
         (λ file. IsServed root.now (components request.now) (string_bytes file))) }
 {

@@ -6,7 +6,7 @@ ghost use Rattle.relative_path.specs.Walk.{IsSame};
 ghost use Rattle.relative_path.specs.Naming.{last_name};
 ghost use Rattle.relative_path.specs.RelativePath.{path_components};
 ghost use Rattle.relative_path_moves.specs.PlaceIndex.{path_at, Indexes, IsFirstAt, IsFoundAt};
-ghost use Rattle.relative_path_uses.specs.SiteMap.{AreNamed, IsFirstNameless, IsLink, IsHref};
+ghost use Rattle.relative_path_uses.specs.SiteMap.{AreNamedPages, IsFirstNamelessPage, IsPageLink, IsHref};
 ghost use Rattle.relative_path_uses.specs.UrlPath.{Resolves};
 
 use crate::url_reference::url_reference;
@@ -34,9 +34,9 @@ pub enum SiteMapError {
 }
 
 impl fmt::Display for SiteMapError {
-    ghost use Rattle.relative_path_uses.specs.SiteMap.{refusal_text};
+    ghost use Rattle.relative_path_uses.specs.SiteMap.{site_map_error_text};
 
-    ghost output = { λ refusal. Some (refusal_text refusal) };
+    ghost output = { λ refusal. Some (site_map_error_text refusal) };
 
     fn fmt<W: fmt::Write>(&self, f: &mut fmt::Formatter<W>) -> fmt::Result {
         match self {
@@ -77,7 +77,7 @@ impl<'a> Model for SiteMap<'a> {
     ghost view = { λ site. map path_components site.pages.now };
 
     ghost invariant = { λ site. Indexes (map path_components site.pages.now) site.by_place
-        × AreNamed (map path_components site.pages.now) };
+        × AreNamedPages (map path_components site.pages.now) };
 }
 
 impl<'a> SiteMap<'a> {
@@ -95,9 +95,9 @@ impl<'a> SiteMap<'a> {
     /// ```
     pub fn new(alloc: Global, pages: &'a [RelativePath<'a>]) -> Result<SiteMap<'a>, SiteMapError>
         ensures pages { IfOk result (λ site. site ≡ map path_components pages.now) }
-        ensures named { OnOk result (AreNamed (map path_components pages.now)) }
+        ensures named { OnOk result (AreNamedPages (map path_components pages.now)) }
         ensures no_file_name { (k : ℕ) → IsErrOf result (SiteMapError.NoFileName k)
-            ↔ IsFirstNameless (map path_components pages.now) k }
+            ↔ IsFirstNamelessPage (map path_components pages.now) k }
     {
         if let Some(k) = first_nameless(pages) {
             return Err(SiteMapError::NoFileName(k));
@@ -159,11 +159,11 @@ impl<'a> SiteMap<'a> {
     ) -> Result<Option<RelativePathBuf>, AllocError>
         requires from { from < length self.now }
         requires to { to < length self.now }
-        ensures link { IfOk result (λ found. IsLink (path_at self.now from) (path_at self.now to)
+        ensures link { IfOk result (λ found. IsPageLink (path_at self.now from) (path_at self.now to)
             (option_map (λ link. link.text) found)) }
         ensures alike { IfOk result (λ found. (page other : List Step)
             → IsSame (path_at self.now from) page → IsSame (path_at self.now to) other
-            → IsLink page other (option_map (λ link. link.text) found)) }
+            → IsPageLink page other (option_map (λ link. link.text) found)) }
     {
         let directory = self.page(from).join(alloc, RelativePath::new(".."))?;
         let link = directory
@@ -233,8 +233,8 @@ impl<'a> SiteMap<'a> {
 
 // The number of the first page without a file name.
 fn first_nameless(pages: &[RelativePath<'_>]) -> Option<usize>
-    ensures { MatchOption result (AreNamed (map path_components pages.now))
-        (IsFirstNameless (map path_components pages.now)) }
+    ensures { MatchOption result (AreNamedPages (map path_components pages.now))
+        (IsFirstNamelessPage (map path_components pages.now)) }
 {
     for (k, page) in pages.iter().enumerate() {
         if page.file_name().is_none() {

@@ -1,7 +1,7 @@
 //! Targets of links: where they stand in a page, and what of each is its path.
 ghost use Rattle.std.specs.Prelude.{◌≡◌, ◌-◌, ◌==◌, ◌↔◌, length, get_or, IsTrue};
 ghost use Rattle.std.specs.List.{position};
-ghost use Rattle.relative_path_uses.specs.Targets.{ends_path, path_of, tail_of, is_kept, target_text, IsTarget, is_angled};
+ghost use Rattle.relative_path_uses.specs.Targets.{ends_path, path_of, tail_of, is_kept, target_text, HasTarget, is_angled};
 
 use crate::url_reference::is_misread;
 
@@ -24,7 +24,7 @@ pub struct Target {
 impl Target {
     // Whether a page has this target, and its path is one from the page's directory.
     pub(crate) fn is_of(self, page: &str) -> bool
-        ensures { IsTrue result ↔ IsTarget page.now self }
+        ensures { IsTrue result ↔ HasTarget page.now self }
     {
         self.start <= self.end
             && page.is_char_boundary(self.start)
@@ -34,7 +34,7 @@ impl Target {
 
     // Its text in a page that has it.
     pub(crate) fn text(self, page: &str) -> &str
-        requires { IsTarget page.now self }
+        requires { HasTarget page.now self }
         ensures { result.now ≡ target_text page.now self }
     {
         &page[self.start..self.end]
@@ -42,7 +42,7 @@ impl Target {
 
     // Whether it stands between `<` and `>`.
     pub(crate) fn is_angled(self, page: &str) -> bool
-        requires { IsTarget page.now self }
+        requires { HasTarget page.now self }
         ensures { result ≡ is_angled page.now self }
     {
         ends_in_bracket(&page[..self.start]) && begins_with_bracket(&page[self.end..])

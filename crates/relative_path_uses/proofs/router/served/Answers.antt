@@ -3,7 +3,7 @@ use Rattle.std.proofs.Common.{◌≡◌, refl, sym, ◌∙◌, true≢false, str
 use Rattle.relative_path.specs.Steps.{components}
 use Rattle.relative_path_uses.specs.FromTop.{SpellsPlace}
 use Rattle.relative_path_uses.specs.Router.{added}
-use Rattle.relative_path_uses.proofs.RouterLemmas.{IsServed-added, IsRefused-text}
+use Rattle.relative_path_uses.proofs.RouterLemmas.{IsServed-added, IsRefusedRequest-text}
 use Rattle.relative_path_uses.proofs.router.served.Goals as goal
 
 pub returns-then-has_unportable_name-clause-refused : goal.returns-then-has_unportable_name-clause-refused
@@ -12,7 +12,7 @@ returns-then-has_unportable_name-clause-refused c =
     rw c.new.ensures at (rw c.in-Some.is at c.in_ok-place.ensures.some) in
     let holds = sym c.has_unportable_name.ensures ∙ c.if-has_unportable_name.true in
     let refused =
-    (IsRefused-text (components c.args.request.now) c.in-Some.place.text spells).1
+    (IsRefusedRequest-text (components c.args.request.now) c.in-Some.place.text spells).1
     (rw c.as_relative_path-place.ensures at holds) in
     (λ _. refused, λ _. refl)
 
@@ -21,7 +21,7 @@ returns-clause-refused c =
     let spells : SpellsPlace (components c.args.request.now) c.in-Some.place.text =
     rw c.new.ensures at (rw c.in-Some.is at c.in_ok-place.ensures.some) in
     let none = sym c.has_unportable_name.ensures ∙ c.if-has_unportable_name.false in
-    let holds = (IsRefused-text (components c.args.request.now) c.in-Some.place.text spells).0 in (
+    let holds = (IsRefusedRequest-text (components c.args.request.now) c.in-Some.place.text spells).0 in (
       λ no. absurd (true≢false no),
       λ refused. sym (holds refused) ∙ (rw c.as_relative_path-place.ensures at none),
     )

@@ -1,5 +1,5 @@
 -- A page lacks a file name where it answers none.
-use Rattle.relative_path_uses.proofs.SiteMapLemmas.{named-next, IsFirstNameless-here}
+use Rattle.relative_path_uses.proofs.SiteMapLemmas.{named-next, IsFirstNamelessPage-here}
 use Rattle.relative_path_uses.proofs.site_map.first_nameless.Goals as goal
 
 pub loop-k-preserved : goal.loop-k-preserved
@@ -9,5 +9,5 @@ loop-k-preserved c =
 
 pub returns-then-is_none : goal.returns-then-is_none
 returns-then-is_none c =
-    IsFirstNameless-here c.args.pages.now _ c.loop-k.k _ _ c.loop-k-test.true c.loop-k.invariant
+    IsFirstNamelessPage-here c.args.pages.now _ c.loop-k.k _ _ c.loop-k-test.true c.loop-k.invariant
     c.file_name.ensures.text c.is_none.ensures c.if-is_none.true
