@@ -26,9 +26,9 @@ abbrev pub no_dot : ℕ → Bool
 no_dot b = not (is_dot b)
 
 -- the bytes after the last dot are no dots
-behind_dot : (xs ys : List ℕ) → All (λ b. b ≢ dot) ys → (k : ℕ) → length xs + 1 ≤ k → k < length (xs ++ dot ∷ ys)
+after_dot : (xs ys : List ℕ) → All (λ b. b ≢ dot) ys → (k : ℕ) → length xs + 1 ≤ k → k < length (xs ++ dot ∷ ys)
     → no_dot (get_or (xs ++ dot ∷ ys) k 0) ≡ true
-behind_dot xs ys other k from below =
+after_dot xs ys other k from below =
     let regroup = append_assoc xs (dot ∷ []) ys in
     let front = length-append xs (dot ∷ []) in
     let whole = length-append xs (dot ∷ ys) in
@@ -43,7 +43,7 @@ suffix_len-last_dot xs ys other =
     let here =
     ap (λ i. no_dot (get_or (xs ++ dot ∷ ys) i 0)) start ∙ ap no_dot (get_or_at xs dot ys 0 (length xs) refl) in
     let counted =
-    suffix_len_is no_dot (xs ++ dot ∷ ys) (length xs + 1) 0 (omega arith) (behind_dot xs ys other) (λ _. here) in
+    suffix_len_is no_dot (xs ++ dot ∷ ys) (length xs + 1) 0 (omega arith) (after_dot xs ys other) (λ _. here) in
     omega arith
 
 suffix_len-no_dot : (xs : List ℕ) → All (λ b. b ≢ dot) xs → suffix_len no_dot xs ≡ length xs

@@ -190,6 +190,6 @@ length-spell-drop_one (e ∷ es) (d ∷ ds) c =
 -- ---- a test of a normal list
 
 -- after a name only names are normal
-abbrev pub IsNormalBehind : Bool → List Step → Type 0
-IsNormalBehind false cs = IsNormal cs
-IsNormalBehind true cs = AreNames cs
+abbrev pub IsNormalAfter : Bool → List Step → Type 0
+IsNormalAfter false cs = IsNormal cs
+IsNormalAfter true cs = AreNames cs

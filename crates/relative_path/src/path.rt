@@ -349,13 +349,13 @@ impl<'a> RelativePath<'a> {
     pub fn is_normalized(self) -> bool
         ensures { IsTrue result ↔ IsNormal (path_components self.entry) }
     {
-        let mut behind_name = false;
+        let mut after_name = false;
         for component in self.components() {
             match component {
                 Component::CurDir => return false,
-                Component::ParentDir if behind_name => return false,
+                Component::ParentDir if after_name => return false,
                 Component::ParentDir => {}
-                Component::Normal(_) => behind_name = true,
+                Component::Normal(_) => after_name = true,
             }
         }
         true

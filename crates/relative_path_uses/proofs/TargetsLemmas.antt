@@ -9,7 +9,7 @@ use Rattle.relative_path.specs.Steps.{slash, is_slash, components, spell}
 use Rattle.relative_path.specs.Unix.{has_root}
 use Rattle.relative_path.proofs.ForCallers.{AreProper-components, has_root-spell}
 use Rattle.relative_path_uses.specs.UrlReference.{is_misread, has_scheme, IsReference}
-use Rattle.relative_path_uses.specs.Targets.{ends_path, path_of, tail_of, is_kept, IsTarget, HasTargets}
+use Rattle.relative_path_uses.specs.Targets.{ends_path, path_of, tail_of, is_kept, HasTargets}
 use Rattle.relative_path_uses.specs.declared.target.Target.{Target}
 
 -- the first place at which a byte passes

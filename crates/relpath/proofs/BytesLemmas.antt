@@ -68,15 +68,15 @@ position-here p bytes at n r before room is within =
     stops l = ap not (run_in_chunk_stops p bytes at n r 0 room is within)
 
 -- the first place is after a block without the byte
-pub position-behind : (p : ℕ → Bool) (bytes : List ℕ) (at n r : ℕ) → at ≤ position_or_len p bytes
+pub position-after : (p : ℕ → Bool) (bytes : List ℕ) (at n r : ℕ) → at ≤ position_or_len p bytes
     → at + n ≤ length bytes → r ≡ position_or_len p (take n (drop at bytes)) → n ≤ r
     → at + n ≤ position_or_len p bytes
-position-behind p bytes at n r before room is whole =
+position-after p bytes at n r before room is whole =
     let first = position_or_len p bytes in
     elim (cases_lt first (at + n)) [
       | inl inside ↦ absurd (both_ways _ (prefix_len_stops (λ b. not (p b)) bytes 0 (omega arith))
           (ap not (run_in_chunk_fails p bytes at n r 0 room is first (omega arith) (omega arith))))
-      | inr behind ↦ omega arith
+      | inr after ↦ omega arith
     ]
 
 -- a place before which the byte isn't is within the bytes, or after the last
@@ -117,7 +117,7 @@ position-passed bytes at n byte before room others =
           let back : at + (first - at) ≡ first = omega arith in
           absurd (others (first - at) (omega arith)
           (ap (λ i. get_or bytes i 0) back ∙ position-holds bytes byte first refl (omega arith)))
-      | inr behind ↦ behind
+      | inr after ↦ after
     ]
 
 -- a place that isn't the end is within the bytes

@@ -1,6 +1,6 @@
 -- A block at a time, and far blocks without the byte at once.
 use Rattle.std.proofs.Common.{◌-◌, ◌==◌, length, arith}
-use Rattle.relpath.proofs.BytesLemmas.{position-here, position-behind, position-end, position-of}
+use Rattle.relpath.proofs.BytesLemmas.{position-here, position-after, position-end, position-of}
 use Rattle.relpath.proofs.bytes.find_byte.Goals as goal
 
 pub returns-then-bytes-lt-BLOCK : goal.returns-then-bytes-lt-BLOCK
@@ -15,12 +15,12 @@ returns-in-Some c =
 
 pub pass_far-start-requires : goal.pass_far-start-requires
 pass_far-start-requires c =
-    position-behind (λ b. b == c.args.byte) c.args.bytes.now c.loop-start.start 16 16 c.loop-start.invariant
+    position-after (λ b. b == c.args.byte) c.args.bytes.now c.loop-start.start 16 16 c.loop-start.invariant
     (omega (arith, c.loop-start-test.true)) c.in_default.ensures (omega arith)
 
 pub loop-start-preserved : goal.loop-start-preserved
 loop-start-preserved c =
-    position-behind (λ b. b == c.args.byte) c.args.bytes.now c.loop-start.start 16 16 c.loop-start.invariant
+    position-after (λ b. b == c.args.byte) c.args.bytes.now c.loop-start.start 16 16 c.loop-start.invariant
     (omega (arith, c.loop-start-test.true)) c.in_default.ensures (omega arith)
 
 pub returns-in-Some-find_in_block : goal.returns-in-Some-find_in_block
@@ -31,9 +31,9 @@ returns-in-Some-find_in_block c =
 
 pub returns-in-None : goal.returns-in-None
 returns-in-None c =
-    let behind =
-    position-behind (λ b. b == c.args.byte) c.args.bytes.now (length c.args.bytes.now - 16) 16 16
+    let after =
+    position-after (λ b. b == c.args.byte) c.args.bytes.now (length c.args.bytes.now - 16) 16 16
     (omega (arith, c.loop-start-test.false, c.loop-start.invariant)) (omega (arith, c.if-bytes-lt-BLOCK.false))
     c.in-None.ensures (omega arith) in
     position-end c.args.bytes.now (length c.args.bytes.now) c.args.byte
-    (omega (arith, behind, c.if-bytes-lt-BLOCK.false)) (omega arith)
+    (omega (arith, after, c.if-bytes-lt-BLOCK.false)) (omega arith)
