@@ -63,7 +63,8 @@ TakesFirst-none text trimmed trim empty =
 components-first : (text : List ℕ) → get_or text 0 0 ≢ slash → text ≢ []
     → components text ≡ classed (before_first is_slash text) ∷ components (after_first is_slash text)
 components-first text start some =
-    let piece = λ (nonempty : before_first is_slash text ≢ []). components_piece (before_first is_slash text) nonempty (HasNoSlash-before_first text) in
+    let piece = λ (nonempty : before_first is_slash text ≢ []).
+    components_piece (before_first is_slash text) nonempty (HasNoSlash-before_first text) in
     elim (joined_first text) [
       | inl joined ↦ ap components joined ∙ components-append (before_first is_slash text) (after_first is_slash text)
           ∙ ap (λ cs. cs ++ components (after_first is_slash text))
@@ -108,7 +109,8 @@ TakesLast-none text trimmed trim empty =
 components-last : (text : List ℕ) → get_or text (length text - 1) 0 ≢ slash → text ≢ []
     → components text ≡ components (before_last is_slash text) ++ classed (after_last is_slash text) ∷ []
 components-last text end some =
-    let piece = λ (nonempty : after_last is_slash text ≢ []). components_piece (after_last is_slash text) nonempty (HasNoSlash-after_last text) in
+    let piece = λ (nonempty : after_last is_slash text ≢ []).
+    components_piece (after_last is_slash text) nonempty (HasNoSlash-after_last text) in
     elim (joined_last text) [
       | inl joined ↦
           let ended = λ (none : after_last is_slash text ≡ []). joined ∙ ap (λ x. before_last is_slash text ++ slash ∷ x) none in

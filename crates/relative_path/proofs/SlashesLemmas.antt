@@ -182,7 +182,8 @@ module _ (bytes : List ℕ) (start : ℕ) (inside : start + 16 ≤ length bytes)
   pub mask_bit : (k : ℕ) → k < 16 → bit_at mask k ≡ cond (is_slash (get_or bytes (start + k) 0)) 1 0
   mask_bit k h =
       bit_mask_l (map is_slash (take 16 (drop start bytes))) k
-      ∙ ap (λ b. cond b 1 0) (get_or-map is_slash (take 16 (drop start bytes)) k 0 false (omega (arith, h, length-chunk start 16 bytes inside))
+      ∙ ap (λ b. cond b 1 0)
+      (get_or-map is_slash (take 16 (drop start bytes)) k 0 false (omega (arith, h, length-chunk start 16 bytes inside))
       ∙ ap is_slash (get_or-chunk start 16 bytes k 0 h))
 
   slash_at : (k : ℕ) → k < 16 → bit_at mask k ≡ 1 → get_or bytes (start + k) 0 ≡ slash
@@ -194,7 +195,13 @@ module _ (bytes : List ℕ) (start : ℕ) (inside : start + 16 ≤ length bytes)
   no_slash_at : (k : ℕ) → start ≤ k → k < start + 16 → bit_at mask (k - start) ≡ 0 → get_or bytes k 0 ≢ slash
   no_slash_at k from to clear e =
       let at : start + (k - start) ≡ k = omega (arith, from) in
-      omega (arith, clear, mask_bit (k - start) (omega (arith, from, to)), ap {B = ℕ} (λ i. cond (is_slash (get_or bytes i 0)) 1 0) at, ap {B = ℕ} (λ b. cond (is_slash b) 1 0) e)
+      omega (
+        arith,
+        clear,
+        mask_bit (k - start) (omega (arith, from, to)),
+        ap {B = ℕ} (λ i. cond (is_slash (get_or bytes i 0)) 1 0) at,
+        ap {B = ℕ} (λ b. cond (is_slash b) 1 0) e,
+      )
 
   -- where no slash stands before the block
   pub first_in : start ≤ position_or_len is_slash bytes → mask ≢ 0
@@ -215,7 +222,8 @@ module _ (bytes : List ℕ) (start : ℕ) (inside : start + 16 ≤ length bytes)
   first_after after none =
       let n = position_or_len is_slash bytes in
       ⊎_elim
-      (λ h. absurd (no_slash_at n after h (ap (λ m. bit_at m (n - start)) none ∙ bit_at-zero (n - start)) (slash_at_first bytes (omega (arith, h, inside)))))
+      (λ h. absurd (no_slash_at n after h (ap (λ m. bit_at m (n - start)) none ∙ bit_at-zero (n - start))
+      (slash_at_first bytes (omega (arith, h, inside)))))
       (λ h. h)
       (cases_lt n (start + 16))
 
