@@ -1,5 +1,5 @@
 -- The first two moves with the same old path, one move after the other.
-use Rattle.std.proofs.Common.{◌≡◌, ℕ, ◌<◌, ◌≤◌, ◌+◌, ◌⊎◌, List, length, take, Option, Some, None, MatchOption, IfSome, inl, inr, [], sym, ◌∙◌, arith}
+use Rattle.std.proofs.Common.{◌≡◌, ℕ, ◌<◌, ◌≤◌, ◌+◌, ◌⊎◌, List, length, take, Option, Some, None, MatchOption, IfSome, inl, inr, [], ◌∙◌, arith}
 use Rattle.std.proofs.lemmas.Bool.{cases_lt}
 use Rattle.std.proofs.lemmas.List.{get_or-take}
 use Rattle.relative_path.proofs.ForCallers.{IsSame-sym}
