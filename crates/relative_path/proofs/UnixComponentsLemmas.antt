@@ -13,27 +13,23 @@ use Rattle.relative_path.specs.Components.{step_of, TakesLast}
 use Rattle.relative_path.specs.Slices.{IsShortestPrefix}
 use Rattle.relative_path.specs.declared.component.Component.{Component}
 use Rattle.relative_path.specs.declared.component.Component.TheVariants.{CurDir}
-use Rattle.relative_path.specs.Unix.{counted, but_last, shared_len}
+use Rattle.relative_path.specs.Unix.{counted, but_last, shared_len, without_shared}
 use Rattle.relative_path.proofs.StepsLemmas.{components-nil}
 use Rattle.relative_path.proofs.EditingLemmas.{end-IsShortestPrefix}
 use Rattle.relative_path.proofs.SlicesLemmas.{IsPrefix, IsPrefix-trans, IsPrefix-shortest}
 
 -- ---- what two lists begin with
 
--- both lists without the components that both begin with
-abbrev pub unshared : List Step → List Step → List Step × List Step
-unshared cs ds = (drop (shared_len cs ds) cs, drop (shared_len cs ds) ds)
-
-unshared_both : (cs ds : List Step) (c d : Step) → step_eq c d ≡ true → unshared (c ∷ cs) (d ∷ ds) ≡ unshared cs ds
-unshared_both cs ds c d same =
+without_shared_both : (cs ds : List Step) (c d : Step) → step_eq c d ≡ true → without_shared (c ∷ cs) (d ∷ ds) ≡ without_shared cs ds
+without_shared_both cs ds c d same =
     let one_more : shared_len (c ∷ cs) (d ∷ ds) ≡ suc (shared_len cs ds) =
     omega (arith, cond-true (step_eq c d) (1 + shared_len cs ds) 0 same) in
     ap (λ n. (drop n (c ∷ cs), drop n (d ∷ ds))) one_more
 
-pub unshared-both : (cs ds cs' ds' : List Step) (c d : Step) → cs ≡ c ∷ cs' → ds ≡ d ∷ ds' → c ≡ d
-    → unshared cs' ds' ≡ unshared cs ds
-unshared-both cs ds cs' ds' c d first second same =
-    sym (ap₂ unshared first second ∙ unshared_both cs' ds' c d ((step_eq-Decides c d).1 same))
+pub without_shared-both : (cs ds cs' ds' : List Step) (c d : Step) → cs ≡ c ∷ cs' → ds ≡ d ∷ ds' → c ≡ d
+    → without_shared cs' ds' ≡ without_shared cs ds
+without_shared-both cs ds cs' ds' c d first second same =
+    sym (ap₂ without_shared first second ∙ without_shared_both cs' ds' c d ((step_eq-Decides c d).1 same))
 
 -- ---- the components that count
 

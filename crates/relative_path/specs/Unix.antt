@@ -62,6 +62,10 @@ way_back from to = option_map (λ place. replicate (length place) up ++ to) (wal
 abbrev pub shared_len : List Step → List Step → ℕ
 shared_len = common_prefix_len step_eq
 
+-- both lists without the components that both begin with
+abbrev pub without_shared : List Step → List Step → List Step × List Step
+without_shared cs ds = (drop (shared_len cs ds) cs, drop (shared_len cs ds) ds)
+
 -- the way from the root to the path, after the components that both begin with; none where the root climbs above those
 abbrev pub way_to : (path root : List ℕ) → Option (List Step)
 way_to path root =

@@ -4,7 +4,7 @@ ghost use Rattle.std.specs.Iterator.{YieldsFirstBy, item_count};
 ghost use Rattle.relative_path.specs.Components.{step_of};
 ghost use Rattle.relative_path.specs.Editing.{without_curs};
 ghost use Rattle.relative_path.specs.Steps.{slash, components};
-ghost use Rattle.relative_path.specs.Unix.{has_root, counted, unix_components, but_last, shared_len};
+ghost use Rattle.relative_path.specs.Unix.{has_root, counted, unix_components, but_last, without_shared};
 ghost use Rattle.relative_path.specs.UnixComponents.{unix_left};
 ghost use Rattle.relative_path.specs.Walk.{walk};
 
@@ -70,9 +70,9 @@ pub(crate) fn without_shared<'a, 'b>(
     root: &'b str,
 ) -> (UnixComponents<'a>, UnixComponents<'b>)
     ensures path { unix_left result.0
-        ≡ drop (shared_len (unix_components path.now) (unix_components root.now)) (unix_components path.now) }
+        ≡ (without_shared (unix_components path.now) (unix_components root.now)).0 }
     ensures root { unix_left result.1
-        ≡ drop (shared_len (unix_components path.now) (unix_components root.now)) (unix_components root.now) }
+        ≡ (without_shared (unix_components path.now) (unix_components root.now)).1 }
 {
     let mut left = (UnixComponents::new(path), UnixComponents::new(root));
     loop {

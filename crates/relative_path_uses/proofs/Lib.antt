@@ -1,4 +1,5 @@
 pub mod FromTopLemmas
+pub mod NamesLemmas
 pub mod RouterLemmas
 pub mod ManifestLemmas
 pub mod UrlReferenceLemmas

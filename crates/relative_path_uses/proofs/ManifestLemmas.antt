@@ -17,7 +17,7 @@ use Rattle.relative_path_uses.specs.FromTop.{SpellsPlace}
 use Rattle.std.specs.List.{list_any}
 use Rattle.relative_path_uses.specs.Names.{is_unportable_step}
 use Rattle.relative_path_uses.proofs.FromTopLemmas.{SpellsPlace-some}
-use Rattle.relative_path_uses.proofs.RouterLemmas.{All-IsPlainName}
+use Rattle.relative_path_uses.proofs.NamesLemmas.{All-IsPlainName}
 use Rattle.relative_path_uses.specs.Manifest.{base_member, item_list, entries_of, OfManifest, IsRefusedManifest, IsFileOf, AreFiles, IsRefusedFor, file_text}
 
 -- the file of an entry whose path has a place with a name

@@ -1,39 +1,15 @@
--- The names of a place are plain, and its text is the one that stands after a root.
-use Rattle.std.proofs.Common.{◌≡◌, ◌≢◌, ◌↔◌, ℕ, false, List, [], ◌∷◌, ◌++◌, map, ◌||◌, IsTrue, refl, sym, ap, ◌∙◌}
-use Rattle.std.proofs.lemmas.List.Elements.{All-from_recursion}
-use Rattle.std.proofs.lemmas.List.Folds.{list_any_none}
-use Rattle.std.specs.List.{All, AllByRecursion, list_any}
-use Rattle.relative_path.specs.Steps.{Step, name, is_slash, components, spell}
+-- The text of a place is the one that stands after a root.
+use Rattle.std.proofs.Common.{◌≡◌, ◌≢◌, ◌↔◌, ℕ, false, List, [], ◌∷◌, ◌++◌, map, IsTrue, refl, sym, ap, ◌∙◌}
+use Rattle.std.specs.List.{list_any}
+use Rattle.relative_path.specs.Steps.{Step, name, components, spell}
 use Rattle.relative_path.specs.Editing.{with_separator, unslashed}
-use Rattle.relative_path.proofs.ForCallers.{AreProper, AreProper-components, name-proper, no_slash-proper, unslashed-spell}
+use Rattle.relative_path.proofs.ForCallers.{AreProper, AreProper-components, name-proper, unslashed-spell}
 use Rattle.relative_path_uses.specs.FromTop.{SpellsPlace}
-use Rattle.relative_path_uses.specs.Names.{is_unportable, is_unportable_step, IsPlainName}
+use Rattle.relative_path_uses.specs.Names.{is_unportable_step}
 use Rattle.relative_path_uses.specs.Router.{IsRefusedRequest, below, added, IsServed}
-use Rattle.relative_path_uses.proofs.TargetsLemmas.{or_false}
+use Rattle.relative_path_uses.proofs.NamesLemmas.{unportable-names, All-IsPlainName}
 
--- a component that is a name is read otherwise exactly if the name is
-unportable-names : (place : List (List ℕ)) → list_any is_unportable_step (map name place) ≡ list_any is_unportable place
-unportable-names [] = refl
-unportable-names (n ∷ place) = ap (λ others. is_unportable n || others) (unportable-names place)
-
--- names that are components and that no platform reads otherwise
-plain_names : (place : List (List ℕ)) → AreProper (map name place) → list_any is_unportable place ≡ false
-    → AllByRecursion IsPlainName place
-plain_names [] proper none = tt
-plain_names (n ∷ place) (first, rest) none =
-    let (portable, others) = or_false (is_unportable n) (list_any is_unportable place) none in
-    let (some, not_here, not_above) = name-proper n first in (
-      record {
-        not_empty = some;
-        not_here = not_here;
-        not_above = not_above;
-        no_slash = list_any_none is_slash n (no_slash-proper (name n) first);
-        portable = portable;
-      },
-      plain_names place rest others,
-    )
-
--- the text of such names is pushed as it is
+-- the text of names that are components is pushed as it is
 added-spell : (root : List ℕ) (place : List (List ℕ)) → AreProper (map name place)
     → added root (spell (map name place)) ≡ below root place
 added-spell root [] proper = refl
@@ -48,19 +24,6 @@ added-spell root (n ∷ place) proper =
       starts_empty [] place e = refl
       starts_empty (b ∷ bs) [] e = absurd (cc)
       starts_empty (b ∷ bs) (m ∷ place) e = absurd (cc)
-
--- the names of a place are plain, where no platform reads a component of its text otherwise
-pub All-IsPlainName : (cs : List Step) (text : List ℕ) (spells : SpellsPlace cs text)
-    → list_any is_unportable_step (components text) ≡ false → All IsPlainName spells.place
-All-IsPlainName cs text spells none =
-    All-from_recursion IsPlainName spells.place
-    (plain_names spells.place (rw spells.names at (AreProper-components text))
-    (sym (unportable-names spells.place) ∙ sym (ap (list_any is_unportable_step) spells.names) ∙ none))
-
--- a place has a name that is read otherwise, where its text has such a component
-pub any-unportable : (cs : List Step) (text : List ℕ) (spells : SpellsPlace cs text)
-    → list_any is_unportable_step (components text) ≡ list_any is_unportable spells.place
-any-unportable cs text spells = ap (list_any is_unportable_step) spells.names ∙ unportable-names spells.place
 
 -- the root with the names of the place after it, where no platform reads one otherwise
 pub IsServed-added : (root : List ℕ) (request : List Step) (text file : List ℕ) → SpellsPlace request text

@@ -60,7 +60,7 @@ abbrev pub IsForeignBase : List Step → List Data → Type 0
 IsForeignBase base entries = IsTrue (list_any is_unportable_step base)
 
 -- entry number k is in this case, and each before it has its file
-pub record IsFirst (Case : Data → Type 0) (base : List Step) (entries : List Data) (k : ℕ) : Type 0 where
+pub record IsFirstRefused (Case : Data → Type 0) (base : List Step) (entries : List Data) (k : ℕ) : Type 0 where
   pub within : k < length entries
   pub case : Case (slice_index_or entries k null)
   pub before : (files : List (List ℕ)) × AllZip (IsFileOf base) (take k entries) files
@@ -78,10 +78,10 @@ AreFiles files base entries = AllZip (IsFileOf base) entries files
 abbrev pub IsRefusedFor : ManifestError → List Step → List Data → Type 0
 IsRefusedFor NoBase base entries = ⊥
 IsRefusedFor NoFiles base entries = ⊥
-IsRefusedFor (NotAString k) base entries = IsFirst IsNoString base entries k
-IsRefusedFor (ClimbsAbove k) base entries = IsFirst Climbs base entries k
-IsRefusedFor (LeadsToBase k) base entries = IsFirst LeadsToStart base entries k
-IsRefusedFor (Foreign k) base entries = IsFirst IsForeign base entries k
+IsRefusedFor (NotAString k) base entries = IsFirstRefused IsNoString base entries k
+IsRefusedFor (ClimbsAbove k) base entries = IsFirstRefused Climbs base entries k
+IsRefusedFor (LeadsToBase k) base entries = IsFirstRefused LeadsToStart base entries k
+IsRefusedFor (Foreign k) base entries = IsFirstRefused IsForeign base entries k
 IsRefusedFor ForeignBase base entries = ⊥
 IsRefusedFor OutOfMemory base entries = ⊤
 

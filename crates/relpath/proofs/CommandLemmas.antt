@@ -80,14 +80,14 @@ AnswersFields-take fields answer a =
     (rw (sym (drop-take 1 4 fields), sym (get_or-take MAX_FIELDS fields 0 [] (lit< tt))) a)
 
 -- what answers the command and the arguments that are shown answers the line
-pub Adds-shown : {E : Type 0} (line : List ℕ) (shown : List (Bor (List ℕ))) (none : Bor (List ℕ))
+pub Adds-take : {E : Type 0} (line : List ℕ) (shown : List (Bor (List ℕ))) (none : Bor (List ℕ))
     (r : Result (Unit {0}) E) (old new : List ℕ)
     → map (λ field. field.now) shown ≡ take MAX_FIELDS (fields_of line) → 0 < length shown
     → OnOk r (Adds (AnswersCommand (get_or shown 0 none).now (map (λ field. field.now) (drop 1 shown))) old new)
     → OnOk r (Adds (Answers line) old new)
-Adds-shown line [] none r old new e some adds = absurd (omega arith)
-Adds-shown line (command ∷ arguments) none (Err x) old new e some adds = tt
-Adds-shown line (command ∷ arguments) none (Ok u) old new e some (added, a, grew) =
+Adds-take line [] none r old new e some adds = absurd (omega arith)
+Adds-take line (command ∷ arguments) none (Err x) old new e some adds = tt
+Adds-take line (command ∷ arguments) none (Ok u) old new e some (added, a, grew) =
     (added, AnswersFields-take (fields_of line) added (rw (sym e) a), grew)
 
 -- the answer to two texts, by what is known where there is one

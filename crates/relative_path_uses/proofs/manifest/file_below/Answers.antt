@@ -4,7 +4,7 @@ use Rattle.relative_path.specs.RelativePath.{path_text, path_components}
 use Rattle.serde_json.specs.View.{view}
 use Rattle.relative_path_uses.specs.FromTop.{SpellsPlace}
 use Rattle.relative_path_uses.proofs.FromTopLemmas.{SpellsPlace-empty}
-use Rattle.relative_path_uses.proofs.RouterLemmas.{any-unportable}
+use Rattle.relative_path_uses.proofs.NamesLemmas.{any-unportable}
 use Rattle.relative_path_uses.proofs.ManifestLemmas.{IsFileOf-place}
 use Rattle.relative_path_uses.proofs.manifest.file_below.Goals as goal
 

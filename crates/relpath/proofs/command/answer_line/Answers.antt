@@ -1,7 +1,7 @@
 -- The fields that are shown are enough to answer the line.
 use Rattle.std.proofs.Common.{◌-◌, drop, length, length-drop, arith}
 use Rattle.std.proofs.lemmas.List.{take_all}
-use Rattle.relpath.proofs.CommandLemmas.{Adds-shown}
+use Rattle.relpath.proofs.CommandLemmas.{Adds-take}
 use Rattle.relpath.proofs.command.answer_line.Goals as goal
 
 pub returns : goal.returns
@@ -9,5 +9,5 @@ returns c =
     let fields = c.split_fields-fields.ensures in
     let shown = c.split_fields-fields.result.now in
     let arguments = take_all (length shown - 1) (drop 1 shown) (omega (arith, length-drop 1 shown)) in
-    Adds-shown c.args.line.now shown _ c.answer_command.result _ _ fields.fields fields.some
+    Adds-take c.args.line.now shown _ c.answer_command.result _ _ fields.fields fields.some
     (rw arguments at c.answer_command.ensures)
