@@ -1,9 +1,4 @@
-//! Pages that the rewriter is given whole.
-
-/// A paragraph that points to other pages.
-pub const FRONT_PAGE: &str =
-    r#"To call it: [docs/CALLING.md](docs/CALLING.md). To change it: [docs/CHANGING.md](docs/CHANGING.md), and [why it is made so](docs/DECISIONS.md).
-"#;
+//! A page that the rewriter is given whole.
 
 /// A page with a link of each sort, which tells what each becomes.
 pub const PAGE: &str = r#"# Links of a page that moves
@@ -26,7 +21,4 @@ let page = "[the callers](CALLING.md) [above](../../a.md)";
 Moved back, all links are as here but two: `../docs/DECISIONS.md` and `../docs/contracts/` still lead there, so they stay.
 
 [calling]: CALLING.md
-
-- A link whose text holds a link by name (`[a [b][c]](d)`) counts as a link.
-- Attributes of HTML (`<a href=...>`) stay.
 "#;

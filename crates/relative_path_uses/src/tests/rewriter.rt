@@ -1,4 +1,4 @@
-use super::pages::{FRONT_PAGE, PAGE};
+use super::pages::PAGE;
 use super::same;
 use crate::{Left, RewrittenPage, rewritten, targets};
 use relative_path::RelativePath;
@@ -181,13 +181,6 @@ fn moves_and_back(
         same(part, &moved.text.contains(*part), &true)?;
     }
     becomes(alloc, &back, now.as_str(), &moved.text, expected)
-}
-
-#[test]
-fn moves_the_front_page_and_back(rt: HostRuntime) -> Result<(), Fail> {
-    let there = [("README.md", "docs/README.md")].map(as_paths);
-    let parts = ["[docs/CALLING.md](CALLING.md)"];
-    moves_and_back(rt.alloc(), &there, FRONT_PAGE, &parts, FRONT_PAGE)
 }
 
 // Parts of the page, as it is after its moves.
