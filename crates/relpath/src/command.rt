@@ -97,6 +97,7 @@ fn answer_command(
 }
 
 // Adds the answer to a command and as many arguments as it takes.
+#[inline(never)]
 fn answer_arguments(
     alloc: Global,
     command: Command,
