@@ -20,7 +20,8 @@ use Rattle.relative_path.proofs.SlicesLemmas.{IsPrefix, IsPrefix-trans, IsPrefix
 
 -- ---- what two lists begin with
 
-without_shared_both : (cs ds : List Step) (c d : Step) → step_eq c d ≡ true → without_shared (c ∷ cs) (d ∷ ds) ≡ without_shared cs ds
+without_shared_both : (cs ds : List Step) (c d : Step) → step_eq c d ≡ true
+    → without_shared (c ∷ cs) (d ∷ ds) ≡ without_shared cs ds
 without_shared_both cs ds c d same =
     let one_more : shared_len (c ∷ cs) (d ∷ ds) ≡ suc (shared_len cs ds) =
     omega (arith, cond-true (step_eq c d) (1 + shared_len cs ds) 0 same) in

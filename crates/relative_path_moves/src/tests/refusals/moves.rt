@@ -20,8 +20,7 @@ fn end_with_way(
     }
 }
 
-// Requests: 2s 9 488 4s 9 2s 1s 2s 2s 15 = 1,
-// 524288s 1048576 488 524288s 1048573 524287s 1s 524287s 1048573 = 1
+// Requests: 2s 9 488 4s 9 2s 1s 2s 2s 15 = 1, 524288s 1048576 488 524288s 1048573 524287s 1s 524287s 1048573 = 1
 #[test]
 fn one_move(rt: HostRuntime) -> Result<(), Fail> {
     let long = long_text(rt.alloc())?;
@@ -122,8 +121,7 @@ fn ask(alloc: Global, table: &MoveTable<'_>, long: &str) -> Result<(), Fail> {
     end_with_way(alloc, answer.map_err(MoveError::from), long)
 }
 
-// Requests: 1s 4 2s 1s 1s 2s 9 = 1, 2s 7 2s 1s = 0,
-// 524288s 1048576 524288s 1s 1s 524288s 1048579 = 1
+// Requests: 1s 4 2s 1s 1s 2s 9 = 1, 2s 7 2s 1s = 0, 524288s 1048576 524288s 1s 1s 524288s 1048579 = 1
 #[test]
 fn a_reference_of_a_table(rt: HostRuntime) -> Result<(), Fail> {
     let moves = [("a.md", "x/a.md"), ("b.md", "y/b.md")].map(as_paths);

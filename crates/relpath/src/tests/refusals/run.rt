@@ -33,8 +33,7 @@ fn gives(alloc: Global, case: &str, input: &[u8], output: &[u8]) -> Result<(), F
     }
 }
 
-// Requests: 65537 376 7s 3 6s 14 = 0, 65537 40040 5000s 10000 = 0,
-// 65537 131072 262144 524288 1048576 = 0
+// Requests: 65537 376 7s 3 6s 14 = 0, 65537 40040 5000s 10000 = 0, 65537 131072 262144 524288 1048576 = 0
 #[test]
 fn lines(rt: HostRuntime) -> Result<(), Fail> {
     let long = with_long_path(rt.alloc(), "normalize\t", "")?;
