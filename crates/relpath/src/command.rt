@@ -96,7 +96,7 @@ fn answer_command(
     answer_arguments(alloc, command, arguments, output)
 }
 
-// Adds the answer to a command and as many arguments as it takes.
+// Adds the answer to a command and as many arguments as it takes: out of line, so no other line pays for it.
 #[inline(never)]
 fn answer_arguments(
     alloc: Global,
