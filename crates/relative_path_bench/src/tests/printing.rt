@@ -1,6 +1,6 @@
 //! What paths print.
 use super::same;
-use relative_path::{RelativePath, RelativePathBuf};
+use relative_path::{Component, RelativePath, RelativePathBuf, unix};
 use std::alloc::{AllocError, Global};
 use std::fmt::{Debug, Display};
 use std::test::Fail;
@@ -36,6 +36,31 @@ fn prints_the_text(rt: HostRuntime) -> Result<(), Fail> {
     let long = "ä".repeat(rt.alloc(), 500)?;
     let expected = format!(in rt.alloc(); "{long}|\"{long}\"")?;
     prints(rt.alloc(), long.as_str(), expected.as_str())
+}
+
+// Fails where a value doesn't print these words for debugging.
+fn prints_for_debugging<T: Debug>(alloc: Global, value: &T, expected: &str) -> Result<(), Fail> {
+    same(
+        expected,
+        &format!(in alloc; "{value:?}")?.as_str(),
+        &expected,
+    )
+}
+
+// What the Rust crate's derives print.
+#[test]
+fn prints_components_and_errors_for_debugging(rt: HostRuntime) -> Result<(), Fail> {
+    let alloc = rt.alloc();
+    prints_for_debugging(alloc, &Component::CurDir, "CurDir")?;
+    prints_for_debugging(alloc, &Component::ParentDir, "ParentDir")?;
+    prints_for_debugging(alloc, &Component::Normal("a\"é"), "Normal(\"a\\\"é\")")?;
+    let [long, short] = ["foo", "fo"].map(RelativePath::new);
+    let no_prefix = long.strip_prefix(short).unwrap_err();
+    prints_for_debugging(alloc, &no_prefix, "StripPrefixError(())")?;
+    let from_root = unix::view("/foo").unwrap_err();
+    prints_for_debugging(alloc, &from_root, "FromPathError { kind: NonRelative }")?;
+    let apart = unix::relative_to(alloc, "foo", "/bar").unwrap_err();
+    prints_for_debugging(alloc, &apart, "RelativeToError { kind: PrefixMismatch }")
 }
 
 // Fails where this is not what `é/b` prints in these widths.
