@@ -1,6 +1,6 @@
--- Names that are one name on every platform.
-use Rattle.std.specs.Prelude.{◌≡◌, ◌≢◌, ℕ, ◌-◌, Bool, ◌==◌, ◌||◌, nat_lt, false, List, [], ◌∷◌, length, codes, get_or}
-use Rattle.std.specs.List.{list_any, before_first}
+-- Names that Unix and Windows read as the same one name. The devices are those of Microsoft's documents.
+use Rattle.std.specs.Prelude.{◌≡◌, ◌≢◌, ℕ, ◌-◌, Bool, ◌==◌, ◌&&◌, ◌||◌, nat_lt, false, List, [], ◌∷◌, length, drop, codes, encode_utf8_all, get_or}
+use Rattle.std.specs.List.{list_any, list_all, before_first}
 use Rattle.std.specs.Str.{str_eq_ignore_ascii_case}
 use Rattle.relative_path.specs.Steps.{Step, cur, up, name, is_slash}
 use Rattle.relative_path.specs.Naming.{is_dot}
@@ -18,25 +18,31 @@ is_foreign b = nat_lt b 32 || b == backslash || is_colon b
 abbrev pub holds_foreign : List ℕ → Bool
 holds_foreign text = list_any is_foreign text
 
+-- the byte is a space
+abbrev pub is_space : ℕ → Bool
+is_space b = b == 32
+
 -- the byte is a dot or a space
 abbrev pub is_open : ℕ → Bool
-is_open b = is_dot b || b == 32
+is_open b = is_dot b || is_space b
 
 -- the devices of Windows that have no number
 abbrev pub devices : List (List ℕ)
-devices = codes "CON" ∷ codes "PRN" ∷ codes "AUX" ∷ codes "NUL" ∷ []
+devices = codes "CON" ∷ codes "PRN" ∷ codes "AUX" ∷ codes "NUL" ∷ codes "CONIN$" ∷ codes "CONOUT$" ∷ []
 
--- its serial ports
+-- its serial ports, in UTF-8
 abbrev pub serial_ports : List (List ℕ)
 serial_ports =
     codes "COM0" ∷ codes "COM1" ∷ codes "COM2" ∷ codes "COM3" ∷ codes "COM4"
-    ∷ codes "COM5" ∷ codes "COM6" ∷ codes "COM7" ∷ codes "COM8" ∷ codes "COM9" ∷ []
+    ∷ codes "COM5" ∷ codes "COM6" ∷ codes "COM7" ∷ codes "COM8" ∷ codes "COM9"
+    ∷ encode_utf8_all (codes "COM¹") ∷ encode_utf8_all (codes "COM²") ∷ encode_utf8_all (codes "COM³") ∷ []
 
--- its parallel ports
+-- its parallel ports, in UTF-8
 abbrev pub parallel_ports : List (List ℕ)
 parallel_ports =
     codes "LPT0" ∷ codes "LPT1" ∷ codes "LPT2" ∷ codes "LPT3" ∷ codes "LPT4"
-    ∷ codes "LPT5" ∷ codes "LPT6" ∷ codes "LPT7" ∷ codes "LPT8" ∷ codes "LPT9" ∷ []
+    ∷ codes "LPT5" ∷ codes "LPT6" ∷ codes "LPT7" ∷ codes "LPT8" ∷ codes "LPT9"
+    ∷ encode_utf8_all (codes "LPT¹") ∷ encode_utf8_all (codes "LPT²") ∷ encode_utf8_all (codes "LPT³") ∷ []
 
 -- the text is one of the names, in any case
 abbrev pub is_one_of : List (List ℕ) → List ℕ → Bool
@@ -46,15 +52,18 @@ is_one_of names text = list_any (λ one. str_eq_ignore_ascii_case one text) name
 abbrev pub is_device : List ℕ → Bool
 is_device text = is_one_of devices text || is_one_of serial_ports text || is_one_of parallel_ports text
 
--- the name is a device's, alone or before a dot
+-- the name is a device's, alone or before a dot, with nothing but spaces between
 abbrev pub names_device : List ℕ → Bool
-names_device text = is_device (before_first is_dot text)
+names_device text =
+    let stem = before_first is_dot text in
+    let word = before_first is_space stem in
+    is_device word && list_all is_space (drop (length word) stem)
 
 -- the name ends in a dot or a space, which some platforms drop
 abbrev pub ends_open : List ℕ → Bool
 ends_open text = is_open (get_or text (length text - 1) 0)
 
--- some platform reads the name otherwise: as more names, as a shorter one, or as a device
+-- Windows reads the name otherwise: as more names, as a shorter one, or as a device
 abbrev pub is_unportable : List ℕ → Bool
 is_unportable text = holds_foreign text || ends_open text || names_device text
 
@@ -64,7 +73,7 @@ is_unportable_step cur = false
 is_unportable_step up = false
 is_unportable_step (name text) = is_unportable text
 
--- the text is one name on every platform: not empty, not `.` or `..`, without a slash, and read alike
+-- the text is one name on Unix and on Windows: not empty, not `.` or `..`, without a slash, and read alike
 pub record IsPlainName (text : List ℕ) : Type 0 where
   pub not_empty : text ≢ []
   pub not_here : text ≢ codes "."

@@ -1,23 +1,24 @@
-//! Names that are one name on every platform.
-ghost use Rattle.std.specs.Prelude.{◌≡◌};
-ghost use Rattle.std.specs.List.{before_first, list_any};
+//! Names that Unix and Windows read as the same one name.
+ghost use Rattle.std.specs.Prelude.{◌≡◌, ◌<◌, ◌==◌, drop};
+ghost use Rattle.std.specs.List.{before_first, list_all, list_any};
 ghost use Rattle.std.specs.Str.{str_eq_ignore_ascii_case};
 ghost use Rattle.relative_path.specs.Components.{step_of};
-ghost use Rattle.relative_path.specs.Naming.{is_dot};
 ghost use Rattle.relative_path.specs.RelativePath.{path_components};
-ghost use Rattle.relative_path_uses.specs.Names.{ends_open, holds_foreign, is_device, is_unportable, is_unportable_step, names_device};
+ghost use Rattle.relative_path_uses.specs.Names.{ends_open, holds_foreign, is_device, is_space, is_unportable, is_unportable_step, names_device};
 
 use relative_path::{Component, RelativePath};
 
-// The devices of Windows that have no number, and its ports.
-const DEVICES: [&str; 4] = ["CON", "PRN", "AUX", "NUL"];
+// The devices of Windows that have no number, and its ports, by Microsoft's documents.
+const DEVICES: [&str; 6] = ["CON", "PRN", "AUX", "NUL", "CONIN$", "CONOUT$"];
 
-const SERIAL_PORTS: [&str; 10] = [
-    "COM0", "COM1", "COM2", "COM3", "COM4", "COM5", "COM6", "COM7", "COM8", "COM9",
+const SERIAL_PORTS: [&str; 13] = [
+    "COM0", "COM1", "COM2", "COM3", "COM4", "COM5", "COM6", "COM7", "COM8", "COM9", "COM¹", "COM²",
+    "COM³",
 ];
 
-const PARALLEL_PORTS: [&str; 10] = [
-    "LPT0", "LPT1", "LPT2", "LPT3", "LPT4", "LPT5", "LPT6", "LPT7", "LPT8", "LPT9",
+const PARALLEL_PORTS: [&str; 13] = [
+    "LPT0", "LPT1", "LPT2", "LPT3", "LPT4", "LPT5", "LPT6", "LPT7", "LPT8", "LPT9", "LPT¹", "LPT²",
+    "LPT³",
 ];
 
 // Whether a text is one of these names, in any case.
@@ -34,11 +35,13 @@ fn is_device(text: &str) -> bool
     is_one_of(&DEVICES, text) || is_one_of(&SERIAL_PORTS, text) || is_one_of(&PARALLEL_PORTS, text)
 }
 
-// Whether a name is a device's, alone or before a dot.
+// Whether a name is a device's, alone or before a dot, with nothing but spaces between.
 fn names_device(name: &str) -> bool
     ensures { result ≡ names_device name.now }
 {
-    is_device(stem(name))
+    let stem = before(name, '.');
+    let word = before(stem, ' ');
+    is_device(word) && is_blank_after(stem, word.len())
 }
 
 // Whether a name holds a byte that some platforms read otherwise.
@@ -55,11 +58,19 @@ fn ends_open(name: &str) -> bool
     name.bytes().last().is_some_and(|b| b == b'.' || b == b' ')
 }
 
-// What a name has before its first dot.
-fn stem(name: &str) -> &str
-    ensures { result.now ≡ before_first is_dot name.now }
+// What a text has before the first such mark, or all of it.
+fn before(text: &str, mark: char) -> &str
+    requires { mark < 128 }
+    ensures { result.now ≡ before_first (λ b. b == mark) text.now }
 {
-    name.split_once('.').map_or(name, |(stem, _)| stem)
+    text.split_once(mark).map_or(text, |(before, _)| before)
+}
+
+// Whether a text has nothing but spaces after so many bytes.
+fn is_blank_after(text: &str, count: usize) -> bool
+    ensures { result ≡ list_all is_space (drop count text.now) }
+{
+    text.bytes().skip(count).all(|b| b == b' ')
 }
 
 // Whether some platform reads a name otherwise: as more names, as a shorter one, or as a device.

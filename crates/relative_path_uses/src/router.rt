@@ -15,10 +15,10 @@ use std::alloc::{AllocError, Global};
 /// `None` where the request climbs above the top, even if it comes back, and where some platform
 /// reads a name of its place otherwise. Such a name holds a byte below 32, a backslash or a colon, or
 /// ends in a dot or a space, or is one of Windows' devices. These are `CON`, `PRN`, `AUX`, `NUL`,
-/// `COM0` to `COM9` and `LPT0` to `LPT9`, in any case, alone or before a dot. Slashes at the start of
-/// a request, double ones and one at its end count nothing, so `//x/` is `x`: a caller that tells a
-/// directory by its slash asks the request. The answer to a request that leads to the top is the root
-/// itself.
+/// `CONIN$`, `CONOUT$`, and `COM` or `LPT` with a digit or with `¹`, `²` or `³`; in any case, alone or
+/// before a dot, spaces between or not. Slashes at the start of a request, double ones and one at its
+/// end count nothing, so `//x/` is `x`: a caller that tells a directory by its slash asks the request.
+/// The answer to a request that leads to the top is the root itself.
 ///
 /// The root may be absolute or not, and nothing of it is checked or changed. A root that ends in a
 /// slash gets no second one, and after the empty root the first name stands alone.

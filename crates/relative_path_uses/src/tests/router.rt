@@ -4,7 +4,7 @@ use std::alloc::Global;
 use std::test::Fail;
 
 // Paths of requests, and the files that they name below `site/public`.
-const SERVED: [(&str, &str); 16] = [
+const SERVED: [(&str, &str); 21] = [
     ("", "site/public"),
     ("/", "site/public"),
     ("/index.html", "site/public/index.html"),
@@ -22,6 +22,11 @@ const SERVED: [(&str, &str); 16] = [
         "site/public/console/auxiliary.txt",
     ),
     ("/my nul/a.con", "site/public/my nul/a.con"),
+    ("/aux cable.png", "site/public/aux cable.png"),
+    ("/auxx .txt", "site/public/auxx .txt"),
+    ("/a aux.txt", "site/public/a aux.txt"),
+    ("/com¹0", "site/public/com¹0"),
+    ("/conin", "site/public/conin"),
     ("/a b/c~1", "site/public/a b/c~1"),
     ("/über/日本.html", "site/public/über/日本.html"),
 ];
@@ -107,6 +112,12 @@ fn refuses_what_some_platform_reads_otherwise(rt: HostRuntime) -> Result<(), Fai
         "/com1.log",
         "/lpt9",
         "/a/LpT5.b/c",
+        "/aux .txt",
+        "/CON  .a",
+        "/conin$",
+        "/CONOUT$.x",
+        "/com¹",
+        "/LPT³.txt",
     ] {
         serves(rt.alloc(), "", request, None)?;
     }
