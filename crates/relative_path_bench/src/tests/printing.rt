@@ -54,21 +54,10 @@ fn prints_components_and_errors_for_debugging(rt: HostRuntime) -> Result<(), Fai
     prints_for_debugging(alloc, &Component::CurDir, "CurDir")?;
     prints_for_debugging(alloc, &Component::ParentDir, "ParentDir")?;
     prints_for_debugging(alloc, &Component::Normal("a\"é"), "Normal(\"a\\\"é\")")?;
-    let [long, short] = ["foo", "fo"].map(RelativePath::new);
-    let no_prefix = long.strip_prefix(short).err();
-    prints_for_debugging(alloc, &no_prefix, "Some(StripPrefixError(()))")?;
-    let from_root = unix::view("/foo").err();
-    prints_for_debugging(
-        alloc,
-        &from_root,
-        "Some(FromPathError { kind: NonRelative })",
-    )?;
-    let apart = unix::relative_to(alloc, "foo", "/bar").err();
-    prints_for_debugging(
-        alloc,
-        &apart,
-        "Some(RelativeToError { kind: PrefixMismatch })",
-    )
+    let from_root = unix::view("/foo").unwrap_err();
+    prints_for_debugging(alloc, &from_root, "FromPathError { kind: NonRelative }")?;
+    let apart = unix::relative_to(alloc, "foo", "/bar").unwrap_err();
+    prints_for_debugging(alloc, &apart, "RelativeToError { kind: PrefixMismatch }")
 }
 
 // Fails where this is not what `é/b` prints in these widths.
