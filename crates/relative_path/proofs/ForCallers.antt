@@ -8,14 +8,15 @@ use Rattle.std.proofs.lemmas.List.Elements.{All-from_recursion}
 use Rattle.relative_path.specs.Steps.{Step, cur, up, name, slash, is_slash, step_text, classed, components, spell}
 use Rattle.relative_path.specs.Walk.{walk, IsSame, LeadsInTurn}
 use Rattle.relative_path.specs.Normalizing.{AreNames, IsNormal, IsNormalTextOf}
-use Rattle.relative_path.specs.Editing.{is_cur, kept_len, pushed, unslashed}
-use Rattle.relative_path.specs.Naming.{name_of, last_name}
+use Rattle.relative_path.specs.Editing.{kept, pushed, unslashed}
+use Rattle.relative_path.specs.Naming.{last_name}
 use Rattle.relative_path.specs.Relating.{Leads, IsReachable, IsShortestText}
 use Rattle.relative_path.specs.Unix.{has_root}
 use Rattle.relative_path.proofs.StepsLemmas as steps
 use Rattle.relative_path.proofs.WalkLemmas as walks
 use Rattle.relative_path.proofs.EditingLemmas as editing
-use Rattle.relative_path.proofs.NamingLemmas.{without_curs-curs, last_other-at}
+use Rattle.relative_path.proofs.NamingExtensionLemmas as extensions
+use Rattle.relative_path.proofs.NamingEditsLemmas as edits
 use Rattle.relative_path.proofs.NormalStepsLemmas.{normal_unique}
 use Rattle.relative_path.proofs.NormalizingLemmas as normalizing
 use Rattle.relative_path.proofs.ClimbingLemmas.{climb_after, IsSome-walk}
@@ -184,59 +185,28 @@ unslashed-spell cs proper = whole (spell cs) (has_root-spell cs proper) where
 
 -- ---- lists with a file name
 
--- the last component that is no `.` has only `.`s after it, or all are `.`
-ends_in : (cs : List Step) → ((k : ℕ) × (cs ≡ replicate k cur))
-    ⊎ ((front : List Step) × (c : Step) × (k : ℕ) × (is_cur c ≡ false) × (cs ≡ front ++ c ∷ replicate k cur))
-ends_in [] = inl (0, refl)
-ends_in (c ∷ cs) = elim (ends_in cs) [
-  | inl (k, alone) ↦ first c k alone
-  | inr (front, last, k, other, joined) ↦ inr (c ∷ front, last, k, other, ap (λ ds. c ∷ ds) joined)
-] where
-  first : (c : Step) (k : ℕ) → cs ≡ replicate k cur → ((k : ℕ) × (c ∷ cs ≡ replicate k cur))
-      ⊎ ((front : List Step) × (last : Step) × (k : ℕ) × (is_cur last ≡ false) × (c ∷ cs ≡ front ++ last ∷ replicate k cur))
-  first cur k alone = inl (suc k, ap (λ ds. cur ∷ ds) alone)
-  first up k alone = inr ([], up, k, refl, ap (λ ds. up ∷ ds) alone)
-  first (name n) k alone = inr ([], name n, k, refl, ap (λ ds. name n ∷ ds) alone)
-
 -- after the file name come `.`s alone
-named_split : (cs : List Step) (n : List ℕ) → last_name cs ≡ Some n
-    → (k : ℕ) × (cs ≡ take (kept_len cs) cs ++ name n ∷ replicate k cur)
-named_split cs n named = elim (ends_in cs) [
-  | inl (k, alone) ↦
-      let none = ap last_name alone
-      ∙ ap (λ ds. option_and_then name_of (slice_get ds (length ds - 1))) (without_curs-curs k) in
-      absurd (cc)
-  | inr (front, c, k, other, joined) ↦
-      let last = ap last_name joined ∙ ap (option_and_then name_of) (last_other-at front c k other) in
-      let is : c ≡ name n = named_step c (sym last ∙ named) in
-      let whole : cs ≡ (front ++ c ∷ []) ++ replicate k cur = joined ∙ sym (append_assoc front (c ∷ []) (replicate k cur)) in
-      let kept : kept_len cs ≡ length front =
-      ap kept_len whole ∙ editing.kept_len-curs (front ++ c ∷ []) k ∙ editing.kept_len-push front c other in
-      let firsts : take (kept_len cs) cs ≡ front =
-      ap (λ k. take k cs) kept ∙ ap (take (length front)) joined ∙ take_at front (c ∷ replicate k cur) (length front) refl in
-      (k, joined ∙ ap₂ (λ front c. front ++ c ∷ replicate k cur) (sym firsts) is)
-] where
-  named_step : (c : Step) → name_of c ≡ Some n → c ≡ name n
-  named_step cur is = absurd (cc)
-  named_step up is = absurd (cc)
-  named_step (name m) is = cc
+pub last_name-split : (cs : List Step) (n : List ℕ) → last_name cs ≡ Some n
+    → (k : ℕ) × (cs ≡ kept cs ++ name n ∷ replicate k cur)
+last_name-split = edits.last_name-split
 
 -- a list with a file name leads where the name leads after what a parent keeps
-pub IsSame-last_name : (cs : List Step) (n : List ℕ) → last_name cs ≡ Some n
-    → IsSame cs (take (kept_len cs) cs ++ name n ∷ [])
-IsSame-last_name cs n named =
-    let (k, joined) = named_split cs n named in
-    subst (λ ds. IsSame ds (take (kept_len cs) cs ++ name n ∷ [])) (sym joined)
-    (IsSame-append_left (take (kept_len cs) cs) (record { everywhere = λ base. walk-curs (base ++ n ∷ []) k })) where
-      walk-curs : (base : List (List ℕ)) (k : ℕ) → walk base (replicate k cur) ≡ Some base
-      walk-curs base zero = refl
-      walk-curs base (suc k) = walk-curs base k
+pub IsSame-last_name : (cs : List Step) (n : List ℕ) → last_name cs ≡ Some n → IsSame cs (kept cs ++ name n ∷ [])
+IsSame-last_name = edits.IsSame-last_name
+
+-- the file name of a list with a name appended is that name
+pub last_name-name : (cs : List Step) (n : List ℕ) → last_name (cs ++ name n ∷ []) ≡ Some n
+last_name-name = extensions.last_name-name
+
+-- and a parent keeps the list before it
+pub kept-name : (cs : List Step) (n : List ℕ) → kept (cs ++ name n ∷ []) ≡ cs
+kept-name = extensions.kept-name
 
 -- the file name of proper components is one component
 pub IsProper-last_name : (cs : List Step) (n : List ℕ) → AreProper cs → last_name cs ≡ Some n → IsProper (name n)
 IsProper-last_name cs n proper named =
-    let (k, joined) = named_split cs n named in
-    within (take (kept_len cs) cs) (replicate k cur) (subst AreProper joined proper) where
+    let (k, joined) = edits.last_name-split cs n named in
+    within (kept cs) (replicate k cur) (subst AreProper joined proper) where
       within : (front rest : List Step) → AreProper (front ++ name n ∷ rest) → IsProper (name n)
       within [] rest (first, more) = first
       within (c ∷ front) rest (first, more) = within front rest more

@@ -10,6 +10,7 @@ mod PrefixingLemmas
 mod PushingLemmas
 mod NamingLemmas
 mod NamingExtensionLemmas
+mod NamingEditsLemmas
 mod NormalizingLemmas
 mod CountingLemmas
 mod SpansLemmas

@@ -1,32 +1,32 @@
 -- Where a file name stands among the components, what it is cut into, and what a new extension makes of it.
-use Rattle.std.proofs.Common.{◌≡◌, ◌≢◌, ◌⊎◌, ℕ, zero, suc, ◌-◌, ◌<◌, true, false, true≢false, List, [], ◌∷◌, ◌++◌, All, length, get_or, take, drop, replicate, reverse, Option, Some, None, inl, inr, sym, refl, ap, ◌∙◌, subst, arith, append_assoc, length-append, eqb-true, take-append-drop}
+use Rattle.std.proofs.Common.{◌≡◌, ◌≢◌, ◌⊎◌, ℕ, zero, suc, ◌-◌, ◌<◌, true, false, not, true≢false, List, [], ◌∷◌, ◌++◌, All, length, get_or, take, drop, replicate, reverse, Option, Some, None, inl, inr, sym, refl, ap, ◌∙◌, subst, arith, append_assoc, append-nil, length-append, eqb-true, take-append-drop, take_at}
 use Rattle.std.proofs.Math.Seq.{drop-cons}
-use Rattle.std.proofs.lemmas.Bool.{cond_both, and_parts, not-false, not-true, eqb-false}
-use Rattle.std.proofs.lemmas.List.{get_or-reverse, length-reverse, take_more}
+use Rattle.std.proofs.lemmas.Bool.{cond_both, and_parts, and_from, not-false, not-true, eqb-false}
+use Rattle.std.proofs.lemmas.List.{get_or-reverse, length-reverse, take_more, append_cancel_right}
 use Rattle.std.proofs.lemmas.List.Sums.{prefix_len_stops}
 use Rattle.std.proofs.lemmas.List.Elements.{All-from_recursion}
-use Rattle.std.proofs.lemmas.Option.{slice_get_within, get_or_from_slice_get}
+use Rattle.std.proofs.lemmas.Option.{same_Some, slice_get_within, get_or_from_slice_get}
 use Rattle.std.specs.List.{AllByRecursion, list_all, suffix_len, before_last, after_last}
-use Rattle.std.specs.Option.{option_and_then}
+use Rattle.std.specs.Option.{option_and_then, option_map}
 use Rattle.std.specs.Prelude.{slice_get, IsSome, IsTrue}
-use Rattle.relative_path.specs.Steps.{slash, dot, is_not_empty, Step, cur, up, name, step_text, classed, components}
-use Rattle.relative_path.specs.Editing.{is_cur, kept_len}
-use Rattle.relative_path.specs.Naming.{name_of, last_name, file_name_of, is_dot, has_stem, stem_of, extension_of, is_plain_byte, is_plain_extension, dotted, IsExtended}
+use Rattle.relative_path.specs.Steps.{slash, dot, is_slash, is_not_empty, Step, cur, up, name, step_text, classed, components}
+use Rattle.relative_path.specs.Editing.{is_cur, kept_len, kept}
+use Rattle.relative_path.specs.Naming.{name_of, last_name, file_name_of, is_dot, has_stem, stem_of, extension_of, is_plain_byte, is_plain_extension, is_extension, dotted, IsExtended}
 use Rattle.relative_path.proofs.StepsLemmas.{HasNoSlash, HasNoSlash-append, IsProper, AreProper, components-nil, components-append, components-trailing_slash, components_whole, step_text-classed, AreProper-components, HasNoSlash-proper, nonempty_proper}
 use Rattle.relative_path.proofs.EditingLemmas.{kept_len-curs, kept_len-push}
-use Rattle.relative_path.proofs.NamingLemmas.{no_dot, IsExtendedAt, IsSplit-dot, last_slash, last_same, slice_get-at, without_curs-curs, last_other-at}
+use Rattle.relative_path.proofs.NamingLemmas.{no_dot, IsExtendedAt, IsSplit, IsSplit-dot, last_slash, last_same, slice_get-at, without_curs-curs, last_other-at}
 
 -- ---- where the file name stands
 
 -- the last component that is no `.` stands before the `.`s at the end
-record EndsIn (cs : List Step) : Type 0 where
-  front : List Step
-  last : Step
-  curs : ℕ
-  other : is_cur last ≡ false
-  joined : cs ≡ front ++ last ∷ replicate curs cur
+pub record EndsIn (cs : List Step) : Type 0 where
+  pub front : List Step
+  pub last : Step
+  pub curs : ℕ
+  pub other : is_cur last ≡ false
+  pub joined : cs ≡ front ++ last ∷ replicate curs cur
 
-ends_in : (cs : List Step) → ((k : ℕ) × (cs ≡ replicate k cur)) ⊎ EndsIn cs
+pub ends_in : (cs : List Step) → ((k : ℕ) × (cs ≡ replicate k cur)) ⊎ EndsIn cs
 ends_in [] = inl (0, refl)
 ends_in (c ∷ cs) = elim (ends_in cs) [
   | inl (k, alone) ↦ first c k alone
@@ -42,10 +42,15 @@ ends_in (c ∷ cs) = elim (ends_in cs) [
     first (name n) k alone = inr
         (record { front = []; last = name n; curs = k; other = refl; joined = ap (λ ds. name n ∷ ds) alone })
 
-named_step : (c : Step) (n : List ℕ) → name_of c ≡ Some n → c ≡ name n
+pub named_step : (c : Step) (n : List ℕ) → name_of c ≡ Some n → c ≡ name n
 named_step cur n is = absurd (cc)
 named_step up n is = absurd (cc)
 named_step (name m) n is = cc
+
+-- what is there has a value
+pub IsSome-value : {A : Type 0} (o : Option A) → IsSome o → (x : A) × (o ≡ Some x)
+IsSome-value None some = absurd (true≢false (sym some))
+IsSome-value (Some x) some = (x, refl)
 
 -- the file name is the component after those that a parent keeps
 pub slice_get-last_name : (cs : List Step) (n : List ℕ) → last_name cs ≡ Some n
@@ -139,15 +144,24 @@ head_ends head n cs last nonempty none = elim (last_slash head) [
 -- another last component in its place
 components-replaced : (head n m : List ℕ) (cs : List Step) → components (head ++ n) ≡ cs ++ name n ∷ [] → 0 < length n
     → HasNoSlash n
-    → 0 < length m → HasNoSlash m → components (head ++ m) ≡ components head ++ classed m ∷ []
-components-replaced head n m cs last nonempty none nonempty' none' = elim (head_ends head n cs last nonempty none) [
-  | inl empty ↦ ap (λ x. components (x ++ m)) empty ∙ components_whole m nonempty' none'
-      ∙ ap (λ ds. ds ++ classed m ∷ []) (sym components-nil) ∙ ap (λ x. components x ++ classed m ∷ []) (sym empty)
-  | inr (xs, ends) ↦
-      ap (λ x. components (x ++ m)) ends ∙ ap components (append_assoc xs (slash ∷ []) m) ∙ components-append xs m
-      ∙ ap (λ ds. components xs ++ ds) (components_whole m nonempty' none')
-      ∙ ap (λ ds. ds ++ classed m ∷ []) (sym (components-trailing_slash xs) ∙ ap components (sym ends))
-]
+    → 0 < length m → HasNoSlash m → components (head ++ m) ≡ cs ++ classed m ∷ []
+components-replaced head n m cs last nonempty none nonempty' none' =
+    let before = placed n nonempty none in
+    let same = last_same cs (components head) (name n) (classed n) (sym last ∙ before) in
+    let front : components head ≡ cs =
+    append_cancel_right (components head) cs (name n ∷ []) (ap (λ c. components head ++ c ∷ []) same ∙ sym before ∙ last) in
+    placed m nonempty' none' ∙ ap (λ ds. ds ++ classed m ∷ []) front
+  where
+    -- a piece after the head is one component more
+    placed : (p : List ℕ) → 0 < length p → HasNoSlash p → components (head ++ p) ≡ components head ++ classed p ∷ []
+    placed p nonempty' none' = elim (head_ends head n cs last nonempty none) [
+      | inl empty ↦ ap (λ x. components (x ++ p)) empty ∙ components_whole p nonempty' none'
+          ∙ ap (λ ds. ds ++ classed p ∷ []) (sym components-nil) ∙ ap (λ x. components x ++ classed p ∷ []) (sym empty)
+      | inr (xs, ends) ↦
+          ap (λ x. components (x ++ p)) ends ∙ ap components (append_assoc xs (slash ∷ []) p) ∙ components-append xs p
+          ∙ ap (λ ds. components xs ++ ds) (components_whole p nonempty' none')
+          ∙ ap (λ ds. ds ++ classed p ∷ []) (sym (components-trailing_slash xs) ∙ ap components (sym ends))
+    ]
 
 -- a text of three bytes and more is a name
 name-classed : (m : List ℕ) → 2 < length m → classed m ≡ name m
@@ -178,42 +192,127 @@ AreProper-last : (cs : List Step) (c : Step) → AreProper (cs ++ c ∷ []) → 
 AreProper-last [] c proper = proper.0
 AreProper-last (d ∷ cs) c proper = AreProper-last cs c proper.1
 
--- the stem, a dot and a plain extension in place of the last component, which is a name
-file_name-replaced : (head n e : List ℕ) (cs : List Step) → components (head ++ n) ≡ cs ++ name n ∷ []
-    → is_not_empty e ≡ true → list_all is_plain_byte e ≡ true
-    → option_and_then extension_of (file_name_of (head ++ stem_of n ++ dotted e)) ≡ Some e
-file_name-replaced head n [] cs last some plain = absurd (true≢false (sym some))
-file_name-replaced head n (b ∷ bs) cs last some plain =
-    let m = stem_of n ++ dot ∷ b ∷ bs in
-    let proper = AreProper-last cs (name n) (subst AreProper last (AreProper-components (head ++ n))) in
-    let none = HasNoSlash-proper (name n) proper in
-    let stem = stem_nonempty n (nonempty_proper (name n) proper) in
-    let len = length-append (stem_of n) (dot ∷ b ∷ bs) in
-    let none' = HasNoSlash-append (stem_of n) (dot ∷ b ∷ bs) (HasNoSlash-stem n none)
-    (refl, HasNoSlash-plain (b ∷ bs) plain) in
-    let parts = ap components (append_assoc head (stem_of n) (dot ∷ b ∷ bs))
-    ∙ components-replaced head n m cs last (nonempty_proper (name n) proper) none (omega arith) none'
-    ∙ ap (λ c. components head ++ c ∷ []) (name-classed m (omega arith)) in
-    let named = ap last_name parts ∙ ap (option_and_then name_of) (last_other-at (components head) (name m) 0 refl) in
-    let split = IsSplit-dot m (stem_of n) (b ∷ bs) (refl, no_dot-plain (b ∷ bs) plain)
-    (λ empty. omega (arith, empty)) in
-    ap (option_and_then extension_of) named ∙ split.extension_is
+-- a plain extension can stand after a dot
+pub is_extension-plain : (e : List ℕ) → IsTrue (is_plain_extension e) → IsTrue (is_extension e)
+is_extension-plain e plain =
+    let both = and_parts _ _ plain in
+    and_from _ _ both.0 (no_slashes e both.1)
+  where
+    no_slashes : (bs : List ℕ) → list_all is_plain_byte bs ≡ true → list_all (λ b. not (is_slash b)) bs ≡ true
+    no_slashes [] plain = refl
+    no_slashes (b ∷ bs) plain =
+        let both = and_parts _ _ plain in
+        and_from _ _ (and_parts _ _ both.0).1 (no_slashes bs both.1)
+
+HasNoSlash-extension : (e : List ℕ) → list_all (λ b. not (is_slash b)) e ≡ true → HasNoSlash e
+HasNoSlash-extension [] none = tt
+HasNoSlash-extension (b ∷ bs) none =
+    let both = and_parts _ _ none in
+    (not-true _ both.0, HasNoSlash-extension bs both.1)
+
+-- the components where the last of them, which is a name, is cut to its stem and gets an extension
+module _ (head n : List ℕ) (cs : List Step) (last : components (head ++ n) ≡ cs ++ name n ∷ []) where
+  proper : IsProper (name n)
+  proper = AreProper-last cs (name n) (subst AreProper last (AreProper-components (head ++ n)))
+
+  components-stem : components (head ++ stem_of n) ≡ cs ++ classed (stem_of n) ∷ []
+  components-stem =
+      let none = HasNoSlash-proper (name n) proper in
+      let nonempty = nonempty_proper (name n) proper in
+      components-replaced head n (stem_of n) cs last nonempty none (stem_nonempty n nonempty) (HasNoSlash-stem n none)
+
+  components-stem_dotted : (e : List ℕ) → is_extension e ≡ true
+      → components (head ++ stem_of n ++ dotted e) ≡ cs ++ name (stem_of n ++ dot ∷ e) ∷ []
+  components-stem_dotted [] plain = absurd (true≢false (sym plain))
+  components-stem_dotted (b ∷ bs) plain =
+      let m = stem_of n ++ dot ∷ b ∷ bs in
+      let none = HasNoSlash-proper (name n) proper in
+      let nonempty = nonempty_proper (name n) proper in
+      let stem = stem_nonempty n nonempty in
+      let len = length-append (stem_of n) (dot ∷ b ∷ bs) in
+      let none' = HasNoSlash-append (stem_of n) (dot ∷ b ∷ bs) (HasNoSlash-stem n none)
+      (refl, HasNoSlash-extension (b ∷ bs) plain) in
+      ap components (append_assoc head (stem_of n) (dot ∷ b ∷ bs))
+      ∙ components-replaced head n m cs last nonempty none (omega arith) none'
+      ∙ ap (λ c. cs ++ c ∷ []) (name-classed m (omega arith))
+
+  -- a plain extension is the name's own, and the stem stays
+  IsSplit-stem_dotted : (e : List ℕ) → is_plain_extension e ≡ true
+      → IsSplit (stem_of n ++ dot ∷ e) (stem_of n) (Some e)
+  IsSplit-stem_dotted e plain =
+      IsSplit-dot (stem_of n ++ dot ∷ e) (stem_of n) e (refl, no_dot-plain e (and_parts _ _ plain).1)
+      (λ empty. omega (arith, empty, stem_nonempty n (nonempty_proper (name n) proper)))
+
+-- what is known of the components of an extended text, where there is a file name
+module _ (text e extended n : List ℕ) (named : file_name_of text ≡ Some n) (is : IsExtended text e extended) where
+  -- the text's front up to its file name
+  head : (head : List ℕ) × (components (head ++ n) ≡ kept (components text) ++ name n ∷ [])
+      × (extended ≡ head ++ stem_of n ++ dotted e)
+  head =
+      let (head, cut, joined) = subst (IsExtendedAt text e extended) named is in
+      let cs = components text in
+      let placed = slice_get-last_name cs n named in
+      let inside = slice_get_within cs (kept_len cs) (name n) placed in
+      let last = cut.same_components ∙ take_more cs (kept_len cs) cur inside
+      ∙ ap (λ c. kept cs ++ c ∷ []) (get_or_from_slice_get cs (kept_len cs) (name n) cur placed) in
+      (head, last, joined)
+
+  pub components-IsExtended : IsTrue (is_extension e)
+      → components extended ≡ kept (components text) ++ name (stem_of n ++ dot ∷ e) ∷ []
+  components-IsExtended plain =
+      let (head, last, joined) = head in
+      ap components joined ∙ components-stem_dotted head n (kept (components text)) last e plain
+
+  pub components-IsExtended_empty : e ≡ [] → components extended ≡ kept (components text) ++ classed (stem_of n) ∷ []
+  components-IsExtended_empty none =
+      let (head, last, joined) = head in
+      ap components (joined ∙ ap (λ e. head ++ stem_of n ++ dotted e) none ∙ append-nil (head ++ stem_of n))
+      ∙ components-stem head n (kept (components text)) last
+
+  pub file_name-IsExtended : IsTrue (is_extension e) → file_name_of extended ≡ Some (stem_of n ++ dot ∷ e)
+  file_name-IsExtended plain =
+      ap last_name (components-IsExtended plain)
+      ∙ ap (option_and_then name_of) (last_other-at (kept (components text)) (name (stem_of n ++ dot ∷ e)) 0 refl)
+
+  pub IsSplit-IsExtended : IsTrue (is_plain_extension e) → IsSplit (stem_of n ++ dot ∷ e) (stem_of n) (Some e)
+  IsSplit-IsExtended plain =
+      let (head, last, joined) = head in
+      IsSplit-stem_dotted head n (kept (components text)) last e plain
+
+-- without a file name the text stays
+pub IsExtended-unnamed : (text e extended : List ℕ) → file_name_of text ≡ None → IsExtended text e extended
+    → extended ≡ text
+IsExtended-unnamed text e extended none is = subst (IsExtendedAt text e extended) none is
 
 -- where a plain extension was set, the file name has it
 pub extension-IsExtended : (text e extended : List ℕ) → IsTrue (is_plain_extension e) → IsSome (file_name_of text)
     → IsExtended text e extended
     → option_and_then extension_of (file_name_of extended) ≡ Some e
-extension-IsExtended text e extended plain found is = at (file_name_of text) refl found is
+extension-IsExtended text e extended plain found is =
+    let (n, named) = IsSome-value (file_name_of text) found in
+    ap (option_and_then extension_of) (file_name-IsExtended text e extended n named is (is_extension-plain e plain))
+    ∙ (IsSplit-IsExtended text e extended n named is plain).extension_is
+
+-- and its stem stays
+pub stem-IsExtended : (text e extended : List ℕ) → IsTrue (is_plain_extension e) → IsExtended text e extended
+    → option_map stem_of (file_name_of extended) ≡ option_map stem_of (file_name_of text)
+stem-IsExtended text e extended plain is = at (file_name_of text) refl
   where
-    at : (o : Option (List ℕ)) → file_name_of text ≡ o → IsSome o → IsExtendedAt text e extended o
-        → option_and_then extension_of (file_name_of extended) ≡ Some e
-    at None named some is = absurd (cc)
-    at (Some n) named some (head, cut, is) =
-        let bytes = and_parts _ _ plain in
-        let cs = components text in
-        let placed = slice_get-last_name cs n named in
-        let inside = slice_get_within cs (kept_len cs) (name n) placed in
-        let last = cut.same_components ∙ take_more cs (kept_len cs) cur inside
-        ∙ ap (λ c. take (kept_len cs) cs ++ c ∷ []) (get_or_from_slice_get cs (kept_len cs) (name n) cur placed) in
-        ap (λ t. option_and_then extension_of (file_name_of t)) is
-        ∙ file_name-replaced head n e (take (kept_len cs) cs) last bytes.0 bytes.1
+    at : (o : Option (List ℕ)) → file_name_of text ≡ o
+        → option_map stem_of (file_name_of extended) ≡ option_map stem_of o
+    at None none = ap (λ t. option_map stem_of (file_name_of t)) (IsExtended-unnamed text e extended none is)
+        ∙ ap (option_map stem_of) none
+    at (Some n) named =
+        ap (option_map stem_of) (file_name-IsExtended text e extended n named is (is_extension-plain e plain))
+        ∙ ap Some (IsSplit-IsExtended text e extended n named is plain).stem_is
+
+-- ---- what stays where a name is replaced
+
+-- the components before a name at the end are those that a parent keeps
+pub kept-name : (cs : List Step) (n : List ℕ) → kept (cs ++ name n ∷ []) ≡ cs
+kept-name cs n =
+    ap (λ k. take k (cs ++ name n ∷ [])) (kept_len-push cs (name n) refl) ∙ take_at cs (name n ∷ []) (length cs) refl
+
+-- and it is the file name
+pub last_name-name : (cs : List Step) (n : List ℕ) → last_name (cs ++ name n ∷ []) ≡ Some n
+last_name-name cs n = ap (option_and_then name_of) (last_other-at cs (name n) 0 refl)

@@ -6,18 +6,18 @@ use Rattle.std.proofs.lemmas.List.{get_or_at, get_or-append_right, drop_at, appe
 use Rattle.std.proofs.lemmas.Str.{IsCharBoundary-end, IsCharBoundary-before_ascii}
 use Rattle.std.proofs.lemmas.List.Elements.{filter-append}
 use Rattle.std.proofs.lemmas.List.Sums.{suffix_len_is}
-use Rattle.std.specs.Prelude.{slice_get, IsSome, IfSome, MatchOption}
+use Rattle.std.specs.Prelude.{slice_get, is_some, IsSome, IfSome, MatchOption}
 use Rattle.std.specs.Option.{option_and_then, option_copied}
-use Rattle.std.proofs.lemmas.Bool.{cases_Bool, cond_both, cond-true}
+use Rattle.std.proofs.lemmas.Bool.{cases_Bool, cond_both, cond-true, cond-false}
 use Rattle.relative_path.specs.Steps.{slash, dot, is_slash, is_not_empty, Step, cur, up, name, step_text, classed, components}
 use Rattle.relative_path.specs.Slices.{IsCut, IsFront}
 use Rattle.relative_path.specs.Editing.{is_cur, kept_len, pushed, without_curs, IsPopped}
-use Rattle.relative_path.specs.Naming.{name_of, last_other, last_name, file_name_of, is_dot, has_stem, stem_of, extension_of, dotted, IsBase, IsNamed, IsExtended}
+use Rattle.relative_path.specs.Naming.{name_of, last_other, last_name, file_name_of, is_dot, has_stem, stem_of, extension_of, dotted, base_components, IsBase, IsNamed, IsExtended}
 use Rattle.relative_path.specs.RelativePathBuf.{ExceedsRoom}
 use Rattle.relative_path.proofs.StepsLemmas.{HasNoSlash, components-nil, components-append, components_whole, step_text-classed}
 use Rattle.relative_path.proofs.ComponentsLemmas.{last-append_slash}
 use Rattle.relative_path.proofs.SlicesLemmas.{IsPrefix, IsPrefix-take, IsPrefix-append_left, IsPrefix-trans, IsPrefix-shortest, IsShortestPrefix-unique}
-use Rattle.relative_path.proofs.EditingLemmas.{LosesCurs, IsPopped-none, IsPopped-front, IsCut-through}
+use Rattle.relative_path.proofs.EditingLemmas.{LosesCurs, IsPopped-none, IsPopped-front, IsCut-through, components-pushed}
 
 -- ---- a name cut at its last dot
 
@@ -307,6 +307,17 @@ IsBase-unique text x y is_x is_y = same (file_name_of text) is_x is_y
 pub IsNamed-unique : (text f x y : List ℕ) → IsNamed text f x → IsNamed text f y → x ≡ y
 IsNamed-unique text f x y (base, is, is_x) (base', is', is_y) =
     is_x ∙ ap (λ b. pushed b f) (IsBase-unique text base base' is is') ∙ sym is_y
+
+-- the new name's components come after those that the text keeps
+pub components-IsNamed : (text f named : List ℕ) → IsNamed text f named
+    → components named ≡ base_components (components text) ++ components f
+components-IsNamed text f named (front, is, joined) =
+    ap components joined ∙ components-pushed front f ∙ ap (λ cs. cs ++ components f) (front_components (file_name_of text) refl is)
+  where
+    front_components : (o : Option (List ℕ)) → file_name_of text ≡ o → IsBaseAt text front o
+        → components front ≡ base_components (components text)
+    front_components None none is = ap components is ∙ sym (cond-false _ _ _ (ap is_some none))
+    front_components (Some n) found is = is.same_components ∙ sym (cond-true _ _ _ (ap is_some found))
 
 -- ---- the fronts that the setters keep
 

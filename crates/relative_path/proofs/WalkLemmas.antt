@@ -1,5 +1,5 @@
 -- Where joined lists of steps lead, and which lists lead to the same places.
-use Rattle.std.proofs.Common.{◌≡◌, ℕ, List, [], ◌∷◌, ◌++◌, length, take, Option, Some, None, option_and_then, option_map, refl, sym, ap, ◌∙◌, arith, ◌+◌}
+use Rattle.std.proofs.Common.{◌≡◌, ℕ, List, [], ◌∷◌, ◌++◌, length, take, Option, Some, None, option_and_then, option_map, IsSome, ◌↔◌, refl, sym, ap, ◌∙◌, arith, ◌+◌}
 use Rattle.std.proofs.lemmas.List.{append_assoc, append-nil, length-append, length_push, take_at}
 use Rattle.std.proofs.lemmas.Option.{none-some}
 use Rattle.std.proofs.Math.Seq.{take-append-add}
@@ -17,6 +17,24 @@ walk-append base (cur ∷ cs) ds = walk-append base cs ds
 walk-append [] (up ∷ cs) ds = refl
 walk-append (n ∷ ns) (up ∷ cs) ds = walk-append (take (length ns) (n ∷ ns)) cs ds
 walk-append base (name n ∷ cs) ds = walk-append (base ++ n ∷ []) cs ds
+
+-- where two lists lead one after the other, the first leads
+pub IsSome-walk_front : (base : List (List ℕ)) (cs ds : List Step) → IsSome (walk base (cs ++ ds)) → IsSome (walk base cs)
+IsSome-walk_front base cs ds some = front (walk base cs) (rw (walk-append base cs ds) at some)
+  where
+    front : (found : Option (List (List ℕ))) → IsSome (walk_from ds found) → IsSome found
+    front None some = some
+    front (Some place) some = refl
+
+-- a name leads on from each place
+pub IsSome-walk_name : (base : List (List ℕ)) (cs : List Step) (n : List ℕ)
+    → IsSome (walk base cs) ↔ IsSome (walk base (cs ++ name n ∷ []))
+IsSome-walk_name base cs n =
+    (λ some. rw (walk-append base cs (name n ∷ [])) (onward (walk base cs) some), IsSome-walk_front base cs (name n ∷ []))
+  where
+    onward : (found : Option (List (List ℕ))) → IsSome found → IsSome (walk_from (name n ∷ []) found)
+    onward None some = some
+    onward (Some place) some = refl
 
 -- above a name just entered is the place where it was entered
 pub above-push : (base : List (List ℕ)) (n : List ℕ) → above (base ++ n ∷ []) ≡ Some base

@@ -1,5 +1,5 @@
 -- The texts that edits leave.
-use Rattle.std.specs.Prelude.{ℕ, Bool, true, false, not, ◌-◌, ◌==◌, List, [], ◌∷◌, ◌++◌, length, slice_index, if◌then◌else◌}
+use Rattle.std.specs.Prelude.{ℕ, Bool, true, false, not, ◌-◌, ◌==◌, List, [], ◌∷◌, ◌++◌, length, take, slice_index, if◌then◌else◌}
 use Rattle.std.specs.List.{filter, suffix_len}
 use Rattle.relative_path.specs.Steps.{Step, cur, up, name, slash, components}
 use Rattle.relative_path.specs.Slices.{IsCut}
@@ -31,6 +31,10 @@ without_curs cs = filter (λ c. not (is_cur c)) cs
 -- how many components a parent keeps: all but each `.` at the end, and one less if any are left
 abbrev pub kept_len : List Step → ℕ
 kept_len cs = length cs - suffix_len is_cur cs - 1
+
+-- the components that a parent keeps
+abbrev pub kept : List Step → List Step
+kept cs = take (kept_len cs) cs
 
 -- p is the shortest prefix with the components that a parent keeps: what `pop` leaves, and `parent` answers
 abbrev pub IsPopped : List ℕ → List ℕ → Type 0

@@ -1,10 +1,11 @@
 -- File names, their stems and extensions, and the texts that setting them leaves.
-use Rattle.std.specs.Prelude.{◌≡◌, ℕ, ◌+◌, ◌-◌, Bool, not, ◌&&◌, ◌==◌, List, [], ◌∷◌, ◌++◌, Option, Some, None, MatchOption, length, slice_get, if◌then◌else◌}
+use Rattle.std.specs.Prelude.{◌≡◌, ℕ, ◌+◌, ◌-◌, Bool, not, ◌&&◌, ◌==◌, List, [], ◌∷◌, ◌++◌, Option, Some, None, MatchOption, IsSome, ◌↔◌, is_some, length, slice_get, if◌then◌else◌}
 use Rattle.std.specs.Option.{option_and_then}
 use Rattle.std.specs.List.{list_all, before_last, after_last}
 use Rattle.relative_path.specs.Steps.{Step, cur, up, name, dot, is_slash, is_not_empty, components}
 use Rattle.relative_path.specs.Slices.{IsCut}
-use Rattle.relative_path.specs.Editing.{kept_len, pushed, without_curs, IsPopped}
+use Rattle.relative_path.specs.Walk.{walk}
+use Rattle.relative_path.specs.Editing.{kept_len, kept, pushed, without_curs, IsPopped}
 
 -- the name that a component is, if it is one
 abbrev pub name_of : Step → Option (List ℕ)
@@ -51,6 +52,19 @@ is_plain_byte b = not (is_dot b) && not (is_slash b)
 -- the text can be a whole extension: it has a byte, and each byte is no dot and no slash
 abbrev pub is_plain_extension : List ℕ → Bool
 is_plain_extension e = is_not_empty e && list_all is_plain_byte e
+
+-- the text can stand after a dot in a name: it has a byte, and no byte is a slash
+abbrev pub is_extension : List ℕ → Bool
+is_extension e = is_not_empty e && list_all (λ b. not (is_slash b)) e
+
+-- the components that a new file name comes after: those that a parent keeps if there is a file name, else all
+abbrev pub base_components : List Step → List Step
+base_components cs = if is_some (last_name cs) then kept cs else cs
+
+-- the directories of cs and ds have the same components, and from each base either both lead somewhere or neither does
+pub record IsBeside (cs ds : List Step) : Type 0 where
+  pub directory : kept ds ≡ kept cs
+  pub leads : (base : List (List ℕ)) → IsSome (walk base cs) ↔ IsSome (walk base ds)
 
 -- front is what a new file name is pushed onto: what `pop` leaves of a text with a file name, else the text
 abbrev pub IsBase : List ℕ → List ℕ → Type 0

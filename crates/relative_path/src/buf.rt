@@ -1,15 +1,15 @@
 //! The owned relative path.
 ghost use Rattle.std.specs.Prelude.{◌≡◌, ◌≢◌, ◌≤◌, ◌<◌, ◌+◌, ◌↔◌, ◌++◌, [], ◌∷◌, if◌then◌else◌, ℕ, List, length, take, None, Some, false, IsSome, IfErr, IfOk, IsOk, OnOk, OnErr, MatchResult, IsTrue, string_bytes};
 ghost use Rattle.relative_path.specs.Error.{from_path_kind};
-ghost use Rattle.relative_path.specs.Steps.{Step, name, slash, step_text, components, spell};
+ghost use Rattle.relative_path.specs.Steps.{Step, dot, name, slash, classed, step_text, components, spell};
 ghost use Rattle.relative_path.specs.Components.{step_of};
 ghost use Rattle.relative_path.specs.Normalizing.{IsNormalText};
-ghost use Rattle.relative_path.specs.Walk.{IsSame};
+ghost use Rattle.relative_path.specs.Walk.{walk, IsSame};
 ghost use Rattle.relative_path.specs.Unix.{has_root, unix_components};
 ghost use Rattle.relative_path.specs.declared.error.FromPathErrorKind.TheVariants.{NonRelative, OutOfMemory};
 ghost use Rattle.std.specs.Path.{path_bytes};
-ghost use Rattle.relative_path.specs.Editing.{pushed, with_separator, without_curs, IsPopped};
-ghost use Rattle.relative_path.specs.Naming.{file_name_of, extension_of, is_plain_extension, dotted, IsNamed, IsExtended};
+ghost use Rattle.relative_path.specs.Editing.{kept, pushed, with_separator, without_curs, IsPopped};
+ghost use Rattle.relative_path.specs.Naming.{file_name_of, stem_of, extension_of, is_extension, is_plain_extension, base_components, dotted, IsBeside, IsNamed, IsExtended};
 ghost use Rattle.relative_path.specs.Comparing.{steps_eq, steps_cmp, fed_by};
 ghost use Rattle.relative_path.specs.ComparingLaws.{partial_eq_law, partial_ord_law, by_components, fed_alike};
 ghost use Rattle.relative_path.specs.Pushing.{PushesAll, PushesUntilFull, PushesWholeRun, StopsRun};
@@ -17,7 +17,7 @@ ghost use Rattle.relative_path.specs.RelativePath.{path_text, path_components};
 ghost use Rattle.relative_path.specs.RelativePathBuf.{buffer_components, ExceedsRoom};
 ghost use Rattle.std.specs.Iterator.{IsFiniteIterable};
 ghost use Rattle.std.specs.Fmt.{styled_text, debug_str};
-ghost use Rattle.std.specs.Option.{option_and_then};
+ghost use Rattle.std.specs.Option.{option_and_then, option_map};
 ghost use Rattle.std.specs.Str.{IsUtf8};
 ghost use Rattle.std.specs.Ordering.{on, as_partial_cmp};
 ghost use Rattle.std.specs.String.{string_capacity};
@@ -237,7 +237,12 @@ impl RelativePathBuf {
         self.text.push_str(strip_slash(path.as_str())).unwrap();
     }
 
-    /// Replaces the file name, or pushes one if the path has none.
+    /// Replaces the file name.
+    ///
+    /// A path without a file name gets the new one pushed onto it, so the new name is then *below*
+    /// the path and not beside it: `..` with the name `x` is `../x`. The new name may have several
+    /// components, and `..` among them climb as they do in any path: `a/b` with the name
+    /// `../../../x` is `a/../../../x`, which leads above its base.
     ///
     /// It asks for memory once, only where the result is longer than the text and its spare room
     /// together, and before it changes anything: a refusal leaves the text as it was.
@@ -249,6 +254,13 @@ impl RelativePathBuf {
     /// ```
     pub fn set_file_name(&mut self, file_name: &str) -> Result<(), AllocError>
         ensures ok { OnOk result (IsNamed self.old.text file_name.now self.new.text) }
+        ensures components { OnOk result (components self.new.text
+            ≡ base_components (components self.old.text) ++ components file_name.now) }
+        ensures name { OnOk result (components file_name.now ≡ name file_name.now ∷ []
+            → file_name_of self.new.text ≡ Some file_name.now) }
+        ensures beside { OnOk result (IsSome (file_name_of self.old.text)
+            → components file_name.now ≡ name file_name.now ∷ []
+            → IsBeside (components self.old.text) (components self.new.text)) }
         ensures err { OnErr result (self.new.text ≡ self.old.text) }
         ensures full { OnErr result
             (ExceedsRoom (IsNamed self.old.text file_name.now) self.old.room) }
@@ -265,7 +277,11 @@ impl RelativePathBuf {
     }
 
     /// Replaces the extension of the file name, or takes it off where `extension` is empty. It
-    /// answers whether the path has a file name; a path without one stays as it is.
+    /// returns whether the path has a file name; a path without one stays as it is.
+    ///
+    /// An extension that isn't empty and has no slash keeps the path's directory. An empty one
+    /// leaves the stem of the file name as the last component, whatever component that is: `...`
+    /// becomes `..`, which climbs, and `..x` becomes `.`.
     ///
     /// It asks for memory once, only where the result is longer than the text and its spare room
     /// together, and before it changes anything: a refusal leaves the text as it was. Neither an
@@ -279,6 +295,17 @@ impl RelativePathBuf {
     pub fn set_extension(&mut self, extension: &str) -> Result<bool, AllocError>
         ensures answer { IfOk result (λ set. IsTrue set ↔ IsSome (file_name_of self.old.text)) }
         ensures ok { OnOk result (IsExtended self.old.text extension.now self.new.text) }
+        ensures components { OnOk result ((n : List ℕ) → file_name_of self.old.text ≡ Some n
+            → IsTrue (is_extension extension.now) → components self.new.text
+            ≡ kept (components self.old.text) ++ name (stem_of n ++ dot ∷ extension.now) ∷ []) }
+        ensures bare { OnOk result ((n : List ℕ) → file_name_of self.old.text ≡ Some n
+            → extension.now ≡ [] → components self.new.text
+            ≡ kept (components self.old.text) ++ classed (stem_of n) ∷ []) }
+        ensures beside { OnOk result (IsTrue (is_extension extension.now)
+            → IsBeside (components self.old.text) (components self.new.text)) }
+        ensures stem { OnOk result (IsTrue (is_plain_extension extension.now)
+            → option_map stem_of (file_name_of self.new.text)
+            ≡ option_map stem_of (file_name_of self.old.text)) }
         ensures extension { IfOk result (λ set. IsTrue set → IsTrue (is_plain_extension extension.now)
             → option_and_then extension_of (file_name_of self.new.text) ≡ Some extension.now) }
         ensures err { OnErr result (self.new.text ≡ self.old.text) }
@@ -345,6 +372,11 @@ impl RelativePathBuf {
     pub fn pop(&mut self) -> bool
         ensures popped { IsTrue result ↔ (self.old.text ≢ []) }
         ensures text { IsPopped self.old.text self.new.text }
+        ensures components { components self.new.text ≡ kept (components self.old.text) }
+        ensures rejoined { (n : List ℕ) → file_name_of self.old.text ≡ Some n
+            → IsSame (components self.new.text ++ name n ∷ []) (components self.old.text) }
+        ensures leads { (base : List (List ℕ)) → IsSome (walk base (components self.old.text))
+            → IsSome (walk base (components self.new.text)) }
         ensures room { self.new.room ≡ self.old.room }
     {
         let len = parent_of(self.text.as_str()).len();

@@ -1,9 +1,9 @@
 //! The borrowed relative path.
-ghost use Rattle.std.specs.Prelude.{◌≡◌, ◌≢◌, ◌≤◌, ◌↔◌, ◌++◌, [], ◌∷◌, IfErr, IfOk, IsErr, IsOk, IfSome, IfNone, IsSome, IsNone, IsTrue, Some, List, ℕ, length, slice_get};
-ghost use Rattle.relative_path.specs.Steps.{Step, name, components, step_text};
-ghost use Rattle.relative_path.specs.Editing.{kept_len, pushed, IsPopped};
+ghost use Rattle.std.specs.Prelude.{◌≡◌, ◌≢◌, ◌≤◌, ◌↔◌, ◌++◌, [], ◌∷◌, IfErr, IfOk, IsErr, IsOk, IfSome, IfNone, IsSome, IsNone, IsTrue, None, Some, List, ℕ, length, slice_get};
+ghost use Rattle.relative_path.specs.Steps.{Step, dot, name, classed, components, step_text};
+ghost use Rattle.relative_path.specs.Editing.{kept_len, kept, pushed, IsPopped};
 ghost use Rattle.relative_path.specs.Components.{GivesComponents, GivesTextsOfComponents, step_of, text_left, iter_text_left};
-ghost use Rattle.relative_path.specs.Naming.{file_name_of, stem_of, extension_of, IsStemAndExtension, IsNamed, IsExtended};
+ghost use Rattle.relative_path.specs.Naming.{file_name_of, stem_of, extension_of, is_extension, is_plain_extension, base_components, IsBeside, IsStemAndExtension, IsNamed, IsExtended};
 ghost use Rattle.relative_path.specs.Comparing.{steps_eq, steps_cmp, fed_by};
 ghost use Rattle.relative_path.specs.ComparingLaws.{partial_eq_law, partial_ord_law, by_components, fed_alike};
 ghost use Rattle.std.specs.Fmt.{styled_text, debug_str};
@@ -228,6 +228,14 @@ impl<'a> RelativePath<'a> {
         ensures none { IfNone result (path_components self.entry ≡ []) }
         ensures text { IfSome result
             (λ parent. IsPopped (path_text self.entry) (path_text parent)) }
+        ensures components { IfSome result
+            (λ parent. path_components parent ≡ kept (path_components self.entry)) }
+        ensures rejoined { IfSome result (λ parent. (n : List ℕ)
+            → file_name_of (path_text self.entry) ≡ Some n
+            → IsSame (path_components parent ++ name n ∷ []) (path_components self.entry)) }
+        ensures leads { IfSome result (λ parent. (base : List (List ℕ))
+            → IsSome (walk base (path_components self.entry))
+            → IsSome (walk base (path_components parent))) }
     {
         if self.text.is_empty() {
             None
@@ -361,11 +369,14 @@ impl<'a> RelativePath<'a> {
         true
     }
 
-    /// This path with the file name replaced, or with one pushed onto it if it has none, in memory
-    /// of its own.
+    /// This path with its file name replaced, in memory of its own.
     ///
-    /// It asks for memory once, for the whole result if that isn't empty, and fails only where that
-    /// is refused.
+    /// A path without a file name gets the new one pushed onto it, so the new name is then *below*
+    /// the path and not beside it: `..` with the name `x` is `../x`. The new name may have several
+    /// components, and `..` among them climb as they do in any path: `a/b` with the name
+    /// `../../../x` is `a/../../../x`, which leads above its base.
+    ///
+    /// It allocates once, the whole result if that isn't empty. The only error is lack of memory.
     ///
     /// ```
     /// let named = RelativePath::new("tmp/foo.txt").with_file_name(alloc, "bar.txt")?;
@@ -376,8 +387,15 @@ impl<'a> RelativePath<'a> {
         alloc: Global,
         file_name: &str,
     ) -> Result<RelativePathBuf, AllocError>
-        ensures { IfOk result
+        ensures text { IfOk result
             (λ named. IsNamed (path_text self.entry) file_name.now named.text) }
+        ensures components { IfOk result (λ named. components named.text
+            ≡ base_components (path_components self.entry) ++ components file_name.now) }
+        ensures name { IfOk result (λ named. components file_name.now ≡ name file_name.now ∷ []
+            → file_name_of named.text ≡ Some file_name.now) }
+        ensures beside { IfOk result (λ named. IsSome (file_name_of (path_text self.entry))
+            → components file_name.now ≡ name file_name.now ∷ []
+            → IsBeside (path_components self.entry) (components named.text)) }
     {
         RelativePath::new(base_of(self.text)).join(alloc, RelativePath::new(file_name))
     }
@@ -420,8 +438,11 @@ impl<'a> RelativePath<'a> {
     /// This path with the extension of its file name replaced, in memory of its own. An empty
     /// extension takes it off. A path without a file name stays as it is.
     ///
-    /// It asks for memory once, for the whole result if that isn't empty, and fails only where that
-    /// is refused.
+    /// An extension that isn't empty and has no slash keeps the path's directory. An empty one
+    /// leaves the stem of the file name as the last component, whatever component that is: `...`
+    /// becomes `..`, which climbs, and `..x` becomes `.`.
+    ///
+    /// It allocates once, the whole result if that isn't empty. The only error is lack of memory.
     ///
     /// ```
     /// let extended = RelativePath::new("foo.rs").with_extension(alloc, "txt")?;
@@ -432,8 +453,26 @@ impl<'a> RelativePath<'a> {
         alloc: Global,
         extension: &str,
     ) -> Result<RelativePathBuf, AllocError>
-        ensures { IfOk result
+        ensures text { IfOk result
             (λ extended. IsExtended (path_text self.entry) extension.now extended.text) }
+        ensures components { IfOk result (λ extended. (n : List ℕ)
+            → file_name_of (path_text self.entry) ≡ Some n → IsTrue (is_extension extension.now)
+            → components extended.text
+            ≡ kept (path_components self.entry) ++ name (stem_of n ++ dot ∷ extension.now) ∷ []) }
+        ensures bare { IfOk result (λ extended. (n : List ℕ)
+            → file_name_of (path_text self.entry) ≡ Some n → extension.now ≡ []
+            → components extended.text
+            ≡ kept (path_components self.entry) ++ classed (stem_of n) ∷ []) }
+        ensures beside { IfOk result (λ extended. IsTrue (is_extension extension.now)
+            → IsBeside (path_components self.entry) (components extended.text)) }
+        ensures extension { IfOk result (λ extended. IsSome (file_name_of (path_text self.entry))
+            → IsTrue (is_plain_extension extension.now)
+            → option_and_then extension_of (file_name_of extended.text) ≡ Some extension.now) }
+        ensures stem { IfOk result (λ extended. IsTrue (is_plain_extension extension.now)
+            → option_map stem_of (file_name_of extended.text)
+            ≡ option_map stem_of (file_name_of (path_text self.entry))) }
+        ensures unnamed { IfOk result (λ extended. file_name_of (path_text self.entry) ≡ None
+            → extended.text ≡ path_text self.entry) }
     {
         let Some(front) = without_extension(self.text) else {
             return self.to_relative_path_buf(alloc);

@@ -4,7 +4,8 @@ use Rattle.std.specs.Str.{IsUtf8}
 use Rattle.relative_path.specs.Naming.{IsExtended, dotted}
 use Rattle.relative_path.proofs.SlicesLemmas.{length-IsPrefix}
 use Rattle.relative_path.proofs.NamingLemmas.{IsPrefix-IsExtended, IsExtended-push, ExceedsRoom-extended}
-use Rattle.relative_path.proofs.NamingExtensionLemmas.{extension-IsExtended}
+use Rattle.relative_path.proofs.NamingExtensionLemmas as naming
+use Rattle.relative_path.proofs.NamingEditsLemmas.{IsBeside-IsExtended}
 use Rattle.relative_path.proofs.buf.RelativePathBuf.set_extension.Goals as goal
 
 pub returns-in_err-reserve_to-clause-full : goal.returns-in_err-reserve_to-clause-full
@@ -48,4 +49,16 @@ pub returns-clause-extension : goal.returns-clause-extension
 returns-clause-extension c = λ _ plain.
     let shown = c.as_str.ensures.value ∙ ap (λ b. b.text) c.self.view_is in
     let some = rw shown at (c.in-Some.ensures.found.0 refl) in
-    extension-IsExtended c.args.self.now.text c.args.extension.now _ plain some (returns-clause-ok c)
+    naming.extension-IsExtended c.args.self.now.text c.args.extension.now _ plain some (returns-clause-ok c)
+
+pub returns-clause-components : goal.returns-clause-components
+returns-clause-components c = λ n named. naming.components-IsExtended _ _ _ n named (returns-clause-ok c)
+
+pub returns-clause-bare : goal.returns-clause-bare
+returns-clause-bare c = λ n named. naming.components-IsExtended_empty _ _ _ n named (returns-clause-ok c)
+
+pub returns-clause-beside : goal.returns-clause-beside
+returns-clause-beside c = λ plain. IsBeside-IsExtended _ _ _ plain (returns-clause-ok c)
+
+pub returns-clause-stem : goal.returns-clause-stem
+returns-clause-stem c = λ plain. naming.stem-IsExtended _ _ _ plain (returns-clause-ok c)

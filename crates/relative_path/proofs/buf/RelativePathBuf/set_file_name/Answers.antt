@@ -4,7 +4,8 @@ use Rattle.std.proofs.Common.{rules, ap, ap₂, ◌∙◌, subst, sym}
 use Rattle.std.specs.Str.{IsUtf8}
 use Rattle.relative_path.specs.Editing.{pushed}
 use Rattle.relative_path.specs.Naming.{IsBase}
-use Rattle.relative_path.proofs.NamingLemmas.{IsPrefix-IsBase, ExceedsRoom-named}
+use Rattle.relative_path.proofs.NamingLemmas.{IsPrefix-IsBase, ExceedsRoom-named, components-IsNamed}
+use Rattle.relative_path.proofs.NamingEditsLemmas.{file_name-IsNamed, IsBeside-IsNamed}
 use Rattle.relative_path.proofs.buf.RelativePathBuf.set_file_name.Goals as goal
 
 pub returns-in_err-reserve_to-clause-full : goal.returns-in_err-reserve_to-clause-full
@@ -37,3 +38,12 @@ push_reserved-requires c =
     let cut = c.cut_to.ensures.text ∙ sym front.front in
     let len = ap length (ap₂ pushed cut c.new.ensures) in
     omega (arith, len, c.pushed_len-len.ensures, c.cut_to.ensures.room, c.in_ok-reserve_to.ensures.ok)
+
+pub returns-clause-components : goal.returns-clause-components
+returns-clause-components c = components-IsNamed _ _ _ (returns-clause-ok c)
+
+pub returns-clause-name : goal.returns-clause-name
+returns-clause-name c = λ one. file_name-IsNamed _ _ _ (returns-clause-ok c) one
+
+pub returns-clause-beside : goal.returns-clause-beside
+returns-clause-beside c = λ found one. IsBeside-IsNamed _ _ _ (returns-clause-ok c) found one

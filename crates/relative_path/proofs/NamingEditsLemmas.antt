@@ -1,0 +1,100 @@
+-- What edits of a file name keep: the components before it, and from which bases they lead anywhere.
+use Rattle.std.proofs.Common.{◌≡◌, ℕ, zero, suc, List, [], ◌∷◌, ◌++◌, length, take, drop, replicate, Option, Some, None, inl, inr, refl, sym, ap, ap₂, ◌∙◌, subst, append_assoc, take_at, take-append-drop}
+use Rattle.std.specs.Prelude.{IsTrue, ◌↔◌, ◌-◌, slice_get, is_some, IsSome}
+use Rattle.std.specs.Option.{option_and_then}
+use Rattle.std.proofs.lemmas.Bool.{cond-true}
+use Rattle.relative_path.specs.Steps.{Step, cur, up, name, dot, components}
+use Rattle.relative_path.specs.Walk.{walk, IsSame}
+use Rattle.relative_path.specs.Editing.{kept_len, kept, IsPopped}
+use Rattle.relative_path.specs.Naming.{name_of, last_name, file_name_of, stem_of, is_extension, base_components, IsBeside, IsNamed, IsExtended}
+use Rattle.relative_path.proofs.WalkLemmas.{IsSame-sym, IsSame-append_left, IsSome-walk_front, IsSome-walk_name}
+use Rattle.relative_path.proofs.EditingLemmas.{kept_len-curs, kept_len-push}
+use Rattle.relative_path.proofs.NamingLemmas.{without_curs-curs, last_other-at, components-IsNamed}
+use Rattle.relative_path.proofs.NamingExtensionLemmas.{ends_in, named_step, IsSome-value, kept-name, last_name-name, components-IsExtended, IsExtended-unnamed}
+
+-- after the file name come `.`s alone
+pub last_name-split : (cs : List Step) (n : List ℕ) → last_name cs ≡ Some n
+    → (k : ℕ) × (cs ≡ kept cs ++ name n ∷ replicate k cur)
+last_name-split cs n named = elim (ends_in cs) [
+  | inl (k, alone) ↦
+      let none = ap last_name alone
+      ∙ ap (λ ds. option_and_then name_of (slice_get ds (length ds - 1))) (without_curs-curs k) in
+      absurd (cc)
+  | inr e ↦
+      let last = ap last_name e.joined ∙ ap (option_and_then name_of) (last_other-at e.front e.last e.curs e.other) in
+      let is : e.last ≡ name n = named_step e.last n (sym last ∙ named) in
+      let whole : cs ≡ (e.front ++ e.last ∷ []) ++ replicate e.curs cur = e.joined
+      ∙ sym (append_assoc e.front (e.last ∷ []) (replicate e.curs cur)) in
+      let count : kept_len cs ≡ length e.front =
+      ap kept_len whole ∙ kept_len-curs (e.front ++ e.last ∷ []) e.curs ∙ kept_len-push e.front e.last e.other in
+      let firsts : kept cs ≡ e.front =
+      ap (λ k. take k cs) count ∙ ap (take (length e.front)) e.joined
+      ∙ take_at e.front (e.last ∷ replicate e.curs cur) (length e.front) refl in
+      (e.curs, e.joined ∙ ap₂ (λ front c. front ++ c ∷ replicate e.curs cur) (sym firsts) is)
+]
+
+-- a list with a file name leads where the name leads after what a parent keeps
+pub IsSame-last_name : (cs : List Step) (n : List ℕ) → last_name cs ≡ Some n → IsSame cs (kept cs ++ name n ∷ [])
+IsSame-last_name cs n named =
+    let (k, joined) = last_name-split cs n named in
+    subst (λ ds. IsSame ds (kept cs ++ name n ∷ [])) (sym joined)
+    (IsSame-append_left (kept cs) (name n ∷ replicate k cur) (name n ∷ []) (record { everywhere = λ base. walk-curs (base ++ n ∷ []) k }))
+  where
+    walk-curs : (base : List (List ℕ)) (k : ℕ) → walk base (replicate k cur) ≡ Some base
+    walk-curs base zero = refl
+    walk-curs base (suc k) = walk-curs base k
+
+-- another name where the file name was is beside it
+IsBeside-name : (cs ds : List Step) (n m : List ℕ) → last_name cs ≡ Some n → ds ≡ kept cs ++ name m ∷ [] → IsBeside cs ds
+IsBeside-name cs ds n m named is = record {
+  directory = ap kept is ∙ kept-name (kept cs) m;
+  leads = λ base.
+      let same = (IsSame-last_name cs n named).everywhere base in
+      let old = IsSome-walk_name base (kept cs) n in
+      let new = IsSome-walk_name base (kept cs) m in
+      (λ some. rw is (new.0 (old.1 (rw same at some))), λ some. rw same (old.0 (new.1 (rw is at some))));
+}
+
+-- a path with another extension is beside the path
+pub IsBeside-IsExtended : (text e extended : List ℕ) → IsTrue (is_extension e) → IsExtended text e extended
+    → IsBeside (components text) (components extended)
+IsBeside-IsExtended text e extended plain is = at (file_name_of text) refl
+  where
+    at : (o : Option (List ℕ)) → file_name_of text ≡ o → IsBeside (components text) (components extended)
+    at None none = rw (IsExtended-unnamed text e extended none is)
+        (record { directory = refl; leads = λ base. (λ some. some, λ some. some) })
+    at (Some n) named =
+        IsBeside-name (components text) (components extended) n (stem_of n ++ dot ∷ e) named
+        (components-IsExtended text e extended n named is plain)
+
+-- a name that is one component is the file name
+pub file_name-IsNamed : (text f named : List ℕ) → IsNamed text f named → components f ≡ name f ∷ []
+    → file_name_of named ≡ Some f
+file_name-IsNamed text f named is one =
+    ap last_name (components-IsNamed text f named is ∙ ap (λ cs. base_components (components text) ++ cs) one)
+    ∙ last_name-name (base_components (components text)) f
+
+-- and it is beside the one that it replaces
+pub IsBeside-IsNamed : (text f named : List ℕ) → IsNamed text f named → IsSome (file_name_of text)
+    → components f ≡ name f ∷ [] → IsBeside (components text) (components named)
+IsBeside-IsNamed text f named is found one =
+    let (n, was) = IsSome-value (file_name_of text) found in
+    IsBeside-name (components text) (components named) n f was
+    (components-IsNamed text f named is
+    ∙ ap₂ (λ front cs. front ++ cs) (cond-true _ _ _ found) one)
+
+-- ---- what a parent keeps
+
+-- with the file name after it, a parent leads where the path leads
+pub IsSame-IsPopped : (text parent n : List ℕ) → IsPopped text parent → file_name_of text ≡ Some n
+    → IsSame (components parent ++ name n ∷ []) (components text)
+IsSame-IsPopped text parent n popped named =
+    rw popped.same_components (IsSame-sym _ _ (IsSame-last_name (components text) n named))
+
+-- a parent leads somewhere from each base from which the path does
+pub IsSome-walk_popped : (text parent : List ℕ) → IsPopped text parent → (base : List (List ℕ))
+    → IsSome (walk base (components text)) → IsSome (walk base (components parent))
+IsSome-walk_popped text parent popped base some =
+    let cs = components text in
+    rw popped.same_components
+    (IsSome-walk_front base (kept cs) (drop (kept_len cs) cs) (rw (take-append-drop (kept_len cs) cs) some))
