@@ -1,7 +1,6 @@
 -- What a caller's proof may cite, beside `OnLiterals`: where lists of components lead, and what the components of a
 -- text are. No other crate can name the other modules here.
-use Rattle.std.proofs.Common.{◌≡◌, ◌≢◌, ◌⊎◌, ◌↔◌, ℕ, zero, suc, ◌-◌, ◌<◌, false, true≢false, All, List, [], ◌∷◌, ◌++◌, length, map, replicate, take, take_at, get_or, codes, Option, Some, None, IsSome, option_and_then, inl, inr, refl, sym, ap, ap₂, ◌∙◌, subst, arith, append_assoc, append-nil}
-use Rattle.std.specs.Prelude.{slice_get}
+use Rattle.std.proofs.Common.{◌≡◌, ◌≢◌, ◌↔◌, ℕ, ◌<◌, false, true≢false, All, List, [], ◌∷◌, ◌++◌, length, map, replicate, get_or, codes, Option, Some, None, IsSome, option_and_then, refl, sym, ap, ◌∙◌, subst, arith, append_assoc, append-nil}
 use Rattle.std.proofs.lemmas.Bool.{cond-false}
 use Rattle.std.proofs.lemmas.List.{length-replicate}
 use Rattle.std.proofs.lemmas.List.Elements.{All-from_recursion}

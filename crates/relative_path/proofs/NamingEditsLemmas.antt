@@ -1,9 +1,9 @@
 -- What edits of a file name keep: the components before it, and from which bases they lead anywhere.
 use Rattle.std.proofs.Common.{◌≡◌, ℕ, zero, suc, List, [], ◌∷◌, ◌++◌, length, take, drop, replicate, Option, Some, None, inl, inr, refl, sym, ap, ap₂, ◌∙◌, subst, append_assoc, take_at, take-append-drop}
-use Rattle.std.specs.Prelude.{IsTrue, ◌↔◌, ◌-◌, slice_get, is_some, IsSome}
+use Rattle.std.specs.Prelude.{IsTrue, ◌-◌, slice_get, IsSome}
 use Rattle.std.specs.Option.{option_and_then}
 use Rattle.std.proofs.lemmas.Bool.{cond-true}
-use Rattle.relative_path.specs.Steps.{Step, cur, up, name, dot, components}
+use Rattle.relative_path.specs.Steps.{Step, cur, name, dot, components}
 use Rattle.relative_path.specs.Walk.{walk, IsSame}
 use Rattle.relative_path.specs.Editing.{kept_len, kept, IsPopped}
 use Rattle.relative_path.specs.Naming.{name_of, last_name, file_name_of, stem_of, is_extension, base_components, IsBeside, IsNamed, IsExtended}

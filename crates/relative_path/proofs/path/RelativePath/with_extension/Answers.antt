@@ -1,7 +1,5 @@
 -- The stem and the extension after it are the extended text.
-use Rattle.std.proofs.Common.{◌≡◌, ◌++◌, ◌∙◌, ap, refl}
-use Rattle.relative_path.specs.RelativePath.{path_text}
-use Rattle.relative_path.specs.Naming.{IsExtended, dotted}
+use Rattle.std.proofs.Common.{◌∙◌, refl}
 use Rattle.relative_path.proofs.NamingLemmas.{IsExtended-push}
 use Rattle.relative_path.proofs.NamingExtensionLemmas as naming
 use Rattle.relative_path.proofs.NamingEditsLemmas.{IsBeside-IsExtended}
