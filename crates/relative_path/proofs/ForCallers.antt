@@ -1,12 +1,13 @@
 -- What a caller's proof may cite, beside `OnLiterals`: where lists of components lead, and what the components of a
 -- text are. No other crate can name the other modules here.
-use Rattle.std.proofs.Common.{◌≡◌, ◌≢◌, ◌↔◌, ℕ, ◌<◌, false, true≢false, All, List, [], ◌∷◌, ◌++◌, length, map, replicate, get_or, codes, Option, Some, None, IsSome, option_and_then, refl, sym, ap, ◌∙◌, subst, arith, append_assoc, append-nil}
+use Rattle.std.proofs.Common.{◌≡◌, ◌≢◌, ◌↔◌, ℕ, ◌<◌, ◌≤◌, false, All, List, [], ◌∷◌, ◌++◌, length, map, replicate, get_or, codes, Some, IsSome, option_and_then, refl, sym, ap, ◌∙◌, subst, arith, append_assoc, append-nil}
+use Rattle.std.specs.Prelude.{slice_get}
 use Rattle.std.proofs.lemmas.Bool.{cond-false}
 use Rattle.std.proofs.lemmas.List.{length-replicate}
 use Rattle.std.proofs.lemmas.List.Elements.{All-from_recursion}
 use Rattle.relative_path.specs.Steps.{Step, cur, up, name, slash, is_slash, step_text, classed, components, spell}
-use Rattle.relative_path.specs.Walk.{walk, IsSame, LeadsInTurn}
-use Rattle.relative_path.specs.Normalizing.{AreNames, IsNormal, IsNormalTextOf}
+use Rattle.relative_path.specs.Walk.{walk, IsSame, LeadsInTurn, StaysBelow}
+use Rattle.relative_path.specs.Normalizing.{AreNames, IsNormal, IsNormalForm, IsNormalTextOf, climb}
 use Rattle.relative_path.specs.Editing.{kept, pushed, unslashed}
 use Rattle.relative_path.specs.Naming.{last_name}
 use Rattle.relative_path.specs.Relating.{Leads, IsReachable, IsShortestText}
@@ -31,21 +32,37 @@ pub walk-append : (base : List (List ℕ)) (cs ds : List Step)
     → walk base (cs ++ ds) ≡ option_and_then (λ place. walk place ds) (walk base cs)
 walk-append = walks.walk-append
 
+-- so where both lead somewhere, the first does, and the other leads on from there
+pub walk-append_some : (base place : List (List ℕ)) (cs ds : List Step) → walk base (cs ++ ds) ≡ Some place
+    → (between : List (List ℕ)) × (walk base cs ≡ Some between) × (walk between ds ≡ Some place)
+walk-append_some base place cs ds is =
+    let (between, there) = walks.IsSome-value (walk base cs) (walks.IsSome-walk_front base cs ds (rw is refl)) in
+    (between, there, ap (option_and_then (λ place. walk place ds)) (sym there) ∙ sym (walk-append base cs ds) ∙ is)
+
 -- names lead from a base down to them
 pub walk-names : (base ns : List (List ℕ)) → walk base (map name ns) ≡ Some (base ++ ns)
-walk-names base [] = ap Some (sym (append-nil base))
-walk-names base (n ∷ ns) = walk-names (base ++ n ∷ []) ns ∙ ap Some (append_assoc base (n ∷ []) ns)
+walk-names = walks.walk-names
 
 -- from some base a list leads to a place
 pub walk-some : (cs : List Step) → (base : List (List ℕ)) × (place : List (List ℕ)) × (walk base cs ≡ Some place)
 walk-some cs =
     let base : List (List ℕ) = replicate (climb_after 0 0 cs) [] in
     let level = length-replicate {A = List ℕ} (climb_after 0 0 cs) [] in
-    let (place, is) = found (walk base cs) ((IsSome-walk cs base).1 (omega (arith, level))) in
-    (base, place, is) where
-      found : (o : Option (List (List ℕ))) → IsSome o → (place : List (List ℕ)) × (o ≡ Some place)
-      found None some = absurd (true≢false (sym some))
-      found (Some place) some = (place, refl)
+    let (place, is) = walks.IsSome-value (walk base cs) ((IsSome-walk cs base).1 (omega (arith, level))) in
+    (base, place, is)
+
+-- a normal list that doesn't begin with `..` has a place from the top
+pub IsSome-walk_normal : (cs : List Step) → IsNormal cs → slice_get cs 0 ≢ Some up → IsSome (walk [] cs)
+IsSome-walk_normal [] normal first = refl
+IsSome-walk_normal (cur ∷ cs) normal first = absurd normal
+IsSome-walk_normal (up ∷ cs) normal first = absurd (first refl)
+IsSome-walk_normal (name n ∷ cs) normal first = names (n ∷ []) cs normal
+  where
+    names : (base : List (List ℕ)) (ds : List Step) → AreNames ds → IsSome (walk base ds)
+    names base [] are = refl
+    names base (cur ∷ ds) are = absurd are
+    names base (up ∷ ds) are = absurd are
+    names base (name m ∷ ds) are = names (base ++ m ∷ []) ds are
 
 -- `IsSame` is reflexive
 pub IsSame-refl : (cs : List Step) → IsSame cs cs
@@ -93,6 +110,20 @@ Leads-same r from to leads = relating.Leads-same _ _ r _ _ from to leads
 -- some list does so, if some list leads from f to t
 pub IsReachable-same : {f g t u : List Step} → IsSame f g → IsSame t u → IsReachable f t → IsReachable g u
 IsReachable-same from to reachable = relating.IsReachable-same _ _ _ _ from to reachable
+
+-- from a list with a place from the top some list leads to every list
+pub IsReachable-from_top : (f t : List Step) → IsSome (walk [] f) → IsReachable f t
+IsReachable-from_top f t some =
+    relating.IsReachable-from_below [] f t (walks.StaysBelow-in_turn [] f f (walks.LeadsInTurn-same [] f f (IsSame-refl f)) some)
+
+-- some list leads between two lists that stay below the same one
+pub IsReachable-below : (bs f t : List Step) → StaysBelow bs f → StaysBelow bs t → IsReachable f t
+IsReachable-below = relating.IsReachable-below
+
+-- some list leads from f to t exactly if the normal form of f climbs no higher than that of t
+pub IsReachable-climb : (f t fs ts : List Step) → IsNormalForm f fs → IsNormalForm t ts
+    → IsReachable f t ↔ (climb fs ≤ climb ts)
+IsReachable-climb = relating.IsReachable-climb
 
 -- the shortest text from f to t is the shortest from what is the same as f to what is the same as t
 pub IsShortestText-same : {f g t u : List Step} {text : List ℕ} → IsSame f g → IsSame t u → IsShortestText f t text
@@ -203,9 +234,4 @@ kept-name = extensions.kept-name
 
 -- the file name of proper components is one component
 pub IsProper-last_name : (cs : List Step) (n : List ℕ) → AreProper cs → last_name cs ≡ Some n → IsProper (name n)
-IsProper-last_name cs n proper named =
-    let (k, joined) = edits.last_name-split cs n named in
-    within (kept cs) (replicate k cur) (subst AreProper joined proper) where
-      within : (front rest : List Step) → AreProper (front ++ name n ∷ rest) → IsProper (name n)
-      within [] rest (first, more) = first
-      within (c ∷ front) rest (first, more) = within front rest more
+IsProper-last_name = edits.IsProper-last_name

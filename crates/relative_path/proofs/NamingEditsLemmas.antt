@@ -7,10 +7,11 @@ use Rattle.relative_path.specs.Steps.{Step, cur, name, dot, components}
 use Rattle.relative_path.specs.Walk.{walk, IsSame}
 use Rattle.relative_path.specs.Editing.{kept_len, kept, IsPopped}
 use Rattle.relative_path.specs.Naming.{name_of, last_name, file_name_of, stem_of, is_extension, base_components, IsBeside, IsNamed, IsExtended}
-use Rattle.relative_path.proofs.WalkLemmas.{IsSame-sym, IsSame-append_left, IsSome-walk_front, IsSome-walk_name}
+use Rattle.relative_path.proofs.StepsLemmas.{IsProper, AreProper}
+use Rattle.relative_path.proofs.WalkLemmas.{IsSome-value, IsSame-sym, IsSame-append_left, IsSome-walk_front, IsSome-walk_name}
 use Rattle.relative_path.proofs.EditingLemmas.{kept_len-curs, kept_len-push}
 use Rattle.relative_path.proofs.NamingLemmas.{without_curs-curs, last_other-at, components-IsNamed}
-use Rattle.relative_path.proofs.NamingExtensionLemmas.{ends_in, named_step, IsSome-value, kept-name, last_name-name, components-IsExtended, IsExtended-unnamed}
+use Rattle.relative_path.proofs.NamingExtensionLemmas.{ends_in, named_step, kept-name, last_name-name, components-IsExtended, IsExtended-unnamed}
 
 -- after the file name come `.`s alone
 pub last_name-split : (cs : List Step) (n : List ℕ) → last_name cs ≡ Some n
@@ -43,6 +44,48 @@ IsSame-last_name cs n named =
     walk-curs : (base : List (List ℕ)) (k : ℕ) → walk base (replicate k cur) ≡ Some base
     walk-curs base zero = refl
     walk-curs base (suc k) = walk-curs base k
+
+-- the file name of proper components is one component
+pub IsProper-last_name : (cs : List Step) (n : List ℕ) → AreProper cs → last_name cs ≡ Some n → IsProper (name n)
+IsProper-last_name cs n proper named =
+    let (k, joined) = last_name-split cs n named in
+    within (kept cs) (replicate k cur) (subst AreProper joined proper)
+  where
+    within : (front rest : List Step) → AreProper (front ++ name n ∷ rest) → IsProper (name n)
+    within [] rest (first, more) = first
+    within (c ∷ front) rest (first, more) = within front rest more
+
+-- a list with a file name has that name after any other list
+pub last_name-append : (cs ds : List Step) (n : List ℕ) → last_name ds ≡ Some n → last_name (cs ++ ds) ≡ Some n
+last_name-append cs ds n named =
+    let (k, joined) = last_name-split ds n named in
+    ap (λ es. last_name (cs ++ es)) joined
+    ∙ ap last_name (sym (append_assoc cs (kept ds) (name n ∷ replicate k cur)))
+    ∙ ap (option_and_then name_of) (last_other-at (cs ++ kept ds) (name n) k refl)
+
+-- and a parent keeps what it keeps of that list, and all of the other
+pub kept-append : (cs ds : List Step) (n : List ℕ) → last_name ds ≡ Some n → kept (cs ++ ds) ≡ cs ++ kept ds
+kept-append cs ds n named =
+    let (k, joined) = last_name-split ds n named in
+    let whole : cs ++ ds ≡ (cs ++ kept ds) ++ name n ∷ replicate k cur =
+    ap (λ es. cs ++ es) joined ∙ sym (append_assoc cs (kept ds) (name n ∷ replicate k cur)) in
+    let count : kept_len (cs ++ ds) ≡ length (cs ++ kept ds) =
+    ap kept_len (whole ∙ sym (append_assoc (cs ++ kept ds) (name n ∷ []) (replicate k cur)))
+    ∙ kept_len-curs ((cs ++ kept ds) ++ name n ∷ []) k ∙ kept_len-push (cs ++ kept ds) (name n) refl in
+    ap₂ take count whole ∙ take_at (cs ++ kept ds) (name n ∷ replicate k cur) (length (cs ++ kept ds)) refl
+
+-- what a joined text keeps of the path that was pushed
+pub file_name-joined : (cs : List Step) (text path : List ℕ) → components text ≡ cs ++ components path
+    → IsSome (file_name_of path) → file_name_of text ≡ file_name_of path
+file_name-joined cs text path joined found =
+    let (n, named) = IsSome-value (file_name_of path) found in
+    ap last_name joined ∙ last_name-append cs (components path) n named ∙ sym named
+
+pub kept-joined : (cs : List Step) (text path : List ℕ) → components text ≡ cs ++ components path
+    → IsSome (file_name_of path) → kept (components text) ≡ cs ++ kept (components path)
+kept-joined cs text path joined found =
+    let (n, named) = IsSome-value (file_name_of path) found in
+    ap kept joined ∙ kept-append cs (components path) n named
 
 -- another name where the file name was is beside it
 IsBeside-name : (cs ds : List Step) (n m : List ℕ) → last_name cs ≡ Some n → ds ≡ kept cs ++ name m ∷ [] → IsBeside cs ds

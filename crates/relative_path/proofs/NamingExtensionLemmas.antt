@@ -13,6 +13,7 @@ use Rattle.relative_path.specs.Steps.{slash, dot, is_slash, is_not_empty, Step, 
 use Rattle.relative_path.specs.Editing.{is_cur, kept_len, kept}
 use Rattle.relative_path.specs.Naming.{name_of, last_name, file_name_of, is_dot, has_stem, stem_of, extension_of, is_plain_byte, is_plain_extension, is_extension, dotted, IsExtended}
 use Rattle.relative_path.proofs.StepsLemmas.{HasNoSlash, HasNoSlash-append, IsProper, AreProper, components-nil, components-append, components-trailing_slash, components_whole, step_text-classed, AreProper-components, HasNoSlash-proper, nonempty_proper}
+use Rattle.relative_path.proofs.WalkLemmas.{IsSome-value}
 use Rattle.relative_path.proofs.EditingLemmas.{kept_len-curs, kept_len-push}
 use Rattle.relative_path.proofs.NamingLemmas.{no_dot, IsExtendedAt, IsSplit, IsSplit-dot, last_slash, last_same, slice_get-at, without_curs-curs, last_other-at}
 
@@ -46,11 +47,6 @@ pub named_step : (c : Step) (n : List ℕ) → name_of c ≡ Some n → c ≡ na
 named_step cur n is = absurd (cc)
 named_step up n is = absurd (cc)
 named_step (name m) n is = cc
-
--- what is there has a value
-pub IsSome-value : {A : Type 0} (o : Option A) → IsSome o → (x : A) × (o ≡ Some x)
-IsSome-value None some = absurd (true≢false (sym some))
-IsSome-value (Some x) some = (x, refl)
 
 -- the file name is the component after those that a parent keeps
 pub slice_get-last_name : (cs : List Step) (n : List ℕ) → last_name cs ≡ Some n

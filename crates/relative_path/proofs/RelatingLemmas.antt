@@ -6,11 +6,11 @@ use Rattle.std.proofs.lemmas.Bool.{cond-true, cond-false, cases_Bool, cases_lt}
 use Rattle.std.proofs.lemmas.List.{length_push, length-replicate, replicate-append-replicate, take-replicate}
 use Rattle.std.proofs.lemmas.Slice.Eq.{bytes_eq-Decides}
 use Rattle.relative_path.specs.Steps.{Step, cur, up, name, components, spell}
-use Rattle.relative_path.specs.Walk.{walk, IsSame}
+use Rattle.relative_path.specs.Walk.{walk, IsSame, StaysBelow}
 use Rattle.relative_path.specs.Normalizing.{IsNormalForm, climb}
 use Rattle.relative_path.specs.NormalForm.{climbed}
 use Rattle.relative_path.specs.Relating.{Leads, IsReachable, IsShortest, IsShortestText, LeadsApart}
-use Rattle.relative_path.proofs.WalkLemmas.{walk-append, IsSame-refl, IsSame-sym, IsSame-trans, IsSame-append_left, IsSame-append_right, IsSame-name_up}
+use Rattle.relative_path.proofs.WalkLemmas.{walk-append, IsSame-below, IsSame-refl, IsSame-sym, IsSame-trans, IsSame-append_left, IsSame-append_right, IsSame-name_up}
 use Rattle.relative_path.proofs.NormalStepsLemmas.{names_of, IsNormal-parts, walk-normal, walk-normal_none}
 use Rattle.relative_path.proofs.NormalFormLemmas.{IsNormal-climbed}
 
@@ -377,6 +377,23 @@ IsShortestText-same f g t u text from to h = record {
   shortest = IsShortest-same f g (components text) t u (IsSame-sym g f from) (IsSame-sym u t to) h.shortest;
 }
 
+-- from what stays below a list, some list leads to all that comes after that list
+pub IsReachable-from_below : (bs f t : List Step) → StaysBelow bs f → IsReachable f (bs ++ t)
+IsReachable-from_below bs f t (place, below) =
+    let back = replicate (length place) up ++ t in
+    let same = IsSame-append_right f (bs ++ map name place) back (IsSame-below bs f place below) in
+    let there = subst (λ cs. IsSame cs (bs ++ t)) (sym (append_assoc bs (map name place) back))
+    (IsSame-append_left bs (map name place ++ back) t (IsSame-names_ups place t)) in
+    (back, IsSame-trans (f ++ back) ((bs ++ map name place) ++ back) (bs ++ t) same there)
+
+-- so it does between two lists that stay below the same one
+pub IsReachable-below : (bs f t : List Step) → StaysBelow bs f → StaysBelow bs t → IsReachable f t
+IsReachable-below bs f t inside (place, below) =
+    let (r, leads) = IsReachable-from_below bs f (map name place) inside in
+    let back = IsSame-sym t (bs ++ map name place) (IsSame-below bs t place below) in
+    (r, IsSame-trans (f ++ r) (bs ++ map name place) t leads back)
+
+-- and one leads from f to t exactly where f climbs no higher than t
 pub IsReachable-climb : (f t fs ts : List Step) → IsNormalForm f fs → IsNormalForm t ts
     → IsReachable f t ↔ (climb fs ≤ climb ts)
 IsReachable-climb f t fs ts from to =

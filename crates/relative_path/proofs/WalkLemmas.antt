@@ -1,10 +1,10 @@
 -- Where joined lists of steps lead, and which lists lead to the same places.
-use Rattle.std.proofs.Common.{◌≡◌, ℕ, List, [], ◌∷◌, ◌++◌, length, take, Option, Some, None, option_and_then, option_map, IsSome, ◌↔◌, refl, sym, ap, ◌∙◌, arith, ◌+◌}
+use Rattle.std.proofs.Common.{◌≡◌, ℕ, List, [], ◌∷◌, ◌++◌, length, map, take, Option, Some, None, option_and_then, option_map, IsSome, ◌↔◌, refl, sym, ap, ◌∙◌, arith, ◌+◌}
 use Rattle.std.proofs.lemmas.List.{append_assoc, append-nil, length-append, length_push, take_at}
 use Rattle.std.proofs.lemmas.Option.{none-some}
 use Rattle.std.proofs.Math.Seq.{take-append-add}
 use Rattle.relative_path.specs.Steps.{Step, cur, up, name}
-use Rattle.relative_path.specs.Walk.{above, walk, IsSame, LeadsBelow, LeadsInTurn}
+use Rattle.relative_path.specs.Walk.{above, walk, IsSame, LeadsBelow, LeadsInTurn, StaysBelow}
 
 -- the place where steps lead from a place that may be none
 abbrev walk_from : List Step → Option (List (List ℕ)) → Option (List (List ℕ))
@@ -35,6 +35,16 @@ IsSome-walk_name base cs n =
     onward : (found : Option (List (List ℕ))) → IsSome found → IsSome (walk_from (name n ∷ []) found)
     onward None some = some
     onward (Some place) some = refl
+
+-- names lead from a base down to them
+pub walk-names : (base ns : List (List ℕ)) → walk base (map name ns) ≡ Some (base ++ ns)
+walk-names base [] = ap Some (sym (append-nil base))
+walk-names base (n ∷ ns) = walk-names (base ++ n ∷ []) ns ∙ ap Some (append_assoc base (n ∷ []) ns)
+
+-- what is there has a value
+pub IsSome-value : {A : Type 0} (o : Option A) → IsSome o → (x : A) × (o ≡ Some x)
+IsSome-value None some = absurd (cc)
+IsSome-value (Some x) some = (x, refl)
 
 -- above a name just entered is the place where it was entered
 pub above-push : (base : List (List ℕ)) (n : List ℕ) → above (base ++ n ∷ []) ≡ Some base
@@ -104,3 +114,18 @@ LeadsBelow-in_turn cs ds es place turn is = record {
   onward : (found : Option (List (List ℕ))) → walk_from ds found ≡ option_map (λ top. top ++ place) found
   onward None = refl
   onward (Some top) = ap (λ base. walk base ds) (sym (append-nil top)) ∙ walk-below top [] ds place is
+
+-- a list with a place from the top stays below each list that it comes after
+pub StaysBelow-in_turn : (cs ds es : List Step) → LeadsInTurn cs ds es → IsSome (walk [] ds) → StaysBelow cs es
+StaysBelow-in_turn cs ds es turn some =
+    let (place, is) = IsSome-value (walk [] ds) some in
+    (place, LeadsBelow-in_turn cs ds es place turn is)
+
+-- what leads to a place below another list leads where that list and then the place's names lead
+pub IsSame-below : (cs ds : List Step) (place : List (List ℕ)) → LeadsBelow cs place ds → IsSame ds (cs ++ map name place)
+IsSame-below cs ds place below = record {
+  everywhere = λ base. below.everywhere base ∙ onward (walk base cs) ∙ sym (walk-append base cs (map name place));
+} where
+  onward : (found : Option (List (List ℕ))) → option_map (λ top. top ++ place) found ≡ walk_from (map name place) found
+  onward None = refl
+  onward (Some top) = sym (walk-names top place)

@@ -26,3 +26,7 @@ pub record LeadsInTurn (cs ds es : List Step) : Type 0 where
 -- from every base, ds leads to this place below where cs leads, and to no place where cs leads to none
 pub record LeadsBelow (cs : List Step) (place : List (List ℕ)) (ds : List Step) : Type 0 where
   pub everywhere : (base : List (List ℕ)) → walk base ds ≡ option_map (λ top. top ++ place) (walk base cs)
+
+-- from every base, ds leads to one and the same place below where cs leads
+abbrev pub StaysBelow : List Step → List Step → Type 0
+StaysBelow cs ds = (place : List (List ℕ)) × LeadsBelow cs place ds

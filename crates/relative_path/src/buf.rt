@@ -4,7 +4,7 @@ ghost use Rattle.relative_path.specs.Error.{from_path_kind};
 ghost use Rattle.relative_path.specs.Steps.{Step, dot, name, slash, classed, step_text, components, spell};
 ghost use Rattle.relative_path.specs.Components.{step_of};
 ghost use Rattle.relative_path.specs.Normalizing.{IsNormalText};
-ghost use Rattle.relative_path.specs.Walk.{walk, IsSame};
+ghost use Rattle.relative_path.specs.Walk.{walk, IsSame, StaysBelow};
 ghost use Rattle.relative_path.specs.Unix.{has_root, unix_components};
 ghost use Rattle.relative_path.specs.declared.error.FromPathErrorKind.TheVariants.{NonRelative, OutOfMemory};
 ghost use Rattle.std.specs.Path.{path_bytes};
@@ -213,6 +213,13 @@ impl RelativePathBuf {
         ensures ok { OnOk result (self.new.text ≡ pushed self.old.text (path_text path.entry)) }
         ensures components { OnOk result
             (components self.new.text ≡ components self.old.text ++ path_components path.entry) }
+        ensures stays_below { OnOk result (IsSome (walk [] (path_components path.entry))
+            → StaysBelow (components self.old.text) (components self.new.text)) }
+        ensures file_name { OnOk result (IsSome (file_name_of (path_text path.entry))
+            → file_name_of self.new.text ≡ file_name_of (path_text path.entry)) }
+        ensures directory { OnOk result (IsSome (file_name_of (path_text path.entry))
+            → kept (components self.new.text)
+            ≡ components self.old.text ++ kept (path_components path.entry)) }
         ensures err { OnErr result (self.new.text ≡ self.old.text) }
         ensures full { OnErr result
             (self.old.room < length (pushed self.old.text (path_text path.entry))) }

@@ -12,7 +12,7 @@ ghost use Rattle.std.specs.Ordering.{on, as_partial_cmp};
 ghost use Rattle.std.proofs.Common.{refl};
 ghost use Rattle.relative_path.specs.Normalizing.{IsNormal, IsNormalTextOf, IsNormalForm, climb};
 ghost use Rattle.relative_path.specs.Relating.{Leads, IsReachable, IsShortestText, IsWayText, LeadsApart};
-ghost use Rattle.relative_path.specs.Walk.{walk, IsSame, LeadsBelow, LeadsInTurn};
+ghost use Rattle.relative_path.specs.Walk.{walk, IsSame, LeadsBelow, LeadsInTurn, StaysBelow};
 ghost use Rattle.relative_path.specs.Prefixing.{StartsWith, EndsWith, IsDropped};
 ghost use Rattle.relative_path.specs.RelativePath.{path_text, path_components, display_text};
 ghost use Rattle.relative_path.specs.Error.{from_path_kind};
@@ -131,6 +131,13 @@ impl<'a> RelativePath<'a> {
             (λ joined. components joined.text ≡ path_components self.entry ++ path_components path.entry) }
         ensures in_turn { IfOk result (λ joined. LeadsInTurn (path_components self.entry)
             (path_components path.entry) (components joined.text)) }
+        ensures stays_below { IfOk result (λ joined. IsSome (walk [] (path_components path.entry))
+            → StaysBelow (path_components self.entry) (components joined.text)) }
+        ensures file_name { IfOk result (λ joined. IsSome (file_name_of (path_text path.entry))
+            → file_name_of joined.text ≡ file_name_of (path_text path.entry)) }
+        ensures directory { IfOk result (λ joined. IsSome (file_name_of (path_text path.entry))
+            → kept (components joined.text)
+            ≡ path_components self.entry ++ kept (path_components path.entry)) }
     {
         let len = pushed_len(self.text, path.text);
         let mut joined = RelativePathBuf::from(with_room(alloc, self.text, len)?);
@@ -256,6 +263,8 @@ impl<'a> RelativePath<'a> {
         ensures text { option_copied result ≡ file_name_of (path_text self.entry) }
         ensures placed { IfSome result (λ file_name. slice_get (path_components self.entry)
             (kept_len (path_components self.entry)) ≡ Some (name file_name.now)) }
+        ensures alone { IfSome result
+            (λ file_name. components file_name.now ≡ name file_name.now ∷ []) }
     {
         last_component(self.text).name
     }
@@ -507,6 +516,8 @@ impl<'a> RelativePath<'a> {
         ensures below { IfOk result (λ normal. (place : List (List ℕ))
             → walk [] (path_components path.entry) ≡ Some place
             → LeadsBelow (path_components self.entry) place (components normal.text)) }
+        ensures stays_below { IfOk result (λ normal. IsSome (walk [] (path_components path.entry))
+            → StaysBelow (path_components self.entry) (components normal.text)) }
         ensures succeeds { path_components self.entry ++ path_components path.entry ≡ []
             → IsOk result }
     {
@@ -632,6 +643,9 @@ impl<'a> RelativePath<'a> {
         ensures shortest_to { IfOk result (λ found. IfSome found (λ way. (target : List Step)
             → IsNormalTextOf target (path_text to.entry)
             → IsShortestText (path_components self.entry) target way.text)) }
+        ensures below { IfOk result (λ found. (top : List Step)
+            → StaysBelow top (path_components self.entry)
+            → StaysBelow top (path_components to.entry) → IsSome found) }
     {
         let from = NormalForm::of(alloc, self.text)?;
         let to = NormalForm::of(alloc, to.text)?;

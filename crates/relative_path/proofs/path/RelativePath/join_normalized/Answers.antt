@@ -1,6 +1,6 @@
 use Rattle.std.proofs.Common.{rules, ◌∙◌}
 use Rattle.relative_path.proofs.NormalFormLemmas.{IsNormalFormOf-nil, IsNormalTextOf-spell}
-use Rattle.relative_path.proofs.WalkLemmas.{LeadsBelow-in_turn, LeadsInTurn-same}
+use Rattle.relative_path.proofs.WalkLemmas.{LeadsBelow-in_turn, LeadsInTurn-same, StaysBelow-in_turn}
 use Rattle.relative_path.proofs.path.RelativePath.join_normalized.Goals as goal
 
 pub returns-clause-normal_form : goal.returns-clause-normal_form
@@ -12,6 +12,9 @@ returns-clause-in_turn c = LeadsInTurn-same _ _ _ (returns-clause-normal_form c)
 
 pub returns-clause-below : goal.returns-clause-below
 returns-clause-below c = λ place is. LeadsBelow-in_turn _ _ _ place (returns-clause-in_turn c) is
+
+pub returns-clause-stays_below : goal.returns-clause-stays_below
+returns-clause-stays_below c = StaysBelow-in_turn _ _ _ (returns-clause-in_turn c)
 
 pub returns-in_err-into_text-clause-succeeds : goal.returns-in_err-into_text-clause-succeeds
 returns-in_err-into_text-clause-succeeds c = λ none.

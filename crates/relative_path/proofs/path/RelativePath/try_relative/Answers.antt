@@ -2,7 +2,7 @@ use Rattle.std.proofs.Common.{ap, ◌∙◌, refl, true≢false}
 use Rattle.relative_path.specs.RelativePath.{path_components}
 use Rattle.relative_path.specs.Steps.{components}
 use Rattle.relative_path.proofs.WalkLemmas.{IsSame-refl, IsSame-sym}
-use Rattle.relative_path.proofs.RelatingLemmas.{IsReachable-same, IsShortest-same, IsShortestText-same, IsShortestText-spelled}
+use Rattle.relative_path.proofs.RelatingLemmas.{IsReachable-below, IsReachable-same, IsShortest-same, IsShortestText-same, IsShortestText-spelled}
 use Rattle.relative_path.proofs.path.RelativePath.try_relative.Goals as goal
 
 pub returns-in_default-clause-none : goal.returns-in_default-clause-none
@@ -12,6 +12,10 @@ returns-in_default-clause-none c =
       λ _ reachable. c.in_default.ensures.none refl (IsReachable-same _ _ _ _ from to reachable),
       λ _. refl,
     )
+
+pub returns-in_default-clause-below : goal.returns-in_default-clause-below
+returns-in_default-clause-below c = λ top from to.
+    absurd ((returns-in_default-clause-none c).0 refl (IsReachable-below top _ _ from to))
 
 pub returns-clause-none : goal.returns-clause-none
 returns-clause-none c =
