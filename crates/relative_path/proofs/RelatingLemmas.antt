@@ -379,19 +379,21 @@ IsShortestText-same f g t u text from to h = record {
 
 -- from what stays below a list, some list leads to all that comes after that list
 pub IsReachable-from_below : (bs f t : List Step) → StaysBelow bs f → IsReachable f (bs ++ t)
-IsReachable-from_below bs f t (place, below) =
+IsReachable-from_below bs f t inside =
+    let place = inside.place in
     let back = replicate (length place) up ++ t in
-    let same = IsSame-append_right f (bs ++ map name place) back (IsSame-below bs f place below) in
+    let same = IsSame-append_right f (bs ++ map name place) back (IsSame-below bs f place inside.below) in
     let there = subst (λ cs. IsSame cs (bs ++ t)) (sym (append_assoc bs (map name place) back))
     (IsSame-append_left bs (map name place ++ back) t (IsSame-names_ups place t)) in
     (back, IsSame-trans (f ++ back) ((bs ++ map name place) ++ back) (bs ++ t) same there)
 
 -- so it does between two lists that stay below the same one
 pub IsReachable-below : (bs f t : List Step) → StaysBelow bs f → StaysBelow bs t → IsReachable f t
-IsReachable-below bs f t inside (place, below) =
-    let (r, leads) = IsReachable-from_below bs f (map name place) inside in
-    let back = IsSame-sym t (bs ++ map name place) (IsSame-below bs t place below) in
-    (r, IsSame-trans (f ++ r) (bs ++ map name place) t leads back)
+IsReachable-below bs f t from to =
+    let names = map name to.place in
+    let (r, leads) = IsReachable-from_below bs f names from in
+    let back = IsSame-sym t (bs ++ names) (IsSame-below bs t to.place to.below) in
+    (r, IsSame-trans (f ++ r) (bs ++ names) t leads back)
 
 -- and one leads from f to t exactly where f climbs no higher than t
 pub IsReachable-climb : (f t fs ts : List Step) → IsNormalForm f fs → IsNormalForm t ts

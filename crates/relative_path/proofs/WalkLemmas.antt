@@ -119,7 +119,7 @@ LeadsBelow-in_turn cs ds es place turn is = record {
 pub StaysBelow-in_turn : (cs ds es : List Step) → LeadsInTurn cs ds es → IsSome (walk [] ds) → StaysBelow cs es
 StaysBelow-in_turn cs ds es turn some =
     let (place, is) = IsSome-value (walk [] ds) some in
-    (place, LeadsBelow-in_turn cs ds es place turn is)
+    record { place = place; below = LeadsBelow-in_turn cs ds es place turn is }
 
 -- what leads to a place below another list leads where that list and then the place's names lead
 pub IsSame-below : (cs ds : List Step) (place : List (List ℕ)) → LeadsBelow cs place ds → IsSame ds (cs ++ map name place)

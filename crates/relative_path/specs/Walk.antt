@@ -28,5 +28,6 @@ pub record LeadsBelow (cs : List Step) (place : List (List ℕ)) (ds : List Step
   pub everywhere : (base : List (List ℕ)) → walk base ds ≡ option_map (λ top. top ++ place) (walk base cs)
 
 -- from every base, ds leads to one and the same place below where cs leads
-abbrev pub StaysBelow : List Step → List Step → Type 0
-StaysBelow cs ds = (place : List (List ℕ)) × LeadsBelow cs place ds
+pub record StaysBelow (cs ds : List Step) : Type 0 where
+  pub place : List (List ℕ)
+  pub below : LeadsBelow cs place ds
