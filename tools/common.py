@@ -70,7 +70,8 @@ def source_folder(crate):
 
 
 def is_library(crate):
-    return (source_folder(crate) / "lib.rt").is_file()
+    """Whether other crates can call a crate: it is no program, and has more than tests."""
+    return (source_folder(crate) / "lib.rt").is_file() and not crate.endswith("_tests")
 
 
 def sources_of(crate):
