@@ -7,6 +7,15 @@ use relative_path_moves::{PlaceIndex, has_place};
 use std::alloc::Global;
 use std::test::Fail;
 
+// Requests: = 0
+#[test]
+fn an_empty_index(rt: HostRuntime) -> Result<(), Fail> {
+    begin(rt.alloc());
+    let index = PlaceIndex::new(rt.alloc());
+    end(rt.alloc(), false)?;
+    finds(rt.alloc(), &index, "", None)
+}
+
 fn insert_of(alloc: Global, text: &str) -> Result<(), Fail> {
     let mut index = PlaceIndex::new(alloc);
     index.insert(alloc, RelativePath::new("b"), 0)?;
