@@ -2,14 +2,22 @@
 
 import pathlib
 import re
+import shutil
 import signal
 import subprocess
 import sys
 
 ROOT = pathlib.Path(__file__).resolve().parent.parent
 CRATES = ROOT / "crates"
+COUNTS = ROOT / "tools/counts.txt"
+
+# The pages of the top and of docs/, and those of the crates.
+PAGES = ["README.md", *(str(it.relative_to(ROOT)) for part in ("docs", "crates/*") for it in sorted(ROOT.glob(f"{part}/*.md")))]
 
 COMMENT_OR_STRING = re.compile(r"//[^\n]*|\"(?:\\.|[^\"\\])*\"")
+# A fenced block, and a line of docs.
+BLOCK = re.compile(r"^ {0,3}(`{3,}|~{3,})(.*)\n((?:.*\n)*?) {0,3}\1 *$", re.M)
+DOC = re.compile(r"\s*//[/!] ?(.*)$")
 QUOTED = re.compile(r"\"(?:\\.|[^\"\\])*\"|'(?:\\.|[^'\\])'")
 
 
@@ -35,6 +43,15 @@ class Tally:
         self.failed += bool(faults)
         for fault in faults:
             print(f"{self.script}: {what}: {fault}")
+
+    def compare(self, counted):
+        """Compares counts, by kind and crate, with those of tools/counts.txt."""
+        stored = stored_counts()
+        for kind, crates in counted.items():
+            wanted = {row: kinds[kind] for row, kinds in stored.items() if kinds.get(kind)}
+            for row in sorted(wanted.keys() | {it for it in crates if crates[it]}):
+                found, want = crates.get(row, 0), wanted.get(row, 0)
+                self.add(f"{row}: {kind}", [] if found == want else [f"{found}, and tools/counts.txt says {want}"])
 
     def end(self):
         """Prints the count as the last line, and gives the script's status: to pass nothing is to fail."""
@@ -65,18 +82,78 @@ def crates():
     return listed
 
 
+def stored_counts():
+    """The numbers of tools/counts.txt, by row and kind."""
+    rows = [line.split() for line in COUNTS.read_text().split("\n") if re.match(r"\w[\w ]*$", line)]
+    head, *rows = rows
+    return {row[0]: dict(zip(head[1:], map(int, row[1:]))) for row in rows}
+
+
+def write_counts(counted):
+    """Writes counts, by kind and crate, into tools/counts.txt."""
+    lines = COUNTS.read_text().split("\n")
+    head = next(it for it in lines if re.match(r"\w[\w ]*$", it))
+    kinds, stored = head.split()[1:], stored_counts()
+    rows = [it for it in [*crates(), "pages"] if any(counted[kind].get(it) for kind in counted) or it in stored]
+    table = [head]
+    for row in rows:
+        numbers = {**stored.get(row, {}), **{kind: counted[kind].get(row, 0) for kind in counted}}
+        table.append(row.ljust(26) + "".join(f"{numbers.get(kind, 0)}".rjust(10) for kind in kinds))
+    at = lines.index(head)
+    after = next(i for i, it in enumerate(lines) if i > at and not re.match(r"\w[\w ]*$", it))
+    COUNTS.write_text("\n".join([*lines[:at], *table, *lines[after:]]))
+
+
+def exceptions(kind):
+    """What tools/counts.txt leaves out, each with why: its lines `no KIND: WHAT: WHY`."""
+    return dict(re.findall(rf"^no {kind}: (\S+): (.+)$", COUNTS.read_text(), re.M))
+
+
+def blocks_of(text):
+    """The fenced blocks of code in a text: where each begins, what its fence says, and the code."""
+    return [(it.start(), it[2].strip(), it[3]) for it in BLOCK.finditer(text)]
+
+
+def docs_of(path):
+    """The docs of a source file: each with the number of its first line."""
+    docs, last = [], None
+    for number, line in enumerate(path.read_text().split("\n"), 1):
+        if doc := DOC.match(line):
+            if last != number - 1:
+                docs.append((number, []))
+            docs[-1][1].append(f"{doc[1]}\n")
+            last = number
+    return [(first, "".join(lines)) for first, lines in docs]
+
+
 def source_folder(crate):
     return CRATES / crate / "src"
 
 
 def is_library(crate):
-    return (source_folder(crate) / "lib.rt").is_file()
+    """Whether other crates can call a crate: it is no program, and has more than tests."""
+    return (source_folder(crate) / "lib.rt").is_file() and not crate.endswith("_tests")
+
+
+def is_program(crate):
+    return (source_folder(crate) / "main.rt").is_file()
+
+
+def has_tests(crate):
+    return (source_folder(crate) / "tests.rt").is_file()
 
 
 def sources_of(crate):
     """The source files of a crate without its tests."""
     src = source_folder(crate)
     return [it for it in sorted(src.rglob("*.rt")) if "tests" not in it.with_suffix("").relative_to(src).parts]
+
+
+def copy_crates(folder, names, *left_out):
+    """Copies crates into a folder, without what has these names."""
+    for name in names:
+        shutil.copytree(CRATES / name, folder / "crates" / name, ignore=shutil.ignore_patterns(*left_out))
+    shutil.copy(ROOT / "HANDLES", folder)
 
 
 def program_of(crate, suffix=""):

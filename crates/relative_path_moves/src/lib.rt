@@ -22,5 +22,3 @@ mod move_table;
 mod place_index;
 mod places;
 mod reference;
-#[cfg(test)]
-mod tests;

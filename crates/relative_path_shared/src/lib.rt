@@ -6,5 +6,3 @@ pub use self::shared::{BoxedRelativePath, BufExt, CowRelativePath, RcRelativePat
 
 pub mod json;
 pub mod shared;
-#[cfg(test)]
-mod tests;

@@ -5,37 +5,17 @@
 //! = b
 //! ```
 //!
-//! Each module uses those below it, and of its own layer those that stand before it.
-//!
-//! ```text
-//! the whole run       run  report
-//! bytes in and out    input  output
-//! a line's answer     command
-//! what that needs     bytes  lines  mover
-//! what all share      fault  meter
-//! ```
+//! `relpath_lib` does all of it but to take the process's own input and output.
 #![tactic(auto)]
 
-use crate::meter::Meter;
-use crate::report::report;
+use relpath_lib::Meter;
+use relpath_lib::report::report;
+use relpath_lib::run::run;
 use std::process::ExitCode;
-
-mod bytes;
-mod command;
-mod fault;
-mod input;
-mod lines;
-mod meter;
-mod mover;
-mod output;
-mod report;
-mod run;
-#[cfg(test)]
-mod tests;
 
 fn main(rt: HostRuntime) -> ExitCode {
     let mut reader = Meter::new(rt.stdin());
     let mut writer = Meter::new(rt.stdout());
-    let ended = run::run(rt.alloc(), &mut reader, &mut writer);
+    let ended = run(rt.alloc(), &mut reader, &mut writer);
     report(ended, &mut Meter::new(rt.stderr()))
 }

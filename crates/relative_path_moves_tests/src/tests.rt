@@ -1,0 +1,108 @@
+//! Tests of what no contract says.
+mod many_moves;
+mod one_move;
+mod places;
+mod refusals;
+
+use relative_path::{RelativePath, RelativePathBuf};
+use relative_path_moves::{MoveTable, PlaceIndex, moved};
+use std::alloc::{AllocError, Global};
+use std::fmt::Debug;
+use std::test::Fail;
+
+fn as_paths<'a>((old, new): (&'a str, &'a str)) -> (RelativePath<'a>, RelativePath<'a>) {
+    (RelativePath::new(old), RelativePath::new(new))
+}
+
+fn text_of(buf: &RelativePathBuf) -> &str {
+    buf.as_relative_path().as_str()
+}
+
+// Fails in the words of this case where another value was found than is expected. A call of it costs
+// a proof a fourth of what `assert_eq!` with a message does.
+fn same<T: PartialEq + Debug>(case: &str, found: &T, expected: &T) -> Result<(), Fail> {
+    if found == expected {
+        Ok(())
+    } else {
+        Err(Fail::new(format_args!("{case:?}: {found:?}, not {expected:?}")))
+    }
+}
+
+// Words for a case, moves, a reference of the first file that moves, and what it becomes, or a
+// refusal's words after a mark. Moves are one text, which costs a proof less than a table in a table.
+type Case = (&'static str, &'static str, &'static str, &'static str);
+
+// Fails where a reference becomes another text than is expected in one of these cases.
+fn all_become(alloc: Global, cases: &[Case]) -> Result<(), Fail> {
+    for (case, moves, reference, expected) in cases {
+        let moves = read_moves(alloc, moves)?;
+        becomes(alloc, case, &moves, 0, reference, expected)?;
+    }
+    Ok(())
+}
+
+// Moves from a text such as `a > b, c > d`.
+fn read_moves<'a>(
+    alloc: Global,
+    text: &'a str,
+) -> Result<Vec<(RelativePath<'a>, RelativePath<'a>)>, Fail> {
+    let mut moves = Vec::new(alloc);
+    for pair in text.split(", ") {
+        moves.push(as_paths(pair.split_once(" > ").ok_or("a move")?))?;
+    }
+    Ok(moves)
+}
+
+// Fails where a reference of file number `i` becomes another text than is expected.
+fn becomes(
+    alloc: Global,
+    case: &str,
+    moves: &[(RelativePath<'_>, RelativePath<'_>)],
+    i: usize,
+    reference: &str,
+    expected: &str,
+) -> Result<(), Fail> {
+    let answer = told(alloc, moves, i, reference)?;
+    same(case, &(reference, answer.as_str()), &(reference, expected))
+}
+
+// What a reference of file number `i` becomes, or a refusal's words after a mark.
+fn told(
+    alloc: Global,
+    moves: &[(RelativePath<'_>, RelativePath<'_>)],
+    i: usize,
+    reference: &str,
+) -> Result<String, AllocError> {
+    if i >= moves.len() {
+        return String::from_str(alloc, "no such file");
+    }
+    match moved(alloc, moves, i, RelativePath::new(reference)) {
+        Ok(way) => Ok(way.into_string()),
+        Err(refusal) => format!(in alloc; "! {refusal}"),
+    }
+}
+
+// What a reference of a page becomes, if it doesn't stay as it is, or a refusal's words after a mark.
+fn told_in(
+    alloc: Global,
+    moves: &[(RelativePath<'_>, RelativePath<'_>)],
+    (page, reference): (RelativePath<'_>, RelativePath<'_>),
+) -> Result<String, Fail> {
+    let table = MoveTable::new(alloc, moves)?;
+    match table.moved_in(alloc, page, reference) {
+        Ok(Some(way)) => Ok(way.into_string()),
+        Ok(None) => Ok(String::from_str(alloc, "as it is")?),
+        Err(refusal) => Ok(format!(in alloc; "! {refusal}")?),
+    }
+}
+
+// Fails where an index finds another number by this path than is expected.
+fn finds(
+    alloc: Global,
+    index: &PlaceIndex,
+    path: &str,
+    expected: Option<usize>,
+) -> Result<(), Fail> {
+    let found = index.get(alloc, RelativePath::new(path))?;
+    same(path, &found, &expected)
+}

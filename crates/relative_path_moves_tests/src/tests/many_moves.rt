@@ -1,0 +1,239 @@
+use super::{Case, all_become, as_paths, becomes, read_moves, same, text_of, told_in};
+use relative_path::RelativePath;
+use relative_path_moves::{MoveError, MoveTable};
+use std::alloc::{AllocError, Global};
+use std::test::Fail;
+
+const MOVED: [Case; 5] = [
+    (
+        "a file that moves too",
+        "a.md > x/a.md, b.md > y/b.md",
+        "b.md",
+        "../y/b.md",
+    ),
+    (
+        "the other of two that change places",
+        "a > b, b > a",
+        "b",
+        "a",
+    ),
+    ("itself, which changes places", "a > b, b > a", "a", "b"),
+    (
+        "a file that moves, by its place",
+        "./d//../p/./a.md > q/a.md, x/../img/i.png > j.png",
+        "../img/./i.png",
+        "../j.png",
+    ),
+    (
+        "a file that stays, by its place",
+        "./d//../p/./a.md > q/a.md, x/../img/i.png > j.png",
+        "../img/k.png",
+        "../img/k.png",
+    ),
+];
+
+#[test]
+fn answers_where_the_target_is_now(rt: HostRuntime) -> Result<(), Fail> {
+    all_become(rt.alloc(), &MOVED)
+}
+
+const REFUSED: [Case; 3] = [
+    (
+        "the first without a file name",
+        "a > b, .. > c, ./a > d",
+        "x",
+        "! move 1 lacks a file name",
+    ),
+    (
+        "two with one old path",
+        "a > b, ./a > c",
+        "../..",
+        "! moves 0 and 1 have the same old path",
+    ),
+    (
+        "the first two with one old path",
+        "a > n, b > n, ./b > n, x/../a > n",
+        "y",
+        "! moves 0 and 3 have the same old path",
+    ),
+];
+
+#[test]
+fn refuses_moves(rt: HostRuntime) -> Result<(), Fail> {
+    all_become(rt.alloc(), &REFUSED)
+}
+
+// Words for a case, moves, a page and its reference, and what that becomes.
+const IN_A_PAGE: [Case; 7] = [
+    (
+        "a page that stays, and a file that moves",
+        "img/x.png > art/y.png",
+        "docs/a.md > ../img/x.png",
+        "../art/y.png",
+    ),
+    (
+        "a page and a file that stay",
+        "img/x.png > art/y.png",
+        "docs/a.md > .././docs//b.md",
+        "as it is",
+    ),
+    (
+        "a page with a new name, and a file that stays",
+        "docs/a.md > docs/c.md",
+        "docs/a.md > ./b.md",
+        "as it is",
+    ),
+    (
+        "a page and a file that move together",
+        "docs/a.md > guide/a.md, docs/b.md > guide/b.md",
+        "./docs/a.md > ./b.md",
+        "as it is",
+    ),
+    (
+        "a page that moves, and a file that stays",
+        "docs/a.md > guide/a.md, docs/b.md > guide/b.md",
+        "docs/a.md > c.md",
+        "../docs/c.md",
+    ),
+    (
+        "a page that stays, and what climbs",
+        "docs/a.md > guide/a.md",
+        "docs/b.md > ../../c.md",
+        "! reference climbs above the root",
+    ),
+    (
+        "a page that moves above the root",
+        "docs/a.md > ../a.md",
+        "docs/a.md > b.md",
+        "! no path",
+    ),
+];
+
+#[test]
+fn answers_in_pages(rt: HostRuntime) -> Result<(), Fail> {
+    for (case, moves, link, expected) in &IN_A_PAGE {
+        let moves = read_moves(rt.alloc(), moves)?;
+        let link = as_paths(link.split_once(" > ").ok_or("a link")?);
+        let found = told_in(rt.alloc(), &moves, link)?;
+        same(case, &found.as_str(), expected)?;
+    }
+    Ok(())
+}
+
+// So many paths, each its number between these two texts.
+fn numbered(
+    alloc: Global,
+    count: usize,
+    before: &str,
+    after: &str,
+) -> Result<Vec<String>, AllocError> {
+    let mut paths = Vec::new(alloc);
+    for k in 0..count {
+        paths.push(format!(in alloc; "{before}{k}{after}")?)?;
+    }
+    Ok(paths)
+}
+
+// The moves from each of these paths to the other in its place.
+fn paired<'a>(
+    alloc: Global,
+    olds: &'a [String],
+    news: &'a [String],
+) -> Result<Vec<(RelativePath<'a>, RelativePath<'a>)>, AllocError> {
+    let mut moves = Vec::new(alloc);
+    for (old, new) in olds.iter().zip(news) {
+        moves.push(as_paths((old.as_str(), new.as_str())))?;
+    }
+    Ok(moves)
+}
+
+// Asks a table for a reference of each of its files to file number 500, which is a page of its own
+// directory.
+fn refers_to_one(alloc: Global, table: &MoveTable<'_>) -> Result<(), Fail> {
+    for i in 0..table.len() {
+        let way = table.moved(alloc, i, RelativePath::new("../docs/500.md"))?;
+        let expected = if i == 500 {
+            "page.md"
+        } else {
+            "../500/page.md"
+        };
+        same("500.md", &(i, text_of(&way)), &(i, expected))?;
+    }
+    Ok(())
+}
+
+// Asks a table of these thousand moves for ten references of each file.
+fn refers_from_each(
+    alloc: Global,
+    moves: &[(RelativePath<'_>, RelativePath<'_>)],
+) -> Result<(), Fail> {
+    let table = MoveTable::new(alloc, moves)?;
+    same("a table", &table.len(), &1_000)?;
+    for _ in 0..10 {
+        refers_to_one(alloc, &table)?;
+    }
+    Ok(())
+}
+
+#[test]
+fn answers_among_a_thousand_moves(rt: HostRuntime) -> Result<(), Fail> {
+    let olds = numbered(rt.alloc(), 1_000, "docs/", ".md")?;
+    let news = numbered(rt.alloc(), 1_000, "", "/page.md")?;
+    let moves = paired(rt.alloc(), &olds, &news)?;
+    becomes(
+        rt.alloc(),
+        "file 7",
+        &moves,
+        7,
+        "./999.md",
+        "../999/page.md",
+    )?;
+    refers_from_each(rt.alloc(), &moves)
+}
+
+#[test]
+fn makes_a_table_of_a_hundred_thousand_moves(rt: HostRuntime) -> Result<(), Fail> {
+    let paths = numbered(rt.alloc(), 100_000, "", ".md")?;
+    let moves = paired(rt.alloc(), &paths, &paths)?;
+    becomes(rt.alloc(), "file 7", &moves, 7, "99999.md", "99999.md")
+}
+
+#[test]
+fn tells_refusals_apart() -> Result<(), Fail> {
+    for (what, refusal, other) in &[
+        (
+            "other order",
+            MoveError::SameOld(0, 1),
+            MoveError::SameOld(1, 0),
+        ),
+        (
+            "other number",
+            MoveError::NoFileName(0),
+            MoveError::NoFileName(1),
+        ),
+        ("other reason", MoveError::AboveRoot, MoveError::NoPath),
+    ] {
+        same(what, &(refusal == other), &false)?;
+        same(what, refusal, refusal)?;
+    }
+    Ok(())
+}
+
+#[test]
+fn refusals_print_their_words(rt: HostRuntime) -> Result<(), Fail> {
+    for (refusal, words) in &[
+        (MoveError::AboveRoot, "reference climbs above the root"),
+        (MoveError::NoPath, "no path"),
+        (MoveError::OutOfMemory, "out of memory"),
+        (MoveError::NoFileName(1_000), "move 1000 lacks a file name"),
+        (
+            MoveError::SameOld(10, usize::MAX),
+            "moves 10 and 18446744073709551615 have the same old path",
+        ),
+    ] {
+        let printed = format!(in rt.alloc(); "{refusal}|{refusal:5.99}")?;
+        let expected = format!(in rt.alloc(); "{words}|{words}")?;
+        same(words, &printed, &expected)?;
+    }
+    Ok(())
+}

@@ -1,0 +1,181 @@
+//! Files that move.
+use super::long_text;
+use super::marks::{begin, end};
+use crate::tests::{as_paths, same, text_of};
+use relative_path::{RelativePath, RelativePathBuf};
+use relative_path_moves::{MoveError, MoveTable, MovesError, ReferenceError, moved};
+use std::alloc::Global;
+use std::test::Fail;
+
+// The mark after a call, which fails where memory was there and the answer has another text.
+fn end_with_way(
+    alloc: Global,
+    answer: Result<RelativePathBuf, MoveError>,
+    text: &str,
+) -> Result<(), Fail> {
+    end(alloc, answer.is_err())?;
+    match answer {
+        Ok(way) => same("a way", &text_of(&way), &text),
+        Err(error) => same("a refusal", &error, &MoveError::OutOfMemory),
+    }
+}
+
+// Requests: 2s 9 488 4s 9 2s 1s 2s 2s 15 = 1, 524288s 1048576 488 524288s 1048573 524287s 1s 524287s 1048573 = 1
+#[test]
+fn one_move(rt: HostRuntime) -> Result<(), Fail> {
+    let long = long_text(rt.alloc())?;
+    let above = long.strip_suffix("/aa").ok_or("a directory")?;
+    for (old, new, reference, way) in &[
+        (
+            "docs/a.md",
+            "docs/sub/b.md",
+            "../img/x.png",
+            "../../img/x.png",
+        ),
+        (long.as_str(), "b", ".", above),
+    ] {
+        let moves = [(*old, *new)].map(as_paths);
+        let reference = RelativePath::new(reference);
+        begin(rt.alloc());
+        let answer = moved(rt.alloc(), &moves, 0, reference);
+        end_with_way(rt.alloc(), answer, way)?;
+    }
+    Ok(())
+}
+
+// Requests: 1s 4 488 1s 4 1s 4 2s 1s 1s 2s 9 = 1
+#[test]
+fn two_moves(rt: HostRuntime) -> Result<(), Fail> {
+    let moves = [("a.md", "x/a.md"), ("b.md", "y/b.md")].map(as_paths);
+    let reference = RelativePath::new("b.md");
+    begin(rt.alloc());
+    let answer = moved(rt.alloc(), &moves, 0, reference);
+    end_with_way(rt.alloc(), answer, "../y/b.md")
+}
+
+// Requests: = 0
+#[test]
+fn a_move_without_a_file_name(rt: HostRuntime) -> Result<(), Fail> {
+    let moves = [("a", "b"), ("..", "c"), ("./a", "d")].map(as_paths);
+    begin(rt.alloc());
+    let answer = moved(rt.alloc(), &moves, 0, RelativePath::new("x"));
+    let error = answer.err();
+    end(rt.alloc(), error == Some(MoveError::OutOfMemory))?;
+    same("a name", &error, &Some(MoveError::NoFileName(1)))
+}
+
+fn makes(alloc: Global, moves: &[(RelativePath<'_>, RelativePath<'_>)]) -> Result<(), Fail> {
+    begin(alloc);
+    let answer = MoveTable::new(alloc, moves);
+    end(alloc, answer.is_err())?;
+    match answer {
+        Ok(table) => same("a table", &table.len(), &moves.len()),
+        Err(error) => same("a refusal", &error, &MovesError::OutOfMemory),
+    }
+}
+
+// Requests: 1s 4 488 1s 4 = 3, 524288s 1048576 488 = 2
+#[test]
+fn a_table(rt: HostRuntime) -> Result<(), Fail> {
+    makes(
+        rt.alloc(),
+        &[("a.md", "x/a.md"), ("b.md", "y/b.md")].map(as_paths),
+    )?;
+    let long = long_text(rt.alloc())?;
+    makes(rt.alloc(), &[as_paths((long.as_str(), "b"))])
+}
+
+// Requests: 1s 1 488 2s 1 = 0
+#[test]
+fn a_table_with_one_old_path_twice(rt: HostRuntime) -> Result<(), Fail> {
+    let moves = [("a", "b"), ("./a", "c")].map(as_paths);
+    begin(rt.alloc());
+    let answer = MoveTable::new(rt.alloc(), &moves);
+    let error = answer.err();
+    end(rt.alloc(), error == Some(MovesError::OutOfMemory))?;
+    let is_told = error == Some(MovesError::SameOld(0, 1))
+        || error == Some(MovesError::OutOfMemory);
+    same("one old path", &is_told, &true)
+}
+
+// References of the first file of a table of two, and one that climbs above the root.
+fn ask(alloc: Global, table: &MoveTable<'_>, long: &str) -> Result<(), Fail> {
+    if table.len() < 2 {
+        return Err(Fail::new("two moves"));
+    }
+    begin(alloc);
+    let answer = table.moved(alloc, 0, RelativePath::new("b.md"));
+    end_with_way(alloc, answer.map_err(MoveError::from), "../y/b.md")?;
+    begin(alloc);
+    let error = table.moved(alloc, 1, RelativePath::new("../a.md")).err();
+    end(alloc, error == Some(ReferenceError::OutOfMemory))?;
+    let is_told = error == Some(ReferenceError::AboveRoot)
+        || error == Some(ReferenceError::OutOfMemory);
+    same("above the root", &is_told, &true)?;
+    begin(alloc);
+    let answer = table.moved(
+        alloc,
+        0,
+        RelativePath::new(long.strip_prefix("../").unwrap_or("")),
+    );
+    end_with_way(alloc, answer.map_err(MoveError::from), long)
+}
+
+// Requests: 1s 4 2s 1s 1s 2s 9 = 1, 2s 7 2s 1s = 0, 524288s 1048576 524288s 1s 1s 524288s 1048579 = 1
+#[test]
+fn a_reference_of_a_table(rt: HostRuntime) -> Result<(), Fail> {
+    let moves = [("a.md", "x/a.md"), ("b.md", "y/b.md")].map(as_paths);
+    let table = MoveTable::new(rt.alloc(), &moves)?;
+    let mut long = "../".to_string(rt.alloc())?;
+    long.push_str(long_text(rt.alloc())?.as_str())?;
+    ask(rt.alloc(), &table, long.as_str())
+}
+
+// Where a file is after the moves.
+fn ask_of_a_file(alloc: Global, table: &MoveTable<'_>, file: &str, now: &str) -> Result<(), Fail> {
+    begin(alloc);
+    let answer = table.path_after(alloc, RelativePath::new(file));
+    end(alloc, answer.is_err())?;
+    match answer {
+        Ok(path) => same("a file", &path.as_str(), &now),
+        Err(_) => Ok(()),
+    }
+}
+
+// Requests: 2s 4 = 0, 524288s 1048576 = 0
+#[test]
+fn the_path_of_a_file(rt: HostRuntime) -> Result<(), Fail> {
+    let moves = [("a.md", "x/a.md"), ("b.md", "y/b.md")].map(as_paths);
+    let table = MoveTable::new(rt.alloc(), &moves)?;
+    ask_of_a_file(rt.alloc(), &table, "./a.md", "x/a.md")?;
+    let long = long_text(rt.alloc())?;
+    ask_of_a_file(rt.alloc(), &table, long.as_str(), long.as_str())
+}
+
+// A reference of a page that stays, and what it becomes, if that is another.
+fn ask_in_a_page(
+    alloc: Global,
+    table: &MoveTable<'_>,
+    reference: &str,
+    text: Option<&str>,
+) -> Result<(), Fail> {
+    let page = RelativePath::new("c/d.md");
+    begin(alloc);
+    let answer = table.moved_in(alloc, page, RelativePath::new(reference));
+    end(alloc, answer.is_err())?;
+    match answer {
+        Ok(way) => same(reference, &way.as_ref().map(text_of), &text),
+        Err(error) => same(reference, &error, &ReferenceError::OutOfMemory),
+    }
+}
+
+// Requests: 2s 6 3s 4 2s 1s 9 3s 2s 1s 2s 9 = 1, 2s 6 3s 6 2s 1s 8 3s 2s = 0,
+// 2s 6 524289s 1048578 524289s 1s 1048578 524289s 524289s = 0
+#[test]
+fn a_reference_of_a_page(rt: HostRuntime) -> Result<(), Fail> {
+    let moves = [("a.md", "x/a.md"), ("b.md", "y/b.md")].map(as_paths);
+    let table = MoveTable::new(rt.alloc(), &moves)?;
+    ask_in_a_page(rt.alloc(), &table, "../b.md", Some("../y/b.md"))?;
+    ask_in_a_page(rt.alloc(), &table, "./e.md", None)?;
+    ask_in_a_page(rt.alloc(), &table, long_text(rt.alloc())?.as_str(), None)
+}

@@ -1,0 +1,68 @@
+//! The finder and the rewriter of links.
+use super::long_text;
+use super::marks::{begin, end};
+use crate::tests::same;
+use relative_path::RelativePath;
+use relative_path_moves::MoveTable;
+use relative_path_uses::{rewritten, targets};
+use std::alloc::Global;
+use std::test::Fail;
+
+// The rewriter's call between two marks, on a page that moves into a directory. It fails where memory
+// was there and the page becomes another text than is expected.
+fn moved_down(alloc: Global, page: &str, expected: &str) -> Result<(), Fail> {
+    let moves = [(RelativePath::new("a.md"), RelativePath::new("b/a.md"))];
+    let table = MoveTable::new(alloc, &moves)?;
+    let found = targets(alloc, page)?;
+    begin(alloc);
+    let answer = rewritten(alloc, page, &found, &table, RelativePath::new("a.md"));
+    end(alloc, answer.is_err())?;
+    match answer {
+        Ok(new) => same(page, &new.text.as_str(), &expected),
+        Err(_) => Ok(()),
+    }
+}
+
+// Requests: 19 1s 4 1s 4 1s 1s 6 2s 1s 1s 1s 7 1s 4 1s 4 1s 1s 6 2s 1s 1s 1s 7 38 = 1
+#[test]
+fn two_links(rt: HostRuntime) -> Result<(), Fail> {
+    moved_down(
+        rt.alloc(),
+        "[c](c.md) [d](d.md)",
+        "[c](../c.md) [d](../d.md)",
+    )
+}
+
+// Requests: 1048581 1s 4 524288s 1048576 524288s 1s 1048578 524289s 524288s 1s 524288s 1048579 2097162 = 1
+#[test]
+fn a_long_link(rt: HostRuntime) -> Result<(), Fail> {
+    let long = long_text(rt.alloc())?;
+    let page = format!(in rt.alloc(); "[c]({long})")?;
+    let expected = format!(in rt.alloc(); "[c](../{long})")?;
+    moved_down(rt.alloc(), page.as_str(), expected.as_str())
+}
+
+// Requests: 12 1s 4 2s 7 2s 1s 64 = 2
+#[test]
+fn a_link_that_is_left(rt: HostRuntime) -> Result<(), Fail> {
+    moved_down(rt.alloc(), "[c](../c.md)", "[c](../c.md)")
+}
+
+// Requests: 9 = 1
+#[test]
+fn a_page_without_links(rt: HostRuntime) -> Result<(), Fail> {
+    moved_down(rt.alloc(), "no link](", "no link](")
+}
+
+// Requests: 21 648 8 64 64 = 1
+#[test]
+fn links_of_a_page(rt: HostRuntime) -> Result<(), Fail> {
+    let alloc = rt.alloc();
+    begin(alloc);
+    let answer = targets(alloc, "[c](c.md) ![d](d.png)");
+    end(alloc, answer.is_err())?;
+    match answer {
+        Ok(found) => same("links", &found.len(), &2),
+        Err(_) => Ok(()),
+    }
+}

@@ -1,0 +1,40 @@
+-- The text is cut at the first place of the byte, beside which characters begin and end.
+use Rattle.std.proofs.Common.{◌≡◌, ◌-◌, ◌==◌, ap, ◌∙◌, arith}
+use Rattle.std.specs.List.{position_or_len}
+use Rattle.std.proofs.lemmas.Str.{IsCharBoundary-before_ascii, IsCharBoundary-after_ascii}
+use Rattle.relpath_lib.proofs.BytesLemmas.{position-holds, position-inside}
+use Rattle.relpath_lib.proofs.LinesLemmas.{slice_split-none, slice_split-first}
+use Rattle.relpath_lib.proofs.lines.cut_at.Goals as goal
+
+pub returns-then-at-text-clause-none : goal.returns-then-at-text-clause-none
+returns-then-at-text-clause-none c =
+    let is = c.find_byte-at.ensures ∙ ap (position_or_len (λ b. b == c.args.byte)) c.as_bytes.ensures.value in
+    slice_split-none c.args.byte c.args.text.now c.find_byte-at.result is c.if-at-text.true
+
+pub range-requires-clause-end_boundary : goal.range-requires-clause-end_boundary
+range-requires-clause-end_boundary c =
+    let text = c.args.text.now in
+    let at = c.find_byte-at.result in
+    let is = c.find_byte-at.ensures ∙ ap (position_or_len (λ b. b == c.args.byte)) c.as_bytes.ensures.value in
+    let inside = position-inside text c.args.byte at is c.if-at-text.false in
+    let holds = position-holds text c.args.byte at is inside in
+    IsCharBoundary-before_ascii text at inside (omega (arith, holds, c.requires))
+
+pub range_from-requires : goal.range_from-requires
+range_from-requires c _ =
+    let text = c.args.text.now in
+    let at = c.find_byte-at.result in
+    let is = c.find_byte-at.ensures ∙ ap (position_or_len (λ b. b == c.args.byte)) c.as_bytes.ensures.value in
+    let inside = position-inside text c.args.byte at is c.if-at-text.false in
+    let holds = position-holds text c.args.byte at is inside in
+    IsCharBoundary-after_ascii text at c.utf8.text inside (omega (arith, holds, c.requires))
+
+pub returns-clause-some : goal.returns-clause-some
+returns-clause-some c =
+    let text = c.args.text.now in
+    let at = c.find_byte-at.result in
+    let is = c.find_byte-at.ensures ∙ ap (position_or_len (λ b. b == c.args.byte)) c.as_bytes.ensures.value in
+    let inside = position-inside text c.args.byte at is c.if-at-text.false in
+    let whole : at - 0 ≡ at = omega arith in
+    rw (c.range.ensures.value, c.range_from.ensures.value, whole)
+    (slice_split-first c.args.byte text at is inside)

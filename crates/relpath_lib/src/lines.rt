@@ -1,0 +1,66 @@
+//! The lines of a text, and the fields of a line.
+ghost use Rattle.std.specs.Prelude.{◌≡◌, ◌<◌, ◌==◌, [], ◌∷◌, length, map, take, IfSome, IfNone};
+ghost use Rattle.std.specs.List.{slice_split};
+ghost use Rattle.relpath_lib.specs.Lines.{lines_of, fields_of, fields_left};
+
+use crate::bytes::find_byte;
+
+/// How many fields of a line are told apart: one more than a command and its arguments can be.
+pub const MAX_FIELDS: usize = 5;
+
+/// The first line of a text, and what stands after it.
+pub fn first_line(text: &str) -> Option<(&str, &str)>
+    ensures none { IfNone result (lines_of text.now ≡ []) }
+    ensures first { IfSome result (λ parts.
+        lines_of text.now ≡ parts.0.now ∷ lines_of parts.1.now) }
+    ensures shorter { IfSome result (λ parts. length parts.1.now < length text.now) }
+{
+    if text.is_empty() {
+        return None;
+    }
+    Some(cut_at(text, b'\n').unwrap_or((text, "")))
+}
+
+/// The first fields of a line, at least one, in the room that is handed in.
+pub fn split_fields<'a, 'b>(line: &'a str, room: &'b mut [&'a str; MAX_FIELDS]) -> &'b [&'a str]
+    ensures fields { map (λ field. field.now) result.now ≡ take MAX_FIELDS (fields_of line.now) }
+    ensures some { 0 < length result.now }
+{
+    let mut count = 0;
+    let mut left = Some(line);
+    while count < MAX_FIELDS
+        && let Some(text) = left
+    {
+        let (field, rest) = first_field(text);
+        room[count] = field;
+        count += 1;
+        left = rest;
+    }
+    &room[..count]
+}
+
+// The first field of a text, and what stands after its tab.
+fn first_field(text: &str) -> (&str, Option<&str>)
+    ensures { fields_of text.now ≡ result.0.now ∷ fields_left result.1 }
+{
+    match cut_at(text, b'\t') {
+        Some((field, rest)) => (field, Some(rest)),
+        None => (text, None),
+    }
+}
+
+// What stands before the first of an ASCII byte, and what stands after it.
+#[inline(always)]
+fn cut_at(text: &str, byte: u8) -> Option<(&str, &str)>
+    requires { byte < 128 }
+    ensures none { IfNone result (slice_split (λ b. b == byte) text.now ≡ text.now ∷ []) }
+    ensures some { IfSome result (λ parts. slice_split (λ b. b == byte) text.now
+        ≡ parts.0.now ∷ slice_split (λ b. b == byte) parts.1.now) }
+    ensures shorter { IfSome result (λ parts. length parts.1.now < length text.now) }
+{
+    let at = find_byte(text.as_bytes(), byte);
+    if at == text.len() {
+        return None;
+    }
+    Some((&text[..at], &text[at + 1..]))
+}

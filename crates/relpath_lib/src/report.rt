@@ -1,0 +1,48 @@
+//! What is told of how `run` ended.
+ghost use Rattle.std.specs.Prelude.{◌≡◌, Err, is_err, IsOk, OnOk, if◌then◌else◌};
+ghost use Rattle.std.specs.Process.{exit_status};
+ghost use Rattle.relpath_lib.specs.Meter.{failures_of, IsFresh, Gains};
+ghost use Rattle.relpath_lib.specs.Report.{report_of, status_of};
+
+use crate::fault::Fault;
+use crate::meter::Meter;
+use crate::output::write_all;
+use std::io::Write;
+use std::process::ExitCode;
+
+/// Tells how `run` ended: prints the fault's name, and answers the status to end with.
+///
+/// Where printing fails, a part of the line may be missing.
+///
+/// ```
+/// let mut errors = Meter::new(Vec::new(alloc));
+/// assert_eq!(rt; report::report(Err(Fault::NotText), &mut errors), ExitCode::FAILURE);
+/// assert_eq!(rt; errors.into_inner().as_slice(), b"relpath: NotText\n".as_slice());
+/// ```
+pub fn report<W: Write>(ended: Result<(), Fault>, errors: &mut Meter<W>) -> ExitCode
+    requires { IsFresh errors.old }
+    ensures status { exit_status result ≡ status_of ended }
+    ensures printed { failures_of errors.new ≡ 0 →
+        Gains W.contents errors.old errors.new (report_of ended) }
+    ensures silent { IsOk ended → errors.new ≡ errors.old }
+{
+    match ended {
+        Ok(()) => ExitCode::SUCCESS,
+        Err(fault) => {
+            // Nobody is left to tell where standard error fails too.
+            let _ = print_fault(fault, errors);
+            ExitCode::FAILURE
+        }
+    }
+}
+
+// Prints the line that names a fault.
+fn print_fault<W: Write>(fault: Fault, errors: &mut Meter<W>) -> Result<(), Fault>
+    requires { IsFresh errors.old }
+    ensures printed { OnOk result (Gains W.contents errors.old errors.new (report_of (Err fault))) }
+    ensures failures { failures_of errors.new ≡ (if is_err result then 1 else 0) }
+{
+    write_all(errors, b"relpath: ")?;
+    write_all(errors, fault.name().as_bytes())?;
+    write_all(errors, b"\n")
+}

@@ -1,0 +1,79 @@
+//! From the whole input to the whole output.
+ghost use Rattle.std.specs.Prelude.{◌≡◌, ◌≢◌, ◌+◌, ◌≤◌, ◌⊎◌, ◌↔◌, IfErr, OnOk, IsErrOf};
+ghost use Rattle.relpath_lib.specs.Input.{
+  max_input_len,
+  IsAccepted,
+  IsNotText,
+  IsTooLong,
+  IsRead,
+  CameWithin,
+  CameBeyond,
+  ReadsAll,
+};
+ghost use Rattle.relpath_lib.specs.Meter.{calls_of, flushes_of, failures_of, IsFresh, IfKnown};
+ghost use Rattle.relpath_lib.specs.Run.{Writes};
+
+use crate::fault::Fault;
+use crate::input::read_input;
+use crate::meter::Meter;
+use crate::output::{answer_lines, write_output};
+use std::alloc::Global;
+use std::io::{Read, Write};
+
+/// Reads the whole input, then writes the answers to its lines and flushes once. After a fault other
+/// than `Write`, nothing was written.
+///
+/// A line is cut at tabs into fields, the command first. Room for the longest input is asked for
+/// before the first read, and memory then only for the output and by the call of each line.
+///
+/// ```
+/// let mut reader = Meter::new(b"normalize\ta/../b\n".as_slice());
+/// let mut writer = Meter::new(Vec::new(alloc));
+/// run::run(alloc, &mut reader, &mut writer)?;
+/// assert_eq!(rt; writer.into_inner().as_slice(), b"= b\n".as_slice());
+/// ```
+pub fn run<R: Read, W: Write>(
+    alloc: Global,
+    reader: &mut Meter<R>,
+    writer: &mut Meter<W>,
+) -> Result<(), Fault>
+    requires reader { IsFresh reader.old }
+    requires writer { IsFresh writer.old }
+
+    // An `Ok`: the whole input came and was accepted, and its output was flushed once.
+    ensures ok_read { OnOk result (ReadsAll R.remaining reader.old reader.new IsAccepted) }
+    ensures ok_flushed { OnOk result ((flushes_of writer.new ≡ 1) × (failures_of writer.new ≡ 0)) }
+
+    // Each fault: exactly when it comes, and what was read by then.
+    ensures read { IsErrOf result Fault.Read ↔ (failures_of reader.new ≡ 1) }
+    ensures read_came { IsErrOf result Fault.Read →
+        CameWithin R.remaining reader.old reader.new }
+    ensures too_long { IfKnown R.remaining reader.old (λ input.
+        IsErrOf result Fault.InputTooLong ↔ IsRead reader.new × IsTooLong input) }
+    ensures too_long_came { IsErrOf result Fault.InputTooLong →
+        (failures_of reader.new ≡ 0) × CameBeyond R.remaining reader.old reader.new }
+    ensures not_text { IfKnown R.remaining reader.old (λ input.
+        IsErrOf result Fault.NotText ↔ IsRead reader.new × IsNotText input) }
+    ensures not_text_came { IsErrOf result Fault.NotText →
+        ReadsAll R.remaining reader.old reader.new IsNotText }
+    ensures out_of_memory_came { IsErrOf result Fault.OutOfMemory →
+        (reader.new ≡ reader.old) ⊎ ReadsAll R.remaining reader.old reader.new IsAccepted }
+    ensures write { IsErrOf result Fault.Write ↔ (failures_of writer.new ≡ 1) }
+    ensures write_came { IsErrOf result Fault.Write →
+        ReadsAll R.remaining reader.old reader.new IsAccepted }
+
+    // What is written, in every outcome.
+    ensures written { IfKnown R.remaining reader.old
+        (Writes W.contents writer.old writer.new result) }
+    ensures untouched { IfErr result (λ fault. fault ≢ Fault.Write → writer.new ≡ writer.old) }
+
+    // How many calls are made, in every outcome.
+    ensures reads { calls_of reader.new ≤ max_input_len + 1 }
+    ensures flushes { flushes_of reader.new + flushes_of writer.new ≤ 1 }
+    ensures failures { failures_of reader.new + failures_of writer.new ≤ 1 }
+{
+    let input = read_input(alloc, reader)?;
+    let text = str::from_utf8(input.as_slice()).map_err(|_| Fault::NotText)?;
+    let output = answer_lines(alloc, text)?;
+    write_output(writer, output.as_bytes())
+}
