@@ -120,8 +120,8 @@ fn answers_in_pages(rt: HostRuntime) -> Result<(), Fail> {
     Ok(())
 }
 
-// So many paths, each its number between these two texts.
-fn numbered(
+/// So many paths, each its number between these two texts.
+pub fn numbered(
     alloc: Global,
     count: usize,
     before: &str,
@@ -134,8 +134,8 @@ fn numbered(
     Ok(paths)
 }
 
-// The moves from each of these paths to the other in its place.
-fn paired<'a>(
+/// The moves from each of these paths to the other in its place.
+pub fn paired<'a>(
     alloc: Global,
     olds: &'a [String],
     news: &'a [String],
@@ -189,13 +189,6 @@ fn answers_among_a_thousand_moves(rt: HostRuntime) -> Result<(), Fail> {
         "../999/page.md",
     )?;
     refers_from_each(rt.alloc(), &moves)
-}
-
-#[test]
-fn makes_a_table_of_a_hundred_thousand_moves(rt: HostRuntime) -> Result<(), Fail> {
-    let paths = numbered(rt.alloc(), 100_000, "", ".md")?;
-    let moves = paired(rt.alloc(), &paths, &paths)?;
-    becomes(rt.alloc(), "file 7", &moves, 7, "99999.md", "99999.md")
 }
 
 #[test]
