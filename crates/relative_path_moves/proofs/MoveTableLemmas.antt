@@ -10,18 +10,28 @@ use Rattle.relative_path_moves.specs.declared.move_error.ReferenceError.{Referen
 use Rattle.relative_path_moves.specs.declared.move_error.ReferenceError.TheVariants.{AboveRoot, NoPath, OutOfMemory}
 use Rattle.relative_path_moves.specs.Places.{place_of, directory}
 use Rattle.relative_path_moves.specs.PlaceIndex.{IsFirstAt, IsNoneAt}
-use Rattle.relative_path_moves.specs.Moves.{Move, move_at, MovesFrom, AreApart, IsTarget, After, OfLink, ClimbsAbove, BelowTop}
+use Rattle.relative_path_moves.specs.Moves.{Move, move_at, MovesFrom, AreApart, IsUnmoved, IsTarget, After, OfLink, ClimbsAbove, BelowTop}
 use Rattle.relative_path_moves.specs.MoveError.{Refuses}
 use Rattle.relative_path_moves.specs.MoveTable.{olds_of, LeadToTarget, IsWay, IsShortestBuffer, IsLink}
 use Rattle.relative_path_moves.proofs.ForCallers.{IsTarget-only}
 use Rattle.relative_path_moves.proofs.MovesLemmas.{old_at}
 
--- the new path of the file at a place
+-- the file at an old path moves
+MovesFrom-found : (moves : List Move) (place : List Step) (j : ℕ) → IsFirstAt (olds_of moves) place j
+    → MovesFrom moves place j
+MovesFrom-found moves place j first =
+    let within : j < length moves = omega (arith, first.within, length-map moves (λ move. move.old)) in
+    record { within = within; same = rw (old_at moves j within) at first.same }
+
+-- so it isn't unmoved
+pub IsUnmoved-found : (moves : List Move) (place : List Step) (j : ℕ) → IsFirstAt (olds_of moves) place j
+    → ¬ IsUnmoved moves place
+IsUnmoved-found moves place j first unmoved = unmoved j (MovesFrom-found moves place j first)
+
+-- its place is then the new path
 pub IsTarget-found : (moves : List Move) (place : List Step) (j : ℕ) → IsFirstAt (olds_of moves) place j
     → IsTarget moves place (move_at moves j).new
-IsTarget-found moves place j first =
-    let within : j < length moves = omega (arith, first.within, length-map moves (λ move. move.old)) in
-    inl (j, record { within = within; same = rw (old_at moves j within) at first.same }, refl)
+IsTarget-found moves place j first = inl (j, MovesFrom-found moves place j first, refl)
 
 -- a target that what leads there is led to
 LeadToTarget-is : (moves : List Move) (place target cs : List Step) → AreApart moves → IsTarget moves place target
@@ -43,7 +53,7 @@ LeadToTarget-found moves place cs j apart first new =
 -- from a place that is no old path's no file moved
 pub IsTarget-kept : (moves : List Move) (place : List Step) → IsNoneAt (olds_of moves) place → IsTarget moves place place
 IsTarget-kept moves place none = inr (stays, refl) where
-  stays : (j : ℕ) → ¬ MovesFrom moves place j
+  stays : IsUnmoved moves place
   stays j from =
       none j (omega (arith, from.within, length-map moves (λ move. move.old)))
       (rw (old_at moves j from.within) from.same)

@@ -1,5 +1,5 @@
 -- The directory by a path's parent, and whether a path has a place from the top.
-use Rattle.std.proofs.Common.{◌≡◌, ◌≢◌, ℕ, List, [], ◌∷◌, length, codes, zero, suc, ◌↔◌, IsTrue, IsSome, IfSome, IfNone, Option, Some, None, unwrap_or, refl, sym, ap, ◌∙◌, arith, true≢false}
+use Rattle.std.proofs.Common.{◌≡◌, ◌≢◌, ℕ, List, [], ◌∷◌, length, codes, zero, suc, ◌↔◌, IsTrue, IsSome, IfSome, Option, Some, None, unwrap_or, refl, sym, ap, ◌∙◌, arith, true≢false}
 use Rattle.std.proofs.lemmas.Bool.{ne_eqb}
 use Rattle.std.proofs.lemmas.Option.{none-some}
 use Rattle.std.specs.Option.{option_eq}
@@ -11,15 +11,23 @@ use Rattle.relative_path.specs.Relating.{LeadsApart}
 use Rattle.relative_path.specs.RelativePath.{path_text, path_components}
 use Rattle.relative_path.specs.declared.path.RelativePath.{RelativePath}
 use Rattle.relative_path.proofs.ForCallers.{components-up}
-use Rattle.relative_path_moves.specs.Places.{place_of, directory}
+use Rattle.relative_path.proofs.OnLiterals.{relative_path_on_literals}
+use Rattle.relative_path_moves.specs.Places.{place_of}
 
--- the parent is the directory; without a parent there is no component
-pub directory_parent : (file : RelativePath) (parent : Option RelativePath)
-    → IfNone parent (path_components file ≡ [])
+-- the empty text is its own directory
+IsPopped-empty : IsPopped [] []
+unfolding relative_path_on_literals
+IsPopped-empty = record { prefix = refl; same_components = refl; shortest = λ k _. omega arith }
+
+-- the parent is the directory; without a parent the text is empty
+pub IsPopped-parent : (file : RelativePath) (parent : Option RelativePath) → IsSome parent ↔ (path_text file ≢ [])
     → IfSome parent (λ parent. IsPopped (path_text file) (path_text parent))
-    → path_components (unwrap_or parent file) ≡ directory (path_components file)
-directory_parent file None none popped = none ∙ ap directory (sym none)
-directory_parent file (Some parent) none popped = popped.same_components
+    → IsPopped (path_text file) (path_text (unwrap_or parent file))
+IsPopped-parent file None some popped = rw (empty (path_text file) some) IsPopped-empty where
+  empty : (text : List ℕ) → IsSome {T = RelativePath} None ↔ (text ≢ []) → text ≡ []
+  empty [] some = refl
+  empty (b ∷ text) some = absurd (true≢false (sym (some.1 (λ e. cc e))))
+IsPopped-parent file (Some parent) some popped = popped
 
 -- a path leads apart from `..` at the top exactly if it has a place
 pub has_place-apart : (cs : List Step) (up_text : List ℕ) (apart : Option ℕ) → up_text ≡ codes ".."

@@ -59,11 +59,15 @@ pub record MovesFrom (moves : List Move) (place : List Step) (j : ℕ) : Type 0 
   pub within : j < length moves
   pub same : IsSame place (move_at moves j).old
 
+-- the file at this place doesn't move
+abbrev pub IsUnmoved : List Move → List Step → Type 0
+IsUnmoved moves place = (j : ℕ) → ¬ MovesFrom moves place j
+
 -- where the file at a place is after the moves: the new path, if it moved, and else the place itself
 abbrev pub IsTarget : List Move → List Step → List Step → Type 0
 IsTarget moves place target =
     ((j : ℕ) × MovesFrom moves place j × (target ≡ (move_at moves j).new))
-    ⊎ ((j : ℕ) → ¬ MovesFrom moves place j) × (target ≡ place)
+    ⊎ IsUnmoved moves place × (target ≡ place)
 
 -- P holds of where the file at a place is after the moves
 abbrev pub After : List Move → List Step → (List Step → Type 0) → Type 0

@@ -3,7 +3,7 @@ ghost use Rattle.std.specs.Prelude.{◌≡◌, ◌<◌, ◌≤◌, ◌↔◌, �
 ghost use Rattle.relative_path.specs.Steps.{Step};
 ghost use Rattle.relative_path.specs.Normalizing.{IsNormalTextOf};
 ghost use Rattle.relative_path.specs.Relating.{Leads, IsReachable, IsShortestText};
-ghost use Rattle.relative_path.specs.RelativePath.{path_components};
+ghost use Rattle.relative_path.specs.RelativePath.{path_text, path_components};
 ghost use Rattle.relative_path_moves.specs.Moves.{
   Move,
   moves_of,
@@ -12,6 +12,7 @@ ghost use Rattle.relative_path_moves.specs.Moves.{
   AreNamed,
   IsFirstPair,
   AreApart,
+  IsUnmoved,
   IsTarget,
   OfTarget,
   OfLink,
@@ -205,8 +206,10 @@ impl<'a> MoveTable<'a> {
         alloc: Global,
         file: RelativePath<'b>,
     ) -> Result<RelativePath<'b>, AllocError>
-        ensures { IfOk result (λ now. (target : List Step)
+        ensures target { IfOk result (λ now. (target : List Step)
             → IsTarget self.now (path_components file.entry) target ↔ (target ≡ path_components now)) }
+        ensures kept { IfOk result (λ now. IsUnmoved self.now (path_components file.entry)
+            → path_text now ≡ path_text file.entry) }
     {
         let found = self.by_old.get(alloc, file)?;
         match found {

@@ -1,6 +1,7 @@
 //! The place that a path leads to from the top, and the directory of a file.
 ghost use Rattle.std.specs.Prelude.{◌≡◌, ◌↔◌, IfOk, IsSome, IsTrue};
-ghost use Rattle.relative_path.specs.RelativePath.{path_components};
+ghost use Rattle.relative_path.specs.Editing.{IsPopped};
+ghost use Rattle.relative_path.specs.RelativePath.{path_text, path_components};
 ghost use Rattle.relative_path_moves.specs.Places.{directory, place_of};
 
 use relative_path::RelativePath;
@@ -33,7 +34,8 @@ pub fn has_place(alloc: Global, path: RelativePath<'_>) -> Result<bool, AllocErr
 /// assert_eq!(rt; directory(RelativePath::new("start.md")).as_str(), "");
 /// ```
 pub fn directory<'a>(file: RelativePath<'a>) -> RelativePath<'a>
-    ensures { path_components result ≡ directory (path_components file.entry) }
+    ensures components { path_components result ≡ directory (path_components file.entry) }
+    ensures text { IsPopped (path_text file.entry) (path_text result) }
 {
     file.parent().unwrap_or(file)
 }

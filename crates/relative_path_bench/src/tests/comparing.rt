@@ -116,14 +116,20 @@ fn writes_of<T: Hash>(value: &T) -> [u8; 8] {
     state.finish().to_be_bytes()
 }
 
-// Each component is a write, and a slash another.
+// Each component is a write, and a slash another. A write before those of `a` would show.
+const WRITES: [(&str, &[u8; 8]); 3] = [
+    ("a/b", b"a|/|b|/|"),
+    ("a//b", b"a|/|b|/|"),
+    ("a", b"\0\0\0\0a|/|"),
+];
+
 #[test]
 fn feeds_a_hasher_component_by_component(rt: HostRuntime) -> Result<(), Fail> {
-    for text in &["a/b", "a//b"] {
+    for (text, writes) in &WRITES {
         let view = RelativePath::new(text);
-        same(text, &writes_of(&view), b"a|/|b|/|")?;
+        same(text, &writes_of(&view), *writes)?;
         let buf = RelativePathBuf::from_text(rt.alloc(), text)?;
-        same(text, &writes_of(&buf), b"a|/|b|/|")?;
+        same(text, &writes_of(&buf), *writes)?;
     }
     Ok(())
 }

@@ -1,7 +1,8 @@
 use super::{Case, all_become, as_paths, becomes, read_moves, same, text_of, told_in};
 use relative_path::RelativePath;
-use relative_path_moves::{MoveError, MoveTable};
+use relative_path_moves::{MoveError, MoveTable, MovesError, ReferenceError};
 use std::alloc::{AllocError, Global};
+use std::fmt::Display;
 use std::test::Fail;
 
 const MOVED: [Case; 5] = [
@@ -212,6 +213,13 @@ fn tells_refusals_apart() -> Result<(), Fail> {
     Ok(())
 }
 
+// Fails where a refusal doesn't print these words, in a width and in a precision too.
+fn prints<T: Display>(alloc: Global, refusal: &T, words: &str) -> Result<(), Fail> {
+    let printed = format!(in alloc; "{refusal}|{refusal:5.99}|{refusal:>99}|{refusal:.2}")?;
+    let expected = format!(in alloc; "{words}|{words}|{words}|{words}")?;
+    same(words, &printed, &expected)
+}
+
 #[test]
 fn refusals_print_their_words(rt: HostRuntime) -> Result<(), Fail> {
     for (refusal, words) in &[
@@ -224,9 +232,34 @@ fn refusals_print_their_words(rt: HostRuntime) -> Result<(), Fail> {
             "moves 10 and 18446744073709551615 have the same old path",
         ),
     ] {
-        let printed = format!(in rt.alloc(); "{refusal}|{refusal:5.99}")?;
-        let expected = format!(in rt.alloc(); "{words}|{words}")?;
-        same(words, &printed, &expected)?;
+        prints(rt.alloc(), refusal, words)?;
+    }
+    Ok(())
+}
+
+#[test]
+fn refusals_of_moves_print_their_words(rt: HostRuntime) -> Result<(), Fail> {
+    for (refusal, words) in &[
+        (MovesError::NoFileName(1_000), "move 1000 lacks a file name"),
+        (
+            MovesError::SameOld(10, usize::MAX),
+            "moves 10 and 18446744073709551615 have the same old path",
+        ),
+        (MovesError::OutOfMemory, "out of memory"),
+    ] {
+        prints(rt.alloc(), refusal, words)?;
+    }
+    Ok(())
+}
+
+#[test]
+fn refusals_of_references_print_their_words(rt: HostRuntime) -> Result<(), Fail> {
+    for (refusal, words) in &[
+        (ReferenceError::AboveRoot, "reference climbs above the root"),
+        (ReferenceError::NoPath, "no path"),
+        (ReferenceError::OutOfMemory, "out of memory"),
+    ] {
+        prints(rt.alloc(), refusal, words)?;
     }
     Ok(())
 }

@@ -8,18 +8,22 @@ use std::process::ExitCode;
 use std::test::Fail;
 
 const PRINTED: [(Fault, &str); 5] = [
-    (Fault::Read, "Read|     Read|"),
-    (Fault::InputTooLong, "InputTooLong|InputTooLong|"),
-    (Fault::NotText, "NotText|  NotText|"),
-    (Fault::OutOfMemory, "OutOfMemory|OutOfMemory|"),
-    (Fault::Write, "Write|    Write|"),
+    (Fault::Read, "Read|     Read|Rea|"),
+    (Fault::InputTooLong, "InputTooLong|InputTooLong|Inp|"),
+    (Fault::NotText, "NotText|  NotText|Not|"),
+    (Fault::OutOfMemory, "OutOfMemory|OutOfMemory|Out|"),
+    (Fault::Write, "Write|    Write|Wri|"),
 ];
 
 #[test]
 fn prints_the_names_of_faults(rt: HostRuntime) -> Result<(), Fail> {
     for (fault, printed) in &PRINTED {
-        let text = format!(in rt.alloc(); "{fault}|{fault:>9}|")?;
-        same("name, and at least nine wide", &text.as_str(), printed)?;
+        let text = format!(in rt.alloc(); "{fault}|{fault:>9}|{fault:.3}|")?;
+        same(
+            "name, at least nine wide, and cut to three",
+            &text.as_str(),
+            printed,
+        )?;
     }
     Ok(())
 }

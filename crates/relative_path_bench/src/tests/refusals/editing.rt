@@ -12,11 +12,11 @@ use std::test::Fail;
 // A text of ten bytes.
 const SHORT: &str = "//a/b/./c/";
 
-// Requests: 10 = 1, 1048576 = 1
+// Requests: 10 = 1, = 0, 1048576 = 1
 #[test]
 fn from_text(rt: HostRuntime) -> Result<(), Fail> {
     let long = long_text(rt.alloc())?;
-    for text in &[SHORT, long.as_str()] {
+    for text in &[SHORT, "", long.as_str()] {
         begin(rt.alloc());
         let answer = RelativePathBuf::from_text(rt.alloc(), text);
         gives(rt.alloc(), &answer, text)?;
@@ -24,10 +24,10 @@ fn from_text(rt: HostRuntime) -> Result<(), Fail> {
     Ok(())
 }
 
-// Requests: 10 = 1, 1048576 = 1
+// Requests: 10 = 1, = 0, 1048576 = 1
 #[test]
 fn with_capacity(rt: HostRuntime) -> Result<(), Fail> {
-    for capacity in &[10, 1_048_576] {
+    for capacity in &[10, 0, 1_048_576] {
         begin(rt.alloc());
         let answer = RelativePathBuf::with_capacity(rt.alloc(), *capacity);
         end(rt.alloc(), answer.is_err())?;
@@ -42,11 +42,11 @@ fn with_capacity(rt: HostRuntime) -> Result<(), Fail> {
     Ok(())
 }
 
-// Requests: 10 = 1, 1048576 = 1
+// Requests: 10 = 1, = 0, 1048576 = 1
 #[test]
 fn clone(rt: HostRuntime) -> Result<(), Fail> {
     let long = long_text(rt.alloc())?;
-    for text in &[SHORT, long.as_str()] {
+    for text in &[SHORT, "", long.as_str()] {
         let buf = RelativePathBuf::from_text(rt.alloc(), text)?;
         begin(rt.alloc());
         let answer = buf.clone();
@@ -55,11 +55,11 @@ fn clone(rt: HostRuntime) -> Result<(), Fail> {
     Ok(())
 }
 
-// Requests: 10 = 1, 1048576 = 1
+// Requests: 10 = 1, = 0, 1048576 = 1
 #[test]
 fn to_relative_path_buf(rt: HostRuntime) -> Result<(), Fail> {
     let long = long_text(rt.alloc())?;
-    for text in &[SHORT, long.as_str()] {
+    for text in &[SHORT, "", long.as_str()] {
         begin(rt.alloc());
         let answer = RelativePath::new(text).to_relative_path_buf(rt.alloc());
         gives(rt.alloc(), &answer, text)?;
@@ -67,12 +67,13 @@ fn to_relative_path_buf(rt: HostRuntime) -> Result<(), Fail> {
     Ok(())
 }
 
-// Requests: 10 = 1, 1048576 = 1
+// Requests: 10 = 1, = 0, 1048576 = 1
 #[test]
 fn join(rt: HostRuntime) -> Result<(), Fail> {
     let long = long_text(rt.alloc())?;
     for (text, more, joined) in &[
         ("foo/bar", "/az", "foo/bar/az"),
+        ("", "", ""),
         ("", long.as_str(), long.as_str()),
     ] {
         begin(rt.alloc());
@@ -82,11 +83,11 @@ fn join(rt: HostRuntime) -> Result<(), Fail> {
     Ok(())
 }
 
-// Requests: 10 = 0, 1048580 = 0
+// Requests: 10 = 0, 8 = 0, 1048580 = 0
 #[test]
 fn push(rt: HostRuntime) -> Result<(), Fail> {
     let long = long_text(rt.alloc())?;
-    for more in &["barbaz", long.as_str()] {
+    for more in &["barbaz", "", long.as_str()] {
         let mut buf = RelativePathBuf::from_text(rt.alloc(), "foo")?;
         begin(rt.alloc());
         let answer = buf.push(RelativePath::new(more));
@@ -160,19 +161,21 @@ fn asks_for_nothing_of(alloc: Global, text: &str) -> Result<(), Fail> {
     same("texts", &(text_of(&empty), taken.as_str()), &("", text))
 }
 
-// Requests: = 0, = 0
+// Requests: = 0, = 0, = 0
 #[test]
 fn asks_for_nothing(rt: HostRuntime) -> Result<(), Fail> {
     asks_for_nothing_of(rt.alloc(), SHORT)?;
+    asks_for_nothing_of(rt.alloc(), "")?;
     asks_for_nothing_of(rt.alloc(), long_text(rt.alloc())?.as_str())
 }
 
-// Requests: 8 = 1, 1048576 = 1
+// Requests: 8 = 1, = 0, 1048576 = 1
 #[test]
 fn from_paths(rt: HostRuntime) -> Result<(), Fail> {
     let long = long_text(rt.alloc())?;
     for (texts, text) in &[
         (["a", "/b", "", "c"], "a/b/c"),
+        ([""; 4], ""),
         (["", "", "", long.as_str()], long.as_str()),
     ] {
         let paths = texts.map(RelativePath::new);
@@ -184,6 +187,16 @@ fn from_paths(rt: HostRuntime) -> Result<(), Fail> {
         }
     }
     Ok(())
+}
+
+// Requests: = 0
+#[test]
+fn extend_by_empty_paths(rt: HostRuntime) -> Result<(), Fail> {
+    let mut buf = RelativePathBuf::new(rt.alloc());
+    begin(rt.alloc());
+    let answer = buf.extend([""; 2].map(RelativePath::new));
+    end(rt.alloc(), answer.is_err())?;
+    same("extend", &text_of(&buf), &"")
 }
 
 /// A slash and 4,096 letters.
@@ -200,7 +213,10 @@ pub fn is_left(answer: Result<(), AllocError>, text: &str, name: &str, left: Opt
     match (answer, text) {
         (Err(_), "a") => left == Some("c"),
         (Err(_), text) => left.is_none() && text.strip_prefix("a") == Some(name),
-        (Ok(()), text) => left.is_none() && text.len() == name.len() + 3,
+        (Ok(()), text) => {
+            let between = text.strip_prefix("a").unwrap_or("").strip_suffix("/c");
+            left.is_none() && between == Some(name)
+        }
     }
 }
 

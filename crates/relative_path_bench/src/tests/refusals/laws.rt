@@ -110,11 +110,12 @@ fn normalized_law_of(alloc: Global, text: &str, expected: (bool, &str)) -> Resul
     }
 }
 
-// Requests: 2s 7 = 1, 3s 7 = 1
+// Requests: 2s 7 = 1, 3s 7 = 1, = 0
 #[test]
 fn normalized_law_of_one(rt: HostRuntime) -> Result<(), Fail> {
     normalized_law_of(rt.alloc(), "foo//bar", (true, "foo/bar"))?;
-    normalized_law_of(rt.alloc(), "foo/./bar", (false, "foo/bar"))
+    normalized_law_of(rt.alloc(), "foo/./bar", (false, "foo/bar"))?;
+    normalized_law_of(rt.alloc(), "", (true, ""))
 }
 
 // Requests: 4s 4 = 1
@@ -147,11 +148,12 @@ fn same_law_of(
     }
 }
 
-// Requests: 2s 3 3s 3 2s 3s = 2, 1s 2 2s 5 1s 2s = 2
+// Requests: 2s 3 3s 3 2s 3s = 2, 1s 2 2s 5 1s 2s = 2, = 0
 #[test]
 fn same_law_of_two(rt: HostRuntime) -> Result<(), Fail> {
     same_law_of(rt.alloc(), "a//b", "a/./b", ("a/b", "a/b", None))?;
-    same_law_of(rt.alloc(), "..", "../..", ("..", "../..", Some(1)))
+    same_law_of(rt.alloc(), "..", "../..", ("..", "../..", Some(1)))?;
+    same_law_of(rt.alloc(), "", "", ("", "", None))
 }
 
 fn leads_back_of(alloc: Global, from: &str, to: &str, expected: (&str, &str)) -> Result<(), Fail> {
@@ -160,11 +162,12 @@ fn leads_back_of(alloc: Global, from: &str, to: &str, expected: (&str, &str)) ->
     same_texts(alloc, &answer, expected)
 }
 
-// Requests: 2s 2s 4 4s 3 2s 3 = 2, 1s 1s 1s 2 1s 1 = 2
+// Requests: 2s 2s 4 4s 3 2s 3 = 2, 1s 1s 1s 2 1s 1 = 2, = 0
 #[test]
 fn leads_back_to_a_target(rt: HostRuntime) -> Result<(), Fail> {
     leads_back_of(rt.alloc(), "a/b", "a/c", ("a/c", "a/c"))?;
-    leads_back_of(rt.alloc(), "..", "a", ("..", "a"))
+    leads_back_of(rt.alloc(), "..", "a", ("..", "a"))?;
+    leads_back_of(rt.alloc(), "", "", ("", ""))
 }
 
 fn try_law_of(
@@ -182,12 +185,13 @@ fn try_law_of(
     }
 }
 
-// Requests: 2s 2s 4 4s 3 = 2, 1s 1s = 0, 1s 2s 1s 1 = 1
+// Requests: 2s 2s 4 4s 3 = 2, 1s 1s = 0, 1s 2s 1s 1 = 1, = 0
 #[test]
 fn try_law_to_a_target(rt: HostRuntime) -> Result<(), Fail> {
     try_law_of(rt.alloc(), "a/b", "a/c", Some(("../c", "a/c")))?;
     try_law_of(rt.alloc(), "..", "a", None)?;
-    try_law_of(rt.alloc(), "a", "a/.", Some(("", "a")))
+    try_law_of(rt.alloc(), "a", "a/.", Some(("", "a")))?;
+    try_law_of(rt.alloc(), "", "", Some(("", "")))
 }
 
 // Requests: 2s 1s 7 2s 1s 2 1s 1s 4 = 3
@@ -239,6 +243,63 @@ fn relative_to_law_of_texts(rt: HostRuntime) -> Result<(), Fail> {
         Ok(buf) => same("a way", &text_of(&buf), &"../foo/bar"),
         Err(error) => same("a way", &error.kind(), &RelativeToErrorKind::OutOfMemory),
     }
+}
+
+// Requests: = 0, = 0, = 0, = 0
+#[test]
+fn laws_of_two_texts_of_empty_paths(rt: HostRuntime) -> Result<(), Fail> {
+    let alloc = rt.alloc();
+    let empty = RelativePath::new("");
+    begin(alloc);
+    let answer = from_paths_law(alloc, &[empty, empty]);
+    same_texts(alloc, &answer, ("", ""))?;
+    begin(alloc);
+    let answer = join_normalized_law(alloc, empty, empty);
+    same_texts(alloc, &answer, ("", ""))?;
+    begin(alloc);
+    let answer = associative(alloc, empty, empty, empty);
+    same_texts(alloc, &answer, ("", ""))?;
+    begin(alloc);
+    let answer = normalize_twice(alloc, empty);
+    same_texts(alloc, &answer, ("", ""))
+}
+
+// Requests: = 0, = 0
+#[test]
+fn laws_of_three_texts_of_empty_paths(rt: HostRuntime) -> Result<(), Fail> {
+    let alloc = rt.alloc();
+    let empty = RelativePath::new("");
+    begin(alloc);
+    let answer = unit(alloc, empty);
+    same_three(alloc, &answer, ("", "", ""))?;
+    begin(alloc);
+    let answer = triangle(alloc, empty, empty, empty);
+    same_three(alloc, &answer, ("", "", ""))
+}
+
+// Requests: = 0, = 0, = 0, = 0, = 0, = 0
+#[test]
+fn other_laws_of_empty_paths(rt: HostRuntime) -> Result<(), Fail> {
+    let alloc = rt.alloc();
+    let empty = RelativePath::new("");
+    begin(alloc);
+    let joined = join_law(alloc, empty, empty);
+    end(alloc, joined.is_err())?;
+    begin(alloc);
+    let climb = climb_law(alloc, empty);
+    end(alloc, climb.is_err())?;
+    begin(alloc);
+    let stripped = strip_law(alloc, empty, empty);
+    end(alloc, stripped.is_err())?;
+    begin(alloc);
+    let extended = extension_law(alloc, empty, "x");
+    end(alloc, extended.is_err())?;
+    begin(alloc);
+    let way = relative_to_law(alloc, "", "");
+    end(alloc, way.is_err())?;
+    begin(alloc);
+    let taken = take_in_turn(alloc, empty, &[]);
+    end(alloc, taken.is_err())
 }
 
 const ENDS: [End; 3] = [End::Back, End::Front, End::Front];

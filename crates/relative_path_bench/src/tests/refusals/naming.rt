@@ -6,12 +6,13 @@ use relative_path::{RelativePath, RelativePathBuf};
 use std::alloc::Global;
 use std::test::Fail;
 
-// Requests: 10 = 1, 1048576 = 1
+// Requests: 10 = 1, = 0, 1048576 = 1
 #[test]
 fn with_file_name(rt: HostRuntime) -> Result<(), Fail> {
     let long = long_text(rt.alloc())?;
     for (text, file_name, named) in &[
         ("tmp/foo.txt", "bar.rs", "tmp/bar.rs"),
+        ("", "", ""),
         (long.as_str(), "aa", long.as_str()),
     ] {
         begin(rt.alloc());
@@ -21,12 +22,13 @@ fn with_file_name(rt: HostRuntime) -> Result<(), Fail> {
     Ok(())
 }
 
-// Requests: 10 = 1, 1048576 = 1
+// Requests: 10 = 1, = 0, 1048576 = 1
 #[test]
 fn with_extension(rt: HostRuntime) -> Result<(), Fail> {
     let long = long_text(rt.alloc())?;
     for (text, extension, extended) in &[
         ("foobar.rs", "txt", "foobar.txt"),
+        ("", "", ""),
         (long.as_str(), "", long.as_str()),
     ] {
         begin(rt.alloc());
@@ -46,10 +48,11 @@ fn set_file_name_of(alloc: Global, file_name: &str) -> Result<(), Fail> {
     same("a name", &text_of(&buf).strip_prefix("f/"), &Some(left))
 }
 
-// Requests: 10 = 0, 1048576 = 0
+// Requests: 10 = 0, = 0, 1048576 = 0
 #[test]
 fn set_file_name(rt: HostRuntime) -> Result<(), Fail> {
     set_file_name_of(rt.alloc(), "barbarba")?;
+    set_file_name_of(rt.alloc(), "")?;
     set_file_name_of(rt.alloc(), "b".repeat(rt.alloc(), 1_048_574)?.as_str())
 }
 
@@ -100,14 +103,15 @@ fn set_extension(rt: HostRuntime) -> Result<(), Fail> {
 }
 
 // A text, the room that it is given, an extension, the text that setting that leaves, and the answer.
-const FITTING: [(&str, usize, &str, &str, bool); 4] = [
+const FITTING: [(&str, usize, &str, &str, bool); 5] = [
     ("foo", 7, "bar", "foo.bar", true),
     ("foo.txt", 7, "bar", "foo.bar", true),
     ("foo.bar", 7, "", "foo", true),
     ("foo/..", 6, "bar", "foo/..", false),
+    ("", 0, "", "", false),
 ];
 
-// Requests: = 0, = 0, = 0, = 0
+// Requests: = 0, = 0, = 0, = 0, = 0
 #[test]
 fn set_extension_that_fits(rt: HostRuntime) -> Result<(), Fail> {
     for (text, room, extension, left, is_set) in &FITTING {

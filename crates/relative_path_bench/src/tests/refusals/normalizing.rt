@@ -5,7 +5,7 @@ use crate::tests::{same, text_of};
 use relative_path::{RelativePath, RelativePathBuf};
 use std::test::Fail;
 
-// Requests: 3s 10 = 1, 7s 3 = 1, 4s 19 = 1, 524288s 1048576 = 1, = 0
+// Requests: 3s 10 = 1, 7s 3 = 1, 4s 19 = 1, 524288s 1048576 = 1, = 0, = 0
 #[test]
 fn normalize(rt: HostRuntime) -> Result<(), Fail> {
     let long = long_text(rt.alloc())?;
@@ -15,6 +15,7 @@ fn normalize(rt: HostRuntime) -> Result<(), Fail> {
         ("aaaa/bbbb/cccc/dddd/", "aaaa/bbbb/cccc/dddd"),
         (long.as_str(), long.as_str()),
         ("///", ""),
+        ("", ""),
     ] {
         begin(rt.alloc());
         let answer = RelativePath::new(text).normalize(rt.alloc());
@@ -23,11 +24,15 @@ fn normalize(rt: HostRuntime) -> Result<(), Fail> {
     Ok(())
 }
 
-// Requests: = 0, = 0
+// Requests: = 0, = 0, = 0
 #[test]
 fn normalize_into(rt: HostRuntime) -> Result<(), Fail> {
     let long = long_text(rt.alloc())?;
-    for (text, normal) in &[("a/.././b/../c/d", "c/d"), (long.as_str(), long.as_str())] {
+    for (text, normal) in &[
+        ("a/.././b/../c/d", "c/d"),
+        ("", ""),
+        (long.as_str(), long.as_str()),
+    ] {
         let mut out = RelativePathBuf::with_capacity(rt.alloc(), text.len())?;
         begin(rt.alloc());
         RelativePath::new(text).normalize_into(&mut out);

@@ -51,11 +51,15 @@ fn end_with_text(
     }
 }
 
-// Requests: 11 = 1, 11 = 1, 1048576 = 1, 1048576 = 1
+// Requests: 11 = 1, 11 = 1, = 0, = 0, 1048576 = 1, 1048576 = 1
 #[test]
 fn from_path(rt: HostRuntime) -> Result<(), Fail> {
     let long = long_text(rt.alloc())?;
-    for (text, left) in &[("./a/./b//c/", "a/b/c"), (long.as_str(), long.as_str())] {
+    for (text, left) in &[
+        ("./a/./b//c/", "a/b/c"),
+        ("", ""),
+        (long.as_str(), long.as_str()),
+    ] {
         begin(rt.alloc());
         let answer = RelativePathBuf::from_path(rt.alloc(), Path::new(text));
         end_with_path(rt.alloc(), answer, left)?;
@@ -79,12 +83,13 @@ fn from_path_of_a_root(rt: HostRuntime) -> Result<(), Fail> {
     Ok(())
 }
 
-// Requests: 18 = 1, 18 = 1, 1048577 = 1, 1048577 = 1
+// Requests: 18 = 1, 18 = 1, 1 = 1, 1 = 1, 1048577 = 1, 1048577 = 1
 #[test]
 fn to_path(rt: HostRuntime) -> Result<(), Fail> {
     let long = long_text(rt.alloc())?;
     for (text, base, joined) in &[
         ("/hello///world//", ".", "./hello/world"),
+        ("", "", ""),
         (long.as_str(), "", long.as_str()),
     ] {
         let path = RelativePath::new(text);
@@ -97,12 +102,13 @@ fn to_path(rt: HostRuntime) -> Result<(), Fail> {
     Ok(())
 }
 
-// Requests: 14 = 1, 14 = 1, 1048577 = 1, 1048577 = 1
+// Requests: 14 = 1, 14 = 1, 1 = 1, 1 = 1, 1048577 = 1, 1048577 = 1
 #[test]
 fn to_logical_path(rt: HostRuntime) -> Result<(), Fail> {
     let long = long_text(rt.alloc())?;
     for (text, base, reached) in &[
         ("../../x", "/a/./b", "//x"),
+        ("", "", ""),
         (long.as_str(), "", long.as_str()),
     ] {
         let path = RelativePath::new(text);
@@ -117,12 +123,13 @@ fn to_logical_path(rt: HostRuntime) -> Result<(), Fail> {
 }
 
 // From a text, a `Path` and a `PathBuf`.
-// Requests: 13 = 1, 13 = 1, 13 = 1, 1048576 = 1, 1048576 = 1, 1048576 = 1
+// Requests: 13 = 1, 13 = 1, 13 = 1, = 0, = 0, = 0, 1048576 = 1, 1048576 = 1, 1048576 = 1
 #[test]
 fn relative_to(rt: HostRuntime) -> Result<(), Fail> {
     let long = long_text(rt.alloc())?;
     for (text, root, way) in &[
         ("some/path", "some/foo/bar/../baz/path", "../../../path"),
+        ("", "", ""),
         (long.as_str(), "", long.as_str()),
     ] {
         begin(rt.alloc());

@@ -1,7 +1,12 @@
--- The parent's components are those before the last one that is no `.`; without a parent there are none.
-use Rattle.relative_path_moves.proofs.PlacesLemmas.{directory_parent}
+-- The directory is the parent; without one the path is empty.
+use Rattle.relative_path_moves.proofs.PlacesLemmas.{IsPopped-parent}
 use Rattle.relative_path_moves.proofs.places.directory.Goals as goal
 
-pub returns : goal.returns
-returns c =
-    rw c.unwrap_or.ensures (directory_parent c.args.file c.parent.result c.parent.ensures.none c.parent.ensures.text)
+pub returns-clause-components : goal.returns-clause-components
+returns-clause-components c =
+    let popped = IsPopped-parent c.args.file c.parent.result c.parent.ensures.some c.parent.ensures.text in
+    rw c.unwrap_or.ensures popped.same_components
+
+pub returns-clause-text : goal.returns-clause-text
+returns-clause-text c =
+    rw c.unwrap_or.ensures (IsPopped-parent c.args.file c.parent.result c.parent.ensures.some c.parent.ensures.text)

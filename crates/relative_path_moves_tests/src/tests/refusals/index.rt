@@ -26,10 +26,11 @@ fn insert_of(alloc: Global, text: &str) -> Result<(), Fail> {
     finds(alloc, &index, "b", Some(0))
 }
 
-// Requests: 2s 3 = 1, 524288s 1048576 = 1
+// Requests: 2s 3 = 1, = 0, 524288s 1048576 = 1
 #[test]
 fn insert(rt: HostRuntime) -> Result<(), Fail> {
     insert_of(rt.alloc(), "b/c")?;
+    insert_of(rt.alloc(), "")?;
     insert_of(rt.alloc(), long_text(rt.alloc())?.as_str())
 }
 
@@ -42,10 +43,11 @@ fn get_of(alloc: Global, text: &str) -> Result<(), Fail> {
     same("get", &found.unwrap_or(Some(0)), &Some(0))
 }
 
-// Requests: 2s 3 = 0, 524288s 1048576 = 0
+// Requests: 2s 3 = 0, = 0, 524288s 1048576 = 0
 #[test]
 fn get(rt: HostRuntime) -> Result<(), Fail> {
     get_of(rt.alloc(), "a//b")?;
+    get_of(rt.alloc(), "")?;
     get_of(rt.alloc(), long_text(rt.alloc())?.as_str())
 }
 
@@ -56,9 +58,10 @@ fn place_of(alloc: Global, text: &str) -> Result<(), Fail> {
     same("has_place", &has.unwrap_or(true), &true)
 }
 
-// Requests: 3s 1s = 0, 524288s 1s = 0
+// Requests: 3s 1s = 0, 1s = 0, 524288s 1s = 0
 #[test]
 fn place(rt: HostRuntime) -> Result<(), Fail> {
     place_of(rt.alloc(), "a/../b")?;
+    place_of(rt.alloc(), "")?;
     place_of(rt.alloc(), long_text(rt.alloc())?.as_str())
 }

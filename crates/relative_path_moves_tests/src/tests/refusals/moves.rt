@@ -20,7 +20,7 @@ fn end_with_way(
     }
 }
 
-// Requests: 2s 9 488 4s 9 2s 1s 2s 2s 15 = 1, 524288s 1048576 488 524288s 1048573 524287s 1s 524287s 1048573 = 1
+// Requests: 2s 9 488 4s 9 2s 1s 2s 2s 15 = 1, 1s 4 488 1s = 0, 524288s 1048576 488 524288s 1048573 524287s 1s 524287s 1048573 = 1
 #[test]
 fn one_move(rt: HostRuntime) -> Result<(), Fail> {
     let long = long_text(rt.alloc())?;
@@ -32,6 +32,7 @@ fn one_move(rt: HostRuntime) -> Result<(), Fail> {
             "../img/x.png",
             "../../img/x.png",
         ),
+        ("a.md", "b.md", "", ""),
         (long.as_str(), "b", ".", above),
     ] {
         let moves = [(*old, *new)].map(as_paths);
@@ -74,13 +75,14 @@ fn makes(alloc: Global, moves: &[(RelativePath<'_>, RelativePath<'_>)]) -> Resul
     }
 }
 
-// Requests: 1s 4 488 1s 4 = 3, 524288s 1048576 488 = 2
+// Requests: 1s 4 488 1s 4 = 3, = 0, 524288s 1048576 488 = 2
 #[test]
 fn a_table(rt: HostRuntime) -> Result<(), Fail> {
     makes(
         rt.alloc(),
         &[("a.md", "x/a.md"), ("b.md", "y/b.md")].map(as_paths),
     )?;
+    makes(rt.alloc(), &[])?;
     let long = long_text(rt.alloc())?;
     makes(rt.alloc(), &[as_paths((long.as_str(), "b"))])
 }
@@ -113,6 +115,9 @@ fn ask(alloc: Global, table: &MoveTable<'_>, long: &str) -> Result<(), Fail> {
         || error == Some(ReferenceError::OutOfMemory);
     same("above the root", &is_told, &true)?;
     begin(alloc);
+    let answer = table.moved(alloc, 0, RelativePath::new(""));
+    end_with_way(alloc, answer.map_err(MoveError::from), "..")?;
+    begin(alloc);
     let answer = table.moved(
         alloc,
         0,
@@ -121,7 +126,7 @@ fn ask(alloc: Global, table: &MoveTable<'_>, long: &str) -> Result<(), Fail> {
     end_with_way(alloc, answer.map_err(MoveError::from), long)
 }
 
-// Requests: 1s 4 2s 1s 1s 2s 9 = 1, 2s 7 2s 1s = 0, 524288s 1048576 524288s 1s 1s 524288s 1048579 = 1
+// Requests: 1s 4 2s 1s 1s 2s 9 = 1, 2s 7 2s 1s = 0, 1s 1s 2 = 1, 524288s 1048576 524288s 1s 1s 524288s 1048579 = 1
 #[test]
 fn a_reference_of_a_table(rt: HostRuntime) -> Result<(), Fail> {
     let moves = [("a.md", "x/a.md"), ("b.md", "y/b.md")].map(as_paths);
@@ -142,12 +147,13 @@ fn ask_of_a_file(alloc: Global, table: &MoveTable<'_>, file: &str, now: &str) ->
     }
 }
 
-// Requests: 2s 4 = 0, 524288s 1048576 = 0
+// Requests: 2s 4 = 0, = 0, 524288s 1048576 = 0
 #[test]
 fn the_path_of_a_file(rt: HostRuntime) -> Result<(), Fail> {
     let moves = [("a.md", "x/a.md"), ("b.md", "y/b.md")].map(as_paths);
     let table = MoveTable::new(rt.alloc(), &moves)?;
     ask_of_a_file(rt.alloc(), &table, "./a.md", "x/a.md")?;
+    ask_of_a_file(rt.alloc(), &table, "", "")?;
     let long = long_text(rt.alloc())?;
     ask_of_a_file(rt.alloc(), &table, long.as_str(), long.as_str())
 }
@@ -156,12 +162,11 @@ fn the_path_of_a_file(rt: HostRuntime) -> Result<(), Fail> {
 fn ask_in_a_page(
     alloc: Global,
     table: &MoveTable<'_>,
-    reference: &str,
+    (page, reference): (&str, &str),
     text: Option<&str>,
 ) -> Result<(), Fail> {
-    let page = RelativePath::new("c/d.md");
     begin(alloc);
-    let answer = table.moved_in(alloc, page, RelativePath::new(reference));
+    let answer = table.moved_in(alloc, RelativePath::new(page), RelativePath::new(reference));
     end(alloc, answer.is_err())?;
     match answer {
         Ok(way) => same(reference, &way.as_ref().map(text_of), &text),
@@ -169,13 +174,16 @@ fn ask_in_a_page(
     }
 }
 
-// Requests: 2s 6 3s 4 2s 1s 9 3s 2s 1s 2s 9 = 1, 2s 6 3s 6 2s 1s 8 3s 2s = 0,
+// Requests: 2s 6 3s 4 2s 1s 9 3s 2s 1s 2s 9 = 1, 2s 6 3s 6 2s 1s 8 3s 2s = 0, 1s = 0,
 // 2s 6 524289s 1048578 524289s 1s 1048578 524289s 524289s = 0
 #[test]
 fn a_reference_of_a_page(rt: HostRuntime) -> Result<(), Fail> {
     let moves = [("a.md", "x/a.md"), ("b.md", "y/b.md")].map(as_paths);
     let table = MoveTable::new(rt.alloc(), &moves)?;
-    ask_in_a_page(rt.alloc(), &table, "../b.md", Some("../y/b.md"))?;
-    ask_in_a_page(rt.alloc(), &table, "./e.md", None)?;
-    ask_in_a_page(rt.alloc(), &table, long_text(rt.alloc())?.as_str(), None)
+    let page = "c/d.md";
+    ask_in_a_page(rt.alloc(), &table, (page, "../b.md"), Some("../y/b.md"))?;
+    ask_in_a_page(rt.alloc(), &table, (page, "./e.md"), None)?;
+    ask_in_a_page(rt.alloc(), &table, ("", ""), None)?;
+    let long = long_text(rt.alloc())?;
+    ask_in_a_page(rt.alloc(), &table, (page, long.as_str()), None)
 }

@@ -18,10 +18,11 @@ fn to_value_of_a_path_of(alloc: Global, text: &str) -> Result<(), Fail> {
     }
 }
 
-// Requests: 4 = 1, 1048576 = 1
+// Requests: 4 = 1, = 0, 1048576 = 1
 #[test]
 fn to_value_of_a_path(rt: HostRuntime) -> Result<(), Fail> {
     to_value_of_a_path_of(rt.alloc(), "a//b")?;
+    to_value_of_a_path_of(rt.alloc(), "")?;
     to_value_of_a_path_of(rt.alloc(), long_text(rt.alloc())?.as_str())
 }
 
@@ -39,10 +40,11 @@ fn from_value_of_a_string_of(alloc: Global, text: &str) -> Result<(), Fail> {
     }
 }
 
-// Requests: 4 = 1, 1048576 = 1
+// Requests: 4 = 1, = 0, 1048576 = 1
 #[test]
 fn from_value_of_a_string(rt: HostRuntime) -> Result<(), Fail> {
     from_value_of_a_string_of(rt.alloc(), "a//b")?;
+    from_value_of_a_string_of(rt.alloc(), "")?;
     from_value_of_a_string_of(rt.alloc(), long_text(rt.alloc())?.as_str())
 }
 
@@ -57,10 +59,11 @@ fn boxed_from_value_of_a_string_of(alloc: Global, text: &str) -> Result<(), Fail
     }
 }
 
-// Requests: 4 = 1, 1048576 = 1
+// Requests: 4 = 1, = 0, 1048576 = 1
 #[test]
 fn boxed_from_value_of_a_string(rt: HostRuntime) -> Result<(), Fail> {
     boxed_from_value_of_a_string_of(rt.alloc(), "a//b")?;
+    boxed_from_value_of_a_string_of(rt.alloc(), "")?;
     boxed_from_value_of_a_string_of(rt.alloc(), long_text(rt.alloc())?.as_str())
 }
 

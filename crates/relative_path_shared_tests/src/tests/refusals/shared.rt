@@ -20,10 +20,11 @@ fn boxed_from_text_of(alloc: Global, text: &str) -> Result<(), Fail> {
     }
 }
 
-// Requests: 4 = 1, 1048576 = 1
+// Requests: 4 = 1, = 0, 1048576 = 1
 #[test]
 fn boxed_from_text(rt: HostRuntime) -> Result<(), Fail> {
     boxed_from_text_of(rt.alloc(), "a//b")?;
+    boxed_from_text_of(rt.alloc(), "")?;
     boxed_from_text_of(rt.alloc(), long_text(rt.alloc())?.as_str())
 }
 
@@ -38,10 +39,11 @@ fn boxed_clone_of(alloc: Global, text: &str) -> Result<(), Fail> {
     }
 }
 
-// Requests: 4 = 1, 1048576 = 1
+// Requests: 4 = 1, = 0, 1048576 = 1
 #[test]
 fn boxed_clone(rt: HostRuntime) -> Result<(), Fail> {
     boxed_clone_of(rt.alloc(), "a//b")?;
+    boxed_clone_of(rt.alloc(), "")?;
     boxed_clone_of(rt.alloc(), long_text(rt.alloc())?.as_str())
 }
 
@@ -54,10 +56,11 @@ fn boxed_from_buf_of(alloc: Global, text: &str) -> Result<(), Fail> {
     shows("a box", boxed.as_relative_path(), text)
 }
 
-// Requests: = 0, = 0
+// Requests: = 0, = 0, = 0
 #[test]
 fn boxed_from_buf(rt: HostRuntime) -> Result<(), Fail> {
     boxed_from_buf_of(rt.alloc(), "a//b")?;
+    boxed_from_buf_of(rt.alloc(), "")?;
     boxed_from_buf_of(rt.alloc(), long_text(rt.alloc())?.as_str())
 }
 
@@ -70,10 +73,11 @@ fn into_boxed_relative_path_of(alloc: Global, text: &str) -> Result<(), Fail> {
     shows("a box", boxed.as_relative_path(), text)
 }
 
-// Requests: = 0, = 0
+// Requests: = 0, = 0, = 0
 #[test]
 fn into_boxed_relative_path(rt: HostRuntime) -> Result<(), Fail> {
     into_boxed_relative_path_of(rt.alloc(), "a//b")?;
+    into_boxed_relative_path_of(rt.alloc(), "")?;
     into_boxed_relative_path_of(rt.alloc(), long_text(rt.alloc())?.as_str())
 }
 
@@ -87,10 +91,11 @@ fn rc_from_path_text_of(alloc: Global, text: &str) -> Result<(), Fail> {
     }
 }
 
-// Requests: 4 40 = 2, 1048576 40 = 2
+// Requests: 4 40 = 2, 40 = 1, 1048576 40 = 2
 #[test]
 fn rc_from_path_text(rt: HostRuntime) -> Result<(), Fail> {
     rc_from_path_text_of(rt.alloc(), "a//b")?;
+    rc_from_path_text_of(rt.alloc(), "")?;
     rc_from_path_text_of(rt.alloc(), long_text(rt.alloc())?.as_str())
 }
 
@@ -105,10 +110,11 @@ fn rc_from_buf_of(alloc: Global, text: &str) -> Result<(), Fail> {
     }
 }
 
-// Requests: 4 40 = 1, 1048576 40 = 1
+// Requests: 4 40 = 1, 40 = 1, 1048576 40 = 1
 #[test]
 fn rc_from_buf(rt: HostRuntime) -> Result<(), Fail> {
     rc_from_buf_of(rt.alloc(), "a//b")?;
+    rc_from_buf_of(rt.alloc(), "")?;
     rc_from_buf_of(rt.alloc(), long_text(rt.alloc())?.as_str())
 }
 
@@ -122,10 +128,11 @@ fn rc_share_of(alloc: Global, text: &str) -> Result<(), Fail> {
     shows("the first owner", first.as_relative_path(), text)
 }
 
-// Requests: = 0, = 0
+// Requests: = 0, = 0, = 0
 #[test]
 fn rc_share(rt: HostRuntime) -> Result<(), Fail> {
     rc_share_of(rt.alloc(), "a//b")?;
+    rc_share_of(rt.alloc(), "")?;
     rc_share_of(rt.alloc(), long_text(rt.alloc())?.as_str())
 }
 
@@ -166,9 +173,10 @@ fn asks_for_nothing_of(alloc: Global, text: &str) -> Result<(), Fail> {
     same("lengths", &lens, &[text.len(); 3])
 }
 
-// Requests: = 0, = 0
+// Requests: = 0, = 0, = 0
 #[test]
 fn asks_for_nothing(rt: HostRuntime) -> Result<(), Fail> {
     asks_for_nothing_of(rt.alloc(), "a//b")?;
+    asks_for_nothing_of(rt.alloc(), "")?;
     asks_for_nothing_of(rt.alloc(), long_text(rt.alloc())?.as_str())
 }

@@ -42,6 +42,19 @@ fn a_long_file(rt: HostRuntime) -> Result<(), Fail> {
     }
 }
 
+// Requests: = 0, = 0
+#[test]
+fn a_manifest_of_no_file(rt: HostRuntime) -> Result<(), Fail> {
+    let manifest = Value::from_str(rt.alloc(), r#"{"base": "", "files": []}"#)?;
+    match marked(rt.alloc(), &manifest)? {
+        Ok(files) => are(&files, &[])?,
+        Err(error) => same("no file", &error, &ManifestError::OutOfMemory)?,
+    }
+    let manifest = Value::from_str(rt.alloc(), r#"{"base": "", "files": [""]}"#)?;
+    let error = marked(rt.alloc(), &manifest)?.err();
+    same("a file", &error, &Some(ManifestError::LeadsToBase(0)))
+}
+
 // Requests: = 0
 #[test]
 fn a_manifest_without_a_base(rt: HostRuntime) -> Result<(), Fail> {

@@ -48,21 +48,26 @@ fn a_link_that_is_left(rt: HostRuntime) -> Result<(), Fail> {
     moved_down(rt.alloc(), "[c](../c.md)", "[c](../c.md)")
 }
 
-// Requests: 9 = 1
+// Requests: 9 = 1, = 0
 #[test]
 fn a_page_without_links(rt: HostRuntime) -> Result<(), Fail> {
-    moved_down(rt.alloc(), "no link](", "no link](")
+    moved_down(rt.alloc(), "no link](", "no link](")?;
+    moved_down(rt.alloc(), "", "")
 }
 
-// Requests: 21 648 8 64 64 = 1
-#[test]
-fn links_of_a_page(rt: HostRuntime) -> Result<(), Fail> {
-    let alloc = rt.alloc();
+fn finds(alloc: Global, page: &str, count: usize) -> Result<(), Fail> {
     begin(alloc);
-    let answer = targets(alloc, "[c](c.md) ![d](d.png)");
+    let answer = targets(alloc, page);
     end(alloc, answer.is_err())?;
     match answer {
-        Ok(found) => same("links", &found.len(), &2),
+        Ok(found) => same(page, &found.len(), &count),
         Err(_) => Ok(()),
     }
+}
+
+// Requests: 21 648 8 64 64 = 1, 648 = 0
+#[test]
+fn links_of_a_page(rt: HostRuntime) -> Result<(), Fail> {
+    finds(rt.alloc(), "[c](c.md) ![d](d.png)", 2)?;
+    finds(rt.alloc(), "", 0)
 }

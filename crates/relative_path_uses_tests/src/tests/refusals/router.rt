@@ -20,8 +20,17 @@ fn end_with_file(
 }
 
 fn served_of(alloc: Global, request: &str, expected: Option<&str>) -> Result<(), Fail> {
+    served_below(alloc, "/srv/www", request, expected)
+}
+
+fn served_below(
+    alloc: Global,
+    root: &str,
+    request: &str,
+    expected: Option<&str>,
+) -> Result<(), Fail> {
     begin(alloc);
-    let answer = served(alloc, "/srv/www", request);
+    let answer = served(alloc, root, request);
     end_with_file(alloc, answer, expected)
 }
 
@@ -41,8 +50,10 @@ fn a_refused_request(rt: HostRuntime) -> Result<(), Fail> {
     served_of(rt.alloc(), r"a\b", None)
 }
 
-// Requests: 8 = 1
+// Requests: 8 = 1, = 0, 1 1 = 1
 #[test]
 fn an_empty_request(rt: HostRuntime) -> Result<(), Fail> {
-    served_of(rt.alloc(), "", Some("/srv/www"))
+    served_of(rt.alloc(), "", Some("/srv/www"))?;
+    served_below(rt.alloc(), "", "", Some(""))?;
+    served_below(rt.alloc(), "", "a", Some("a"))
 }

@@ -19,10 +19,11 @@ fn maps(alloc: Global, pages: &[RelativePath<'_>]) -> Result<(), Fail> {
     }
 }
 
-// Requests: 2s 12 488 2s 10 1s 6 = 4, 524288s 1048576 488 = 2
+// Requests: 2s 12 488 2s 10 1s 6 = 4, = 0, 524288s 1048576 488 = 2
 #[test]
 fn three_pages(rt: HostRuntime) -> Result<(), Fail> {
     maps(rt.alloc(), &PAGES.map(RelativePath::new))?;
+    maps(rt.alloc(), &[])?;
     let long = long_text(rt.alloc())?;
     maps(rt.alloc(), &[RelativePath::new(long.as_str())])
 }
@@ -52,6 +53,17 @@ fn find_of(alloc: Global, page: &str) -> Result<(), Fail> {
 fn find(rt: HostRuntime) -> Result<(), Fail> {
     find_of(rt.alloc(), "./d.html")?;
     find_of(rt.alloc(), long_text(rt.alloc())?.as_str())
+}
+
+// Requests: = 0
+#[test]
+fn find_the_empty_path(rt: HostRuntime) -> Result<(), Fail> {
+    let pages = PAGES.map(RelativePath::new);
+    let site = SiteMap::new(rt.alloc(), &pages)?;
+    begin(rt.alloc());
+    let answer = site.find(rt.alloc(), RelativePath::new(""));
+    end(rt.alloc(), answer.is_err())?;
+    same("find", &answer.unwrap_or(None), &None)
 }
 
 // Fails where memory is there and the site has another link from its first page to its second. The

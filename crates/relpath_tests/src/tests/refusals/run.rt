@@ -32,12 +32,13 @@ fn gives(alloc: Global, case: &str, input: &[u8], output: &[u8]) -> Result<(), F
     }
 }
 
-// Requests: 65537 376 7s 3 6s 14 = 0, 65537 40040 5000s 10000 = 0, 65537 131072 262144 524288 1048576 = 0
+// Requests: 65537 376 7s 3 6s 14 = 0, 65537 = 0, 65537 40040 5000s 10000 = 0, 65537 131072 262144 524288 1048576 = 0
 #[test]
 fn lines(rt: HostRuntime) -> Result<(), Fail> {
     let long = with_long_path(rt.alloc(), "normalize\t", "")?;
     let answer = with_long_path(rt.alloc(), "= ", "\n")?;
     gives(rt.alloc(), "six lines", SIX_LINES, SIX_ANSWERS)?;
+    gives(rt.alloc(), "no line", b"", b"")?;
     gives(
         rt.alloc(),
         "a long path",

@@ -1,17 +1,23 @@
 -- The index has the number of the move whose old path leads where the file's does, if there is one.
 use Rattle.relative_path_moves.specs.MoveTable.{olds_of}
-use Rattle.relative_path_moves.proofs.MoveTableLemmas.{IsTarget-found, IsTarget-kept, IsTarget-is}
+use Rattle.relative_path_moves.proofs.MoveTableLemmas.{IsUnmoved-found, IsTarget-found, IsTarget-kept, IsTarget-is}
 use Rattle.relative_path_moves.proofs.move_table.MoveTable.path_after.Goals as goal
 
-pub returns-in-Some : goal.returns-in-Some
-returns-in-Some c = λ target.
+pub returns-in-Some-clause-target : goal.returns-in-Some-clause-target
+returns-in-Some-clause-target c = λ target.
     let table = rw c.self.view_is at c.self.invariant in
     let first = rw c.in-Some.is at (c.in_ok-found.ensures (olds_of c.args.self.now) table.olds) in
     rw c.paths.ensures.new
     (IsTarget-is c.args.self.now _ _ target table.apart (IsTarget-found c.args.self.now _ c.in-Some.j first))
 
-pub returns-in-None : goal.returns-in-None
-returns-in-None c = λ target.
+pub returns-in-Some-clause-kept : goal.returns-in-Some-clause-kept
+returns-in-Some-clause-kept c = λ unmoved.
+    let table = rw c.self.view_is at c.self.invariant in
+    let first = rw c.in-Some.is at (c.in_ok-found.ensures (olds_of c.args.self.now) table.olds) in
+    absurd (IsUnmoved-found c.args.self.now _ c.in-Some.j first unmoved)
+
+pub returns-in-None-clause-target : goal.returns-in-None-clause-target
+returns-in-None-clause-target c = λ target.
     let table = rw c.self.view_is at c.self.invariant in
     let none = rw c.in-None.is at (c.in_ok-found.ensures (olds_of c.args.self.now) table.olds) in
     IsTarget-is c.args.self.now _ _ target table.apart (IsTarget-kept c.args.self.now _ none)

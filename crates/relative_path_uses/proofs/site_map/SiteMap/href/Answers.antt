@@ -15,8 +15,8 @@ returns-in_default-clause-href c =
     let (n, to_named) = some_name (path_at c.args.self.now c.args.to) c.page-page.ensures.named in
     none_between (path_at c.args.self.now c.args.from) (path_at c.args.self.now c.args.to) m n from_named to_named
     (none_of_way (path_components c.directory.result) (path_components c.directory-2.result) _ _ c.in_ok-way.way
-    c.in_default.is (c.directory.ensures ∙ ap directory c.page.ensures.path)
-    (c.directory-2.ensures ∙ ap directory c.page-page.ensures.path) c.in_ok-way.ensures.none)
+    c.in_default.is (c.directory.ensures.components ∙ ap directory c.page.ensures.path)
+    (c.directory-2.ensures.components ∙ ap directory c.page-page.ensures.path) c.in_ok-way.ensures.none)
 
 pub returns-in_default-clause-alike : goal.returns-in_default-clause-alike
 returns-in_default-clause-alike c page other same_page same_other =
@@ -35,8 +35,8 @@ link c =
     IsShortestNamed-between (path_at c.args.self.now c.args.from) (path_at c.args.self.now c.args.to) m
     c.file_name.result.now from_named c.file_name.ensures c.in-Some.link.text c.push.new.self.text
     (some_of_way (path_components c.directory.result) (path_components c.directory-2.result) _ _ c.in_ok-way.way
-    c.in-Some.link c.in-Some.is (c.directory.ensures ∙ ap directory c.page.ensures.path)
-    (c.directory-2.ensures ∙ ap directory c.page-page.ensures.path) c.in_ok-way.ensures.shortest)
+    c.in-Some.link c.in-Some.is (c.directory.ensures.components ∙ ap directory c.page.ensures.path)
+    (c.directory-2.ensures.components ∙ ap directory c.page-page.ensures.path) c.in_ok-way.ensures.shortest)
     (IsProper-last_name (path_at c.args.self.now c.args.to) c.file_name.result.now proper c.file_name.ensures) pushes
 
 pub returns-clause-href : goal.returns-clause-href
