@@ -25,7 +25,12 @@ pub struct Components<'a> {
 impl<'a> Components<'a> {
     #[inline(always)]
     pub fn new(text: &'a str) -> Components<'a> {
-        Components { at: text.as_ptr(), len: text.len(), slashes: 0, text: PhantomData }
+        Components {
+            at: text.as_ptr(),
+            len: text.len(),
+            slashes: 0,
+            text: PhantomData,
+        }
     }
 }
 
