@@ -1,7 +1,9 @@
 // Calls of the original crate, over and over: tools/speed writes the calls and the arms.
 #![allow(unused)]
 
-use relative_path::{PathExt, RelativePath};
+mod floor;
+
+use relative_path::{Component, PathExt, RelativePath};
 use std::hash::{DefaultHasher, Hash, Hasher};
 use std::hint::black_box;
 use std::path::Path;

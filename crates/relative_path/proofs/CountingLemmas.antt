@@ -148,10 +148,10 @@ module _ (bytes : List ℕ) (start skipped : ℕ) (some : 0 < start) (inside : s
       let j : skipped + k < 16 = omega (arith, h, few) in
       let here : start + (skipped + k) ≡ start + skipped + k = omega arith in
       let before : start - 1 + (skipped + k) ≡ start + skipped + k - 1 = omega (arith, some) in
-      let none = bit_at_not w64 (slashes start) (skipped + k) (omega (arith, mask_bound bytes start inside)) (omega (arith, j)) in
+      let none = bit_at_not w64 (slashes start) (skipped + k) (omega (arith, mask_bound bytes start 16 inside)) (omega (arith, j)) in
       ap (λ n. n % 2) (shr-shr both skipped k) ∙ bit_at_and (slashes (start - 1)) (bit_not w64 (slashes start)) (skipped + k)
-      ∙ ap₂ min (mask_bit bytes (start - 1) early (skipped + k) j)
-      (none ∙ ap (λ b. 1 - b) (mask_bit bytes start inside (skipped + k) j))
+      ∙ ap₂ min (mask_bit bytes (start - 1) 16 early (skipped + k) j)
+      (none ∙ ap (λ b. 1 - b) (mask_bit bytes start 16 inside (skipped + k) j))
       ∙ min_bits (is_slash (get_or bytes (start - 1 + (skipped + k)) 0)) (is_slash (get_or bytes (start + (skipped + k)) 0))
       ∙ ap₂ (λ p q. cond (not (is_slash (get_or bytes q 0)) && is_slash (get_or bytes p 0)) 1 0) before here
 
@@ -159,7 +159,7 @@ module _ (bytes : List ℕ) (start skipped : ℕ) (some : 0 < start) (inside : s
   both_small =
       let width : 16 ≡ 16 - skipped + skipped = omega (arith, few) in
       let less : both < 2 ^ 16 =
-      omega (arith, and_le_l (slashes (start - 1)) (bit_not w64 (slashes start)), mask_bound bytes (start - 1) early) in
+      omega (arith, and_le_l (slashes (start - 1)) (bit_not w64 (slashes start)), mask_bound bytes (start - 1) 16 early) in
       shr_below both (16 - skipped) skipped (subst (λ k. both < 2 ^ k) width less)
 
   -- where components begin in the block, but for its first bytes

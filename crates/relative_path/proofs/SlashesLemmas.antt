@@ -1,5 +1,5 @@
 -- A text trimmed of the slashes at an end, and cut at its first or its last slash.
-use Rattle.std.proofs.Common.{◌≡◌, ◌≢◌, ◌<◌, ℕ, suc, zero, cond, List, [], ◌∷◌, ◌++◌, All, take, drop, replicate, Option, Some, None, MatchOption, Bor, refl, sym, subst, ap, ap₂, ◌∙◌, lit<, take-append-drop, append-nil, ◌+◌, ◌-◌, ◌*◌, ◌^◌, length, get_or, get_or-drop, length-take, length-drop, arith, take_all, ◌≤◌, ⊎_elim, eqb-true, ◌⊎◌, inl, inr, w64, Bool, false, not, map, reverse, ne_eqb}
+use Rattle.std.proofs.Common.{◌≡◌, ◌≢◌, ◌<◌, ℕ, suc, zero, cond, List, [], ◌∷◌, ◌++◌, All, take, drop, replicate, Option, Some, None, MatchOption, Bor, refl, sym, subst, ap, ap₂, ◌∙◌, lit<, take-append-drop, append-nil, ◌+◌, ◌-◌, ◌*◌, ◌^◌, length, get_or, get_or-drop, length-take, length-drop, arith, take_all, ◌≤◌, ⊎_elim, pow_mono, eqb-true, ◌⊎◌, inl, inr, w64, Bool, false, not, map, reverse, ne_eqb}
 use Rattle.std.proofs.Math.Nat.{pow-suc, eq-or-lt_of_le}
 use Rattle.std.specs.Int.{bit_at, trailing_zeros}
 use Rattle.std.specs.Int.Count.{count_leading_zeros}
@@ -160,7 +160,7 @@ fails_after_last bytes k from to =
     ap is_slash (ap (λ i. get_or bytes i 0) (sym back) ∙ sym (get_or-reverse bytes (length bytes - 1 - k) 0 (omega (arith, to))))
     ∙ fails_before_first is_slash (reverse bytes) (length bytes - 1 - k) 0 (omega (arith, from, to, suffix_len-le-length is_solid bytes))
 
--- ---- searched by blocks of sixteen bytes: a mask has a bit for each, set where that is a slash
+-- ---- searched by blocks of up to 64 bytes: a mask has a bit for each, set where that is a slash
 
 -- the highest power of two in a number is a bit of it
 top_bit : (n j : ℕ) → 2 ^ j ≤ n → n < 2 ^ suc j → bit_at n j ≡ 1
@@ -170,29 +170,29 @@ top_bit n j least most =
     let none : j - j ≡ 0 = omega arith in
     ap (λ m. bit_at m j) whole ∙ bit_at_cat_high 1 j (n - 2 ^ j) j less (omega arith) ∙ ap (bit_at 1) none
 
-module _ (bytes : List ℕ) (start : ℕ) (inside : start + 16 ≤ length bytes) where
+module _ (bytes : List ℕ) (start width : ℕ) (inside : start + width ≤ length bytes) where
   abbrev mask : ℕ
-  mask = mask_l (map is_slash (take 16 (drop start bytes)))
+  mask = mask_l (map is_slash (take width (drop start bytes)))
 
-  pub mask_bound : mask < 2 ^ 16
+  pub mask_bound : mask < 2 ^ width
   mask_bound =
-      subst (λ n. mask < 2 ^ n) (length-map (take 16 (drop start bytes)) is_slash ∙ length-chunk start 16 bytes inside)
-      (mask_l-lt (map is_slash (take 16 (drop start bytes))))
+      subst (λ n. mask < 2 ^ n) (length-map (take width (drop start bytes)) is_slash ∙ length-chunk start width bytes inside)
+      (mask_l-lt (map is_slash (take width (drop start bytes))))
 
-  pub mask_bit : (k : ℕ) → k < 16 → bit_at mask k ≡ cond (is_slash (get_or bytes (start + k) 0)) 1 0
+  pub mask_bit : (k : ℕ) → k < width → bit_at mask k ≡ cond (is_slash (get_or bytes (start + k) 0)) 1 0
   mask_bit k h =
-      bit_mask_l (map is_slash (take 16 (drop start bytes))) k
+      bit_mask_l (map is_slash (take width (drop start bytes))) k
       ∙ ap (λ b. cond b 1 0)
-      (get_or-map is_slash (take 16 (drop start bytes)) k 0 false (omega (arith, h, length-chunk start 16 bytes inside))
-      ∙ ap is_slash (get_or-chunk start 16 bytes k 0 h))
+      (get_or-map is_slash (take width (drop start bytes)) k 0 false (omega (arith, h, length-chunk start width bytes inside))
+      ∙ ap is_slash (get_or-chunk start width bytes k 0 h))
 
-  slash_at : (k : ℕ) → k < 16 → bit_at mask k ≡ 1 → get_or bytes (start + k) 0 ≡ slash
+  slash_at : (k : ℕ) → k < width → bit_at mask k ≡ 1 → get_or bytes (start + k) 0 ≡ slash
   slash_at k within set =
       ⊎_elim (λ e. eqb-true _ _ e)
       (λ e. absurd (omega (arith, set, mask_bit k within, ap {B = ℕ} (λ b. cond b 1 0) e)))
       (cases_Bool (is_slash (get_or bytes (start + k) 0)))
 
-  no_slash_at : (k : ℕ) → start ≤ k → k < start + 16 → bit_at mask (k - start) ≡ 0 → get_or bytes k 0 ≢ slash
+  no_slash_at : (k : ℕ) → start ≤ k → k < start + width → bit_at mask (k - start) ≡ 0 → get_or bytes k 0 ≢ slash
   no_slash_at k from to clear e =
       let at : start + (k - start) ≡ k = omega (arith, from) in
       omega (
@@ -203,14 +203,17 @@ module _ (bytes : List ℕ) (start : ℕ) (inside : start + 16 ≤ length bytes)
         ap {B = ℕ} (λ b. cond (is_slash b) 1 0) e,
       )
 
+  wide : width ≤ 64 → mask < 2 ^ 64
+  wide few = omega (arith, mask_bound, pow_mono few)
+
   -- where no slash stands before the block
-  pub first_in : start ≤ position_or_len is_slash bytes → mask ≢ 0
+  pub first_in : width ≤ 64 → start ≤ position_or_len is_slash bytes → mask ≢ 0
       → start + trailing_zeros w64 mask ≡ position_or_len is_slash bytes
-  first_in after some =
+  first_in few after some =
       let n = trailing_zeros w64 mask in
-      let lowest = bit_at-trailing_zeros w64 mask (omega (arith, some)) (omega (arith, mask_bound)) in
-      let within : n < 16 =
-      ⊎_elim (λ h. h) (λ h. absurd (omega (arith, lowest.1, bit_at_above mask 16 n mask_bound h))) (cases_lt n 16) in
+      let lowest = bit_at-trailing_zeros w64 mask (omega (arith, some)) (wide few) in
+      let within : n < width =
+      ⊎_elim (λ h. h) (λ h. absurd (omega (arith, lowest.1, bit_at_above mask width n mask_bound h))) (cases_lt n width) in
       position_is bytes (start + n) (omega (arith, within, inside))
       (λ k h. ⊎_elim
       (λ early. eqb-false _ _ (fails_before_first is_slash bytes k 0 (omega (arith, early, after))))
@@ -218,33 +221,33 @@ module _ (bytes : List ℕ) (start : ℕ) (inside : start + 16 ≤ length bytes)
       (cases_lt k start))
       (λ _. slash_at n within lowest.1)
 
-  pub first_after : start ≤ position_or_len is_slash bytes → mask ≡ 0 → start + 16 ≤ position_or_len is_slash bytes
+  pub first_after : start ≤ position_or_len is_slash bytes → mask ≡ 0 → start + width ≤ position_or_len is_slash bytes
   first_after after none =
       let n = position_or_len is_slash bytes in
       ⊎_elim
       (λ h. absurd (no_slash_at n after h (ap (λ m. bit_at m (n - start)) none ∙ bit_at-zero (n - start))
       (slash_at_first bytes (omega (arith, h, inside)))))
       (λ h. h)
-      (cases_lt n (start + 16))
+      (cases_lt n (start + width))
 
   -- where no slash stands after the block
-  pub last_in : last_start is_slash bytes ≤ start + 16
+  pub last_in : width ≤ 64 → last_start is_slash bytes ≤ start + width
       → (64 - count_leading_zeros 64 mask ≡ 0 → last_start is_slash bytes ≤ start)
       × (0 < 64 - count_leading_zeros 64 mask → start + (64 - count_leading_zeros 64 mask) ≡ last_start is_slash bytes)
-  last_in before =
-      let (m, counted, most, least) = leading_length 64 mask (omega (arith, mask_bound)) in
+  last_in few before =
+      let (m, counted, most, least) = leading_length 64 mask (wide few) in
       let is : 64 - count_leading_zeros 64 mask ≡ m = omega (arith, counted) in
       let none : (k : ℕ) → start + m ≤ k → k < length bytes → get_or bytes k 0 ≢ slash = λ k from to. ⊎_elim
       (λ near. no_slash_at k (omega (arith, from)) near (bit_at_above mask m (k - start) most (omega (arith, from))))
       (λ far. eqb-false _ _ (fails_after_last bytes k (omega (arith, far, before)) to))
-      (cases_lt k (start + 16)) in
+      (cases_lt k (start + width)) in
       let top : 0 < m → bit_at mask (m - 1) ≡ 1 = λ some.
       let same : suc (m - 1) ≡ m = omega (arith, some) in
       top_bit mask (m - 1) (omega (arith, least, pow-suc 2 (m - 1), ap (λ i. 2 ^ i) same)) (omega (arith, most, ap (λ i. 2 ^ i) same)) in
-      let within : m ≤ 16 = ⊎_elim
-      (λ h. absurd (omega (arith, top (omega (arith, h)), bit_at_above mask 16 (m - 1) mask_bound (omega (arith, h)))))
+      let within : m ≤ width = ⊎_elim
+      (λ h. absurd (omega (arith, top (omega (arith, h)), bit_at_above mask width (m - 1) mask_bound (omega (arith, h)))))
       (λ h. h)
-      (cases_lt 16 m) in (
+      (cases_lt width m) in (
         λ zero. ⊎_elim
             (λ h. absurd (none (last_start is_slash bytes - 1) (omega (arith, zero, is, h)) (omega (arith, h))
             (slash_before_last bytes (omega (arith, h)))))

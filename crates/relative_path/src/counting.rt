@@ -48,7 +48,7 @@ fn begun_in(bytes: &[u8], start: usize, skipped: usize) -> usize
     ensures count { result + begun_from bytes.now (start + BLOCK) ≡ begun_from bytes.now (start + skipped) }
     ensures bound { result ≤ BLOCK - skipped }
 {
-    let begun = slashes_in(bytes, start - 1) & !slashes_in(bytes, start);
+    let begun = slashes_in::<BLOCK>(bytes, start - 1) & !slashes_in::<BLOCK>(bytes, start);
     (begun >> skipped).count_ones() as usize
 }
 

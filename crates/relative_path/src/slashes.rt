@@ -7,8 +7,10 @@ ghost use Rattle.relative_path.specs.Steps.{slash, is_slash, components};
 
 use std::simd::prelude::*;
 
-// How many bytes are compared side by side.
+// How many bytes are compared side by side, and how many in a text too short for that.
 pub(crate) const BLOCK: usize = 16;
+
+const HALF: usize = 8;
 
 // A run of slashes, dropped at once.
 const SLASHES: &str = "////////////////";
@@ -93,9 +95,15 @@ fn first_piece_len(text: &str) -> usize
 {
     let bytes = text.as_bytes();
     if bytes.len() >= BLOCK {
-        return match first_in_block(bytes, 0) {
+        return match first_in::<BLOCK>(bytes, 0) {
             Some(len) => len,
             None => far_first_piece_len(bytes),
+        };
+    }
+    if bytes.len() >= HALF {
+        return match first_in::<HALF>(bytes, 0) {
+            Some(len) => len,
+            None => first_in_last::<HALF>(bytes),
         };
     }
     let mut len = 0;
@@ -105,7 +113,7 @@ fn first_piece_len(text: &str) -> usize
     len
 }
 
-// Counts them where the first block has no slash. The last block may begin within the one before it.
+// Counts them where the first block has no slash.
 #[inline(never)]
 #[tactic(auto, using(crate::proofs::SlashesLemmas::position_le))]
 fn far_first_piece_len(bytes: &[u8]) -> usize
@@ -116,26 +124,40 @@ fn far_first_piece_len(bytes: &[u8]) -> usize
     let last = bytes.len() - BLOCK;
     let mut start = BLOCK;
     while start < last {
-        if let Some(len) = first_in_block(bytes, start) {
+        if let Some(len) = first_in::<BLOCK>(bytes, start) {
             return start + len;
         }
         start += BLOCK;
     }
-    match first_in_block(bytes, last) {
+    first_in_last::<BLOCK>(bytes)
+}
+
+// Counts them where no slash stands before the last N bytes.
+#[inline(always)]
+#[tactic(auto, using(crate::proofs::SlashesLemmas::position_le))]
+fn first_in_last<const N: usize>(bytes: &[u8]) -> usize
+    requires lanes { N ≤ 64 }
+    requires block { N ≤ length bytes.now }
+    requires after { length bytes.now - N ≤ position_or_len is_slash bytes.now }
+    ensures { result ≡ position_or_len is_slash bytes.now }
+{
+    let last = bytes.len() - N;
+    match first_in::<N>(bytes, last) {
         Some(len) => last + len,
         None => bytes.len(),
     }
 }
 
-// Counts the bytes of a block before its first slash, if it has one.
+// Counts the bytes of a block of N before its first slash, if it has one.
 #[inline(always)]
-fn first_in_block(bytes: &[u8], start: usize) -> Option<usize>
-    requires block { start + BLOCK ≤ length bytes.now }
+fn first_in<const N: usize>(bytes: &[u8], start: usize) -> Option<usize>
+    requires lanes { N ≤ 64 }
+    requires block { start + N ≤ length bytes.now }
     requires after { start ≤ position_or_len is_slash bytes.now }
-    ensures { MatchOption result (start + BLOCK ≤ position_or_len is_slash bytes.now)
+    ensures { MatchOption result (start + N ≤ position_or_len is_slash bytes.now)
         (λ len. start + len ≡ position_or_len is_slash bytes.now) }
 {
-    let slashes = slashes_in(bytes, start);
+    let slashes = slashes_in::<N>(bytes, start);
     if slashes == 0 {
         None
     } else {
@@ -163,11 +185,20 @@ fn last_piece_start(text: &str) -> usize
     let bytes = text.as_bytes();
     if bytes.len() >= BLOCK {
         let start = bytes.len() - BLOCK;
-        let len = last_in_block(bytes, start);
+        let len = last_in::<BLOCK>(bytes, start);
         return if len > 0 {
             start + len
         } else {
             far_last_piece_start(bytes)
+        };
+    }
+    if bytes.len() >= HALF {
+        let start = bytes.len() - HALF;
+        let len = last_in::<HALF>(bytes, start);
+        return if len > 0 {
+            start + len
+        } else {
+            last_in::<HALF>(bytes, 0)
         };
     }
     let mut start = bytes.len();
@@ -187,33 +218,35 @@ fn far_last_piece_start(bytes: &[u8]) -> usize
     let mut end = bytes.len() - BLOCK;
     while end > BLOCK {
         let start = end - BLOCK;
-        let len = last_in_block(bytes, start);
+        let len = last_in::<BLOCK>(bytes, start);
         if len > 0 {
             return start + len;
         }
         end = start;
     }
-    last_in_block(bytes, 0)
+    last_in::<BLOCK>(bytes, 0)
 }
 
-// Finds where the bytes of a block after its last slash begin: 0 if it has none.
+// Finds where the bytes of a block of N after its last slash begin: 0 if it has none.
 #[inline(always)]
-fn last_in_block(bytes: &[u8], start: usize) -> usize
-    requires block { start + BLOCK ≤ length bytes.now }
-    requires before { last_start is_slash bytes.now ≤ start + BLOCK }
+fn last_in<const N: usize>(bytes: &[u8], start: usize) -> usize
+    requires lanes { N ≤ 64 }
+    requires block { start + N ≤ length bytes.now }
+    requires before { last_start is_slash bytes.now ≤ start + N }
     ensures none { result ≡ 0 → last_start is_slash bytes.now ≤ start }
     ensures some { 0 < result → start + result ≡ last_start is_slash bytes.now }
 {
-    64 - slashes_in(bytes, start).leading_zeros() as usize
+    64 - slashes_in::<N>(bytes, start).leading_zeros() as usize
 }
 
-// Answers a bit for each byte of a block, set where it is a slash.
+// Answers a bit for each byte of a block of N, set where it is a slash.
 #[inline(always)]
-pub(crate) fn slashes_in(bytes: &[u8], start: usize) -> u64
-    requires { start + BLOCK ≤ length bytes.now }
-    ensures { result ≡ mask_l (map is_slash (take BLOCK (drop start bytes.now))) }
+pub(crate) fn slashes_in<const N: usize>(bytes: &[u8], start: usize) -> u64
+    requires lanes { N ≤ 64 }
+    requires block { start + N ≤ length bytes.now }
+    ensures { result ≡ mask_l (map is_slash (take N (drop start bytes.now))) }
 {
-    u8x16::from_slice(&bytes[start..])
-        .simd_eq(u8x16::splat(b'/'))
+    Simd::<u8, N>::from_slice(&bytes[start..])
+        .simd_eq(Simd::splat(b'/'))
         .to_bitmask()
 }
