@@ -3,7 +3,7 @@ ghost use Rattle.std.specs.Prelude.{◌≡◌, List, ℕ, [], IfOk};
 ghost use Rattle.relative_path_uses.specs.Targets.{HasTargets};
 
 use crate::target::Target;
-use relative_path_markdown::{Span, link_targets};
+use markdown_targets::{Span, link_targets};
 use std::alloc::{AllocError, Global};
 
 /// Where the targets of a page's links stand whose paths are ones from the page's directory, in the

@@ -1,6 +1,8 @@
 //! What a line begins after the markers of its containers.
+ghost use Rattle.std.specs.Prelude.{◌≤◌, length, IfSome};
 
-use crate::cursor::{Cursor, is_blank_byte, is_blank_text, past, run_length};
+use crate::bytes::{is_blank, is_blank_text, run_length};
+use crate::cursor::Cursor;
 use crate::fence::Fence;
 use crate::html_block::HtmlBlock;
 
@@ -19,7 +21,7 @@ pub(crate) enum Start {
     Text,
     // Indented code.
     Code,
-    // A heading of so many `#`.
+    // A heading, with so many `#`.
     Heading(usize),
     // A block of code in fences.
     Fenced(Fence),
@@ -47,41 +49,45 @@ impl Before {
     }
 
     // Whether there is a paragraph.
-    pub(crate) fn goes_on(self) -> bool {
+    pub(crate) fn is_open(self) -> bool {
         !matches!(self, Before::Nothing)
     }
 }
 
-// What the rest of a line begins, which opens no container.
-pub(crate) fn start_of(cursor: Cursor<'_>, before: Before) -> Start {
-    if cursor.is_blank() {
-        return Start::Blank;
+impl Start {
+    // What the rest of a line begins, which opens no container.
+    pub(crate) fn read(cursor: Cursor<'_>, before: Before) -> Start {
+        if cursor.is_at_end() {
+            return Start::Blank;
+        }
+        if cursor.is_indented() {
+            return if before.is_open() {
+                Start::Text
+            } else {
+                Start::Code
+            };
+        }
+        let text = cursor.rest;
+        if let Some(level) = heading_level(text) {
+            return Start::Heading(level);
+        }
+        if is_rule(text, before) {
+            return Start::Rule;
+        }
+        if let Some(fence) = Fence::read(text) {
+            return Start::Fenced(fence);
+        }
+        HtmlBlock::begun_by(text, before.is_open()).map_or(Start::Text, Start::Html)
     }
-    if cursor.is_indented() {
-        return if before.goes_on() {
-            Start::Text
-        } else {
-            Start::Code
-        };
-    }
-    let text = cursor.rest;
-    if let Some(level) = heading_level(text) {
-        return Start::Heading(level);
-    }
-    if is_rule(text, before) {
-        return Start::Rule;
-    }
-    if let Some(fence) = Fence::opened(text) {
-        return Start::Fenced(fence);
-    }
-    HtmlBlock::opened(text, before.goes_on()).map_or(Start::Text, Start::Html)
 }
 
 // How many `#` a text begins with, if they make a heading.
-fn heading_level(text: &[u8]) -> Option<usize> {
+fn heading_level(text: &[u8]) -> Option<usize>
+    ensures { IfSome result (λ level. level ≤ length text.now) }
+{
     let level = run_length(text, b'#');
-    let is_open = text.get(level).is_none_or(|&byte| is_blank_byte(byte));
-    if level == 0 || level > DEEPEST_HEADING || !is_open {
+    let is_apart = text.get(level).is_none_or(|&byte| is_blank(byte));
+    if level == 0 || level > DEEPEST_HEADING || !is_apart {
         return None;
     }
     Some(level)
@@ -96,7 +102,7 @@ fn is_rule(text: &[u8], before: Before) -> bool {
 fn is_underline(text: &[u8]) -> bool {
     match text.first() {
         Some(&byte) if byte == b'=' || byte == b'-' => {
-            is_blank_text(past(text, run_length(text, byte)))
+            is_blank_text(&text[run_length(text, byte)..])
         }
         _ => false,
     }
@@ -106,8 +112,7 @@ fn is_underline(text: &[u8]) -> bool {
 pub(crate) fn is_thematic_break(text: &[u8]) -> bool {
     match text.first() {
         Some(&byte) if byte == b'*' || byte == b'-' || byte == b'_' => {
-            text.iter()
-                .all(|&other| other == byte || is_blank_byte(other))
+            text.iter().all(|&other| other == byte || is_blank(other))
                 && text
                     .iter()
                     .filter(|&&other| other == byte)

@@ -1,6 +1,7 @@
 //! Fences of backticks or tildes, which hold code.
 
-use crate::cursor::{Cursor, is_blank_text, past, run_length};
+use crate::bytes::{is_blank_text, run_length};
+use crate::cursor::Cursor;
 
 // How many bytes a fence has at least.
 const SHORTEST: usize = 3;
@@ -15,13 +16,13 @@ pub(crate) struct Fence {
 }
 
 impl Fence {
-    // The fence that a text begins with, if it begins a block of code.
-    pub(crate) fn opened(text: &[u8]) -> Option<Fence> {
+    // The fence at the beginning of a text, if it begins a block of code.
+    pub(crate) fn read(text: &[u8]) -> Option<Fence> {
         let byte = *text.first()?;
         let length = run_length(text, byte);
         let is_fence = match byte {
             b'~' => true,
-            b'`' => !past(text, length).contains(&b'`'),
+            b'`' => !text[length..].contains(&b'`'),
             _ => false,
         };
         if !is_fence || length < SHORTEST {
@@ -30,9 +31,9 @@ impl Fence {
         Some(Fence { byte, length })
     }
 
-    // Whether what is left of a line ends the block.
-    pub(crate) fn is_closed(self, cursor: Cursor<'_>) -> bool {
+    // Whether a line closes the block.
+    pub(crate) fn is_closed_by(self, cursor: Cursor<'_>) -> bool {
         let length = run_length(cursor.rest, self.byte);
-        !cursor.is_indented() && length >= self.length && is_blank_text(past(cursor.rest, length))
+        !cursor.is_indented() && length >= self.length && is_blank_text(&cursor.rest[length..])
     }
 }

@@ -1,7 +1,8 @@
 //! Blocks in HTML: what begins one, and what ends it.
 
-use crate::cursor::{Cursor, past};
-use crate::lone_tag::is_lone_tag;
+use crate::bytes::{is_blank_text, run_end};
+use crate::cursor::Cursor;
+use crate::html::tag_end;
 
 // The names of tags that begin a block which goes on to a closing tag.
 const RAW_NAMES: [&[u8]; 4] = [b"script", b"pre", b"textarea", b"style"];
@@ -75,7 +76,7 @@ const BLOCK_NAMES: [&[u8]; 62] = [
     b"ul",
 ];
 
-// A block in HTML, told by what ends it.
+// A block in HTML, known by what ends it.
 #[derive(Clone, Copy)]
 pub(crate) enum HtmlBlock {
     // The closing tag of a script or the like.
@@ -94,15 +95,15 @@ pub(crate) enum HtmlBlock {
 
 impl HtmlBlock {
     // The block that a text begins. A tag of any name doesn't begin one in a paragraph.
-    pub(crate) fn opened(text: &[u8], is_in_paragraph: bool) -> Option<HtmlBlock> {
+    pub(crate) fn begun_by(text: &[u8], is_in_paragraph: bool) -> Option<HtmlBlock> {
         let tag = text.strip_prefix(b"<")?;
-        if let Some(block) = marked_block(tag) {
+        if let Some(block) = untagged_block(tag) {
             return Some(block);
         }
         if begins_raw(tag) {
             return Some(HtmlBlock::Raw);
         }
-        if begins_block(tag) || (!is_in_paragraph && is_lone_tag(tag)) {
+        if begins_block(tag) || (!is_in_paragraph && is_lone_tag(text)) {
             return Some(HtmlBlock::Tags);
         }
         None
@@ -110,7 +111,7 @@ impl HtmlBlock {
 
     // Whether a line ends the block before it. Only a blank line does so.
     pub(crate) fn is_ended_before(self, cursor: Cursor<'_>) -> bool {
-        matches!(self, HtmlBlock::Tags) && cursor.is_blank()
+        matches!(self, HtmlBlock::Tags) && cursor.is_at_end()
     }
 
     // Whether a line of the block is its last one.
@@ -127,7 +128,7 @@ impl HtmlBlock {
 }
 
 // The block that something else than a tag begins, after its `<`.
-fn marked_block(text: &[u8]) -> Option<HtmlBlock> {
+fn untagged_block(text: &[u8]) -> Option<HtmlBlock> {
     match text {
         [b'?', ..] => Some(HtmlBlock::Instruction),
         [b'!', b'-', b'-', ..] => Some(HtmlBlock::Comment),
@@ -140,36 +141,29 @@ fn marked_block(text: &[u8]) -> Option<HtmlBlock> {
 // Whether a tag begins a block that goes on to a closing tag.
 fn begins_raw(tag: &[u8]) -> bool {
     let (name, rest) = split_name(tag);
-    is_one_of(&RAW_NAMES, name) && (ends_name(rest) || rest.first() == Some(&b'>'))
+    is_one_of(&RAW_NAMES, name) && matches!(rest.first(), None | Some(b' ' | b'\t' | b'>'))
 }
 
 // Whether a tag begins a block that goes on to a blank line.
 fn begins_block(tag: &[u8]) -> bool {
     let (name, rest) = split_name(tag.strip_prefix(b"/").unwrap_or(tag));
-    let is_ended = ends_name(rest) || rest.starts_with(b">") || rest.starts_with(b"/>");
-    is_ended && is_one_of(&BLOCK_NAMES, name)
+    let is_apart = matches!(rest.first(), None | Some(b' ' | b'\t' | b'>'));
+    (is_apart || rest.starts_with(b"/>")) && is_one_of(&BLOCK_NAMES, name)
+}
+
+// Whether a text is a whole tag, and spaces.
+fn is_lone_tag(text: &[u8]) -> bool {
+    tag_end(text, 0).is_some_and(|end| is_blank_text(&text[end..]))
 }
 
 // The letters and digits that a text begins with, and what stands after them.
 fn split_name(text: &[u8]) -> (&[u8], &[u8]) {
-    let end = text
-        .iter()
-        .position(|byte| !byte.is_ascii_alphanumeric())
-        .unwrap_or(text.len());
-    (text.get(..end).unwrap_or(&[]), past(text, end))
+    text.split_at(run_end(text, 0, |byte| byte.is_ascii_alphanumeric()))
 }
 
 // Whether a name is one of these, in any case.
 fn is_one_of(names: &[&[u8]], name: &[u8]) -> bool {
     names.iter().any(|other| other.eq_ignore_ascii_case(name))
-}
-
-// Whether a space, a tab or the end of the line follows a name.
-fn ends_name(rest: &[u8]) -> bool {
-    match rest.first() {
-        None | Some(b' ' | b'\t') => true,
-        Some(_) => false,
-    }
 }
 
 // Whether a text has a part, in any case.

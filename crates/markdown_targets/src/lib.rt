@@ -1,36 +1,39 @@
 //! Where the targets of a page's links stand, as CommonMark reads it.
 //!
-//! `blocks` masks all but the inline text of a page, and `inlines` finds the links in that.
+//! `blocks` finds the text of paragraphs and headings in a page, and `inlines` the links in that. A
+//! module uses those to the right of it, and those that its row joins.
 //!
 //! ```text
-//! inlines - brackets, code_spans, tags
-//!         - definitions - link_parts - scan, span
-//! blocks  - definitions, mask
-//!         - containers, starts - fence, html_block - lone_tag - cursor
+//! pages    lib ─ blocks, inlines
+//! lines    blocks ─ containers, starts ─ fence, html_block ─ cursor
+//! text     inlines ─ brackets, code_spans, autolinks, definitions ─ links
+//! both     definitions, html, text_blocks, span, bytes
 //! ```
 #![tactic(auto)]
 
 pub use self::span::Span;
 
+mod autolinks;
 mod blocks;
 mod brackets;
+mod bytes;
 mod code_spans;
 mod containers;
 mod cursor;
 mod definitions;
 mod fence;
+mod html;
 mod html_block;
 mod inlines;
-mod link_parts;
-mod lone_tag;
-mod mask;
-mod scan;
+mod links;
 mod span;
 mod starts;
-mod tags;
+#[cfg(test)]
+mod tests;
+mod text_blocks;
 
-use crate::blocks::inline_text;
-use crate::inlines::destinations;
+use crate::blocks::read_blocks;
+use crate::inlines::read_inlines;
 use std::alloc::{AllocError, Global};
 
 /// Where the targets of the links, images and link reference definitions of a page in Markdown
@@ -42,8 +45,8 @@ use std::alloc::{AllocError, Global};
 ///
 /// It reads as CommonMark 0.31 does, but for runs of more than 80 backticks and more than 100 lists
 /// and quotations in one another, which it takes for text. What it finds is tested, and not proved. It takes time as the
-/// page is long, and memory for a list as long as the page, for the targets and for the brackets
-/// that are open.
+/// page is long, and memory for a list as long as the page, for its blocks, for the targets and for the
+/// brackets that are open.
 ///
 /// ```
 /// let page = "[a](b.md \"t\"), `[c](d)` and ![e](<f g>)\n\n[h]: i\n";
@@ -53,6 +56,6 @@ use std::alloc::{AllocError, Global};
 /// assert_eq!(rt; targets.as_slice(), ["b.md", "f g", "i"].as_slice());
 /// ```
 pub fn link_targets(alloc: Global, page: &str) -> Result<Vec<Span>, AllocError> {
-    let text = inline_text(alloc, page)?;
-    destinations(alloc, &text)
+    let text = read_blocks(alloc, page)?;
+    read_inlines(alloc, &text)
 }
