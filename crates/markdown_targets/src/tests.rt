@@ -25,7 +25,8 @@ fn same<T: PartialEq + Debug>(case: &str, found: &T, expected: &T) -> Result<(),
 // The targets of a page, in order and parted by spaces.
 fn found(alloc: Global, page: &str) -> Result<String, Fail> {
     let mut texts = String::new(alloc);
-    for span in link_targets(alloc, page)?.iter() {
+    for target in link_targets(alloc, page)?.targets.iter() {
+        let span = target.span;
         if !texts.is_empty() {
             texts.push(' ')?;
         }
