@@ -23,6 +23,4 @@ mod rewriter;
 mod router;
 mod site_map;
 mod target;
-#[cfg(test)]
-mod tests;
 mod url_reference;

@@ -1,0 +1,108 @@
+//! Classes of bytes, and steps over the bytes of a text.
+ghost use Rattle.std.specs.Prelude.{◌≤◌, ◌<◌, length, IfSome};
+ghost use Rattle.markdown_targets.specs.Steps.{Skips, Advances};
+
+// Whether a byte ends a line.
+pub(crate) fn is_line_end(byte: u8) -> bool {
+    byte == b'\n' || byte == b'\r'
+}
+
+// Whether a byte is a space or a tab.
+pub(crate) fn is_blank(byte: u8) -> bool {
+    byte == b' ' || byte == b'\t'
+}
+
+// Whether a byte is a space or a tab, or ends a line.
+pub(crate) fn is_space(byte: u8) -> bool {
+    is_blank(byte) || is_line_end(byte)
+}
+
+// Whether a byte is a space or a control of ASCII. NUL isn't one: CommonMark reads it as U+FFFD.
+pub(crate) fn is_space_or_control(byte: u8) -> bool {
+    byte != 0 && byte <= b' ' || byte == 127
+}
+
+// Whether a text has only spaces and tabs.
+pub(crate) fn is_blank_text(text: &[u8]) -> bool {
+    text.iter().all(|&byte| is_blank(byte))
+}
+
+// How often a byte stands at the beginning of a text.
+pub(crate) fn run_length(text: &[u8], byte: u8) -> usize
+    ensures { result ≤ length text.now }
+{
+    run_end(text, 0, |other| other == byte)
+}
+
+// The offset of the first byte from an offset on that fails a test, or the end of the text.
+pub(crate) fn run_end<F: Fn(u8) -> bool>(text: &[u8], from: usize, test: F) -> usize
+    requires callable { F.IsAlwaysCallable test }
+    requires within { from ≤ length text.now }
+    ensures { Skips text.now from result }
+{
+    for k in from..text.len() {
+        if !test(text[k]) {
+            return k;
+        }
+    }
+    text.len()
+}
+
+// The offset after the spaces and line ends at an offset.
+pub(crate) fn skip_spaces(text: &[u8], from: usize) -> usize
+    requires { from ≤ length text.now }
+    ensures { Skips text.now from result }
+{
+    run_end(text, from, is_space)
+}
+
+// The offset after this byte, where it is at an offset.
+pub(crate) fn skip_byte(text: &[u8], k: usize, byte: u8) -> Option<usize>
+    ensures { IfSome result (λ end. Advances text.now k end) }
+{
+    if k < text.len() && text[k] == byte {
+        Some(k + 1)
+    } else {
+        None
+    }
+}
+
+// The offset after the first of these words from an offset on.
+pub(crate) fn find_end(text: &[u8], from: usize, word: &[u8]) -> Option<usize>
+    requires { from ≤ length text.now }
+    ensures { IfSome result (λ end. Skips text.now from end) }
+{
+    for k in from..text.len() {
+        if let Some(rest) = text[k..].strip_prefix(word) {
+            return Some(text.len() - rest.len());
+        }
+    }
+    None
+}
+
+// The offset after the character at an offset, or after the two bytes of an escape.
+pub(crate) fn step_over(text: &[u8], k: usize) -> usize
+    requires { k < length text.now }
+    ensures { Advances text.now k result }
+{
+    match &text[k..] {
+        [b'\\', escaped, ..] if escaped.is_ascii_punctuation() => k + 2,
+        _ => k + 1,
+    }
+}
+
+// The offset of the first byte from an offset on that passes a test and isn't escaped.
+pub(crate) fn find_unescaped<F: Fn(u8) -> bool>(text: &[u8], from: usize, test: F) -> Option<usize>
+    requires callable { F.IsAlwaysCallable test }
+    requires within { from ≤ length text.now }
+    ensures { IfSome result (λ k. (from ≤ k) × (k < length text.now)) }
+{
+    let mut k = from;
+    while k < text.len() {
+        if test(text[k]) {
+            return Some(k);
+        }
+        k = step_over(text, k);
+    }
+    None
+}

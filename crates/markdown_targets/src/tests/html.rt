@@ -1,0 +1,135 @@
+//! HTML: where it begins and ends, and its attributes.
+use super::{all_find, finds};
+use std::test::Fail;
+
+const BLOCKS: &str = r##"
+§ 4.6 HTML blocks, start condition 1
+<script>¶[a](b.md)¶¶[c](d.md)¶</script>¶[e](f.md) ⇒ f.md
+<pre>¶¶[a](b.md)¶</pre>¶[c](d.md) ⇒ d.md
+<textarea>¶¶[a](b.md)¶a</textarea> [c](d.md)¶[e](f.md) ⇒ f.md
+<style a="b">¶¶[a](b.md)¶</style>¶[c](d.md) ⇒ d.md
+<PRE>¶¶[a](b.md)¶</Pre>¶[c](d.md) ⇒ d.md
+<pre¶¶[a](b.md) ⇒ none
+<pre→a¶¶[b](c.md) ⇒ none
+<script>¶¶[a](b.md)¶</pre>¶[c](d.md) ⇒ d.md
+<prex>¶[a](b.md)¶¶[c](d.md) ⇒ d.md
+</pre>¶[a](b.md)¶¶[c](d.md) ⇒ d.md
+<pre>a</pre>¶[b](c.md) ⇒ c.md
+§ 4.6 HTML blocks, start conditions 2 to 5
+<!-- a > b¶[c](d.md) -->¶¶[e](f.md) ⇒ f.md
+<!-- a¶¶[b](c.md)¶¶-->¶[d](e.md) ⇒ e.md
+<!-- a --> [b](c.md)¶[d](e.md) ⇒ e.md
+<!-->¶[a](b.md) ⇒ b.md
+<!- a¶[b](c.md) ⇒ c.md
+<? a >¶¶[b](c.md) ?>¶[d](e.md) ⇒ e.md
+<!A¶¶[b](c.md)¶>¶[d](e.md) ⇒ e.md
+<!a¶¶[b](c.md) ⇒ none
+<!1¶[b](c.md) ⇒ c.md
+<![CDATA[¶¶a ]>¶[b](c.md)¶]]>¶[d](e.md) ⇒ e.md
+<![cdata[¶[a](b.md) ⇒ b.md
+   <!-- a¶[b](c.md) -->¶[d](e.md) ⇒ e.md
+    <!-- a¶[b](c.md) ⇒ c.md
+a¶<!-- b¶¶[c](d.md) -->¶[e](f.md) ⇒ f.md
+§ 4.6 HTML blocks, start conditions 6 and 7
+<div>¶[a](b.md)¶¶[c](d.md) ⇒ d.md
+</div> a¶[b](c.md) ⇒ none
+a¶</div>¶[b](c.md) ⇒ none
+<div¶[a](b.md) ⇒ none
+<DIV/> a¶[b](c.md) ⇒ none
+<td>[a](b.md)</td> ⇒ none
+<table>¶<tr><td>[a](b.md)</td></tr>¶</table>¶[c](d.md)¶ →¶[e](f.md) ⇒ f.md
+<div/a>¶[b](c.md) ⇒ c.md
+<divx a¶[b](c.md) ⇒ c.md
+a¶<div>¶[b](c.md) ⇒ none
+a¶<b>¶[c](d.md) ⇒ d.md
+a¶<search>¶[b](c.md) ⇒ none
+a¶<source>¶[b](c.md) ⇒ c.md
+<b>¶[a](b.md)¶¶[c](d.md) ⇒ d.md
+</b→>→¶[a](b.md) ⇒ none
+<b c d_1.2-:e = "f>g" h='i' j=k/ />  ¶[l](m.md) ⇒ none
+<b> a¶[c](d.md) ⇒ d.md
+<b c="d>¶[e](f.md) ⇒ f.md
+<b c="d"e>¶[f](g.md) ⇒ g.md
+<1>¶[a](b.md) ⇒ b.md
+<b 1>¶[c](d.md) ⇒ d.md
+<b c==d>¶[e](f.md) ⇒ f.md
+<b /c>¶[d](e.md) ⇒ e.md
+</b c>¶[d](e.md) ⇒ e.md
+< b>¶[c](d.md) ⇒ d.md
+- <div>¶  [a](b.md)¶¶  [c](d.md) ⇒ d.md
+- <div>¶[a](b.md) ⇒ b.md
+> <b>¶[a](b.md) ⇒ b.md
+    <div>¶[a](b.md) ⇒ b.md
+"##;
+
+const INLINE: &str = r##"
+§ 6.6 Raw HTML, tags
+a <b c="[d](e.md)" f='[g](h.md)' i=[j](k.md)> [l](m.md) ⇒ m.md
+a <b-1 c="[d](e.md)"/> ⇒ none
+a <b¶c =¶"[d](e.md)¶"¶/> ⇒ none
+a <b _c:d.e-1="[f](g.md)"> ⇒ none
+a <1 b="[c](d.md)"> ⇒ d.md
+a < b c="[d](e.md)"> ⇒ e.md
+a <b_ c="[d](e.md)"> ⇒ e.md
+a <b *c="[d](e.md)"> ⇒ e.md
+a <b c*="[d](e.md)"> ⇒ e.md
+a <b c="d"e="[f](g.md)"> ⇒ g.md
+a <b c=d"[e](f.md)> ⇒ f.md
+a <b c=`[d](e.md)> ⇒ e.md
+a <b c= "d" = "[e](f.md)"> ⇒ f.md
+a <b/ c="[d](e.md)"> ⇒ e.md
+a <b c="[d](e.md)" / > ⇒ e.md
+a <b c="[d](e.md)> ⇒ e.md
+a <b c="[d](e.md)'> ⇒ e.md
+a <b c="[d](e.md)" ⇒ e.md
+a </b c="[d](e.md)"> ⇒ e.md
+[a </b](c.md)> ⇒ c.md
+a <b c="¶¶[d](e.md)"> ⇒ e.md
+`a <b c="`[d](e.md)"> ⇒ e.md
+a <b c="`"> [d](e.md)` ⇒ e.md
+§ 6.6 Raw HTML, comments and the like
+a <!-- [b](c.md) --> [d](e.md) ⇒ e.md
+a <!-- > [b](c.md) --> [d](e.md) ⇒ e.md
+a <!-- b -- [c](d.md) --> [e](f.md) ⇒ f.md
+a <!--> [b](c.md) --> ⇒ c.md
+a <!---> [b](c.md) --> ⇒ c.md
+a <!---[b](c.md)---> [d](e.md) ⇒ e.md
+a <!-[b](c.md)--> ⇒ c.md
+a <!-- [b](c.md) ⇒ c.md
+a <!-- [b](c.md)¶¶--> [d](e.md) ⇒ c.md e.md
+a <!-- b¶¶c <!-- [d](e.md) --> ⇒ none
+a <? > [b](c.md) ?> [d](e.md) ⇒ e.md
+a <?> [b](c.md) ?> [d](e.md) ⇒ e.md
+a <!B [c](d.md)> [e](f.md) ⇒ f.md
+a <!b [c](d.md)> [e](f.md) ⇒ f.md
+a <!1 [b](c.md)> ⇒ c.md
+a <![CDATA[ [b](c.md) > ]]> [d](e.md) ⇒ e.md
+a <![CDATA[]> [b](c.md) ]]> ⇒ none
+a <![cdata[ [b](c.md) ]]> ⇒ c.md
+"##;
+
+// The names of tags that begin a block which goes on to a blank line, by start condition 6.
+const BLOCK_NAMES: &str = "address article aside base basefont blockquote body caption center col \
+    colgroup dd details dialog dir div dl dt fieldset figcaption figure footer form frame frameset \
+    h1 h2 h3 h4 h5 h6 head header hr html iframe legend li link main menu menuitem nav noframes ol \
+    optgroup option p param search section summary table tbody td tfoot th thead title tr track ul";
+
+#[test]
+fn passes_over_blocks_of_html(rt: HostRuntime) -> Result<(), Fail> {
+    all_find(rt.alloc(), BLOCKS)
+}
+
+#[test]
+fn passes_over_html_in_text(rt: HostRuntime) -> Result<(), Fail> {
+    all_find(rt.alloc(), INLINE)
+}
+
+// Text follows such a tag, and the block ends before the blank line.
+#[test]
+fn knows_each_name_of_a_block(rt: HostRuntime) -> Result<(), Fail> {
+    for name in BLOCK_NAMES.split(' ') {
+        let page = format!(in rt.alloc(); "a\n<{name}>\n[b](c.md)\n\n[d](e.md)")?;
+        finds(rt.alloc(), name, &page, "e.md")?;
+    }
+    Ok(())
+}
