@@ -218,7 +218,7 @@ unslashed-spell cs proper = whole (spell cs) (has_root-spell cs proper) where
 -- after the file name come `.`s alone
 pub last_name-split : (cs : List Step) (n : List ℕ) → last_name cs ≡ Some n
     → (k : ℕ) × (cs ≡ kept cs ++ name n ∷ replicate k cur)
-last_name-split = edits.last_name-split
+last_name-split = extensions.last_name-split
 
 -- a list with a file name leads where the name leads after what a parent keeps
 pub IsSame-last_name : (cs : List Step) (n : List ℕ) → last_name cs ≡ Some n → IsSame cs (kept cs ++ name n ∷ [])

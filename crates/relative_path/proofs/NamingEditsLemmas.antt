@@ -1,6 +1,6 @@
 -- What edits of a file name keep: the components before it, and from which bases they lead anywhere.
-use Rattle.std.proofs.Common.{◌≡◌, ℕ, zero, suc, List, [], ◌∷◌, ◌++◌, length, take, drop, replicate, Option, Some, None, inl, inr, refl, sym, ap, ap₂, ◌∙◌, subst, append_assoc, take_at, take-append-drop}
-use Rattle.std.specs.Prelude.{IsTrue, ◌-◌, slice_get, IsSome}
+use Rattle.std.proofs.Common.{◌≡◌, ℕ, zero, suc, List, [], ◌∷◌, ◌++◌, length, take, drop, replicate, Option, Some, None, refl, sym, ap, ap₂, ◌∙◌, subst, append_assoc, take_at, take-append-drop}
+use Rattle.std.specs.Prelude.{IsTrue, IsSome}
 use Rattle.std.specs.Option.{option_and_then}
 use Rattle.std.proofs.lemmas.Bool.{cond-true}
 use Rattle.relative_path.specs.Steps.{Step, cur, name, dot, components}
@@ -10,36 +10,16 @@ use Rattle.relative_path.specs.Naming.{name_of, last_name, file_name_of, stem_of
 use Rattle.relative_path.proofs.StepsLemmas.{IsProper, AreProper}
 use Rattle.relative_path.proofs.WalkLemmas.{IsSome-value, IsSame-sym, IsSame-append_left, IsSome-walk_front, IsSome-walk_name}
 use Rattle.relative_path.proofs.EditingLemmas.{kept_len-curs, kept_len-push}
-use Rattle.relative_path.proofs.NamingLemmas.{without_curs-curs, last_other-at, components-IsNamed}
-use Rattle.relative_path.proofs.NamingExtensionLemmas.{ends_in, named_step, kept-name, last_name-name, components-IsExtended, IsExtended-unnamed}
-
--- after the file name come `.`s alone
-pub last_name-split : (cs : List Step) (n : List ℕ) → last_name cs ≡ Some n
-    → (k : ℕ) × (cs ≡ kept cs ++ name n ∷ replicate k cur)
-last_name-split cs n named = elim (ends_in cs) [
-  | inl (k, alone) ↦
-      let none = ap last_name alone
-      ∙ ap (λ ds. option_and_then name_of (slice_get ds (length ds - 1))) (without_curs-curs k) in
-      absurd (cc)
-  | inr e ↦
-      let last = ap last_name e.joined ∙ ap (option_and_then name_of) (last_other-at e.front e.last e.curs e.other) in
-      let is : e.last ≡ name n = named_step e.last n (sym last ∙ named) in
-      let whole : cs ≡ (e.front ++ e.last ∷ []) ++ replicate e.curs cur = e.joined
-      ∙ sym (append_assoc e.front (e.last ∷ []) (replicate e.curs cur)) in
-      let count : kept_len cs ≡ length e.front =
-      ap kept_len whole ∙ kept_len-curs (e.front ++ e.last ∷ []) e.curs ∙ kept_len-push e.front e.last e.other in
-      let firsts : kept cs ≡ e.front =
-      ap (λ k. take k cs) count ∙ ap (take (length e.front)) e.joined
-      ∙ take_at e.front (e.last ∷ replicate e.curs cur) (length e.front) refl in
-      (e.curs, e.joined ∙ ap₂ (λ front c. front ++ c ∷ replicate e.curs cur) (sym firsts) is)
-]
+use Rattle.relative_path.proofs.NamingLemmas.{last_other-at, components-IsNamed}
+use Rattle.relative_path.proofs.NamingExtensionLemmas.{last_name-split, kept-name, last_name-name, components-IsExtended, IsExtended-unnamed}
 
 -- a list with a file name leads where the name leads after what a parent keeps
 pub IsSame-last_name : (cs : List Step) (n : List ℕ) → last_name cs ≡ Some n → IsSame cs (kept cs ++ name n ∷ [])
 IsSame-last_name cs n named =
     let (k, joined) = last_name-split cs n named in
     subst (λ ds. IsSame ds (kept cs ++ name n ∷ [])) (sym joined)
-    (IsSame-append_left (kept cs) (name n ∷ replicate k cur) (name n ∷ []) (record { everywhere = λ base. walk-curs (base ++ n ∷ []) k }))
+    (IsSame-append_left (kept cs) (name n ∷ replicate k cur) (name n ∷ [])
+    (record { everywhere = λ base. walk-curs (base ++ n ∷ []) k }))
   where
     walk-curs : (base : List (List ℕ)) (k : ℕ) → walk base (replicate k cur) ≡ Some base
     walk-curs base zero = refl

@@ -1,8 +1,8 @@
 -- Where a file name stands among the components, what it is cut into, and what a new extension makes of it.
-use Rattle.std.proofs.Common.{◌≡◌, ◌≢◌, ◌⊎◌, ℕ, zero, suc, ◌-◌, ◌<◌, true, false, not, true≢false, List, [], ◌∷◌, ◌++◌, All, length, get_or, take, drop, replicate, reverse, Option, Some, None, inl, inr, sym, refl, ap, ◌∙◌, subst, arith, append_assoc, append-nil, length-append, eqb-true, take-append-drop, take_at}
+use Rattle.std.proofs.Common.{◌≡◌, ◌≢◌, ◌⊎◌, ℕ, zero, suc, ◌-◌, ◌<◌, true, false, not, true≢false, List, [], ◌∷◌, ◌++◌, All, length, get_or, take, drop, replicate, reverse, Option, Some, None, inl, inr, sym, refl, ap, ap₂, ◌∙◌, subst, arith, append_assoc, append-nil, length-append, eqb-true, take-append-drop, take_at}
 use Rattle.std.proofs.Math.Seq.{drop-cons}
 use Rattle.std.proofs.lemmas.Bool.{cond_both, and_parts, and_from, not-false, not-true, eqb-false}
-use Rattle.std.proofs.lemmas.List.{get_or-reverse, length-reverse, take_more, append_cancel_right}
+use Rattle.std.proofs.lemmas.List.{length-take-le, get_or-reverse, length-reverse, take_more, append_cancel_right}
 use Rattle.std.proofs.lemmas.List.Sums.{prefix_len_stops}
 use Rattle.std.proofs.lemmas.List.Elements.{All-from_recursion}
 use Rattle.std.proofs.lemmas.Option.{slice_get_within, get_or_from_slice_get}
@@ -20,14 +20,14 @@ use Rattle.relative_path.proofs.NamingLemmas.{no_dot, IsExtendedAt, IsSplit, IsS
 -- ---- where the file name stands
 
 -- the last component that is no `.` stands before the `.`s at the end
-pub record EndsIn (cs : List Step) : Type 0 where
-  pub front : List Step
-  pub last : Step
-  pub curs : ℕ
-  pub other : is_cur last ≡ false
-  pub joined : cs ≡ front ++ last ∷ replicate curs cur
+record EndsIn (cs : List Step) : Type 0 where
+  front : List Step
+  last : Step
+  curs : ℕ
+  other : is_cur last ≡ false
+  joined : cs ≡ front ++ last ∷ replicate curs cur
 
-pub ends_in : (cs : List Step) → ((k : ℕ) × (cs ≡ replicate k cur)) ⊎ EndsIn cs
+ends_in : (cs : List Step) → ((k : ℕ) × (cs ≡ replicate k cur)) ⊎ EndsIn cs
 ends_in [] = inl (0, refl)
 ends_in (c ∷ cs) = elim (ends_in cs) [
   | inl (k, alone) ↦ first c k alone
@@ -43,15 +43,15 @@ ends_in (c ∷ cs) = elim (ends_in cs) [
     first (name n) k alone = inr
         (record { front = []; last = name n; curs = k; other = refl; joined = ap (λ ds. name n ∷ ds) alone })
 
-pub named_step : (c : Step) (n : List ℕ) → name_of c ≡ Some n → c ≡ name n
+named_step : (c : Step) (n : List ℕ) → name_of c ≡ Some n → c ≡ name n
 named_step cur n is = absurd (cc)
 named_step up n is = absurd (cc)
 named_step (name m) n is = cc
 
--- the file name is the component after those that a parent keeps
-pub slice_get-last_name : (cs : List Step) (n : List ℕ) → last_name cs ≡ Some n
-    → slice_get cs (kept_len cs) ≡ Some (name n)
-slice_get-last_name cs n named = elim (ends_in cs) [
+-- after the file name come `.`s alone
+pub last_name-split : (cs : List Step) (n : List ℕ) → last_name cs ≡ Some n
+    → (k : ℕ) × (cs ≡ kept cs ++ name n ∷ replicate k cur)
+last_name-split cs n named = elim (ends_in cs) [
   | inl (k, alone) ↦
       let none = ap last_name alone
       ∙ ap (λ ds. option_and_then name_of (slice_get ds (length ds - 1))) (without_curs-curs k) in
@@ -61,11 +61,22 @@ slice_get-last_name cs n named = elim (ends_in cs) [
       let is : e.last ≡ name n = named_step e.last n (sym last ∙ named) in
       let whole : cs ≡ (e.front ++ e.last ∷ []) ++ replicate e.curs cur = e.joined
       ∙ sym (append_assoc e.front (e.last ∷ []) (replicate e.curs cur)) in
-      let kept : kept_len cs ≡ length e.front = ap kept_len whole ∙ kept_len-curs (e.front ++ e.last ∷ []) e.curs
-      ∙ kept_len-push e.front e.last e.other in
-      ap (slice_get cs) kept ∙ ap (λ ds. slice_get ds (length e.front)) e.joined ∙ slice_get-at e.front e.last _
-      ∙ ap Some is
+      let count : kept_len cs ≡ length e.front =
+      ap kept_len whole ∙ kept_len-curs (e.front ++ e.last ∷ []) e.curs ∙ kept_len-push e.front e.last e.other in
+      let firsts : kept cs ≡ e.front =
+      ap (λ k. take k cs) count ∙ ap (take (length e.front)) e.joined
+      ∙ take_at e.front (e.last ∷ replicate e.curs cur) (length e.front) refl in
+      (e.curs, e.joined ∙ ap₂ (λ front c. front ++ c ∷ replicate e.curs cur) (sym firsts) is)
 ]
+
+-- the file name is the component after those that a parent keeps
+pub slice_get-last_name : (cs : List Step) (n : List ℕ) → last_name cs ≡ Some n
+    → slice_get cs (kept_len cs) ≡ Some (name n)
+slice_get-last_name cs n named =
+    let (k, joined) = last_name-split cs n named in
+    let count : length (kept cs) ≡ kept_len cs = length-take-le (kept_len cs) cs (omega arith) in
+    ap (slice_get cs) (sym count) ∙ ap (λ ds. slice_get ds (length (kept cs))) joined
+    ∙ slice_get-at (kept cs) (name n) (replicate k cur)
 
 -- ---- what a name is cut into
 
