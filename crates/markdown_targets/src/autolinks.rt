@@ -2,7 +2,7 @@
 ghost use Rattle.std.specs.Prelude.{◌≤◌, length, IfSome};
 ghost use Rattle.markdown_targets.specs.Steps.{Advances};
 
-use crate::bytes::{run_end, skip_byte};
+use crate::bytes::{is_space_or_control, run_end, skip_byte};
 
 // How long a scheme may be.
 const LONGEST_SCHEME: usize = 32;
@@ -73,7 +73,7 @@ fn is_of_scheme(byte: u8) -> bool {
 
 // Whether a byte may stand in a URI.
 fn is_of_uri(byte: u8) -> bool {
-    byte > b' ' && byte != 127 && byte != b'<' && byte != b'>'
+    !is_space_or_control(byte) && byte != b'<' && byte != b'>'
 }
 
 // Whether a byte may stand in an address before its `@`.

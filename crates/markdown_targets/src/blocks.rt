@@ -23,8 +23,8 @@ const BYTE_ORDER_MARK: &[u8] = b"\xEF\xBB\xBF";
 enum Leaf {
     // None is open.
     Nothing,
-    // A paragraph. It is known to be text where an underline came below definitions alone.
-    Paragraph { is_known_text: bool },
+    // A paragraph.
+    Paragraph,
     // Indented code.
     Code,
     // Code in fences.
@@ -60,11 +60,11 @@ struct Reader {
     containers: Vec<Container>,
     // The innermost block.
     leaf: Leaf,
-    // Whether the innermost block is a list item with only its marker read.
-    is_item_empty: bool,
+    // Whether the innermost block is a container with only its marker read.
+    is_container_empty: bool,
 }
 
-// The text of the paragraphs and headings of a page in Markdown.
+// The text of the paragraphs, headings and blocks of HTML of a page in Markdown.
 //
 // Blocks are those of CommonMark 0.31. More than 100 containers in one another are read as text.
 pub(crate) fn read_blocks(alloc: Global, page: &str) -> Result<TextBlocks, AllocError> {
@@ -111,17 +111,17 @@ impl Reader {
             text: TextBlocks::new(alloc, page)?,
             containers: Vec::new(alloc),
             leaf: Leaf::Nothing,
-            is_item_empty: false,
+            is_container_empty: false,
         })
     }
 
     // Reads one more line.
     fn read_line(&mut self, line: Line<'_>) -> Result<(), AllocError> {
         let (depth, cursor) = self.enter_containers(line);
-        if depth == self.containers.len() && self.takes(cursor) {
+        if depth == self.containers.len() && self.takes(line, cursor) {
             return Ok(());
         }
-        let before = self.before(depth, cursor);
+        let before = self.before(depth);
         let (cursor, is_opened) = self.open_containers(depth, before, cursor)?;
         let before = if is_opened { Before::Nothing } else { before };
         let start = self.read_start(cursor, before);
@@ -133,14 +133,12 @@ impl Reader {
         if !is_opened {
             self.containers.truncate(depth);
         }
-        self.is_item_empty = is_opened && cursor.is_at_end() && self.is_in_item();
+        self.is_container_empty = is_opened && cursor.is_at_end();
         self.leaf = leaf_after(start, cursor);
         match start {
             Start::Text => self.text.begin(TextKind::Paragraph, from, line.end),
-            Start::Heading(level) => {
-                self.text
-                    .begin(TextKind::Heading, from.saturating_add(level), line.end)
-            }
+            Start::Heading => self.text.begin(TextKind::Heading, from, line.end),
+            Start::Html(_) => self.text.begin(TextKind::Html, from, line.end),
             _ => Ok(()),
         }
     }
@@ -155,16 +153,16 @@ impl Reader {
             cursor = inner;
         }
         let depth = self.containers.len();
-        if self.is_item_empty && cursor.is_at_end() {
+        if self.is_container_empty && cursor.is_at_end() {
             return (depth.saturating_sub(1), cursor);
         }
         (depth, cursor)
     }
 
     // Whether the innermost block takes a line as it is. A line that ends the block is one of it.
-    fn takes(&mut self, cursor: Cursor<'_>) -> bool {
+    fn takes(&mut self, line: Line<'_>, cursor: Cursor<'_>) -> bool {
         match self.leaf {
-            Leaf::Nothing | Leaf::Paragraph { .. } => false,
+            Leaf::Nothing | Leaf::Paragraph => false,
             Leaf::Code => cursor.is_at_end() || cursor.is_indented(),
             Leaf::Fenced(fence) => {
                 if fence.is_closed_by(cursor) {
@@ -174,6 +172,8 @@ impl Reader {
             }
             Leaf::Html(block) if block.is_ended_before(cursor) => false,
             Leaf::Html(block) => {
+                self.text
+                    .add_line(line.start, line.offset_of(cursor.rest), line.end);
                 self.leaf = html_leaf(block, cursor);
                 true
             }
@@ -181,11 +181,10 @@ impl Reader {
     }
 
     // What a line of so many containers finds before it.
-    fn before(&self, depth: usize, cursor: Cursor<'_>) -> Before {
+    fn before(&self, depth: usize) -> Before {
         match self.leaf {
-            Leaf::Paragraph { .. } if cursor.is_at_end() => Before::Nothing,
-            Leaf::Paragraph { .. } if depth == self.containers.len() => Before::Paragraph,
-            Leaf::Paragraph { .. } => Before::Lazy,
+            Leaf::Paragraph if depth == self.containers.len() => Before::Paragraph,
+            Leaf::Paragraph => Before::Lazy,
             _ => Before::Nothing,
         }
     }
@@ -219,32 +218,15 @@ impl Reader {
     }
 
     // What the rest of a line begins. An underline below definitions alone is text.
-    fn read_start(&mut self, cursor: Cursor<'_>, before: Before) -> Start {
+    fn read_start(&self, cursor: Cursor<'_>, before: Before) -> Start {
         let start = Start::read(cursor, before);
-        if !matches!(start, Start::Rule) || is_thematic_break(cursor.rest) {
-            return start;
-        }
-        if !matches!(
-            self.leaf,
-            Leaf::Paragraph {
-                is_known_text: false
-            }
-        ) || !is_definitions(self.text.last_text())
+        if matches!(start, Start::Rule)
+            && !is_thematic_break(cursor.rest)
+            && is_definitions(self.text.last_text())
         {
-            return start;
+            return Start::Text;
         }
-        self.leaf = Leaf::Paragraph {
-            is_known_text: true,
-        };
-        Start::Text
-    }
-
-    // Whether the innermost container is a list item.
-    fn is_in_item(&self) -> bool {
-        self.containers
-            .as_slice()
-            .last()
-            .is_some_and(|container| container.is_item())
+        start
     }
 }
 
@@ -257,10 +239,8 @@ fn begins_break(cursor: Cursor<'_>, marker: Option<u8>) -> bool {
 // The block that is open after its first line.
 fn leaf_after(start: Start, cursor: Cursor<'_>) -> Leaf {
     match start {
-        Start::Blank | Start::Heading(_) | Start::Rule => Leaf::Nothing,
-        Start::Text => Leaf::Paragraph {
-            is_known_text: false,
-        },
+        Start::Blank | Start::Heading | Start::Rule => Leaf::Nothing,
+        Start::Text => Leaf::Paragraph,
         Start::Code => Leaf::Code,
         Start::Fenced(fence) => Leaf::Fenced(fence),
         Start::Html(block) => html_leaf(block, cursor),

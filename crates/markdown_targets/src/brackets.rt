@@ -2,17 +2,26 @@
 use std::alloc::{AllocError, Global};
 
 // What a bracket opens.
-#[derive(Clone, Copy, Debug, PartialEq, Eq)]
+#[derive(Clone, Copy, PartialEq, Eq)]
 pub(crate) enum Opener {
     Link,
     Image,
+}
+
+// An open bracket.
+#[derive(Clone, Copy)]
+pub(crate) struct Bracket {
+    // What it opens.
+    pub(crate) opener: Opener,
+    // Its offset in the text.
+    pub(crate) start: usize,
 }
 
 // The open brackets of a block. Below `inactive` the brackets that open links are inactive, since
 // a link holds no links.
 #[derive(Drop)]
 pub(crate) struct Brackets {
-    open: Vec<Opener>,
+    open: Vec<Bracket>,
     inactive: usize,
 }
 
@@ -32,18 +41,18 @@ impl Brackets {
     }
 
     // Opens a bracket.
-    pub(crate) fn open(&mut self, opener: Opener) -> Result<(), AllocError> {
-        self.open.push(opener)?;
+    pub(crate) fn open(&mut self, opener: Opener, start: usize) -> Result<(), AllocError> {
+        self.open.push(Bracket { opener, start })?;
         Ok(())
     }
 
-    // Takes the innermost bracket, and answers it if it is active.
-    pub(crate) fn close(&mut self) -> Option<Opener> {
-        let opener = self.open.pop()?;
+    // Takes the innermost bracket, and returns it if it is active.
+    pub(crate) fn close(&mut self) -> Option<Bracket> {
+        let bracket = self.open.pop()?;
         let depth = self.open.len();
-        let is_active = opener == Opener::Image || self.inactive <= depth;
+        let is_active = bracket.opener == Opener::Image || self.inactive <= depth;
         self.inactive = self.inactive.min(depth);
-        if is_active { Some(opener) } else { None }
+        if is_active { Some(bracket) } else { None }
     }
 
     // Makes each open bracket of a link inactive, since a link inside was closed.

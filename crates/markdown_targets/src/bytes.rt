@@ -17,6 +17,11 @@ pub(crate) fn is_space(byte: u8) -> bool {
     is_blank(byte) || is_line_end(byte)
 }
 
+// Whether a byte is a space or a control of ASCII. NUL isn't one: CommonMark reads it as U+FFFD.
+pub(crate) fn is_space_or_control(byte: u8) -> bool {
+    byte != 0 && byte <= b' ' || byte == 127
+}
+
 // Whether a text has only spaces and tabs.
 pub(crate) fn is_blank_text(text: &[u8]) -> bool {
     text.iter().all(|&byte| is_blank(byte))

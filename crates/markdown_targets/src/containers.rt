@@ -47,11 +47,6 @@ impl Container {
             Container::Item(_) => None,
         }
     }
-
-    // Whether the container is a list item.
-    pub(crate) fn is_item(self) -> bool {
-        matches!(self, Container::Item(_))
-    }
 }
 
 // The place after the `>` of a block quote, and after one space.

@@ -2,7 +2,7 @@
 
 use crate::bytes::{is_blank_text, run_end};
 use crate::cursor::Cursor;
-use crate::html::tag_end;
+use crate::tags::{StartTag, closing_tag_end};
 
 // The names of tags that begin a block which goes on to a closing tag.
 const RAW_NAMES: [&[u8]; 4] = [b"script", b"pre", b"textarea", b"style"];
@@ -153,7 +153,11 @@ fn begins_block(tag: &[u8]) -> bool {
 
 // Whether a text is a whole tag, and spaces.
 fn is_lone_tag(text: &[u8]) -> bool {
-    tag_end(text, 0).is_some_and(|end| is_blank_text(&text[end..]))
+    let end = match StartTag::read(text, 0) {
+        Some(tag) => Some(tag.after),
+        None => closing_tag_end(text, 0),
+    };
+    end.is_some_and(|end| is_blank_text(&text[end..]))
 }
 
 // The letters and digits that a text begins with, and what stands after them.

@@ -1,17 +1,23 @@
-//! Where the targets of a page's links stand, as CommonMark reads it.
+//! The targets in a page of Markdown, as CommonMark reads it.
 //!
-//! `blocks` finds the text of paragraphs and headings in a page, and `inlines` the links in that. A
-//! module uses those to the right of it, and those that its row joins.
+//! `blocks` finds the text of paragraphs, headings and blocks of HTML in a page, and `inlines` the
+//! targets in that. A module uses those to the right of it in its row, and those of the rows below.
 //!
 //! ```text
-//! pages    lib ─ blocks, inlines
-//! lines    blocks ─ containers, starts ─ fence, html_block ─ cursor
-//! text     inlines ─ brackets, code_spans, autolinks, definitions ─ links
-//! both     definitions, html, text_blocks, span, bytes
+//! pages        lib - blocks, inlines
+//! lines        blocks - containers, starts - fence, html_block - cursor
+//! text         inlines - brackets, code_spans, autolinks
+//! definitions  definitions - names, links
+//! html         html - tags
+//! both         text_blocks, target, span, bytes
 //! ```
 #![tactic(auto)]
 
+ghost use Rattle.std.specs.Prelude.{map, IfOk};
+ghost use Rattle.markdown_targets.specs.Spans.{AreInOrder};
+
 pub use self::span::Span;
+pub use self::target::{LinkTarget, LinkTargets, PassedOver, Quote, TargetKind, WhyPassedOver};
 
 mod autolinks;
 mod blocks;
@@ -26,8 +32,11 @@ mod html;
 mod html_block;
 mod inlines;
 mod links;
+mod names;
 mod span;
 mod starts;
+mod tags;
+mod target;
 #[cfg(test)]
 mod tests;
 mod text_blocks;
@@ -36,26 +45,55 @@ use crate::blocks::read_blocks;
 use crate::inlines::read_inlines;
 use std::alloc::{AllocError, Global};
 
-/// Where the targets of the links, images and link reference definitions of a page in Markdown
-/// stand, in the order of the page.
+/// The targets of the links, images and link reference definitions of a page in Markdown, and of the
+/// attributes `href` and `src` in its HTML.
 ///
-/// A target is the bytes of a destination, without the angle brackets around it and the title after
-/// it. Nothing is decoded. Links by name, as `[a]` and `[a][b]`, aren't looked up; the definitions of
-/// such names are found. Code, HTML, comments and autolinks are passed over.
+/// The targets are spans of the page, in its order and without overlap. That they are the page's targets is tested,
+/// and not proved. Nothing in them is decoded.
 ///
-/// It reads as CommonMark 0.31 does, but for runs of more than 80 backticks and more than 100 lists
-/// and quotations in one another, which it takes for text. What it finds is tested, and not proved. It takes time as the
-/// page is long, and memory for a list as long as the page, for its blocks, for the targets and for the
-/// brackets that are open.
+/// The page is read as the text of CommonMark 0.31.2 has it. A link by name, as `[a]` and `[a][b]`,
+/// has no target of its own; the definition of the name has it. A label that begins with `^` is a
+/// footnote's, and its definition is text. Code, comments and autolinks have no targets, nor has what
+/// stands between the tags of `script`, `style`, `textarea` and `title`, but for links of Markdown in a
+/// paragraph. Destinations passed over on purpose are in `passed_over`.
+///
+/// Four things are read otherwise than CommonMark reads them: names of links are compared without case
+/// in ASCII alone; more than 100 lists and quotations in one another, and runs of more than 80
+/// backticks, are text; HTML in a block of HTML has the tags that CommonMark knows in a paragraph.
+///
+/// Time is linear in the page, but for the search of names. It allocates a copy of the page, lists of
+/// its blocks, targets and open brackets, and the names that it defines.
 ///
 /// ```
-/// let page = "[a](b.md \"t\"), `[c](d)` and ![e](<f g>)\n\n[h]: i\n";
-/// let spans = link_targets(alloc, page)?;
-/// let targets = spans.iter().map(|span| &page[span.start..span.end]);
-/// let targets = targets.collect::<Vec<_>>(alloc)?;
-/// assert_eq!(rt; targets.as_slice(), ["b.md", "f g", "i"].as_slice());
+/// let page = "[a](b.md \"t\"), `[c](d)` and ![e](<f g>)\n\n[h]: i\n\n<img src='j'>\n";
+/// let found = link_targets(alloc, page)?;
+/// let spans = found.targets.iter().map(|target| target.span);
+/// let texts = spans.map(|span| &page[span.start..span.end]).collect::<Vec<_>>(alloc)?;
+/// assert_eq!(rt; texts.as_slice(), ["b.md", "f g", "i", "j"].as_slice());
+/// assert_eq!(rt; found.targets[3].kind, TargetKind::Attribute(Quote::Single));
 /// ```
-pub fn link_targets(alloc: Global, page: &str) -> Result<Vec<Span>, AllocError> {
+pub fn link_targets(alloc: Global, page: &str) -> Result<LinkTargets, AllocError>
+    ensures in_order { IfOk result (λ found.
+        AreInOrder page.now 0 (map (λ target. target.span) found.targets.items)) }
+{
     let text = read_blocks(alloc, page)?;
-    read_inlines(alloc, &text)
+    let found = read_inlines(alloc, &text)?;
+    let targets = in_order(alloc, page, &found.targets)?;
+    Ok(LinkTargets { targets, ..found })
+}
+
+// The targets that are spans of the page, without those that begin before the last one ends. None does,
+// which isn't proved.
+fn in_order(alloc: Global, page: &str, found: &[LinkTarget]) -> Result<Vec<LinkTarget>, AllocError>
+    ensures { IfOk result (λ targets. AreInOrder page.now 0 (map (λ target. target.span) targets.items)) }
+{
+    let mut targets = Vec::new(alloc);
+    let mut at = 0;
+    for target in found {
+        if at <= target.span.start && target.span.is_of(page) {
+            targets.push(*target)?;
+            at = target.span.end;
+        }
+    }
+    Ok(targets)
 }

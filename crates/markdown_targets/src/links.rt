@@ -2,7 +2,9 @@
 ghost use Rattle.std.specs.Prelude.{◌≤◌, ◌<◌, length, IfSome};
 ghost use Rattle.markdown_targets.specs.Steps.{Advances};
 
-use crate::bytes::{find_unescaped, is_line_end, skip_byte, skip_spaces, step_over};
+use crate::bytes::{
+    find_unescaped, is_line_end, is_space_or_control, skip_byte, skip_spaces, step_over,
+};
 use crate::span::Span;
 
 // How deep the parentheses of a destination may be.
@@ -76,7 +78,7 @@ fn bare_destination_end(text: &[u8], start: usize) -> Option<usize>
             b'(' => depth += 1,
             b')' if depth == 0 => break,
             b')' => depth -= 1,
-            byte if byte <= b' ' || byte == 127 => break,
+            byte if is_space_or_control(byte) => break,
             _ => {}
         }
         k = step_over(text, k);

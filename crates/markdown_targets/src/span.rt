@@ -1,10 +1,23 @@
-//! The place of a link's target.
+//! Spans of a page.
+ghost use Rattle.std.specs.Prelude.{◌↔◌, IsTrue};
+ghost use Rattle.markdown_targets.specs.Spans.{IsSpanOf};
 
-/// The place of a link's target in its page: the bytes from `start` on, before `end`.
+/// A part of a page: the bytes from `start` on, before `end`.
 #[derive(Clone, Copy, Debug, PartialEq, Eq)]
 pub struct Span {
-    /// The offset of the target's first byte.
+    /// The offset of its first byte.
     pub start: usize,
-    /// The offset after the target's last byte.
+    /// The offset after its last byte.
     pub end: usize,
+}
+
+impl Span {
+    // Whether the span lies within a page, between two ends of characters.
+    pub(crate) fn is_of(self, page: &str) -> bool
+        ensures { IsTrue result ↔ IsSpanOf page.now self }
+    {
+        self.start <= self.end
+            && page.is_char_boundary(self.start)
+            && page.is_char_boundary(self.end)
+    }
 }

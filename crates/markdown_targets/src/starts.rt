@@ -1,6 +1,4 @@
 //! What a line begins after the markers of its containers.
-ghost use Rattle.std.specs.Prelude.{◌≤◌, length, IfSome};
-
 use crate::bytes::{is_blank, is_blank_text, run_length};
 use crate::cursor::Cursor;
 use crate::fence::Fence;
@@ -21,8 +19,8 @@ pub(crate) enum Start {
     Text,
     // Indented code.
     Code,
-    // A heading, with so many `#`.
-    Heading(usize),
+    // A heading that `#` opens.
+    Heading,
     // A block of code in fences.
     Fenced(Fence),
     // A block in HTML.
@@ -68,8 +66,8 @@ impl Start {
             };
         }
         let text = cursor.rest;
-        if let Some(level) = heading_level(text) {
-            return Start::Heading(level);
+        if is_heading(text) {
+            return Start::Heading;
         }
         if is_rule(text, before) {
             return Start::Rule;
@@ -81,16 +79,10 @@ impl Start {
     }
 }
 
-// How many `#` a text begins with, if they make a heading.
-fn heading_level(text: &[u8]) -> Option<usize>
-    ensures { IfSome result (λ level. level ≤ length text.now) }
-{
+// Whether a text begins with the `#` of a heading.
+fn is_heading(text: &[u8]) -> bool {
     let level = run_length(text, b'#');
-    let is_apart = text.get(level).is_none_or(|&byte| is_blank(byte));
-    if level == 0 || level > DEEPEST_HEADING || !is_apart {
-        return None;
-    }
-    Some(level)
+    level > 0 && level <= DEEPEST_HEADING && text.get(level).is_none_or(|&byte| is_blank(byte))
 }
 
 // Whether a text is a thematic break, or underlines the paragraph before it.

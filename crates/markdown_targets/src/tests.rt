@@ -10,9 +10,9 @@ mod definitions;
 mod hostile;
 mod html;
 mod inlines;
+mod left_out;
 mod limits;
 mod links;
-mod passed_over;
 
 // Fails in the words of this case where another value was found than is expected. A call of it costs
 // a proof a fourth of what `assert_eq!` with a message does.

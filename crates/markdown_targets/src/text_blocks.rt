@@ -10,6 +10,8 @@ pub(crate) enum TextKind {
     Paragraph,
     // A heading that `#` opens.
     Heading,
+    // HTML.
+    Html,
 }
 
 // A block, and where its text stands in the page.

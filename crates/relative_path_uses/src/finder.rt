@@ -3,19 +3,17 @@ ghost use Rattle.std.specs.Prelude.{◌≡◌, List, ℕ, [], IfOk};
 ghost use Rattle.relative_path_uses.specs.Targets.{HasTargets};
 
 use crate::target::Target;
-use markdown_targets::{Span, link_targets};
+use markdown_targets::{LinkTarget, TargetKind, link_targets};
 use std::alloc::{AllocError, Global};
 
-/// Where the targets of a page's links stand whose paths are ones from the page's directory, in the
-/// order of the page.
+/// The targets of a page's links whose paths are relative to its directory, in the order of the page.
 ///
-/// The page is read as [`link_targets`] reads Markdown: links, images and the definitions of links,
-/// but no code, no HTML and no links by name. That these are the links, and that none is missing, is
-/// tested, and not proved. A target with a scheme, one that begins with a slash, and one without a
-/// path (`#top`, `?q`) is none.
+/// They are the targets that [`link_targets`] finds in links, images and definitions, without those that
+/// have a scheme, a leading slash or no path (`#top`, `?q`). Attributes of HTML aren't among them. A page
+/// with a `<base href>` has none. That these are the targets, and that none is missing, is tested, and not
+/// proved.
 ///
-/// It takes memory for a list as long as the page, for what is found, and for brackets that are
-/// open; and time as the page is long.
+/// It allocates what [`link_targets`] does, and a list of the targets. Time is linear in the page.
 ///
 /// ```
 /// let page = "[a](b.md#top) [c](#d) [e](https://f.org) `[g](h)`";
@@ -25,25 +23,37 @@ use std::alloc::{AllocError, Global};
 pub fn targets(alloc: Global, page: &str) -> Result<Vec<Target>, AllocError>
     ensures in_order { IfOk result (λ targets. HasTargets page.now 0 targets.items) }
 {
-    let spans = link_targets(alloc, page)?;
-    in_order(alloc, page, &spans)
+    let found = link_targets(alloc, page)?;
+    if found.has_base {
+        return Ok(Vec::new(alloc));
+    }
+    in_order(alloc, page, &found.targets)
 }
 
-// The spans that are targets of the page, but for those that begin before the last one ends.
-fn in_order(alloc: Global, page: &str, spans: &[Span]) -> Result<Vec<Target>, AllocError>
+// The targets of Markdown among these that are the page's, without those that begin before the last one
+// ends.
+fn in_order(alloc: Global, page: &str, links: &[LinkTarget]) -> Result<Vec<Target>, AllocError>
     ensures { IfOk result (λ targets. HasTargets page.now 0 targets.items) }
 {
     let mut targets = Vec::new(alloc);
     let mut at = 0;
-    for span in spans {
+    for link in links {
         let target = Target {
-            start: span.start,
-            end: span.end,
+            start: link.span.start,
+            end: link.span.end,
         };
-        if at <= target.start && target.is_of(page) {
+        if is_markdown(link.kind) && at <= target.start && target.is_of(page) {
             targets.push(target)?;
             at = target.end;
         }
     }
     Ok(targets)
+}
+
+// Whether a target stands in Markdown, and not in HTML.
+fn is_markdown(kind: TargetKind) -> bool {
+    match kind {
+        TargetKind::Inline | TargetKind::Definition => true,
+        TargetKind::Attribute(_) => false,
+    }
 }

@@ -2,5 +2,5 @@
 use Rattle.relative_path_uses.proofs.TargetsLemmas.{HasSoFar}
 use Rattle.relative_path_uses.proofs.finder.in_order.Given as goal
 
-abbrev pub invariant-loop-span : goal.invariant-loop-span
-invariant-loop-span l = HasSoFar l.page l.targets.items l.at
+abbrev pub invariant-loop-link : goal.invariant-loop-link
+invariant-loop-link l = HasSoFar l.page l.targets.items l.at

@@ -1,7 +1,7 @@
 -- The offset stays within the text.
 use Rattle.std.proofs.Common.{◌-◌, length}
 use Rattle.markdown_targets.specs.Steps.{Skips}
-use Rattle.markdown_targets.proofs.definitions.add_definitions.Given as goal
+use Rattle.markdown_targets.proofs.inlines.Reader.read_definitions.Given as goal
 
 abbrev pub invariant-loop-definition : goal.invariant-loop-definition
 invariant-loop-definition l = Skips l.text l.start l.k
