@@ -136,6 +136,7 @@ a <a href='b.md'>[c](d.md)</a> ⇒ b.md d.md
 <!-- <img src="b.png"> --> ⇒ none
 <!-- a¶¶<img src="b.png">¶--> ⇒ none
 a <!-- <img src="b.png"> --> ⇒ none
+a <script>b = '<img src="c.png">';</script> <img src="d.png"> ⇒ d.png
 <div>¶<!--¶<img src="b.png">¶-->¶<img src="c.png"> ⇒ c.png
 <script>¶a = '<img src="b.png">';¶</script> ⇒ none
 <style>¶<img src="b.png">¶</style> ⇒ none
@@ -160,6 +161,7 @@ a </img src="b.png"> ⇒ none
 <a data-href="b.md" hrefs="c.md" xhref="d.md"> ⇒ none
 <a b-src="c.md" src-b="d.md" srcset="e.md"> ⇒ none
 <a href="b.md" href="c.md"> ⇒ b.md
+<img src="b.png" src="c.png"> ⇒ b.png
 <a HREF="b.md" href="c.md" src="d.md"> ⇒ b.md d.md
 <a src="b.md" href="c.md"> ⇒ b.md c.md
 <a title="href='b.md'"> ⇒ none
