@@ -11,6 +11,7 @@ const DEFINITIONS: &str = r##"
 [a]:b.md¶[c]:¶d.md¶[e]: f.md 't' ⇒ b.md d.md f.md
 [a]:¶¶b.md ⇒ none
 [a]: ⇒ none
+[a]: <>¶[b]:¶<c.md> ⇒ <> c.md
 [a]: b.md c¶[d]: e.md ⇒ none
 [a]: b.md "t" c ⇒ none
 [a]: b.md¶"t" c ⇒ b.md

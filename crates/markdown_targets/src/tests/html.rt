@@ -66,6 +66,7 @@ const INLINE: &str = r##"
 § 6.6 Raw HTML, tags
 a <b c="[d](e.md)" f='[g](h.md)' i=[j](k.md)> [l](m.md) ⇒ m.md
 a <b-1 c="[d](e.md)"/> ⇒ none
+a <b c="'[d](e.md)"> ⇒ none
 a <b¶c =¶"[d](e.md)¶"¶/> ⇒ none
 a <b _c:d.e-1="[f](g.md)"> ⇒ none
 a <1 b="[c](d.md)"> ⇒ d.md
@@ -105,7 +106,81 @@ a <!b [c](d.md)> [e](f.md) ⇒ f.md
 a <!1 [b](c.md)> ⇒ c.md
 a <![CDATA[ [b](c.md) > ]]> [d](e.md) ⇒ e.md
 a <![CDATA[]> [b](c.md) ]]> ⇒ none
+[a <![CDATA[b]]>](c.md) ⇒ c.md
 a <![cdata[ [b](c.md) ]]> ⇒ c.md
+"##;
+
+const ATTRIBUTES: &str = r##"
+§ Attributes, their places
+a <img src="b.png"> [c](d.md) ⇒ b.png d.md
+a <a href='b.md'>[c](d.md)</a> ⇒ b.md d.md
+<img src="b.png"> ⇒ b.png
+<a href='b.md'>¶<img src=c.png>¶ [d](e.md)¶</a> ⇒ b.md c.png
+<p align="center">¶  <img src="b.png" width=1>¶</p> ⇒ b.png
+<table>¶<tr><td><a href='b.md'>c</a></td>¶<td><img src="d.png"></td></tr>¶</table> ⇒ b.md d.png
+- a <a href='b.md'> ⇒ b.md
+- <img src="b.png">¶- c¶  <img src="d.png"> ⇒ b.png d.png
+> <div>¶> <img¶> src="b.png"> ⇒ b.png
+# <img src="b.png"> a ⇒ b.png
+[a <img src="b.png"> c](d.md) ⇒ b.png d.md
+[<img src="b.png">](c.md) ⇒ b.png c.md
+<pre><a href="b.md">[c](d.md)</a></pre> ⇒ b.md
+<script src="b.js"></script> ⇒ b.js
+<iframe src="b.html"></iframe> ⇒ b.html
+<script src="b.js">¶</script><img src="c.png"> ⇒ b.js c.png
+<div><!-- b --><img src="c.png"> ⇒ c.png
+§ Attributes that aren't read
+`<img src="b.png">` ⇒ none
+    <img src="b.png"> ⇒ none
+```¶<img src="b.png">¶``` ⇒ none
+<!-- <img src="b.png"> --> ⇒ none
+<!-- a¶¶<img src="b.png">¶--> ⇒ none
+a <!-- <img src="b.png"> --> ⇒ none
+a <script>b = '<img src="c.png">';</script> <img src="d.png"> ⇒ d.png
+<div>¶<!--¶<img src="b.png">¶-->¶<img src="c.png"> ⇒ c.png
+<script>¶a = '<img src="b.png">';¶</script> ⇒ none
+<style>¶<img src="b.png">¶</style> ⇒ none
+<textarea>¶<img src="b.png"></textarea> <img src="c.png"> ⇒ c.png
+<title>a <img src="b.png"></title>¶<img src="c.png"> ⇒ c.png
+<SCRIPT>¶'<img src="b.png">'¶</Script> <img src="c.png"> ⇒ c.png
+<? <img src="b.png"> ?> ⇒ none
+<![CDATA[ <img src="b.png"> ]]> ⇒ none
+<!A <img src="b.png"> ⇒ none
+a <![CDATA[ <img src="b.png"> ]]> c ⇒ none
+<https://a.b/?<img src="c.png"> ⇒ c.png
+a \<img src="b.png"> ⇒ none
+a <img src="b.png" "c"> ⇒ none
+a <img src="b.png ⇒ none
+a </img src="b.png"> ⇒ none
+<div></a href="b.md"> ⇒ none
+[a](<b.md "<img src='c.png'>") ⇒ c.png
+[a](b.md "<img src='c.png'>") ⇒ b.md
+[a]: b.md "<img src='c.png'>" ⇒ b.md
+§ Attributes, their names and values
+<a HREF="b.md">¶<IMG Src="c.png"> ⇒ b.md c.png
+<a data-href="b.md" hrefs="c.md" xhref="d.md"> ⇒ none
+<a b-src="c.md" src-b="d.md" srcset="e.md"> ⇒ none
+<a href="b.md" href="c.md"> ⇒ b.md
+<img src="b.png" src="c.png"> ⇒ b.png
+<a HREF="b.md" href="c.md" src="d.md"> ⇒ b.md d.md
+<a src="b.md" href="c.md"> ⇒ b.md c.md
+<a title="href='b.md'"> ⇒ none
+<a title='>' href="b.md"> ⇒ b.md
+a <a title='>' href="b.md"> ⇒ b.md
+<a href="b c > d.md"> ⇒ b c > d.md
+<a href='b"c.md'>¶<a href="b'c.md"> ⇒ b"c.md b'c.md
+<a href=b/c.md?d&e> ⇒ b/c.md?d&e
+<a→href = "b.md"/> ⇒ b.md
+a <a¶href =¶"b.md" > ⇒ b.md
+<a href="b\"> [c](d.md) ⇒ b\ d.md
+<a href="b\">¶<a href='c\'> ⇒ b\ c\
+<a href="\[b.md"> ⇒ \[b.md
+<a href="b&amp;c.md"> ⇒ b&amp;c.md
+<a href> ⇒ none
+<a b href c src=d.md> ⇒ d.md
+<1 href="b.md"> ⇒ none
+< a href="b.md"> ⇒ none
+<a:b href="c.md"> ⇒ none
 "##;
 
 // The names of tags that begin a block which goes on to a blank line, by start condition 6.
@@ -122,6 +197,11 @@ fn passes_over_blocks_of_html(rt: HostRuntime) -> Result<(), Fail> {
 #[test]
 fn passes_over_html_in_text(rt: HostRuntime) -> Result<(), Fail> {
     all_find(rt.alloc(), INLINE)
+}
+
+#[test]
+fn finds_attributes(rt: HostRuntime) -> Result<(), Fail> {
+    all_find(rt.alloc(), ATTRIBUTES)
 }
 
 // Text follows such a tag, and the block ends before the blank line.

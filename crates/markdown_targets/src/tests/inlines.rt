@@ -64,7 +64,7 @@ const LINKS: &str = r##"
 § 6.3 Links, their destinations
 [a](b.md) [](c.md) [d](#e) [f](?g) ⇒ b.md c.md #e ?g
 [a](b.md)[c](d.md) ⇒ b.md d.md
-[a]() [b](c.md) ⇒ c.md
+[a]() [b](<>) [c](d.md) ⇒ <> d.md
 [a](<b c.md>) ⇒ b c.md
 [a](b c.md) ⇒ none
 [a](b¶c.md) ⇒ none
@@ -109,8 +109,29 @@ const LINKS: &str = r##"
 [a [b [c](d.md) e](f.md) g](h.md) ⇒ d.md
 [a [b](c.md) d](e.md) [f](g.md) ⇒ c.md g.md
 [a](b.md) [c [d] e](f.md) ⇒ b.md f.md
+[a [b](c.md)¶¶[d](e.md) ⇒ c.md e.md
 [a <b c="](d.md)"> ⇒ none
 [a ![b](c.png) d](e.md) ⇒ c.png e.md
+§ 6.3 Links, by name
+[a][b](c.md)¶¶[b]: d.md ⇒ d.md
+[a][b](c.md) ⇒ c.md
+[b]: d.md¶¶[a][b](c.md) ⇒ d.md
+[a][B](c.md)¶¶> [b]: d.md ⇒ d.md
+[a][b¶ c](d.md)¶¶[b c]: e.md ⇒ e.md
+[a][ b ](c.md)¶¶[b]: d.md ⇒ d.md
+[a][b\!](c.md)¶¶[b!]: d.md ⇒ c.md d.md
+[a][b](c.md)¶¶    [b]: d.md ⇒ c.md
+[a](b.md)¶¶[a]: c.md ⇒ b.md c.md
+[[a]](b.md)¶¶[a]: c.md ⇒ c.md
+[[a]](b.md) ⇒ b.md
+[[a][b]](c.md)¶¶[b]: d.md ⇒ d.md
+[[a][]](b.md)¶¶[a]: c.md ⇒ c.md
+[a][](b.md)¶¶[a]: c.md ⇒ c.md
+[a][](b.md) ⇒ b.md
+![[a]](b.png)¶¶[a]: c.md ⇒ b.png c.md
+[![a]](b.md)¶¶[a]: c.png ⇒ b.md c.png
+[a [b](c.md) d][b]¶¶[b]: e.md ⇒ c.md e.md
+[a](b c.md)¶¶[a]: d.md ⇒ d.md
 § 6.4 Images
 ![a](b.png) ![](c.png) ⇒ b.png c.png
 ! [a](b.md) !\[c](d.md) ⇒ b.md
