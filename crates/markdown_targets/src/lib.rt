@@ -37,8 +37,6 @@ mod span;
 mod starts;
 mod tags;
 mod target;
-#[cfg(test)]
-mod tests;
 mod text_blocks;
 
 use crate::blocks::read_blocks;

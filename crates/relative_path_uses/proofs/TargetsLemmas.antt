@@ -1,15 +1,20 @@
 -- A target cut after its path.
-use Rattle.std.proofs.Common.{◌≡◌, ℕ, ◌<◌, ◌+◌, Bool, true, false, ◌||◌, List, [], ◌∷◌, ◌++◌, length, take, drop, not, suc, cond, Some, refl, sym, ap, ◌∙◌, subst, arith, append-nil}
+use Rattle.std.proofs.Common.{◌≡◌, ℕ, ◌<◌, ◌≤◌, ◌+◌, Bool, true, false, ◌||◌, List, [], ◌∷◌, ◌++◌, length, map, get_or, take, drop, not, suc, cond, Some, refl, sym, ap, ◌∙◌, subst, arith, append_assoc, append-nil}
+use Rattle.std.proofs.Math.Seq.{drop-cons}
+use Rattle.std.proofs.Math.Numerals.{suc-eq-add-one}
 use Rattle.std.proofs.lemmas.Bool.{cond_both}
 use Rattle.std.proofs.lemmas.List.Sums.{passes_at_first}
 use Rattle.std.proofs.lemmas.Str.{IsCharBoundary-before_ascii}
-use Rattle.std.specs.List.{position, position_or_len, list_any, before_first}
+use Rattle.std.specs.List.{position, position_or_len, list_any, before_first, between}
 use Rattle.std.specs.Str.{IsCharBoundary}
 use Rattle.relative_path.specs.Steps.{slash, is_slash, components, spell}
 use Rattle.relative_path.specs.Unix.{has_root}
 use Rattle.relative_path.proofs.ForCallers.{AreProper-components, has_root-spell}
 use Rattle.relative_path_uses.specs.UrlReference.{is_misread, has_scheme, IsReference}
-use Rattle.relative_path_uses.specs.Targets.{ends_path, path_of, tail_of, is_kept, HasTargets}
+use Rattle.relative_path_uses.specs.Targets.{ends_path, path_of, tail_of, is_kept, HasTarget, HasTargets}
+use Rattle.markdown_targets.specs.declared.span.Span.{Span}
+use Rattle.markdown_targets.specs.declared.target.LinkTarget.{LinkTarget}
+use Rattle.markdown_targets.specs.Spans.{AreInOrder}
 use Rattle.relative_path_uses.specs.declared.target.Target.{Target}
 
 -- the first place at which a byte passes
@@ -101,3 +106,66 @@ pub record HasSoFar (page : List ℕ) (targets : List Target) (at : ℕ) : Type 
 pub HasTargets-whole : (page : List ℕ) (targets : List Target) (at : ℕ) → HasSoFar page targets at
     → HasTargets page 0 targets
 HasTargets-whole page targets at so_far = subst (HasTargets page 0) (append-nil targets) (so_far.with [] tt)
+
+-- with one more target
+HasSoFar-next : (page : List ℕ) (targets : List Target) (at : ℕ) (target : Target) → HasSoFar page targets at
+    → at ≤ target.start → HasTarget page target → HasSoFar page (targets ++ target ∷ []) target.end
+HasSoFar-next page targets at target so_far after is = record {
+  with = λ more rest. subst (HasTargets page 0) (sym (append_assoc targets (target ∷ []) more))
+      (so_far.with (target ∷ more) (after, is, rest));
+}
+
+-- spans in order from a byte on are so from an earlier one on
+AreInOrder-from : (page : List ℕ) (from at : ℕ) (spans : List Span) → from ≤ at → AreInOrder page at spans
+    → AreInOrder page from spans
+AreInOrder-from page from at [] earlier are = tt
+AreInOrder-from page from at (span ∷ spans) earlier (after, is, rest) = (omega (arith, earlier, after), is, rest)
+
+-- the page has the targets so far, and the spans that are left come after them
+pub record PicksSoFar (page : List ℕ) (targets : List Target) (spans : List Span) : Type 0 where
+  pub at : ℕ
+  pub so_far : HasSoFar page targets at
+  pub left : AreInOrder page at spans
+
+pub PicksSoFar-start : (page : List ℕ) (spans : List Span) → AreInOrder page 0 spans → PicksSoFar page [] spans
+PicksSoFar-start page spans are = record { at = 0; so_far = record { with = λ more rest. rest }; left = are }
+
+-- where nothing is left
+pub PicksSoFar-end : (page : List ℕ) (targets : List Target) (spans : List Span) → PicksSoFar page targets spans
+    → HasTargets page 0 targets
+PicksSoFar-end page targets spans picks = HasTargets-whole page targets picks.at picks.so_far
+
+-- where a span is passed over
+pub PicksSoFar-skip : (page : List ℕ) (targets : List Target) (span : Span) (spans : List Span)
+    → PicksSoFar page targets (span ∷ spans) → PicksSoFar page targets spans
+PicksSoFar-skip page targets span spans picks =
+    let (after, is, rest) = picks.left in
+    record {
+      at = picks.at;
+      so_far = picks.so_far;
+      left = AreInOrder-from page picks.at span.end spans (omega (arith, after, is.order)) rest;
+    }
+
+-- where its path is relative
+pub PicksSoFar-take : (page : List ℕ) (targets : List Target) (span : Span) (spans : List Span)
+    → PicksSoFar page targets (span ∷ spans) → is_kept (path_of (between span.start span.end page)) ≡ false
+    → PicksSoFar page (targets ++ record { start = span.start; end = span.end } ∷ []) spans
+PicksSoFar-take page targets span spans picks relative =
+    let (after, is, rest) = picks.left in
+    let has : HasTarget page (record { start = span.start; end = span.end }) =
+    record { order = is.order; within = is.within; start = is.start; end = is.end; relative = relative } in
+    record {
+      at = span.end;
+      so_far = HasSoFar-next page targets picks.at (record { start = span.start; end = span.end }) picks.so_far after has;
+      left = rest;
+    }
+
+-- the spans of the links from one on
+abbrev pub spans_from : List LinkTarget → ℕ → List Span
+spans_from links k = map (λ link. link.span) (drop k links)
+
+pub spans_from-cons : (links : List LinkTarget) (k : ℕ) (d : LinkTarget) → k < length links
+    → spans_from links k ≡ (get_or links k d).span ∷ spans_from links (k + 1)
+spans_from-cons links k d inside =
+    ap (map (λ link. link.span)) (drop-cons links k d inside)
+    ∙ ap (λ j. (get_or links k d).span ∷ spans_from links j) (suc-eq-add-one k)

@@ -1,9 +1,11 @@
 //! The targets of a page's links that moves can change.
-ghost use Rattle.std.specs.Prelude.{◌≡◌, List, ℕ, [], IfOk};
-ghost use Rattle.relative_path_uses.specs.Targets.{HasTargets};
+ghost use Rattle.std.specs.Prelude.{◌≡◌, false, map, IfOk, IsTrue};
+ghost use Rattle.std.specs.List.{between};
+ghost use Rattle.markdown_targets.specs.Spans.{IsSpanOf, AreInOrder};
+ghost use Rattle.relative_path_uses.specs.Targets.{is_kept, path_of, HasTargets};
 
-use crate::target::Target;
-use markdown_targets::{LinkTarget, TargetKind, link_targets};
+use crate::target::{Target, is_relative};
+use markdown_targets::{LinkTarget, Span, TargetKind, link_targets};
 use std::alloc::{AllocError, Global};
 
 /// The targets of a page's links whose paths are relative to its directory, in the order of the page.
@@ -27,27 +29,35 @@ pub fn targets(alloc: Global, page: &str) -> Result<Vec<Target>, AllocError>
     if found.has_base {
         return Ok(Vec::new(alloc));
     }
-    in_order(alloc, page, &found.targets)
+    relative_targets(alloc, page, &found.targets)
 }
 
-// The targets of Markdown among these that are the page's, without those that begin before the last one
-// ends.
-fn in_order(alloc: Global, page: &str, links: &[LinkTarget]) -> Result<Vec<Target>, AllocError>
+// The targets of Markdown among those of a page whose paths are relative to its directory.
+fn relative_targets(
+    alloc: Global,
+    page: &str,
+    links: &[LinkTarget],
+) -> Result<Vec<Target>, AllocError>
+    requires { AreInOrder page.now 0 (map (λ link. link.span) links.now) }
     ensures { IfOk result (λ targets. HasTargets page.now 0 targets.items) }
 {
     let mut targets = Vec::new(alloc);
-    let mut at = 0;
     for link in links {
-        let target = Target {
-            start: link.span.start,
-            end: link.span.end,
-        };
-        if is_markdown(link.kind) && at <= target.start && target.is_of(page) {
-            targets.push(target)?;
-            at = target.end;
+        let Span { start, end } = link.span;
+        if is_of_page(page, *link) {
+            targets.push(Target { start, end })?;
         }
     }
     Ok(targets)
+}
+
+// Whether a target is one of Markdown with a path that is relative to the page's directory.
+fn is_of_page(page: &str, link: LinkTarget) -> bool
+    requires { IsSpanOf page.now link.span }
+    ensures { IsTrue result
+        → is_kept (path_of (between link.span.start link.span.end page.now)) ≡ false }
+{
+    is_markdown(link.kind) && is_relative(&page[link.span.start..link.span.end])
 }
 
 // Whether a target stands in Markdown, and not in HTML.

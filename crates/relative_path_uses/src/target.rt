@@ -1,5 +1,5 @@
 //! Targets of links: where they stand in a page, and what of each is its path.
-ghost use Rattle.std.specs.Prelude.{◌≡◌, ◌-◌, ◌==◌, ◌↔◌, length, get_or, IsTrue};
+ghost use Rattle.std.specs.Prelude.{◌≡◌, ◌-◌, ◌==◌, ◌↔◌, false, length, get_or, IsTrue};
 ghost use Rattle.std.specs.List.{position};
 ghost use Rattle.relative_path_uses.specs.Targets.{ends_path, path_of, tail_of, is_kept, target_text, HasTarget, is_angled};
 
@@ -22,16 +22,6 @@ pub struct Target {
 }
 
 impl Target {
-    // Whether a page has this target, and its path is one from the page's directory.
-    pub(crate) fn is_of(self, page: &str) -> bool
-        ensures { IsTrue result ↔ HasTarget page.now self }
-    {
-        self.start <= self.end
-            && page.is_char_boundary(self.start)
-            && page.is_char_boundary(self.end)
-            && !is_kept(split_path(&page[self.start..self.end]).0)
-    }
-
     // Its text in a page that has it.
     pub(crate) fn text(self, page: &str) -> &str
         requires { HasTarget page.now self }
@@ -79,6 +69,13 @@ fn path_end(target: &str) -> Option<usize>
     ensures { result ≡ position ends_path target.now }
 {
     target.bytes().position(|b| b == b'#' || b == b'?')
+}
+
+// Whether the path of a target is relative to the page's directory.
+pub(crate) fn is_relative(target: &str) -> bool
+    ensures { IsTrue result ↔ (is_kept (path_of target.now) ≡ false) }
+{
+    !is_kept(split_path(target).0)
 }
 
 // Whether a path isn't one from the page's directory.

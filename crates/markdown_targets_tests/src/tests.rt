@@ -1,5 +1,5 @@
 //! Pages, and what is found in them.
-use crate::{Span, link_targets};
+use markdown_targets::{Span, link_targets};
 use std::alloc::Global;
 use std::fmt::Debug;
 use std::test::Fail;
@@ -7,9 +7,9 @@ use std::test::Fail;
 mod blocks;
 mod containers;
 mod definitions;
-mod hostile;
 mod html;
 mod inlines;
+mod large;
 mod left_out;
 mod limits;
 mod links;

@@ -1,5 +1,5 @@
 use super::same;
-use crate::link_targets;
+use markdown_targets::link_targets;
 use std::alloc::Global;
 use std::test::Fail;
 
@@ -96,28 +96,4 @@ fn passes_over_what_is_no_link(rt: HostRuntime) -> Result<(), Fail> {
 #[test]
 fn finds_links_in_quotes_items_and_headings(rt: HostRuntime) -> Result<(), Fail> {
     all_have(rt.alloc(), &NESTED)
-}
-
-// Texts without links that a reader of pages may take long for, where they are repeated.
-const REPEATED: [&str; 10] = [
-    "[",
-    "(",
-    "`",
-    "<",
-    "[a](",
-    "![",
-    "> ",
-    "- ",
-    "\n",
-    "<div>\n\n",
-];
-
-#[test]
-fn reads_a_mebibyte(rt: HostRuntime) -> Result<(), Fail> {
-    for text in &REPEATED {
-        let page = text.repeat(rt.alloc(), 1_048_576 / text.len().max(1))?;
-        let found = link_targets(rt.alloc(), &page)?;
-        same(text, &found.targets.len(), &0)?;
-    }
-    Ok(())
 }
