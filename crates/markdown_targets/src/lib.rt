@@ -59,8 +59,9 @@ use std::alloc::{AllocError, Global};
 /// in ASCII alone; more than 100 lists and quotations in one another, and runs of more than 80
 /// backticks, are text; HTML in a block of HTML has the tags that CommonMark knows in a paragraph.
 ///
-/// Time is linear in the page, but for the search of names. It allocates a copy of the page, lists of
-/// its blocks, targets and open brackets, and the names that it defines.
+/// Time is linear in the page, but for the search of names. It allocates a copy of the page, a table of
+/// runs of backticks, two lists of targets, a list of blocks and one of open brackets, and the names
+/// that the page defines.
 ///
 /// ```
 /// let page = "[a](b.md \"t\"), `[c](d)` and ![e](<f g>)\n\n[h]: i\n\n<img src='j'>\n";

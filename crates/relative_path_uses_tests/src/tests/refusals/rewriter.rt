@@ -65,7 +65,7 @@ fn finds(alloc: Global, page: &str, count: usize) -> Result<(), Fail> {
     }
 }
 
-// Requests: 21 648 8 64 64 = 1, 648 = 0
+// Requests: 21 96 648 64 96 96 64 = 1, 648 = 0
 #[test]
 fn links_of_a_page(rt: HostRuntime) -> Result<(), Fail> {
     finds(rt.alloc(), "[c](c.md) ![d](d.png)", 2)?;
