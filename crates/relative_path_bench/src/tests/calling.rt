@@ -1,5 +1,5 @@
 //! The callers that CALLING.md of `relative_path` shows.
-ghost use Rattle.std.specs.Prelude.{◌∷◌, [], ◌++◌, ◌≡◌, ◌≤◌, ◌↔◌, ℕ, codes, map, length, List, Some, IfOk, IfSome, IsNone, IsSome, IsTrue};
+ghost use Rattle.std.specs.Prelude.{◌∷◌, [], ◌≡◌, ◌≤◌, ℕ, codes, map, length, List, Some, IsSome, IsTrue};
 ghost use Rattle.std.specs.List.{All};
 ghost use Rattle.std.specs.Option.{option_and_then, option_map};
 ghost use Rattle.relative_path.specs.Steps.{up, name, components};
@@ -7,7 +7,9 @@ ghost use Rattle.relative_path.specs.Walk.{walk, LeadsBelow, StaysBelow};
 ghost use Rattle.relative_path.specs.Normalizing.{IsNormal, climb};
 ghost use Rattle.relative_path.specs.Editing.{kept};
 ghost use Rattle.relative_path.specs.Naming.{file_name_of, stem_of, extension_of, IsBeside};
-ghost use Rattle.relative_path.specs.RelativePath.{path_text, path_components};
+ghost use Rattle.relative_path.specs.RelativePath.{path_text};
+ghost use Rattle.std.specs.Prelude.{◌++◌, ◌↔◌, IfOk, IfSome, IsNone};
+ghost use Rattle.relative_path.specs.RelativePath.{path_components};
 ghost use Rattle.relative_path.specs.Relating.{IsReachable, IsShortestText};
 
 use relative_path::{RelativePath, RelativePathBuf};
