@@ -12,7 +12,8 @@ loop-link-preserved c =
     let links = c.args.links.now in
     let k = c.loop-link.link-index in
     let none : LinkTarget = record { kind = Inline; span = record { start = 0; end = 0 } } in
-    let picks = subst (PicksSoFar page c.loop-link.targets.items) (spans_from-cons links k none c.loop-link-test.true) c.loop-link.invariant in
+    let next = spans_from-cons links k none c.loop-link-test.true in
+    let picks = subst (PicksSoFar page c.loop-link.targets.items) next c.loop-link.invariant in
     elim c.if-is_of_page.branch [
       | then-is_of_page+in_ok-push w ↦ rw (w.targets-is, w.in_ok-push.ensures.items)
           (PicksSoFar-take page _ _ (spans_from links (k + 1)) picks (c.is_of_page.ensures w.if-is_of_page.true))
