@@ -10,7 +10,7 @@ use Rattle.std.proofs.lemmas.List.{drop_more, length-map}
 use Rattle.std.proofs.lemmas.Nat.{and_le_l, ones_cat, ones-le, shr-shr, shr_below, shr_split}
 use Rattle.std.proofs.lemmas.Nat.Bits.{bit_at_lowest, bit_at-suc, bit_at_and, bit_at_not}
 use Rattle.relative_path.specs.Steps.{is_slash, is_not_empty, pieces, classed, components}
-use Rattle.relative_path.specs.Counting.{begun, begun_from}
+use Rattle.relative_path.specs.Counting.{begun, starts_from}
 use Rattle.relative_path.proofs.SlashesLemmas.{mask_bound, mask_bit}
 
 -- how many pieces have a byte, without the first
@@ -43,10 +43,10 @@ begun-split (b ∷ bs) =
       cond-true (is_slash b) _ _ e ∙ more.0 ∙ ap later slashed,
     ))
     (λ e.
-    let solid = sym (cond-false (is_slash b) ([] ∷ split) (onto_first b split) e) in
+    let non_slash = sym (cond-false (is_slash b) ([] ∷ split) (onto_first b split) e) in
     let first = ap (λ n. 1 + n) more.1 ∙ sym (length-filter-onto_first b split) in (
-      cond-false (is_slash b) _ _ e ∙ first ∙ ap filled solid,
-      cond-false (is_slash b) _ _ e ∙ more.1 ∙ sym (later-onto_first b split) ∙ ap later solid,
+      cond-false (is_slash b) _ _ e ∙ first ∙ ap filled non_slash,
+      cond-false (is_slash b) _ _ e ∙ more.1 ∙ sym (later-onto_first b split) ∙ ap later non_slash,
     ))
     (cases_Bool (is_slash b))
 
@@ -78,9 +78,9 @@ begun-next false true b bs is = omega (arith, cond-true (is_slash b) (begun true
 begun-next true false b bs is = omega (arith, cond-false (is_slash b) (begun true bs) (1 + begun false bs) is)
 begun-next false false b bs is = omega (arith, cond-false (is_slash b) (begun true bs) (begun false bs) is)
 
-begun_from-more : (bytes : List ℕ) (i : ℕ) → i < length bytes
-    → begun_from bytes i ≡ cond (begins_at bytes i) 1 0 + begun (is_slash (get_or bytes i 0)) (drop (i + 1) bytes)
-begun_from-more bytes i inside =
+starts_from-more : (bytes : List ℕ) (i : ℕ) → i < length bytes
+    → starts_from bytes i ≡ cond (begins_at bytes i) 1 0 + begun (is_slash (get_or bytes i 0)) (drop (i + 1) bytes)
+starts_from-more bytes i inside =
     ap (begun (is_slash (get_or bytes (i - 1) 0))) (drop_more bytes i 0 inside)
     ∙ begun-next (is_slash (get_or bytes (i - 1) 0)) (is_slash (get_or bytes i 0)) (get_or bytes i 0) (drop (i + 1) bytes) refl
 
@@ -101,13 +101,13 @@ ones-halved n =
 -- a number with a bit for each of some bytes, set where a component begins, counts those
 ones-begun : (bytes : List ℕ) (n mask i : ℕ) → i + n ≤ length bytes → mask < 2 ^ n
     → ((k : ℕ) → k < n → bit_at mask k ≡ cond (begins_at bytes (i + k)) 1 0)
-    → count_ones mask + begun_from bytes (i + n) ≡ begun_from bytes i
+    → count_ones mask + starts_from bytes (i + n) ≡ starts_from bytes i
 unfolding count_ones
 ones-begun bytes zero mask i inside bound bits =
     let empty : mask ≡ 0 = omega (arith, bound) in
     let none : count_ones 0 ≡ 0 = refl in
     let here : i + 0 ≡ i = omega arith in
-    omega (arith, ap count_ones empty, none, ap (begun_from bytes) here)
+    omega (arith, ap count_ones empty, none, ap (starts_from bytes) here)
 ones-begun bytes (suc n) mask i inside bound bits =
     let count : suc n ≡ n + 1 = omega arith in
     let half : mask / 2 < 2 ^ n = shr_below mask n 1 (subst (λ k. mask < 2 ^ k) count bound) in
@@ -121,7 +121,7 @@ ones-begun bytes (suc n) mask i inside bound bits =
     let end : i + 1 + n ≡ i + suc n = omega arith in
     let next : i + 1 - 1 ≡ i = omega arith in
     let after = ap (λ j. begun (is_slash (get_or bytes j 0)) (drop (i + 1) bytes)) next in
-    omega (arith, ones-halved mask, first, rest, ap (begun_from bytes) end, after, begun_from-more bytes i (omega (arith, inside)))
+    omega (arith, ones-halved mask, first, rest, ap (starts_from bytes) end, after, starts_from-more bytes i (omega (arith, inside)))
 
 -- no slash here, and one before, as bits
 min_bits : (before here : Bool) → min (cond before 1 0) (1 - cond here 1 0) ≡ cond (not here && before) 1 0
@@ -163,12 +163,12 @@ module _ (bytes : List ℕ) (start skipped : ℕ) (some : 0 < start) (inside : s
       shr_below both (16 - skipped) skipped (subst (λ k. both < 2 ^ k) width less)
 
   -- where components begin in the block, but for its first bytes
-  pub begun_from-block : count_ones (both / 2 ^ skipped) + begun_from bytes (start + 16) ≡ begun_from bytes (start + skipped)
-  begun_from-block =
+  pub starts_from-block : count_ones (both / 2 ^ skipped) + starts_from bytes (start + 16) ≡ starts_from bytes (start + skipped)
+  starts_from-block =
       let end : start + skipped + (16 - skipped) ≡ start + 16 = omega (arith, few) in
       let counted =
       ones-begun bytes (16 - skipped) (both / 2 ^ skipped) (start + skipped) (omega (arith, end, inside)) both_small both_bits in
-      omega (arith, counted, ap (begun_from bytes) end)
+      omega (arith, counted, ap (starts_from bytes) end)
 
   pub ones-block : count_ones (both / 2 ^ skipped) ≤ 16 - skipped
   ones-block = ones-le (16 - skipped) (both / 2 ^ skipped) both_small

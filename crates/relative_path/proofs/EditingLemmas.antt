@@ -125,10 +125,10 @@ module _ (text left front : List ℕ) (c : Step) (h : LosesCurs text left) (othe
 -- ---- pushing
 
 -- a text that has a byte and does not end in a slash gets one
-pub with_separator-solid : (text : List ℕ) → 0 < length text → get_or text (length text - 1) 0 ≢ slash
+pub with_separator-non_slash : (text : List ℕ) → 0 < length text → get_or text (length text - 1) 0 ≢ slash
     → with_separator text ≡ text ++ slash ∷ []
-with_separator-solid [] nonempty end = absurd (omega arith)
-with_separator-solid (b ∷ bs) nonempty end =
+with_separator-non_slash [] nonempty end = absurd (omega arith)
+with_separator-non_slash (b ∷ bs) nonempty end =
     let last : length (b ∷ bs) - 1 ≡ length bs = omega arith in
     cond-false _ _ _ (ne_eqb (get_or (b ∷ bs) (length bs) 0) slash (λ e. end (ap (λ i. get_or (b ∷ bs) i 0) last ∙ e)))
 
@@ -162,6 +162,6 @@ components-pushed text path =
     components-with_separator text (unslashed path) ∙ ap (λ cs. components text ++ cs) (components-unslashed path)
 
 -- a text that begins with no slash is pushed as it is
-pub unslashed-solid : (path : List ℕ) → get_or path 0 0 ≢ slash → unslashed path ≡ path
-unslashed-solid [] start = refl
-unslashed-solid (b ∷ bs) start = cond-false _ _ _ (ne_eqb b slash start)
+pub unslashed-non_slash : (path : List ℕ) → get_or path 0 0 ≢ slash → unslashed path ≡ path
+unslashed-non_slash [] start = refl
+unslashed-non_slash (b ∷ bs) start = cond-false _ _ _ (ne_eqb b slash start)

@@ -23,7 +23,7 @@ use Rattle.relative_path.proofs.ClimbingLemmas.{climb_after, IsSome-walk}
 use Rattle.relative_path.proofs.RelatingLemmas as relating
 use Rattle.relative_path.proofs.OnLiterals.{relative_path_on_literals}
 -- the text of a component has that component and no other; each component of a list is so
-pub use Rattle.relative_path.proofs.StepsLemmas.{IsProper, AreProper}
+pub use Rattle.relative_path.proofs.StepsLemmas.{SpellsItself, SpellThemselves}
 
 -- ---- where lists lead
 
@@ -146,8 +146,8 @@ pub components-pushed : (text path : List ℕ) → components (pushed text path)
 components-pushed = editing.components-pushed
 
 -- the text of each component of a text has that component and no other
-pub AreProper-components : (text : List ℕ) → AreProper (components text)
-AreProper-components = steps.AreProper-components
+pub SpellThemselves-components : (text : List ℕ) → SpellThemselves (components text)
+SpellThemselves-components = steps.SpellThemselves-components
 
 -- the normal text of a list with a place from the top has the place's names
 pub components-place : {cs : List Step} {text : List ℕ} {place : List (List ℕ)} → IsNormalTextOf cs text
@@ -166,19 +166,19 @@ components-place {cs} {text} {place} normal is =
 -- ---- the text of a component
 
 -- it is a piece that is classed as the component
-pub classed-proper : (c : Step) → IsProper c → classed (step_text c) ≡ c
+pub classed-proper : (c : Step) → SpellsItself c → classed (step_text c) ≡ c
 classed-proper c proper =
     ap (λ cs. get_or cs 0 c)
     (sym (steps.components_whole (step_text c) (steps.nonempty_proper c proper) (steps.HasNoSlash-proper c proper))
     ∙ proper)
 
 -- none of its bytes is a slash
-pub no_slash-proper : (c : Step) → IsProper c → All (λ b. is_slash b ≡ false) (step_text c)
+pub no_slash-proper : (c : Step) → SpellsItself c → All (λ b. is_slash b ≡ false) (step_text c)
 no_slash-proper c proper =
     All-from_recursion (λ b. is_slash b ≡ false) (step_text c) (steps.HasNoSlash-proper c proper)
 
 -- a name is not empty, `.` or `..`
-pub name-proper : (n : List ℕ) → IsProper (name n) → (n ≢ []) × (n ≢ codes ".") × (n ≢ codes "..")
+pub name-proper : (n : List ℕ) → SpellsItself (name n) → (n ≢ []) × (n ≢ codes ".") × (n ≢ codes "..")
 unfolding relative_path_on_literals
 name-proper n proper = (
   λ e. let none = ap components (sym e) ∙ proper in absurd (cc),
@@ -189,25 +189,25 @@ name-proper n proper = (
 -- ---- what spells components
 
 -- a push of a component onto a text that spells its own makes one that spells one more
-pub spell-pushed : (text : List ℕ) (c : Step) → text ≡ spell (components text) → IsProper c
+pub spell-pushed : (text : List ℕ) (c : Step) → text ≡ spell (components text) → SpellsItself c
     → pushed text (step_text c) ≡ spell (components text ++ c ∷ [])
 spell-pushed = normalizing.spell-pushed
 
-has_root-solid : (n rest : List ℕ) → steps.HasNoSlash n → 0 < length n → has_root (n ++ rest) ≡ false
-has_root-solid [] rest none some = absurd (omega arith)
-has_root-solid (b ∷ bs) rest none some = none.0
+has_root-non_slash : (n rest : List ℕ) → steps.HasNoSlash n → 0 < length n → has_root (n ++ rest) ≡ false
+has_root-non_slash [] rest none some = absurd (omega arith)
+has_root-non_slash (b ∷ bs) rest none some = none.0
 
 -- a text that spells components begins with no slash
-pub has_root-spell : (cs : List Step) → AreProper cs → has_root (spell cs) ≡ false
+pub has_root-spell : (cs : List Step) → SpellThemselves cs → has_root (spell cs) ≡ false
 has_root-spell [] proper = refl
 has_root-spell (c ∷ []) (first, rest) =
     sym (ap has_root (append-nil (step_text c)))
-    ∙ has_root-solid (step_text c) [] (steps.HasNoSlash-proper c first) (steps.nonempty_proper c first)
+    ∙ has_root-non_slash (step_text c) [] (steps.HasNoSlash-proper c first) (steps.nonempty_proper c first)
 has_root-spell (c ∷ d ∷ cs) (first, rest) =
-    has_root-solid (step_text c) (slash ∷ spell (d ∷ cs)) (steps.HasNoSlash-proper c first) (steps.nonempty_proper c first)
+    has_root-non_slash (step_text c) (slash ∷ spell (d ∷ cs)) (steps.HasNoSlash-proper c first) (steps.nonempty_proper c first)
 
 -- so a push takes it as it is
-pub unslashed-spell : (cs : List Step) → AreProper cs → unslashed (spell cs) ≡ spell cs
+pub unslashed-spell : (cs : List Step) → SpellThemselves cs → unslashed (spell cs) ≡ spell cs
 unslashed-spell cs proper = whole (spell cs) (has_root-spell cs proper) where
   whole : (text : List ℕ) → has_root text ≡ false → unslashed text ≡ text
   whole [] none = refl
@@ -233,5 +233,5 @@ pub kept-name : (cs : List Step) (n : List ℕ) → kept (cs ++ name n ∷ []) �
 kept-name = extensions.kept-name
 
 -- the file name of proper components is one component
-pub IsProper-last_name : (cs : List Step) (n : List ℕ) → AreProper cs → last_name cs ≡ Some n → IsProper (name n)
-IsProper-last_name = edits.IsProper-last_name
+pub SpellsItself-last_name : (cs : List Step) (n : List ℕ) → SpellThemselves cs → last_name cs ≡ Some n → SpellsItself (name n)
+SpellsItself-last_name = edits.SpellsItself-last_name

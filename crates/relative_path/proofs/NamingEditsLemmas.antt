@@ -7,7 +7,7 @@ use Rattle.relative_path.specs.Steps.{Step, cur, name, dot, components}
 use Rattle.relative_path.specs.Walk.{walk, IsSame}
 use Rattle.relative_path.specs.Editing.{kept_len, kept, IsPopped}
 use Rattle.relative_path.specs.Naming.{name_of, last_name, file_name_of, stem_of, is_extension, base_components, IsBeside, IsNamed, IsExtended}
-use Rattle.relative_path.proofs.StepsLemmas.{IsProper, AreProper}
+use Rattle.relative_path.proofs.StepsLemmas.{SpellsItself, SpellThemselves}
 use Rattle.relative_path.proofs.WalkLemmas.{IsSome-value, IsSame-sym, IsSame-append_left, IsSome-walk_front, IsSome-walk_name}
 use Rattle.relative_path.proofs.EditingLemmas.{kept_len-curs, kept_len-push}
 use Rattle.relative_path.proofs.NamingLemmas.{last_other-at, components-IsNamed}
@@ -26,12 +26,12 @@ IsSame-last_name cs n named =
     walk-curs base (suc k) = walk-curs base k
 
 -- the file name of proper components is one component
-pub IsProper-last_name : (cs : List Step) (n : List ℕ) → AreProper cs → last_name cs ≡ Some n → IsProper (name n)
-IsProper-last_name cs n proper named =
+pub SpellsItself-last_name : (cs : List Step) (n : List ℕ) → SpellThemselves cs → last_name cs ≡ Some n → SpellsItself (name n)
+SpellsItself-last_name cs n proper named =
     let (k, joined) = last_name-split cs n named in
-    within (kept cs) (replicate k cur) (subst AreProper joined proper)
+    within (kept cs) (replicate k cur) (subst SpellThemselves joined proper)
   where
-    within : (front rest : List Step) → AreProper (front ++ name n ∷ rest) → IsProper (name n)
+    within : (front rest : List Step) → SpellThemselves (front ++ name n ∷ rest) → SpellsItself (name n)
     within [] rest (first, more) = first
     within (c ∷ front) rest (first, more) = within front rest more
 

@@ -12,10 +12,10 @@ use Rattle.std.specs.Prelude.{slice_get, IsSome, IsTrue}
 use Rattle.relative_path.specs.Steps.{slash, dot, is_slash, is_not_empty, Step, cur, up, name, step_text, classed, components}
 use Rattle.relative_path.specs.Editing.{is_cur, kept_len, kept}
 use Rattle.relative_path.specs.Naming.{name_of, last_name, file_name_of, is_dot, has_stem, stem_of, extension_of, is_plain_byte, is_plain_extension, is_extension, dotted, IsExtended}
-use Rattle.relative_path.proofs.StepsLemmas.{HasNoSlash, HasNoSlash-append, IsProper, AreProper, components-nil, components-append, components-trailing_slash, components_whole, step_text-classed, AreProper-components, HasNoSlash-proper, nonempty_proper}
+use Rattle.relative_path.proofs.StepsLemmas.{HasNoSlash, HasNoSlash-append, SpellsItself, SpellThemselves, components-nil, components-append, components-trailing_slash, components_whole, step_text-classed, SpellThemselves-components, HasNoSlash-proper, nonempty_proper}
 use Rattle.relative_path.proofs.WalkLemmas.{IsSome-value}
 use Rattle.relative_path.proofs.EditingLemmas.{kept_len-curs, kept_len-push}
-use Rattle.relative_path.proofs.NamingLemmas.{no_dot, IsExtendedAt, IsSplit, IsSplit-dot, last_slash, last_same, slice_get-at, without_curs-curs, last_other-at}
+use Rattle.relative_path.proofs.NamingLemmas.{no_dot, IsExtendedAt, IsSplit, IsSplit-dot, last_slash, last_same, slice_get-at, without_cur_dirs-curs, last_other-at}
 
 -- ---- where the file name stands
 
@@ -54,7 +54,7 @@ pub last_name-split : (cs : List Step) (n : List ℕ) → last_name cs ≡ Some 
 last_name-split cs n named = elim (ends_in cs) [
   | inl (k, alone) ↦
       let none = ap last_name alone
-      ∙ ap (λ ds. option_and_then name_of (slice_get ds (length ds - 1))) (without_curs-curs k) in
+      ∙ ap (λ ds. option_and_then name_of (slice_get ds (length ds - 1))) (without_cur_dirs-curs k) in
       absurd (cc)
   | inr e ↦
       let last = ap last_name e.joined ∙ ap (option_and_then name_of) (last_other-at e.front e.last e.curs e.other) in
@@ -195,9 +195,9 @@ HasNoSlash-stem n none =
     cond_both (has_stem n) (before_last is_dot n) n HasNoSlash
     (λ stem. HasNoSlash-append_left (before_last is_dot n) (dot ∷ after_last is_dot n) (parts stem)) (λ _. none)
 
-AreProper-last : (cs : List Step) (c : Step) → AreProper (cs ++ c ∷ []) → IsProper c
-AreProper-last [] c proper = proper.0
-AreProper-last (d ∷ cs) c proper = AreProper-last cs c proper.1
+SpellThemselves-last : (cs : List Step) (c : Step) → SpellThemselves (cs ++ c ∷ []) → SpellsItself c
+SpellThemselves-last [] c proper = proper.0
+SpellThemselves-last (d ∷ cs) c proper = SpellThemselves-last cs c proper.1
 
 -- a plain extension can stand after a dot
 pub is_extension-plain : (e : List ℕ) → IsTrue (is_plain_extension e) → IsTrue (is_extension e)
@@ -219,8 +219,8 @@ HasNoSlash-extension (b ∷ bs) none =
 
 -- the components where the last of them, which is a name, is cut to its stem and gets an extension
 module _ (head n : List ℕ) (cs : List Step) (last : components (head ++ n) ≡ cs ++ name n ∷ []) where
-  proper : IsProper (name n)
-  proper = AreProper-last cs (name n) (subst AreProper last (AreProper-components (head ++ n)))
+  proper : SpellsItself (name n)
+  proper = SpellThemselves-last cs (name n) (subst SpellThemselves last (SpellThemselves-components (head ++ n)))
 
   components-stem : components (head ++ stem_of n) ≡ cs ++ classed (stem_of n) ∷ []
   components-stem =

@@ -11,7 +11,7 @@ use Rattle.std.specs.Option.{option_and_then, option_copied}
 use Rattle.std.proofs.lemmas.Bool.{cases_Bool, cond_both, cond-true, cond-false}
 use Rattle.relative_path.specs.Steps.{slash, dot, is_slash, is_not_empty, Step, cur, up, name, step_text, classed, components}
 use Rattle.relative_path.specs.Slices.{IsCut, IsFront}
-use Rattle.relative_path.specs.Editing.{is_cur, kept_len, pushed, without_curs, IsPopped}
+use Rattle.relative_path.specs.Editing.{is_cur, kept_len, pushed, without_cur_dirs, IsPopped}
 use Rattle.relative_path.specs.Naming.{name_of, last_other, last_name, file_name_of, is_dot, has_stem, stem_of, extension_of, dotted, base_components, IsBase, IsNamed, IsExtended}
 use Rattle.relative_path.specs.RelativePathBuf.{ExceedsRoom}
 use Rattle.relative_path.proofs.StepsLemmas.{HasNoSlash, components-nil, components-append, components_whole, step_text-classed}
@@ -152,28 +152,28 @@ pub slice_get-at : (cs : List Step) (c : Step) (ds : List Step) → slice_get (c
 slice_get-at [] c ds = refl
 slice_get-at (b ∷ cs) c ds = slice_get-at cs c ds
 
-pub without_curs-curs : (n : ℕ) → without_curs (replicate n cur) ≡ []
-without_curs-curs zero = refl
-without_curs-curs (suc n) = without_curs-curs n
+pub without_cur_dirs-curs : (n : ℕ) → without_cur_dirs (replicate n cur) ≡ []
+without_cur_dirs-curs zero = refl
+without_cur_dirs-curs (suc n) = without_cur_dirs-curs n
 
-without_curs-at : (cs : List Step) (c : Step) (n : ℕ) → is_cur c ≡ false
-    → without_curs (cs ++ c ∷ replicate n cur) ≡ without_curs cs ++ c ∷ []
-without_curs-at cs c n other =
+without_cur_dirs-at : (cs : List Step) (c : Step) (n : ℕ) → is_cur c ≡ false
+    → without_cur_dirs (cs ++ c ∷ replicate n cur) ≡ without_cur_dirs cs ++ c ∷ []
+without_cur_dirs-at cs c n other =
     filter-append (λ d. not (is_cur d)) cs (c ∷ replicate n cur)
-    ∙ ap (λ ds. without_curs cs ++ ds) (cond-true _ _ _ (ap not other) ∙ ap (λ ds. c ∷ ds) (without_curs-curs n))
+    ∙ ap (λ ds. without_cur_dirs cs ++ ds) (cond-true _ _ _ (ap not other) ∙ ap (λ ds. c ∷ ds) (without_cur_dirs-curs n))
 
 pub last_other-at : (cs : List Step) (c : Step) (n : ℕ) → is_cur c ≡ false
     → last_other (cs ++ c ∷ replicate n cur) ≡ Some c
 last_other-at cs c n other =
-    let index : length (without_curs cs ++ c ∷ []) - 1 ≡ length (without_curs cs) =
-    omega (arith, length-append (without_curs cs) (c ∷ [])) in
-    ap (λ ds. slice_get ds (length ds - 1)) (without_curs-at cs c n other)
-    ∙ ap (slice_get (without_curs cs ++ c ∷ [])) index ∙ slice_get-at (without_curs cs) c []
+    let index : length (without_cur_dirs cs ++ c ∷ []) - 1 ≡ length (without_cur_dirs cs) =
+    omega (arith, length-append (without_cur_dirs cs) (c ∷ [])) in
+    ap (λ ds. slice_get ds (length ds - 1)) (without_cur_dirs-at cs c n other)
+    ∙ ap (slice_get (without_cur_dirs cs ++ c ∷ [])) index ∙ slice_get-at (without_cur_dirs cs) c []
 
 last_name-none : (text left : List ℕ) → LosesCurs text left → components left ≡ [] → file_name_of text ≡ None
 last_name-none text left h none =
     ap last_name (h.joined ∙ ap (λ cs. cs ++ replicate h.lost cur) none)
-    ∙ ap (λ cs. option_and_then name_of (slice_get cs (length cs - 1))) (without_curs-curs h.lost)
+    ∙ ap (λ cs. option_and_then name_of (slice_get cs (length cs - 1))) (without_cur_dirs-curs h.lost)
 
 last_name-at : (text left front : List ℕ) (c : Step) → LosesCurs text left → is_cur c ≡ false
     → components left ≡ components front ++ c ∷ [] → file_name_of text ≡ name_of c

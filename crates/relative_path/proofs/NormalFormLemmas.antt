@@ -13,17 +13,17 @@ use Rattle.relative_path.specs.declared.normal_form.NormalForm.{NormalForm}
 use Rattle.relative_path.specs.declared.spans.Sources.{Sources}
 use Rattle.relative_path.specs.declared.spans.Span.{Span}
 use Rattle.relative_path.specs.Spans.{span_text, spans_len, rest_len, CutsName}
-use Rattle.relative_path.specs.NormalForm.{climbed, form_names, form_steps, padded_len, Reduces, IsNormalFormOf}
-use Rattle.relative_path.proofs.StepsLemmas.{IsProper, IsProper-up, AreProper, components-spell, nonempty_proper, components-nil}
+use Rattle.relative_path.specs.NormalForm.{ups_then_names, form_names, form_steps, slashed_len, Reduces, IsSpellableNormalForm}
+use Rattle.relative_path.proofs.StepsLemmas.{SpellsItself, SpellsItself-up, SpellThemselves, components-spell, nonempty_proper, components-nil}
 use Rattle.relative_path.proofs.NormalStepsLemmas.{normal_unique}
 use Rattle.relative_path.proofs.SpansLemmas.{length-run, AreUnwritten, Unwritten, rest_len-names}
 use Rattle.relative_path.proofs.WalkLemmas.{IsSame-refl, IsSame-sym, IsSame-trans, IsSame-append_right, IsSame-cur, IsSame-name_up}
 
 -- ---- reducing a list of components
 
-pub padded_len-append : (cs ds : List Step) → padded_len (cs ++ ds) ≡ padded_len cs + padded_len ds
-padded_len-append [] ds = omega arith
-padded_len-append (c ∷ cs) ds = omega (arith, padded_len-append cs ds)
+pub slashed_len-append : (cs ds : List Step) → slashed_len (cs ++ ds) ≡ slashed_len cs + slashed_len ds
+slashed_len-append [] ds = omega arith
+slashed_len-append (c ∷ cs) ds = omega (arith, slashed_len-append cs ds)
 
 pub Reduces-refl : (cs : List Step) → Reduces cs cs
 Reduces-refl cs = record { same = IsSame-refl cs; no_longer = omega arith }
@@ -38,14 +38,14 @@ Reduces-trans {cs} {ds} {es} h i = record {
 pub Reduces-append_right : {cs ds : List Step} (es : List Step) → Reduces cs ds → Reduces (cs ++ es) (ds ++ es)
 Reduces-append_right {cs} {ds} es h = record {
   same = IsSame-append_right cs ds es h.same;
-  no_longer = let shorter = h.no_longer in omega (arith, padded_len-append cs es, padded_len-append ds es);
+  no_longer = let shorter = h.no_longer in omega (arith, slashed_len-append cs es, slashed_len-append ds es);
 }
 
 -- a `.` is dropped
 pub Reduces-cur : (cs : List Step) → Reduces (cs ++ cur ∷ []) cs
 Reduces-cur cs = record {
   same = subst (IsSame (cs ++ cur ∷ [])) (append-nil cs) (IsSame-cur cs []);
-  no_longer = omega (arith, padded_len-append cs (cur ∷ []));
+  no_longer = omega (arith, slashed_len-append cs (cur ∷ []));
 }
 
 -- a `..` drops the name before it
@@ -54,7 +54,7 @@ Reduces-name_up cs n = record {
   same =
       let dropped = subst (IsSame (cs ++ name n ∷ up ∷ [])) (append-nil cs) (IsSame-name_up cs [] n) in
       rw (append_assoc cs (name n ∷ []) (up ∷ [])) dropped;
-  no_longer = omega (arith, padded_len-append (cs ++ name n ∷ []) (up ∷ []), padded_len-append cs (name n ∷ []));
+  no_longer = omega (arith, slashed_len-append (cs ++ name n ∷ []) (up ∷ []), slashed_len-append cs (name n ∷ []));
 }
 
 -- one component more taken off what is left
@@ -67,21 +67,21 @@ Reduces-step source cs ds c left rest h first step =
 -- ---- one component more
 
 -- a name comes last
-pub climbed-push : (climb : ℕ) (names : List (List ℕ)) (n : List ℕ)
-    → climbed climb names ++ name n ∷ [] ≡ climbed climb (names ++ n ∷ [])
-climbed-push climb names n =
+pub ups_then_names-push : (climb : ℕ) (names : List (List ℕ)) (n : List ℕ)
+    → ups_then_names climb names ++ name n ∷ [] ≡ ups_then_names climb (names ++ n ∷ [])
+ups_then_names-push climb names n =
     append_assoc (replicate climb up) (map name names) (name n ∷ [])
     ∙ ap (λ ds. replicate climb up ++ ds) (sym (map_push name names n))
 
 -- a `..` drops the last name of a table
 pub Reduces-pop : {X : Type 0} (f : X → List ℕ) (climb : ℕ) (xs ys : List X) (r : Option X)
     → xs ≡ ys ++ option_to_list r → is_some r ≡ true
-    → Reduces (climbed climb (map f xs) ++ up ∷ []) (climbed climb (map f ys))
+    → Reduces (ups_then_names climb (map f xs) ++ up ∷ []) (ups_then_names climb (map f ys))
 Reduces-pop f climb xs ys None joined some = absurd (cc)
 Reduces-pop f climb xs ys (Some x) joined some =
-    let last = ap (λ zs. climbed climb (map f zs)) joined ∙ ap (climbed climb) (map_push f ys x)
-    ∙ sym (climbed-push climb (map f ys) (f x)) in
-    subst (λ cs. Reduces (cs ++ up ∷ []) (climbed climb (map f ys))) (sym last) (Reduces-name_up _ (f x))
+    let last = ap (λ zs. ups_then_names climb (map f zs)) joined ∙ ap (ups_then_names climb) (map_push f ys x)
+    ∙ sym (ups_then_names-push climb (map f ys) (f x)) in
+    subst (λ cs. Reduces (cs ++ up ∷ []) (ups_then_names climb (map f ys))) (sym last) (Reduces-name_up _ (f x))
 
 -- ---- climbs and names are normal
 
@@ -89,75 +89,75 @@ AreNames-map : (names : List (List ℕ)) → AreNames (map name names)
 AreNames-map [] = tt
 AreNames-map (n ∷ ns) = AreNames-map ns
 
-pub IsNormal-climbed : (climb : ℕ) (names : List (List ℕ)) → IsNormal (climbed climb names)
-IsNormal-climbed zero [] = tt
-IsNormal-climbed zero (n ∷ ns) = AreNames-map ns
-IsNormal-climbed (suc climb) names = IsNormal-climbed climb names
+pub IsNormal-ups_then_names : (climb : ℕ) (names : List (List ℕ)) → IsNormal (ups_then_names climb names)
+IsNormal-ups_then_names zero [] = tt
+IsNormal-ups_then_names zero (n ∷ ns) = AreNames-map ns
+IsNormal-ups_then_names (suc climb) names = IsNormal-ups_then_names climb names
 
 -- ---- the text that spells climbs and names
 
-AreProper-names : (names : List (List ℕ)) → AllByRecursion (λ n. IsProper (name n)) names → AreProper (map name names)
-AreProper-names [] proper = tt
-AreProper-names (n ∷ ns) proper = (proper.0, AreProper-names ns proper.1)
+SpellThemselves-names : (names : List (List ℕ)) → AllByRecursion (λ n. SpellsItself (name n)) names → SpellThemselves (map name names)
+SpellThemselves-names [] proper = tt
+SpellThemselves-names (n ∷ ns) proper = (proper.0, SpellThemselves-names ns proper.1)
 
-pub AreProper-climbed : (climb : ℕ) (names : List (List ℕ)) → AllByRecursion (λ n. IsProper (name n)) names
-    → AreProper (climbed climb names)
-AreProper-climbed zero names proper = AreProper-names names proper
-AreProper-climbed (suc climb) names proper = (IsProper-up, AreProper-climbed climb names proper)
+pub SpellThemselves-ups_then_names : (climb : ℕ) (names : List (List ℕ)) → AllByRecursion (λ n. SpellsItself (name n)) names
+    → SpellThemselves (ups_then_names climb names)
+SpellThemselves-ups_then_names zero names proper = SpellThemselves-names names proper
+SpellThemselves-ups_then_names (suc climb) names proper = (SpellsItself-up, SpellThemselves-ups_then_names climb names proper)
 
-length-spell-padded : (c : Step) (cs : List Step) → length (spell (c ∷ cs)) + 1 ≡ padded_len (c ∷ cs)
+length-spell-padded : (c : Step) (cs : List Step) → length (spell (c ∷ cs)) + 1 ≡ slashed_len (c ∷ cs)
 length-spell-padded c [] = omega arith
 length-spell-padded c (d ∷ cs) =
     omega (arith, length-append (step_text c) (slash ∷ spell (d ∷ cs)), length-spell-padded d cs)
 
-pub length-spell : (cs : List Step) → length (spell cs) ≡ padded_len cs - 1
+pub length-spell : (cs : List Step) → length (spell cs) ≡ slashed_len cs - 1
 length-spell [] = omega arith
 length-spell (c ∷ cs) = omega (arith, length-spell-padded c cs)
 
 pub length-spell-append : (cs ds : List Step) → length (spell (cs ++ ds)) ≤ length (spell cs) + 1 + length (spell ds)
 length-spell-append cs ds =
-    omega (arith, length-spell (cs ++ ds), length-spell cs, length-spell ds, padded_len-append cs ds)
+    omega (arith, length-spell (cs ++ ds), length-spell cs, length-spell ds, slashed_len-append cs ds)
 
 -- what reduces a list to climbs and proper names gives its normal form
-pub IsNormalFormOf-Reduces : (cs : List Step) (climb : ℕ) (names : List (List ℕ))
-    → Reduces cs (climbed climb names) → AllByRecursion (λ n. IsProper (name n)) names
-    → IsNormalFormOf cs (climbed climb names)
-IsNormalFormOf-Reduces cs climb names reduces proper = record {
-  normal = IsNormal-climbed climb names;
+pub IsSpellableNormalForm-Reduces : (cs : List Step) (climb : ℕ) (names : List (List ℕ))
+    → Reduces cs (ups_then_names climb names) → AllByRecursion (λ n. SpellsItself (name n)) names
+    → IsSpellableNormalForm cs (ups_then_names climb names)
+IsSpellableNormalForm-Reduces cs climb names reduces proper = record {
+  normal = IsNormal-ups_then_names climb names;
   same = reduces.same;
-  of_text = components-spell (climbed climb names) (AreProper-climbed climb names proper);
-  no_longer = let shorter = reduces.no_longer in omega (arith, length-spell cs, length-spell (climbed climb names));
+  of_text = components-spell (ups_then_names climb names) (SpellThemselves-ups_then_names climb names proper);
+  no_longer = let shorter = reduces.no_longer in omega (arith, length-spell cs, length-spell (ups_then_names climb names));
 }
 
 -- the normal form of no component has none
-pub IsNormalFormOf-nil : (cs ds : List Step) → cs ≡ [] → IsNormalFormOf cs ds → ds ≡ []
-IsNormalFormOf-nil cs ds none form =
+pub IsSpellableNormalForm-nil : (cs ds : List Step) → cs ≡ [] → IsSpellableNormalForm cs ds → ds ≡ []
+IsSpellableNormalForm-nil cs ds none form =
     let shorter = form.no_longer in
     let empty = nil_from_length (spell ds) (omega (arith, shorter, ap (λ es. length (spell es)) none)) in
     sym form.of_text ∙ ap components empty ∙ components-nil
 
 -- the names of a table are proper
-AreProper-cut : (sources : Sources) (spans : List Span) → AllByRecursion (CutsName sources) spans
-    → AllByRecursion (λ n. IsProper (name n)) (map (span_text sources) spans)
-AreProper-cut sources [] cut = tt
-AreProper-cut sources (span ∷ spans) cut = (cut.0.whole, AreProper-cut sources spans cut.1)
+SpellThemselves-cut : (sources : Sources) (spans : List Span) → AllByRecursion (CutsName sources) spans
+    → AllByRecursion (λ n. SpellsItself (name n)) (map (span_text sources) spans)
+SpellThemselves-cut sources [] cut = tt
+SpellThemselves-cut sources (span ∷ spans) cut = (cut.0.whole, SpellThemselves-cut sources spans cut.1)
 
-pub AreProper-names_of_form : (form : NormalForm) → AllByRecursion (λ n. IsProper (name n)) (form_names form)
-AreProper-names_of_form form =
-    AreProper-cut form.sources form.names.items (recursion_from_All (CutsName form.sources) form.names.items form.cut)
+pub SpellThemselves-names_of_form : (form : NormalForm) → AllByRecursion (λ n. SpellsItself (name n)) (form_names form)
+SpellThemselves-names_of_form form =
+    SpellThemselves-cut form.sources form.names.items (recursion_from_All (CutsName form.sources) form.names.items form.cut)
 
-pub AreProper-names_past : (form : NormalForm) (skipped : ℕ)
-    → AllByRecursion (λ n. IsProper (name n)) (drop skipped (form_names form))
-AreProper-names_past form skipped =
-    let P : List ℕ → Type 0 = λ n. IsProper (name n) in
-    let all = All-from_recursion P (form_names form) (AreProper-names_of_form form) in
+pub SpellThemselves-names_past : (form : NormalForm) (skipped : ℕ)
+    → AllByRecursion (λ n. SpellsItself (name n)) (drop skipped (form_names form))
+SpellThemselves-names_past form skipped =
+    let P : List ℕ → Type 0 = λ n. SpellsItself (name n) in
+    let all = All-from_recursion P (form_names form) (SpellThemselves-names_of_form form) in
     recursion_from_All P _ (All-drop P skipped (form_names form) all)
 
 -- what reduces a list to the components of a form makes it the list's normal form
-pub IsNormalFormOf-form : (cs : List Step) (form : NormalForm) → Reduces cs (form_steps form)
-    → IsNormalFormOf cs (form_steps form)
-IsNormalFormOf-form cs form reduces =
-    IsNormalFormOf-Reduces cs form.climb (form_names form) reduces (AreProper-names_of_form form)
+pub IsSpellableNormalForm-form : (cs : List Step) (form : NormalForm) → Reduces cs (form_steps form)
+    → IsSpellableNormalForm cs (form_steps form)
+IsSpellableNormalForm-form cs form reduces =
+    IsSpellableNormalForm-Reduces cs form.climb (form_names form) reduces (SpellThemselves-names_of_form form)
 
 -- ---- writing pieces one after another
 
@@ -170,57 +170,57 @@ length-with_pieces_le text [] = omega arith
 length-with_pieces_le text (p ∷ ps) =
     omega (arith, length-with_piece_le text p, length-with_pieces_le (with_piece text p) ps)
 
-pub with_pieces-solid : (b : ℕ) (bs : List ℕ) (c : Step) (cs : List Step)
+pub with_pieces-non_slash : (b : ℕ) (bs : List ℕ) (c : Step) (cs : List Step)
     → fold with_piece (b ∷ bs) (map step_text (c ∷ cs)) ≡ (b ∷ bs) ++ slash ∷ spell (c ∷ cs)
-with_pieces-solid b bs c [] = refl
-with_pieces-solid b bs c (d ∷ cs) =
-    with_pieces-solid b (bs ++ slash ∷ step_text c) d cs
+with_pieces-non_slash b bs c [] = refl
+with_pieces-non_slash b bs c (d ∷ cs) =
+    with_pieces-non_slash b (bs ++ slash ∷ step_text c) d cs
     ∙ append_assoc (b ∷ bs) (slash ∷ step_text c) (slash ∷ spell (d ∷ cs))
 
 -- the texts of proper components one after another spell them
-pub with_pieces-spell : (cs : List Step) → AreProper cs → fold with_piece [] (map step_text cs) ≡ spell cs
+pub with_pieces-spell : (cs : List Step) → SpellThemselves cs → fold with_piece [] (map step_text cs) ≡ spell cs
 with_pieces-spell [] proper = refl
 with_pieces-spell (c ∷ []) proper = refl
 with_pieces-spell (c ∷ d ∷ cs) proper = after (step_text c) (nonempty_proper c proper.0)
   where
     after : (p : List ℕ) → 0 < length p → fold with_piece p (map step_text (d ∷ cs)) ≡ p ++ slash ∷ spell (d ∷ cs)
     after [] none = absurd (omega arith)
-    after (b ∷ bs) some = with_pieces-solid b bs d cs
+    after (b ∷ bs) some = with_pieces-non_slash b bs d cs
 
 map_step_text-names : (names : List (List ℕ)) → map step_text (map name names) ≡ names
 map_step_text-names [] = refl
 map_step_text-names (n ∷ ns) = ap (λ ps. n ∷ ps) (map_step_text-names ns)
 
-map_step_text-climbed : (climb : ℕ) (names : List (List ℕ))
-    → map step_text (climbed climb names) ≡ replicate climb (step_text up) ++ names
-map_step_text-climbed zero names = map_step_text-names names
-map_step_text-climbed (suc climb) names = ap (λ ps. step_text up ∷ ps) (map_step_text-climbed climb names)
+map_step_text-ups_then_names : (climb : ℕ) (names : List (List ℕ))
+    → map step_text (ups_then_names climb names) ≡ replicate climb (step_text up) ++ names
+map_step_text-ups_then_names zero names = map_step_text-names names
+map_step_text-ups_then_names (suc climb) names = ap (λ ps. step_text up ∷ ps) (map_step_text-ups_then_names climb names)
 
 -- climbs, and after them names
-pub with_pieces-climbed : (climb : ℕ) (names : List (List ℕ)) → AllByRecursion (λ n. IsProper (name n)) names
-    → fold with_piece (fold with_piece [] (replicate climb (step_text up))) names ≡ spell (climbed climb names)
-with_pieces-climbed climb names proper =
+pub with_pieces-ups_then_names : (climb : ℕ) (names : List (List ℕ)) → AllByRecursion (λ n. SpellsItself (name n)) names
+    → fold with_piece (fold with_piece [] (replicate climb (step_text up))) names ≡ spell (ups_then_names climb names)
+with_pieces-ups_then_names climb names proper =
     sym (fold-append with_piece [] (replicate climb (step_text up)) names)
-    ∙ ap (fold with_piece []) (sym (map_step_text-climbed climb names))
-    ∙ with_pieces-spell (climbed climb names) (AreProper-climbed climb names proper)
+    ∙ ap (fold with_piece []) (sym (map_step_text-ups_then_names climb names))
+    ∙ with_pieces-spell (ups_then_names climb names) (SpellThemselves-ups_then_names climb names proper)
 
 -- ---- counting bytes
 
-pub padded_len-climbed : (climb : ℕ) (names : List (List ℕ))
-    → padded_len (climbed climb names) ≡ 3 * climb + padded_len (map name names)
-padded_len-climbed zero names = omega arith
-padded_len-climbed (suc climb) names = omega (arith, padded_len-climbed climb names)
+pub slashed_len-ups_then_names : (climb : ℕ) (names : List (List ℕ))
+    → slashed_len (ups_then_names climb names) ≡ 3 * climb + slashed_len (map name names)
+slashed_len-ups_then_names zero names = omega arith
+slashed_len-ups_then_names (suc climb) names = omega (arith, slashed_len-ups_then_names climb names)
 
 -- some of the names have no more bytes than all
-pub padded_len-drop_le : (n : ℕ) (names : List (List ℕ))
-    → padded_len (map name (drop n names)) ≤ padded_len (map name names)
-padded_len-drop_le zero names = omega arith
-padded_len-drop_le (suc n) [] = omega arith
-padded_len-drop_le (suc n) (x ∷ names) = omega (arith, padded_len-drop_le n names)
+pub slashed_len-drop_le : (n : ℕ) (names : List (List ℕ))
+    → slashed_len (map name (drop n names)) ≤ slashed_len (map name names)
+slashed_len-drop_le zero names = omega arith
+slashed_len-drop_le (suc n) [] = omega arith
+slashed_len-drop_le (suc n) (x ∷ names) = omega (arith, slashed_len-drop_le n names)
 
 -- the names of a table, counted by their spans
 pub spans_len-padded : (sources : Sources) (spans : List Span) → All (CutsName sources) spans
-    → spans_len spans ≡ padded_len (map name (map (span_text sources) spans))
+    → spans_len spans ≡ slashed_len (map name (map (span_text sources) spans))
 spans_len-padded sources [] cut = refl
 spans_len-padded sources (span ∷ spans) cut =
     let rest = spans_len-padded sources spans (All-tail (CutsName sources) span spans cut) in
@@ -230,18 +230,18 @@ spans_len-padded sources (span ∷ spans) cut =
 pub length-spell-unwritten : (form : NormalForm) (climb skipped : ℕ) (names : List Span) (unwritten : Unwritten)
     → All (CutsName form.sources) names → map (span_text form.sources) names ≡ drop skipped (form_names form)
     → AreUnwritten form.sources names unwritten
-    → (length (spell (climbed climb (drop skipped (form_names form)))) ≡ 3 * climb + rest_len unwritten - 1)
-    × (rest_len unwritten ≤ padded_len (form_steps form))
+    → (length (spell (ups_then_names climb (drop skipped (form_names form)))) ≡ 3 * climb + rest_len unwritten - 1)
+    × (rest_len unwritten ≤ slashed_len (form_steps form))
 length-spell-unwritten form climb skipped names unwritten cut is first =
     let counted = rest_len-names form.sources names unwritten first ∙ spans_len-padded form.sources names cut
-    ∙ ap (λ ns. padded_len (map name ns)) is in
+    ∙ ap (λ ns. slashed_len (map name ns)) is in
     let past = drop skipped (form_names form) in (
-      omega (arith, counted, length-spell (climbed climb past), padded_len-climbed climb past),
-      omega (arith, counted, padded_len-climbed form.climb (form_names form), padded_len-drop_le skipped (form_names form)),
+      omega (arith, counted, length-spell (ups_then_names climb past), slashed_len-ups_then_names climb past),
+      omega (arith, counted, slashed_len-ups_then_names form.climb (form_names form), slashed_len-drop_le skipped (form_names form)),
     )
 
 -- the text that spells a normal form is the only normal text that leads where the components lead
-pub IsNormalTextOf-spell : (cs ds : List Step) (text : List ℕ) → IsNormalFormOf cs ds → text ≡ spell ds
+pub IsNormalTextOf-spell : (cs ds : List Step) (text : List ℕ) → IsSpellableNormalForm cs ds → text ≡ spell ds
     → IsNormalTextOf cs text
 IsNormalTextOf-spell cs ds text form spelled =
     let is : components text ≡ ds = ap components spelled ∙ form.of_text in

@@ -7,9 +7,9 @@ use Rattle.relative_path.specs.Walk.{IsSame}
 use Rattle.relative_path.specs.Normalizing.{IsNormal, IsNormalText, IsNormalTextOf}
 use Rattle.relative_path.specs.Slices.{IsShortestPrefix}
 use Rattle.relative_path.specs.Editing.{pushed, with_separator, unslashed, kept_len, IsPopped}
-use Rattle.relative_path.proofs.StepsLemmas.{components-nil, components-spell, AreProper, IsProper, AreProper-components, AreProper-append_left, HasNoSlash-proper, HasNoSlash-start, nonempty_proper, spell_end, spell_nonempty, step_text-classed, parts_len, parts_len-filter}
+use Rattle.relative_path.proofs.StepsLemmas.{components-nil, components-spell, SpellThemselves, SpellsItself, SpellThemselves-components, SpellThemselves-append_left, HasNoSlash-proper, HasNoSlash-start, nonempty_proper, spell_end, spell_nonempty, step_text-classed, parts_len, parts_len-filter}
 use Rattle.relative_path.proofs.SlicesLemmas.{IsPrefix, IsPrefix-append, IsShortestPrefix-from, IsShortestPrefix-unique}
-use Rattle.relative_path.proofs.EditingLemmas.{components-pushed, with_separator-solid, unslashed-solid, kept_len-push}
+use Rattle.relative_path.proofs.EditingLemmas.{components-pushed, with_separator-non_slash, unslashed-non_slash, kept_len-push}
 use Rattle.relative_path.proofs.WalkLemmas.{IsSame-refl, IsSame-sym, IsSame-trans, IsSame-append_right, IsSame-cur, IsSame-name_up}
 use Rattle.relative_path.proofs.NormalStepsLemmas.{IsNormal-push_up_after_up, IsNormal-front, IsNormal-not_cur, normal_unique, spell-append, length-spell-append_le, length-spell-drop_one}
 
@@ -77,30 +77,30 @@ Normalizes-cur source limit text left h = record {
 }
 
 -- a component pushed after the text that spells others
-pushed-spell : (cs : List Step) (c : Step) → AreProper cs → IsProper c
+pushed-spell : (cs : List Step) (c : Step) → SpellThemselves cs → SpellsItself c
     → pushed (spell cs) (step_text c) ≡ spell (cs ++ c ∷ [])
-pushed-spell cs c propers proper = ap (λ x. with_separator (spell cs) ++ x) solid ∙ after cs propers
+pushed-spell cs c propers proper = ap (λ x. with_separator (spell cs) ++ x) non_slash ∙ after cs propers
   where
-    solid : unslashed (step_text c) ≡ step_text c
-    solid =
-        unslashed-solid (step_text c)
+    non_slash : unslashed (step_text c) ≡ step_text c
+    non_slash =
+        unslashed-non_slash (step_text c)
         (subst (λ x. get_or x 0 0 ≢ slash) (append-nil (step_text c))
         (HasNoSlash-start (step_text c) [] (nonempty_proper c proper) (HasNoSlash-proper c proper)))
 
-    after : (ds : List Step) → AreProper ds → with_separator (spell ds) ++ step_text c ≡ spell (ds ++ c ∷ [])
+    after : (ds : List Step) → SpellThemselves ds → with_separator (spell ds) ++ step_text c ≡ spell (ds ++ c ∷ [])
     after [] h = refl
     after (d ∷ ds) h =
         ap (λ x. x ++ step_text c)
-        (with_separator-solid (spell (d ∷ ds)) (spell_nonempty d ds h.0) (spell_end (d ∷ ds) h))
+        (with_separator-non_slash (spell (d ∷ ds)) (spell_nonempty d ds h.0) (spell_end (d ∷ ds) h))
         ∙ append_assoc (spell (d ∷ ds)) (slash ∷ []) (step_text c) ∙ sym (spell-append d ds c [])
 
-pub spell-pushed : (text : List ℕ) (c : Step) → text ≡ spell (components text) → IsProper c
+pub spell-pushed : (text : List ℕ) (c : Step) → text ≡ spell (components text) → SpellsItself c
     → pushed text (step_text c) ≡ spell (components text ++ c ∷ [])
 spell-pushed text c spelled proper =
-    ap (λ x. pushed x (step_text c)) spelled ∙ pushed-spell (components text) c (AreProper-components text) proper
+    ap (λ x. pushed x (step_text c)) spelled ∙ pushed-spell (components text) c (SpellThemselves-components text) proper
 
 Normalizes-push : (source : List Step) (limit : ℕ) (text : List ℕ) (c : Step) (left : List Step)
-    → Normalizes source limit text (c ∷ left) → IsProper c → IsNormal (components text ++ c ∷ [])
+    → Normalizes source limit text (c ∷ left) → SpellsItself c → IsNormal (components text ++ c ∷ [])
     → Normalizes source limit (pushed text (step_text c)) left
 Normalizes-push source limit text c left h proper normal =
     let pushes : components (pushed text (step_text c)) ≡ components text ++ c ∷ [] =
@@ -118,7 +118,7 @@ Normalizes-push source limit text c left h proper normal =
     }
 
 pub pushed_fits : (source : List Step) (limit : ℕ) (text : List ℕ) (c : Step) (left : List Step)
-    → Normalizes source limit text (c ∷ left) → IsProper c → length (pushed text (step_text c)) ≤ limit
+    → Normalizes source limit text (c ∷ left) → SpellsItself c → length (pushed text (step_text c)) ≤ limit
 pushed_fits source limit text c left h proper =
     let spelled = ap length (spell-pushed text c h.normal_text.spelled proper) in
     let joined : length (spell ((components text ++ c ∷ []) ++ left)) ≡ length (spell (components text ++ c ∷ left)) =
@@ -135,8 +135,8 @@ Normalizes-pop : (source : List Step) (limit : ℕ) (text popped : List ℕ) (cs
     → Normalizes source limit text (up ∷ left) → components text ≡ cs ++ name n ∷ [] → IsPopped text popped
     → Normalizes source limit popped left
 Normalizes-pop source limit text popped cs n left h last pops =
-    let propers : AreProper (cs ++ name n ∷ []) = subst AreProper last (AreProper-components text) in
-    let proper = AreProper-append_left cs (name n ∷ []) propers in
+    let propers : SpellThemselves (cs ++ name n ∷ []) = subst SpellThemselves last (SpellThemselves-components text) in
+    let proper = SpellThemselves-append_left cs (name n ∷ []) propers in
     let firsts =
     ap₂ take (ap kept_len last ∙ kept_len-push cs (name n) refl) last ∙ take_at cs (name n ∷ []) (length cs) refl in
     let cut : IsShortestPrefix text cs popped = subst (λ ds. IsShortestPrefix text ds popped) firsts pops in
@@ -189,7 +189,7 @@ module _ (text : List ℕ) (normal : IsNormalText text) where
   pub Follows-cur : Follows text cur text
   Follows-cur = Follows-from cur text (λ left. Normalizes-cur _ _ text left (here (cur ∷ left)))
 
-  pub Follows-push : (c : Step) → IsProper c → IsNormal (components text ++ c ∷ [])
+  pub Follows-push : (c : Step) → SpellsItself c → IsNormal (components text ++ c ∷ [])
       → Follows text c (pushed text (step_text c))
   Follows-push c proper ends =
       Follows-from c (pushed text (step_text c)) (λ left. Normalizes-push _ _ text c left (here (c ∷ left)) proper ends)

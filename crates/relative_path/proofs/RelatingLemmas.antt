@@ -8,11 +8,11 @@ use Rattle.std.proofs.lemmas.Slice.Eq.{bytes_eq-Decides}
 use Rattle.relative_path.specs.Steps.{Step, cur, up, name, components, spell}
 use Rattle.relative_path.specs.Walk.{walk, IsSame, StaysBelow}
 use Rattle.relative_path.specs.Normalizing.{IsNormalForm, climb}
-use Rattle.relative_path.specs.NormalForm.{climbed}
+use Rattle.relative_path.specs.NormalForm.{ups_then_names}
 use Rattle.relative_path.specs.Relating.{Leads, IsReachable, IsShortest, IsShortestText, LeadsApart}
 use Rattle.relative_path.proofs.WalkLemmas.{walk-append, IsSame-below, IsSame-refl, IsSame-sym, IsSame-trans, IsSame-append_left, IsSame-append_right, IsSame-name_up}
 use Rattle.relative_path.proofs.NormalStepsLemmas.{names_of, IsNormal-parts, walk-normal, walk-normal_none}
-use Rattle.relative_path.proofs.NormalFormLemmas.{IsNormal-climbed}
+use Rattle.relative_path.proofs.NormalFormLemmas.{IsNormal-ups_then_names}
 
 -- ---- the shortest way from a place to a place
 
@@ -105,21 +105,21 @@ way_shortest ms ns (name n ∷ s) leads = way_shortest-name ms n ns s (way_short
 
 -- the way, told by how many names both places begin with
 pub way-common : (ms ns : List (List ℕ))
-    → way ms ns ≡ climbed (length ms - common_prefix_len bytes_eq ms ns) (drop (common_prefix_len bytes_eq ms ns) ns)
+    → way ms ns ≡ ups_then_names (length ms - common_prefix_len bytes_eq ms ns) (drop (common_prefix_len bytes_eq ms ns) ns)
 way-common [] ns = refl
 way-common (m ∷ ms) [] =
     let whole : suc (length ms) - 0 ≡ suc (length ms) = omega arith in
-    sym (append-nil (replicate (suc (length ms)) up)) ∙ ap (λ k. climbed k []) (sym whole)
+    sym (append-nil (replicate (suc (length ms)) up)) ∙ ap (λ k. ups_then_names k []) (sym whole)
 way-common (m ∷ ms) (n ∷ ns) = elim (cases_Bool (bytes_eq m n)) [
   | inl e ↦
       let common = common_prefix_len bytes_eq ms ns in
       let next : 1 + common ≡ suc common = omega arith in
       let left : length ms - common ≡ suc (length ms) - suc common = omega arith in
-      let rest = way-common ms ns ∙ ap (λ k. climbed k (drop common ns)) left in
+      let rest = way-common ms ns ∙ ap (λ k. ups_then_names k (drop common ns)) left in
       rw (cond-true (bytes_eq m n) _ _ e, cond-true (bytes_eq m n) _ _ e, next) rest
   | inr e ↦
       let whole : suc (length ms) ≡ suc (length ms) - 0 = omega arith in
-      rw (cond-false (bytes_eq m n) _ _ e, cond-false (bytes_eq m n) _ _ e) (ap (λ k. climbed k (n ∷ ns)) whole)
+      rw (cond-false (bytes_eq m n) _ _ e, cond-false (bytes_eq m n) _ _ e) (ap (λ k. ups_then_names k (n ∷ ns)) whole)
 ]
 
 -- a name that is not the first of these
@@ -128,7 +128,7 @@ other_name [] = []
 other_name (n ∷ ns) = 0 ∷ n
 
 -- from under such a name the way is all the way up, and down
-way-other_name : (ms ns : List (List ℕ)) → way (other_name ns ∷ ms) ns ≡ climbed (suc (length ms)) ns
+way-other_name : (ms ns : List (List ℕ)) → way (other_name ns ∷ ms) ns ≡ ups_then_names (suc (length ms)) ns
 way-other_name ms [] = sym (append-nil (replicate (suc (length ms)) up))
 way-other_name ms (n ∷ ns) = elim (cases_Bool (bytes_eq (0 ∷ n) n)) [
   | inl e ↦ absurd (let same = ap length ((bytes_eq-Decides (0 ∷ n) n).0 e) in omega arith)
@@ -137,42 +137,42 @@ way-other_name ms (n ∷ ns) = elim (cases_Bool (bytes_eq (0 ∷ n) n)) [
 
 -- ---- the parts of a normal list
 
-pub climb-climbed : (ups : ℕ) (ns : List (List ℕ)) → climb (climbed ups ns) ≡ ups
-climb-climbed zero [] = refl
-climb-climbed zero (n ∷ ns) = refl
-climb-climbed (suc ups) ns = ap (λ k. suc k) (climb-climbed ups ns)
+pub climb-ups_then_names : (ups : ℕ) (ns : List (List ℕ)) → climb (ups_then_names ups ns) ≡ ups
+climb-ups_then_names zero [] = refl
+climb-ups_then_names zero (n ∷ ns) = refl
+climb-ups_then_names (suc ups) ns = ap (λ k. suc k) (climb-ups_then_names ups ns)
 
-names_of-climbed : (ups : ℕ) (ns : List (List ℕ)) → names_of (climbed ups ns) ≡ ns
-names_of-climbed zero [] = refl
-names_of-climbed zero (n ∷ ns) = ap (λ x. n ∷ x) (names_of-climbed zero ns)
-names_of-climbed (suc ups) ns = names_of-climbed ups ns
+names_of-ups_then_names : (ups : ℕ) (ns : List (List ℕ)) → names_of (ups_then_names ups ns) ≡ ns
+names_of-ups_then_names zero [] = refl
+names_of-ups_then_names zero (n ∷ ns) = ap (λ x. n ∷ x) (names_of-ups_then_names zero ns)
+names_of-ups_then_names (suc ups) ns = names_of-ups_then_names ups ns
 
 walk-climbed_none : (base : List (List ℕ)) (ups : ℕ) (ns : List (List ℕ)) → length base < ups
-    → walk base (climbed ups ns) ≡ None
+    → walk base (ups_then_names ups ns) ≡ None
 walk-climbed_none base ups ns short =
-    let climbs = climb-climbed ups ns in
-    walk-normal_none base (climbed ups ns) (IsNormal-climbed ups ns) (omega arith)
+    let climbs = climb-ups_then_names ups ns in
+    walk-normal_none base (ups_then_names ups ns) (IsNormal-ups_then_names ups ns) (omega arith)
 
-walk-climbed : (base : List (List ℕ)) (ups : ℕ) (ns : List (List ℕ)) → ups ≤ length base
-    → walk base (climbed ups ns) ≡ Some (take (length base - ups) base ++ ns)
-walk-climbed base ups ns long =
-    let climbs = climb-climbed ups ns in
-    let names = names_of-climbed ups ns in
-    let leads = walk-normal base (climbed ups ns) (IsNormal-climbed ups ns) (omega arith) in
+walk-ups_then_names : (base : List (List ℕ)) (ups : ℕ) (ns : List (List ℕ)) → ups ≤ length base
+    → walk base (ups_then_names ups ns) ≡ Some (take (length base - ups) base ++ ns)
+walk-ups_then_names base ups ns long =
+    let climbs = climb-ups_then_names ups ns in
+    let names = names_of-ups_then_names ups ns in
+    let leads = walk-normal base (ups_then_names ups ns) (IsNormal-ups_then_names ups ns) (omega arith) in
     rw (climbs, names) at leads
 
-climbed-ups : (ups more : ℕ) (ns : List (List ℕ))
-    → replicate ups up ++ climbed more ns ≡ climbed (ups + more) ns
-climbed-ups ups more ns =
+ups_then_names-ups : (ups more : ℕ) (ns : List (List ℕ))
+    → replicate ups up ++ ups_then_names more ns ≡ ups_then_names (ups + more) ns
+ups_then_names-ups ups more ns =
     let joined = replicate-append-replicate ups more up in
     sym (append_assoc (replicate ups up) (replicate more up) (map name ns)) ∙ ap (λ x. x ++ map name ns) joined
 
 -- from a base of as many names as its `..`, a normal list leads to its own names
 walk-climbed_level : (base : List (List ℕ)) (ups : ℕ) (ns : List (List ℕ)) → length base ≡ ups
-    → walk base (climbed ups ns) ≡ Some ns
+    → walk base (ups_then_names ups ns) ≡ Some ns
 walk-climbed_level base ups ns level =
     let none : length base - ups ≡ zero = omega arith in
-    walk-climbed base ups ns (omega arith) ∙ ap (λ k. Some (take k base ++ ns)) none
+    walk-ups_then_names base ups ns (omega arith) ∙ ap (λ k. Some (take k base ++ ns)) none
 
 -- ---- lists that lead
 
@@ -203,20 +203,20 @@ IsSame-way (m ∷ ms) (n ∷ ns) = elim (cases_Bool (bytes_eq m n)) [
 ]
 
 -- where both climb as high, the way from the source's names to the target's
-Leads-level : (ups : ℕ) (ms ns : List (List ℕ)) → Leads (climbed ups ms) (way ms ns) (climbed ups ns)
+Leads-level : (ups : ℕ) (ms ns : List (List ℕ)) → Leads (ups_then_names ups ms) (way ms ns) (ups_then_names ups ns)
 Leads-level ups ms ns =
     let start = replicate ups up in
     rw (append_assoc start (map name ms) (way ms ns)) (IsSame-append_left start _ _ (IsSame-way ms ns))
 
 -- where the target climbs higher, up the source's names and as far as it climbs higher, and down the target's names
 Leads-higher : (ups more : ℕ) (ms ns : List (List ℕ))
-    → Leads (climbed ups ms) (climbed (length ms + more) ns) (climbed (ups + more) ns)
+    → Leads (ups_then_names ups ms) (ups_then_names (length ms + more) ns) (ups_then_names (ups + more) ns)
 Leads-higher ups more ms ns =
     let start = replicate ups up in
-    let cut = ap (λ x. start ++ (map name ms ++ x)) (sym (climbed-ups (length ms) more ns)) in
-    let source = append_assoc start (map name ms) (climbed (length ms + more) ns) ∙ cut in
-    let onward = IsSame-append_left start _ _ (IsSame-names_ups ms (climbed more ns)) in
-    rw (source, ← climbed-ups ups more ns) onward
+    let cut = ap (λ x. start ++ (map name ms ++ x)) (sym (ups_then_names-ups (length ms) more ns)) in
+    let source = append_assoc start (map name ms) (ups_then_names (length ms + more) ns) ∙ cut in
+    let onward = IsSame-append_left start _ _ (IsSame-names_ups ms (ups_then_names more ns)) in
+    rw (source, ← ups_then_names-ups ups more ns) onward
 
 -- ---- the shortest of them
 
@@ -241,18 +241,18 @@ IsShortest-from base ms ns cs r ds at is leads = record {
       subst (λ x. (length x < length s) ⊎ (s ≡ x)) is longer;
 }
 
-pub IsShortest-level : (ups : ℕ) (ms ns : List (List ℕ)) → IsShortest (climbed ups ms) (way ms ns) (climbed ups ns)
+pub IsShortest-level : (ups : ℕ) (ms ns : List (List ℕ)) → IsShortest (ups_then_names ups ms) (way ms ns) (ups_then_names ups ns)
 IsShortest-level ups ms ns =
     let base : List (List ℕ) = replicate ups [] in
     let len = length-replicate {A = List ℕ} ups [] in
-    let at : LeadFrom base ms ns (climbed ups ms) (climbed ups ns) = record {
+    let at : LeadFrom base ms ns (ups_then_names ups ms) (ups_then_names ups ns) = record {
       source = walk-climbed_level base ups ms len;
       target = walk-climbed_level base ups ns len;
     } in
     IsShortest-from _ _ _ _ _ _ at refl (Leads-level ups ms ns)
 
 pub IsShortest-higher : (ups more : ℕ) (ms ns : List (List ℕ)) → 0 < more
-    → IsShortest (climbed ups ms) (climbed (length ms + more) ns) (climbed (ups + more) ns)
+    → IsShortest (ups_then_names ups ms) (ups_then_names (length ms + more) ns) (ups_then_names (ups + more) ns)
 IsShortest-higher ups zero ms ns higher = absurd (omega arith)
 IsShortest-higher ups (suc k) ms ns higher =
     let other = other_name ns in
@@ -262,25 +262,25 @@ IsShortest-higher ups (suc k) ms ns higher =
     let above : length base - ups ≡ suc k = omega arith in
     let kept = ap (λ j. Some (take j base ++ ms)) above in
     let names = ap (λ x. Some (x ++ ms)) (take-replicate (suc k) (ups + suc k) other (omega arith)) in
-    let at : LeadFrom base place ns (climbed ups ms) (climbed (ups + suc k) ns) = record {
-      source = walk-climbed base ups ms (omega arith) ∙ kept ∙ names;
+    let at : LeadFrom base place ns (ups_then_names ups ms) (ups_then_names (ups + suc k) ns) = record {
+      source = walk-ups_then_names base ups ms (omega arith) ∙ kept ∙ names;
       target = walk-climbed_level base (ups + suc k) ns len;
     } in
     let joined = length-append (replicate (suc k) other) ms in
     let counted : length place ≡ length ms + suc k = omega (arith, joined, length-replicate (suc k) other) in
-    let is = way-other_name (replicate k other ++ ms) ns ∙ ap (λ j. climbed j ns) counted in
+    let is = way-other_name (replicate k other ++ ms) ns ∙ ap (λ j. ups_then_names j ns) counted in
     IsShortest-from _ _ _ _ _ _ at is (Leads-higher ups (suc k) ms ns)
 
 -- ---- where none leads
 
 pub unreachable_higher : (ups more : ℕ) (ms ns : List (List ℕ)) → more < ups
-    → IsReachable (climbed ups ms) (climbed more ns) → ⊥
+    → IsReachable (ups_then_names ups ms) (ups_then_names more ns) → ⊥
 unreachable_higher ups more ms ns higher (r, leads) =
     let base : List (List ℕ) = replicate more [] in
     let len = length-replicate {A = List ℕ} more [] in
     let none = walk-climbed_none base ups ms (omega arith) in
     let some = walk-climbed_level base more ns len in
-    let joined = walk-append base (climbed ups ms) r in
+    let joined = walk-append base (ups_then_names ups ms) r in
     let same = leads.everywhere base in
     let lost = joined ∙ ap (option_and_then (λ place. walk place r)) none in
     absurd (cc)
@@ -288,7 +288,7 @@ unreachable_higher ups more ms ns higher (r, leads) =
 -- ---- where two normal lists lead apart
 
 pub LeadsApart-higher : (ups more : ℕ) (ms ns : List (List ℕ)) → ups < more
-    → LeadsApart (climbed ups ms) (climbed more ns) ups
+    → LeadsApart (ups_then_names ups ms) (ups_then_names more ns) ups
 LeadsApart-higher ups more ms ns higher = record {
   apart = λ base level same.
       let some = walk-climbed_level base ups ms level in
@@ -299,7 +299,7 @@ LeadsApart-higher ups more ms ns higher = record {
 }
 
 pub LeadsApart-names : (ups : ℕ) (ms ns : List (List ℕ)) → ms ≢ ns
-    → LeadsApart (climbed ups ms) (climbed ups ns) ups
+    → LeadsApart (ups_then_names ups ms) (ups_then_names ups ns) ups
 LeadsApart-names ups ms ns other = record {
   apart = λ base level same.
       let from_ms = walk-climbed_level base ups ms level in
@@ -357,7 +357,7 @@ LeadsApart-same cs cs' ds ds' n first second h = record {
 -- ---- a list leads exactly if the source's normal form climbs no higher
 
 reachable_climbed : (ups more : ℕ) (ms ns : List (List ℕ))
-    → IsReachable (climbed ups ms) (climbed more ns) ↔ (ups ≤ more)
+    → IsReachable (ups_then_names ups ms) (ups_then_names more ns) ↔ (ups ≤ more)
 reachable_climbed ups more ms ns = (
   λ reachable. elim (cases_lt more ups) [
     | inl higher ↦ absurd (unreachable_higher ups more ms ns higher reachable)
@@ -365,9 +365,9 @@ reachable_climbed ups more ms ns = (
   ],
   λ lower.
       let climbs : ups + (more - ups) ≡ more = omega arith in
-      let onward = climbed (length ms + (more - ups)) ns in
+      let onward = ups_then_names (length ms + (more - ups)) ns in
       let leads = Leads-higher ups (more - ups) ms ns in
-      (onward, subst (λ k. Leads (climbed ups ms) onward (climbed k ns)) climbs leads),
+      (onward, subst (λ k. Leads (ups_then_names ups ms) onward (ups_then_names k ns)) climbs leads),
 )
 
 pub IsShortestText-same : (f g t u : List Step) (text : List ℕ) → IsSame g f → IsSame u t → IsShortestText f t text
@@ -446,13 +446,13 @@ common_all ms ns = (
 
 -- where both climb as high
 pub IsShortest-common : (ups : ℕ) (ms ns : List (List ℕ)) → let common = common_prefix_len bytes_eq ms ns in
-    IsShortest (climbed ups ms) (climbed (length ms - common) (drop common ns)) (climbed ups ns)
+    IsShortest (ups_then_names ups ms) (ups_then_names (length ms - common) (drop common ns)) (ups_then_names ups ns)
 IsShortest-common ups ms ns =
-    subst (λ r. IsShortest (climbed ups ms) r (climbed ups ns)) (way-common ms ns) (IsShortest-level ups ms ns)
+    subst (λ r. IsShortest (ups_then_names ups ms) r (ups_then_names ups ns)) (way-common ms ns) (IsShortest-level ups ms ns)
 
 -- two normal lists that differ lead apart at the lower climb
 pub LeadsApart-lower : (ups more : ℕ) (ms ns : List (List ℕ)) → (ups ≡ more → ms ≢ ns)
-    → LeadsApart (climbed ups ms) (climbed more ns) (min ups more)
+    → LeadsApart (ups_then_names ups ms) (ups_then_names more ns) (min ups more)
 LeadsApart-lower ups more ms ns other = elim (cases_lt ups more) [
   | inl less ↦
       let lower : ups ≡ min ups more = omega arith in
@@ -465,7 +465,7 @@ LeadsApart-lower ups more ms ns other = elim (cases_lt ups more) [
         let same : ups ≡ more = omega arith in
         let lower : ups ≡ min ups more = omega arith in
         let names = subst (LeadsApart _ _) lower (LeadsApart-names ups ms ns (other same)) in
-        subst (λ k. LeadsApart (climbed ups ms) (climbed k ns) (min ups more)) same names
+        subst (λ k. LeadsApart (ups_then_names ups ms) (ups_then_names k ns) (min ups more)) same names
   ]
 ]
 

@@ -38,7 +38,7 @@ take-IsPrefix {text} {p} h k short = ap (take k) h.front ∙ take-take k (length
 pub IsPrefix-trans : {text p q : List ℕ} → IsPrefix text p → IsPrefix p q → IsPrefix text q
 IsPrefix-trans {text} {p} {q} h i = record { front = i.front ∙ take-IsPrefix h (length q) (length-IsPrefix i) }
 
--- texts with the same components have as many solid bytes
+-- texts with the same components have as many non_slash bytes
 solid_len-components : (xs ys : List ℕ) → components xs ≡ components ys → solid_len xs ≡ solid_len ys
 solid_len-components xs ys e =
     let p = total_len-components xs in

@@ -11,7 +11,7 @@ use Rattle.relative_path.specs.declared.spans.Source.{Source}
 use Rattle.relative_path.specs.declared.spans.Sources.{Sources}
 use Rattle.relative_path.specs.declared.spans.Span.{Span}
 use Rattle.relative_path.specs.Spans.{source_text, span_text, IsRun, Cuts, CutsName, IsFirstRun, IsOrdered, rest_len, spans_len}
-use Rattle.relative_path.proofs.StepsLemmas.{HasNoSlash, IsProper, AreProper, AreProper-components, components-append, components-nil, components_whole, nonempty_proper, step_text-classed}
+use Rattle.relative_path.proofs.StepsLemmas.{HasNoSlash, SpellsItself, SpellThemselves, SpellThemselves-components, components-append, components-nil, components_whole, nonempty_proper, step_text-classed}
 use Rattle.relative_path.proofs.SlashesLemmas.{IsCharBoundary-piece}
 use Rattle.relative_path.specs.Writing.{with_piece}
 
@@ -64,7 +64,7 @@ Cuts-first sources source text left c cs same suffix utf8 start first =
     let n = length text - length left in
     let len = length (step_text c) in
     let inside : length left ≤ length text = omega (arith, ap length suffix, length-drop n text) in
-    let proper : IsProper c = (subst AreProper first (AreProper-components left)).0 in
+    let proper : SpellsItself c = (subst SpellThemselves first (SpellThemselves-components left)).0 in
     let at : (k : ℕ) → get_or text (n + k) 0 ≡ get_or left k 0 =
     λ k. sym (get_or-drop n text k 0) ∙ ap (λ x. get_or x k 0) (sym suffix) in
     let whole = ap length joined ∙ length-append (step_text c) rest in

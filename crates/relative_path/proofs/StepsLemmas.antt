@@ -81,15 +81,15 @@ step_text-classed p =
 -- ---- what a component is: its own text has it alone
 
 -- the text of the component has that component and no other
-abbrev pub IsProper : Step → Type 0
-IsProper c = components (step_text c) ≡ c ∷ []
+abbrev pub SpellsItself : Step → Type 0
+SpellsItself c = components (step_text c) ≡ c ∷ []
 
 -- each component is so
-abbrev pub AreProper : List Step → Type 0
-AreProper cs = AllByRecursion IsProper cs
+abbrev pub SpellThemselves : List Step → Type 0
+SpellThemselves cs = AllByRecursion SpellsItself cs
 
-pub IsProper-up : IsProper up
-IsProper-up = components_whole (step_text up) (omega arith) (refl, (refl, tt))
+pub SpellsItself-up : SpellsItself up
+SpellsItself-up = components_whole (step_text up) (omega arith) (refl, (refl, tt))
 
 -- ---- counting bytes
 
@@ -159,30 +159,30 @@ IsPiece-filter [] h = tt
 IsPiece-filter ([] ∷ ps) h = IsPiece-filter ps h.1
 IsPiece-filter ((b ∷ bs) ∷ ps) h = ((omega arith, h.0), IsPiece-filter ps h.1)
 
-IsProper-classed : (p : List ℕ) → IsPiece p → IsProper (classed p)
-IsProper-classed p h = rw (step_text-classed p) (components_whole p h.0 h.1)
+SpellsItself-classed : (p : List ℕ) → IsPiece p → SpellsItself (classed p)
+SpellsItself-classed p h = rw (step_text-classed p) (components_whole p h.0 h.1)
 
-AreProper-classed : (ps : List (List ℕ)) → AllByRecursion IsPiece ps → AreProper (map classed ps)
-AreProper-classed [] h = tt
-AreProper-classed (p ∷ ps) h = (IsProper-classed p h.0, AreProper-classed ps h.1)
+SpellThemselves-classed : (ps : List (List ℕ)) → AllByRecursion IsPiece ps → SpellThemselves (map classed ps)
+SpellThemselves-classed [] h = tt
+SpellThemselves-classed (p ∷ ps) h = (SpellsItself-classed p h.0, SpellThemselves-classed ps h.1)
 
-pub AreProper-components : (bs : List ℕ) → AreProper (components bs)
+pub SpellThemselves-components : (bs : List ℕ) → SpellThemselves (components bs)
 unfolding components pieces
-AreProper-components bs =
-    AreProper-classed (pieces bs) (IsPiece-filter (slice_split is_slash bs) (HasNoSlash-slice_split bs))
+SpellThemselves-components bs =
+    SpellThemselves-classed (pieces bs) (IsPiece-filter (slice_split is_slash bs) (HasNoSlash-slice_split bs))
 
 -- ---- spelling
 
-pub components-spell : (cs : List Step) → AreProper cs → components (spell cs) ≡ cs
+pub components-spell : (cs : List Step) → SpellThemselves cs → components (spell cs) ≡ cs
 components-spell [] proper = components-nil
 components-spell (c ∷ []) proper = proper.0
 components-spell (c ∷ d ∷ cs) proper =
     components-append (step_text c) (spell (d ∷ cs))
     ∙ ap₂ (λ xs ys. xs ++ ys) proper.0 (components-spell (d ∷ cs) proper.1)
 
-pub AreProper-append : (cs ds : List Step) → AreProper cs → AreProper ds → AreProper (cs ++ ds)
-AreProper-append [] ds proper proper' = proper'
-AreProper-append (c ∷ cs) ds proper proper' = (proper.0, AreProper-append cs ds proper.1 proper')
+pub SpellThemselves-append : (cs ds : List Step) → SpellThemselves cs → SpellThemselves ds → SpellThemselves (cs ++ ds)
+SpellThemselves-append [] ds proper proper' = proper'
+SpellThemselves-append (c ∷ cs) ds proper proper' = (proper.0, SpellThemselves-append cs ds proper.1 proper')
 
 -- ---- the last byte
 
@@ -193,7 +193,7 @@ end-append xs ys nonempty =
     let index : length (xs ++ ys) - 1 ≡ length xs + (length ys - 1) = omega (arith, length-append xs ys) in
     ap (λ i. get_or (xs ++ ys) i 0) index ∙ get_or-append-add xs ys (length ys - 1) 0
 
--- ---- solid bytes
+-- ---- non_slash bytes
 
 pub solid_len-append : (xs ys : List ℕ) → solid_len (xs ++ ys) ≡ solid_len xs + solid_len ys
 solid_len-append [] ys = omega arith
@@ -209,7 +209,7 @@ solid_len_le (b ∷ bs) =
     cond_both (is_slash b) (solid_len bs) (suc (solid_len bs)) (λ n. n ≤ suc (length bs))
     (λ _. omega (arith, solid_len_le bs)) (λ _. omega (arith, solid_len_le bs))
 
--- a text without a solid byte ends in a slash, if it has a byte
+-- a text without a non_slash byte ends in a slash, if it has a byte
 pub last-not_solid : (bs : List ℕ) → solid_len bs ≡ 0 → 0 < length bs → get_or bs (length bs - 1) 0 ≡ slash
 last-not_solid [] none nonempty = absurd (omega arith)
 last-not_solid (b ∷ []) none nonempty =
@@ -222,26 +222,26 @@ last-not_solid (b ∷ c ∷ bs) none nonempty =
     end-append (b ∷ []) (c ∷ bs) (omega arith) ∙ last-not_solid (c ∷ bs) rest (omega arith)
 
 HasNoSlash-from_solid : (bs : List ℕ) → solid_len bs ≡ length bs → HasNoSlash bs
-HasNoSlash-from_solid [] solid = tt
-HasNoSlash-from_solid (b ∷ bs) solid =
+HasNoSlash-from_solid [] non_slash = tt
+HasNoSlash-from_solid (b ∷ bs) non_slash =
     ⊎_elim
-    (λ e. absurd (let h = rw (cond-true (is_slash b) (solid_len bs) (suc (solid_len bs)) e) at solid in omega (arith, h, solid_len_le bs)))
+    (λ e. absurd (let h = rw (cond-true (is_slash b) (solid_len bs) (suc (solid_len bs)) e) at non_slash in omega (arith, h, solid_len_le bs)))
     (λ e. (
       e,
       HasNoSlash-from_solid bs
-          (let h = rw (cond-false (is_slash b) (solid_len bs) (suc (solid_len bs)) e) at solid in omega (arith, h)),
+          (let h = rw (cond-false (is_slash b) (solid_len bs) (suc (solid_len bs)) e) at non_slash in omega (arith, h)),
     ))
     (cases_Bool (is_slash b))
 
 -- the text of a proper component has no slash
-pub HasNoSlash-proper : (c : Step) → IsProper c → HasNoSlash (step_text c)
+pub HasNoSlash-proper : (c : Step) → SpellsItself c → HasNoSlash (step_text c)
 HasNoSlash-proper c proper =
     let counted = total_len-components (step_text c) in
     let counts = rw proper at counted in
     HasNoSlash-from_solid (step_text c) (omega (arith, counts))
 
 -- the text of a proper component has a byte
-pub nonempty_proper : (c : Step) → IsProper c → 0 < length (step_text c)
+pub nonempty_proper : (c : Step) → SpellsItself c → 0 < length (step_text c)
 nonempty_proper c proper = nonempty (step_text c) proper
   where
     nonempty : (p : List ℕ) → components p ≡ c ∷ [] → 0 < length p
@@ -261,22 +261,22 @@ HasNoSlash-end [] h = λ e. absurd (omega (arith, e))
 HasNoSlash-end (b ∷ []) h = λ e. eqb-false b slash h.0 e
 HasNoSlash-end (b ∷ c ∷ bs) h = λ e. HasNoSlash-end (c ∷ bs) h.1 (sym (end-append (b ∷ []) (c ∷ bs) (omega arith)) ∙ e)
 
-pub spell_nonempty : (c : Step) (cs : List Step) → IsProper c → 0 < length (spell (c ∷ cs))
+pub spell_nonempty : (c : Step) (cs : List Step) → SpellsItself c → 0 < length (spell (c ∷ cs))
 spell_nonempty c [] proper = nonempty_proper c proper
 spell_nonempty c (d ∷ cs) proper = omega (arith, length-append (step_text c) (slash ∷ spell (d ∷ cs)))
 
-length_le_total_len : (cs : List Step) → AreProper cs → length cs ≤ total_len cs
+length_le_total_len : (cs : List Step) → SpellThemselves cs → length cs ≤ total_len cs
 length_le_total_len [] proper = omega arith
 length_le_total_len (c ∷ cs) proper = omega (arith, nonempty_proper c proper.0, length_le_total_len cs proper.1)
 
 -- a text has no more components than bytes
 pub length-components_le : (text : List ℕ) → length (components text) ≤ length text
 length-components_le text =
-    let each = length_le_total_len (components text) (AreProper-components text) in
+    let each = length_le_total_len (components text) (SpellThemselves-components text) in
     omega (arith, each, total_len-components text, solid_len_le text)
 
 -- a text that spells proper components ends in no slash
-pub spell_end : (cs : List Step) → AreProper cs → get_or (spell cs) (length (spell cs) - 1) 0 ≢ slash
+pub spell_end : (cs : List Step) → SpellThemselves cs → get_or (spell cs) (length (spell cs) - 1) 0 ≢ slash
 spell_end [] proper = HasNoSlash-end [] tt
 spell_end (c ∷ []) proper = HasNoSlash-end (step_text c) (HasNoSlash-proper c proper.0)
 spell_end (c ∷ d ∷ cs) proper = λ e.
@@ -285,6 +285,6 @@ spell_end (c ∷ d ∷ cs) proper = λ e.
     sym (append_assoc (step_text c) (slash ∷ []) (spell (d ∷ cs))) in
     spell_end (d ∷ cs) proper.1 (sym longer ∙ ap (λ x. get_or x (length x - 1) 0) (sym same) ∙ e)
 
-pub AreProper-append_left : (cs ds : List Step) → AreProper (cs ++ ds) → AreProper cs
-AreProper-append_left [] ds proper = tt
-AreProper-append_left (c ∷ cs) ds proper = (proper.0, AreProper-append_left cs ds proper.1)
+pub SpellThemselves-append_left : (cs ds : List Step) → SpellThemselves (cs ++ ds) → SpellThemselves cs
+SpellThemselves-append_left [] ds proper = tt
+SpellThemselves-append_left (c ∷ cs) ds proper = (proper.0, SpellThemselves-append_left cs ds proper.1)

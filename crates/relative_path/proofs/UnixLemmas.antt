@@ -3,7 +3,7 @@ use Rattle.std.proofs.Common.{◌≡◌, ◌≢◌, ◌⊎◌, ℕ, ◌-◌, ◌
 use Rattle.std.proofs.lemmas.Bool.{cases_Bool, cases_lt}
 use Rattle.std.proofs.lemmas.List.{append_cancel_left}
 use Rattle.relative_path.specs.Steps.{Step, cur, up, name, slash, is_slash, step_text, classed, components}
-use Rattle.relative_path.specs.Editing.{is_cur, without_curs}
+use Rattle.relative_path.specs.Editing.{is_cur, without_cur_dirs}
 use Rattle.relative_path.specs.declared.component.Component.{Component}
 use Rattle.relative_path.specs.Components.{step_of, TakesLast}
 use Rattle.relative_path.specs.Unix.{has_root, counted, unix_components, but_last, IsAbove}
@@ -118,7 +118,7 @@ counted_alone false c = inr refl
 
 -- a component that is no `.` counts
 counted_first : (rooted : Bool) (c : Step) (cs : List Step) → is_cur c ≡ false
-    → counted rooted (c ∷ cs) ≡ c ∷ without_curs cs
+    → counted rooted (c ∷ cs) ≡ c ∷ without_cur_dirs cs
 counted_first true cur cs other = absurd (true≢false other)
 counted_first true up cs other = refl
 counted_first true (name n) cs other = refl
@@ -143,7 +143,7 @@ shorter-counted rooted front rest nonempty end last = λ same. elim (continues f
     longer rooted' ds x y some some' same =
         let long : is_cur (classed (x ++ y)) ≡ false =
         long_other (classed (x ++ y)) (omega (arith, ap length (step_text-classed (x ++ y)), length-append x y)) in
-        let kept : counted rooted' (classed x ∷ []) ≡ classed (x ++ y) ∷ without_curs ds =
+        let kept : counted rooted' (classed x ∷ []) ≡ classed (x ++ y) ∷ without_cur_dirs ds =
         same ∙ counted_first rooted' (classed (x ++ y)) ds long in
         ⊎_elim
         (λ none. absurd (omega (arith, ap length (sym none ∙ kept))))

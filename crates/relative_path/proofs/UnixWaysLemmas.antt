@@ -6,9 +6,9 @@ use Rattle.relative_path.specs.Walk.{walk, IsSame}
 use Rattle.relative_path.specs.Comparing.{step_eq}
 use Rattle.relative_path.specs.ComparingLaws.{step_eq-Decides}
 use Rattle.relative_path.specs.Unix.{has_root, unix_components, shared_len, way_back, way_to}
-use Rattle.relative_path.proofs.StepsLemmas.{AreProper, AreProper-append, components-spell}
+use Rattle.relative_path.proofs.StepsLemmas.{SpellThemselves, SpellThemselves-append, components-spell}
 use Rattle.relative_path.proofs.WalkLemmas.{walk-append, walk-below, IsSame-append_left}
-use Rattle.relative_path.proofs.UnixTextsLemmas.{AreProper-counted, AreProper-ups}
+use Rattle.relative_path.proofs.UnixTextsLemmas.{SpellThemselves-counted, SpellThemselves-ups}
 
 -- ---- where lists lead from the top
 
@@ -50,10 +50,10 @@ take-shared (c ∷ cs) (d ∷ ds) = ⊎_elim
     (λ e. rw (cond-false (step_eq c d) (1 + shared_len cs ds) 0 e) refl)
     (cases_Bool (step_eq c d))
 
-AreProper-drop : (n : ℕ) (cs : List Step) → AreProper cs → AreProper (drop n cs)
-AreProper-drop zero cs proper = proper
-AreProper-drop (suc n) [] proper = tt
-AreProper-drop (suc n) (c ∷ cs) proper = AreProper-drop n cs proper.1
+SpellThemselves-drop : (n : ℕ) (cs : List Step) → SpellThemselves cs → SpellThemselves (drop n cs)
+SpellThemselves-drop zero cs proper = proper
+SpellThemselves-drop (suc n) [] proper = tt
+SpellThemselves-drop (suc n) (c ∷ cs) proper = SpellThemselves-drop n cs proper.1
 
 -- what is left of both lists, and where the root's part leads from the top
 pub way_to-from : (path root : List ℕ) (own_path own_root : List Step) (place : List (List ℕ))
@@ -83,9 +83,9 @@ IsSame-way_to path root way is = leads (walk [] from) refl is
     leads None at e = absurd (cc)
     leads (Some place) at e =
         let written : way ≡ replicate (length place) up ++ to = cc in
-        let proper : AreProper (replicate (length place) up ++ to) =
-        AreProper-append (replicate (length place) up) to (AreProper-ups (length place))
-        (AreProper-drop shared (unix_components path) (AreProper-counted (has_root path) path)) in
+        let proper : SpellThemselves (replicate (length place) up ++ to) =
+        SpellThemselves-append (replicate (length place) up) to (SpellThemselves-ups (length place))
+        (SpellThemselves-drop shared (unix_components path) (SpellThemselves-counted (has_root path) path)) in
         let spelled : components (spell way) ≡ replicate (length place) up ++ to =
         ap (λ cs. components (spell cs)) written ∙ components-spell (replicate (length place) up ++ to) proper in
         let front = take shared (unix_components root) in

@@ -7,7 +7,7 @@ use Rattle.std.proofs.lemmas.List.Sums.{fold-append}
 use Rattle.std.proofs.lemmas.Str.{IsCharBoundary-from_ascii}
 use Rattle.relative_path.specs.Steps.{up, slash, dot, step_text, spell}
 use Rattle.relative_path.specs.Writing.{with_piece}
-use Rattle.relative_path.proofs.NormalFormLemmas.{length-with_pieces_le, with_pieces-solid, with_pieces-climbed}
+use Rattle.relative_path.proofs.NormalFormLemmas.{length-with_pieces_le, with_pieces-non_slash, with_pieces-ups_then_names}
 
 -- ---- the table that climbs are cut out of
 
@@ -53,7 +53,7 @@ climbs_cut n m run some few cut =
 
 -- one after another they are spelled
 pub with_pieces-climb : (n : ℕ) → fold with_piece [] (replicate n (step_text up)) ≡ spell (replicate n up)
-with_pieces-climb n = with_pieces-climbed n [] tt ∙ ap spell (append-nil (replicate n up))
+with_pieces-climb n = with_pieces-ups_then_names n [] tt ∙ ap spell (append-nil (replicate n up))
 
 pub map_step_text-ups : (n : ℕ) → map step_text (replicate n up) ≡ replicate n (step_text up)
 map_step_text-ups zero = refl
@@ -65,7 +65,7 @@ with_piece-climb : (text : List ℕ) (n : ℕ) → 0 < n
 with_piece-climb text zero some = absurd (omega (arith, some))
 with_piece-climb [] (suc n) some = sym (with_pieces-climb (suc n))
 with_piece-climb (b ∷ bs) (suc n) some =
-    sym (with_pieces-solid b bs up (replicate n up)) ∙ ap (fold with_piece (b ∷ bs)) (map_step_text-ups (suc n))
+    sym (with_pieces-non_slash b bs up (replicate n up)) ∙ ap (fold with_piece (b ∷ bs)) (map_step_text-ups (suc n))
 
 -- some of those that are left at once, and then the others
 module _ (text run : List ℕ) (left n : ℕ) (some : 0 < n) (few : n ≤ left) (is : run ≡ spell (replicate n up)) where

@@ -9,5 +9,5 @@ begun after_slash (b ∷ bs) =
     if is_slash b then begun true bs else (if after_slash then 1 + begun false bs else begun false bs)
 
 -- how many components begin in a text from a place after its first byte on
-abbrev pub begun_from : List ℕ → ℕ → ℕ
-begun_from text at = begun (is_slash (slice_index text (at - 1))) (drop at text)
+abbrev pub starts_from : List ℕ → ℕ → ℕ
+starts_from text at = begun (is_slash (slice_index text (at - 1))) (drop at text)

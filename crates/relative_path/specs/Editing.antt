@@ -25,8 +25,8 @@ is_cur up = false
 is_cur (name n) = false
 
 -- the components without each `.`
-abbrev pub without_curs : List Step → List Step
-without_curs cs = filter (λ c. not (is_cur c)) cs
+abbrev pub without_cur_dirs : List Step → List Step
+without_cur_dirs cs = filter (λ c. not (is_cur c)) cs
 
 -- how many components a parent keeps: all but each `.` at the end, and one less if any are left
 abbrev pub kept_len : List Step → ℕ

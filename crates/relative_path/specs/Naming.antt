@@ -5,7 +5,7 @@ use Rattle.std.specs.List.{list_all, before_last, after_last}
 use Rattle.relative_path.specs.Steps.{Step, cur, up, name, dot, is_slash, is_not_empty, components}
 use Rattle.relative_path.specs.Slices.{IsCut}
 use Rattle.relative_path.specs.Walk.{walk}
-use Rattle.relative_path.specs.Editing.{kept_len, kept, pushed, without_curs, IsPopped}
+use Rattle.relative_path.specs.Editing.{kept_len, kept, pushed, without_cur_dirs, IsPopped}
 
 -- the name that a component is, if it is one
 abbrev pub name_of : Step → Option (List ℕ)
@@ -15,7 +15,7 @@ name_of (name n) = Some n
 
 -- the last component that is no `.`, if there is one
 abbrev pub last_other : List Step → Option Step
-last_other cs = slice_get (without_curs cs) (length (without_curs cs) - 1)
+last_other cs = slice_get (without_cur_dirs cs) (length (without_cur_dirs cs) - 1)
 
 -- the file name of a list of components: the last one that is no `.`, if it is a name
 abbrev pub last_name : List Step → Option (List ℕ)

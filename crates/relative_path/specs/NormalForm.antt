@@ -8,21 +8,21 @@ use Rattle.relative_path.specs.Normalizing.{IsNormal}
 use Rattle.relative_path.specs.Spans.{span_text}
 
 -- as many `..`, and then the names
-abbrev pub climbed : ℕ → List (List ℕ) → List Step
-climbed climb names = replicate climb up ++ map name names
+abbrev pub ups_then_names : ℕ → List (List ℕ) → List Step
+ups_then_names climb names = replicate climb up ++ map name names
 
 -- how many bytes the components have, with a slash after each
-abbrev pub padded_len : List Step → ℕ
-padded_len [] = 0
-padded_len (c ∷ cs) = length (step_text c) + 1 + padded_len cs
+abbrev pub slashed_len : List Step → ℕ
+slashed_len [] = 0
+slashed_len (c ∷ cs) = length (step_text c) + 1 + slashed_len cs
 
 -- ds lead where cs lead, and have no more bytes
 pub record Reduces (cs ds : List Step) : Type 0 where
   pub same : IsSame cs ds
-  pub no_longer : padded_len ds ≤ padded_len cs
+  pub no_longer : slashed_len ds ≤ slashed_len cs
 
 -- ds are normal, lead where cs lead, and are the components of a text that is no longer than the text of cs
-pub record IsNormalFormOf (cs ds : List Step) : Type 0 where
+pub record IsSpellableNormalForm (cs ds : List Step) : Type 0 where
   pub normal : IsNormal ds
   pub same : IsSame cs ds
   pub of_text : components (spell ds) ≡ ds
@@ -42,7 +42,7 @@ form_names form = map (span_text (form_sources form)) form.names.items
 
 -- the components that a form stands for
 abbrev pub form_steps : NormalForm → List Step
-form_steps form = climbed (form_climb form) (form_names form)
+form_steps form = ups_then_names (form_climb form) (form_names form)
 
 -- how many components these are
 abbrev pub form_len : NormalForm → ℕ

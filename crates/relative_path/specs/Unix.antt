@@ -6,7 +6,7 @@ use Rattle.std.specs.List.{common_prefix_len}
 use Rattle.std.specs.Option.{option_map}
 use Rattle.relative_path.specs.Steps.{Step, cur, up, name, is_slash, step_text, components}
 use Rattle.relative_path.specs.Walk.{walk}
-use Rattle.relative_path.specs.Editing.{without_curs}
+use Rattle.relative_path.specs.Editing.{without_cur_dirs}
 use Rattle.relative_path.specs.Writing.{with_piece}
 use Rattle.relative_path.specs.Comparing.{step_eq}
 
@@ -16,13 +16,13 @@ has_root [] = false
 has_root (b ∷ bs) = is_slash b
 
 -- the components without each `.` but a first one
-abbrev pub without_inner_curs : List Step → List Step
-without_inner_curs [] = []
-without_inner_curs (c ∷ cs) = c ∷ without_curs cs
+abbrev pub without_inner_cur_dirs : List Step → List Step
+without_inner_cur_dirs [] = []
+without_inner_cur_dirs (c ∷ cs) = c ∷ without_cur_dirs cs
 
 -- the components that count: after a root, or at the start of a path without one
 abbrev pub counted : (rooted : Bool) → List Step → List Step
-counted rooted cs = if rooted then without_curs cs else without_inner_curs cs
+counted rooted cs = if rooted then without_cur_dirs cs else without_inner_cur_dirs cs
 
 -- the components of the text under the Unix rules, after its root if it has one
 abbrev pub unix_components : List ℕ → List Step

@@ -8,7 +8,7 @@ ghost use Rattle.relative_path.specs.Walk.{walk, IsSame, StaysBelow};
 ghost use Rattle.relative_path.specs.Unix.{has_root, unix_components};
 ghost use Rattle.relative_path.specs.declared.error.FromPathErrorKind.TheVariants.{NonRelative, OutOfMemory};
 ghost use Rattle.std.specs.Path.{path_bytes};
-ghost use Rattle.relative_path.specs.Editing.{kept, pushed, with_separator, without_curs, IsPopped};
+ghost use Rattle.relative_path.specs.Editing.{kept, pushed, with_separator, without_cur_dirs, IsPopped};
 ghost use Rattle.relative_path.specs.Naming.{file_name_of, stem_of, extension_of, is_extension, is_plain_extension, base_components, dotted, IsBeside, IsNamed, IsExtended};
 ghost use Rattle.relative_path.specs.Comparing.{steps_eq, steps_cmp, fed_by};
 ghost use Rattle.relative_path.specs.ComparingLaws.{partial_eq_law, partial_ord_law, by_components, fed_alike};
@@ -119,7 +119,7 @@ impl RelativePathBuf {
     pub fn from_path(alloc: Global, path: Path<'_>) -> Result<RelativePathBuf, FromPathError>
         ensures relative { IfOk result (λ buf. has_root (path_bytes path.entry) ≡ false) }
         ensures ok { IfOk result (λ buf.
-            buf.text ≡ spell (without_curs (unix_components (path_bytes path.entry)))) }
+            buf.text ≡ spell (without_cur_dirs (unix_components (path_bytes path.entry)))) }
         ensures kind { IfErr result (λ error. from_path_kind error
             ≡ (if has_root (path_bytes path.entry) then NonRelative else OutOfMemory)) }
     {
@@ -128,7 +128,7 @@ impl RelativePathBuf {
             return Err(FromPathErrorKind::NonRelative.into());
         }
         let mut text = String::with_capacity(alloc, path.len())?;
-        push_components(&mut text, UnixComponents::without_curs(path));
+        push_components(&mut text, UnixComponents::without_cur_dirs(path));
         Ok(text.into())
     }
 
@@ -393,7 +393,7 @@ impl RelativePathBuf {
     }
 
     // Goes one component further from a normal text with room for it.
-    pub(crate) fn follow(&mut self, component: Component<'_>)
+    pub(crate) fn push_in_normal_form(&mut self, component: Component<'_>)
         requires normal { IsNormalText self.old.text }
         requires alone { components (step_text (step_of component)) ≡ step_of component ∷ [] }
         requires fits { length (pushed self.old.text (step_text (step_of component))) ≤ self.old.room }

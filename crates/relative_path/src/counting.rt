@@ -1,6 +1,6 @@
 //! How many components a text has.
 ghost use Rattle.std.specs.Prelude.{◌≡◌, ◌≤◌, ◌<◌, ◌+◌, ◌-◌, length};
-ghost use Rattle.relative_path.specs.Counting.{begun_from};
+ghost use Rattle.relative_path.specs.Counting.{starts_from};
 ghost use Rattle.relative_path.specs.Steps.{components};
 
 use crate::slashes::{BLOCK, slashes_in};
@@ -16,36 +16,36 @@ pub(crate) fn component_count(text: &str) -> usize
         return 0;
     };
     let begun = if bytes.len() > BLOCK {
-        begun_by_blocks(bytes)
+        starts_by_blocks(bytes)
     } else {
-        begun_by_one(bytes)
+        starts_by_byte(bytes)
     };
     begun + usize::from(*first != b'/')
 }
 
 // Counts the components that begin after the first byte, block by block. The last block may begin within the one before it.
-fn begun_by_blocks(bytes: &[u8]) -> usize
+fn starts_by_blocks(bytes: &[u8]) -> usize
     requires { BLOCK < length bytes.now }
-    ensures count { result ≡ begun_from bytes.now 1 }
+    ensures count { result ≡ starts_from bytes.now 1 }
     ensures bound { result < length bytes.now }
 {
     let last = bytes.len() - BLOCK;
     let mut count = 0;
     let mut at = 1;
     while at < last {
-        count += begun_in(bytes, at, 0);
+        count += starts_in_block(bytes, at, 0);
         at += BLOCK;
     }
-    count + begun_in(bytes, last, at - last)
+    count + starts_in_block(bytes, last, at - last)
 }
 
 // Counts the components that begin in a block after its first `skipped` bytes.
 #[inline(always)]
-fn begun_in(bytes: &[u8], start: usize, skipped: usize) -> usize
+fn starts_in_block(bytes: &[u8], start: usize, skipped: usize) -> usize
     requires start { 0 < start }
     requires block { start + BLOCK ≤ length bytes.now }
     requires skipped { skipped < BLOCK }
-    ensures count { result + begun_from bytes.now (start + BLOCK) ≡ begun_from bytes.now (start + skipped) }
+    ensures count { result + starts_from bytes.now (start + BLOCK) ≡ starts_from bytes.now (start + skipped) }
     ensures bound { result ≤ BLOCK - skipped }
 {
     let begun = slashes_in::<BLOCK>(bytes, start - 1) & !slashes_in::<BLOCK>(bytes, start);
@@ -53,9 +53,9 @@ fn begun_in(bytes: &[u8], start: usize, skipped: usize) -> usize
 }
 
 // Counts the components that begin after the first byte, byte by byte.
-fn begun_by_one(bytes: &[u8]) -> usize
+fn starts_by_byte(bytes: &[u8]) -> usize
     requires { 0 < length bytes.now }
-    ensures count { result ≡ begun_from bytes.now 1 }
+    ensures count { result ≡ starts_from bytes.now 1 }
     ensures bound { result < length bytes.now }
 {
     let mut count = 0;

@@ -24,13 +24,13 @@ pub(crate) struct NormalForm<'a> {
 }
 
 impl<'a> NormalForm<'a> {
-    ghost use Rattle.relative_path.specs.NormalForm.{climbed, form_sources, form_climb, form_names, form_steps, form_len, form_room, Reduces, IsNormalFormOf};
+    ghost use Rattle.relative_path.specs.NormalForm.{ups_then_names, form_sources, form_climb, form_names, form_steps, form_len, form_room, Reduces, IsSpellableNormalForm};
 
     // The normal form of a text. It asks for memory once, for a table with a place for each of its
     // components, if it has one.
     pub(crate) fn of(alloc: Global, text: &'a str) -> Result<NormalForm<'a>, AllocError>
         ensures normal_form { IfOk result
-            (λ form. IsNormalFormOf (components text.now) (form_steps form)) }
+            (λ form. IsSpellableNormalForm (components text.now) (form_steps form)) }
         ensures few { IfOk result (λ form. form_len form < 2 ^ 63) }
         ensures short { IfOk result (λ form. length (spell (form_steps form)) < 2 ^ 64) }
         ensures succeeds { components text.now ≡ [] → IsOk result }
@@ -39,7 +39,7 @@ impl<'a> NormalForm<'a> {
             first: text,
             second: "",
         };
-        let form = NormalForm::with_room(alloc, sources, component_count(text))?;
+        let form = NormalForm::with_capacity(alloc, sources, component_count(text))?;
         Ok(form.follow_all(Source::First))
     }
 
@@ -49,7 +49,7 @@ impl<'a> NormalForm<'a> {
         text: &'a str,
         other: &'a str,
     ) -> Result<NormalForm<'a>, AllocError>
-        ensures normal_form { IfOk result (λ form. IsNormalFormOf
+        ensures normal_form { IfOk result (λ form. IsSpellableNormalForm
             (components text.now ++ components other.now) (form_steps form)) }
         ensures short { IfOk result (λ form. length (spell (form_steps form)) < 2 ^ 64) }
         ensures succeeds { components text.now ++ components other.now ≡ [] → IsOk result }
@@ -59,7 +59,7 @@ impl<'a> NormalForm<'a> {
             second: other,
         };
         let room = component_count(text) + component_count(other);
-        let form = NormalForm::with_room(alloc, sources, room)?;
+        let form = NormalForm::with_capacity(alloc, sources, room)?;
         Ok(form.follow_all(Source::First).follow_all(Source::Second))
     }
 
@@ -118,10 +118,10 @@ impl<'a> NormalForm<'a> {
         requires skipped { skipped ≤ length (form_names self.now) }
         requires short { length (spell (form_steps self.now)) < 2 ^ 64 }
         ensures text { IfOk result
-            (λ text. string_bytes text ≡ spell (climbed climb (drop skipped (form_names self.now)))) }
+            (λ text. string_bytes text ≡ spell (ups_then_names climb (drop skipped (form_names self.now)))) }
         ensures components { IfOk result (λ text. components (string_bytes text)
-            ≡ climbed climb (drop skipped (form_names self.now))) }
-        ensures succeeds { climbed climb (drop skipped (form_names self.now)) ≡ [] → IsOk result }
+            ≡ ups_then_names climb (drop skipped (form_names self.now))) }
+        ensures succeeds { ups_then_names climb (drop skipped (form_names self.now)) ≡ [] → IsOk result }
     {
         let mut next = first_run(self.names_past(skipped));
         let len = spelled_len(climb, next).ok_or(AllocError)?;
@@ -145,7 +145,7 @@ impl<'a> NormalForm<'a> {
     }
 
     // The normal form of nothing, with room for `room` names.
-    fn with_room(
+    fn with_capacity(
         alloc: Global,
         sources: Sources<'a>,
         room: usize,

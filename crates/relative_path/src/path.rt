@@ -27,10 +27,10 @@ use crate::error::{FromPathError, FromPathErrorKind};
 use crate::naming::{base_of, last_component, parent_of, split_name, without_extension};
 use crate::normal_form::NormalForm;
 use crate::prefixing::{ends_with, text_after};
-use crate::relating::{Way, parting};
+use crate::relating::{Way, shortest_separating_base};
 use crate::unix_components::has_root;
 use crate::unix_texts::{joined, joined_logically};
-use crate::writing::with_room;
+use crate::writing::copy_with_room;
 use std::alloc::{AllocError, Global};
 use std::cmp::Ordering;
 use std::fmt;
@@ -140,7 +140,7 @@ impl<'a> RelativePath<'a> {
             ≡ path_components self.entry ++ kept (path_components path.entry)) }
     {
         let len = pushed_len(self.text, path.text);
-        let mut joined = RelativePathBuf::from(with_room(alloc, self.text, len)?);
+        let mut joined = RelativePathBuf::from(copy_with_room(alloc, self.text, len)?);
         joined.push_reserved(path);
         Ok(joined)
     }
@@ -487,7 +487,7 @@ impl<'a> RelativePath<'a> {
             return self.to_relative_path_buf(alloc);
         };
         let len = front.len() + dotted_len(extension);
-        let mut extended = RelativePathBuf::from(with_room(alloc, front, len)?);
+        let mut extended = RelativePathBuf::from(copy_with_room(alloc, front, len)?);
         extended.push_extension(extension);
         Ok(extended)
     }
@@ -566,7 +566,7 @@ impl<'a> RelativePath<'a> {
         ensures room { out.old.room ≤ out.new.room }
     {
         for component in self.components() {
-            out.follow(component);
+            out.push_in_normal_form(component);
         }
     }
 
@@ -681,7 +681,7 @@ impl<'a> RelativePath<'a> {
     {
         let form = NormalForm::of(alloc, self.text)?;
         let other = NormalForm::of(alloc, path.text)?;
-        Ok(parting(&form, &other))
+        Ok(shortest_separating_base(&form, &other))
     }
 }
 

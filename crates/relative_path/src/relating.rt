@@ -1,6 +1,6 @@
 //! The way from one normal form to another, and where two lead apart.
 ghost use Rattle.std.specs.Prelude.{◌≡◌, ◌≤◌, ◌<◌, ◌^◌, ◌↔◌, length, drop, IsTrue, IfSome, IsNone, MatchOption};
-ghost use Rattle.relative_path.specs.NormalForm.{climbed, form_names, form_steps, form_len};
+ghost use Rattle.relative_path.specs.NormalForm.{ups_then_names, form_names, form_steps, form_len};
 ghost use Rattle.relative_path.specs.Relating.{IsReachable, IsShortest, LeadsApart};
 ghost use Rattle.relative_path.specs.Walk.{IsSame};
 
@@ -20,7 +20,7 @@ impl Way {
         requires to { form_len to.now < 2 ^ 63 }
         ensures none { IsNone result → ¬ IsReachable (form_steps from.now) (form_steps to.now) }
         ensures shortest { IfSome result (λ way. IsShortest (form_steps from.now)
-            (climbed way.climb (drop way.skipped (form_names to.now))) (form_steps to.now)) }
+            (ups_then_names way.climb (drop way.skipped (form_names to.now))) (form_steps to.now)) }
         ensures within { IfSome result (λ way. way.skipped ≤ length (form_names to.now)) }
     {
         let higher = to.climb().checked_sub(from.climb())?;
@@ -33,7 +33,10 @@ impl Way {
 }
 
 // The fewest names of a base from which two normal forms lead to different places, if there is one.
-pub(crate) fn parting(form: &NormalForm<'_>, other: &NormalForm<'_>) -> Option<usize>
+pub(crate) fn shortest_separating_base(
+    form: &NormalForm<'_>,
+    other: &NormalForm<'_>,
+) -> Option<usize>
     ensures { MatchOption result (IsSame (form_steps form.now) (form_steps other.now))
         (λ n. LeadsApart (form_steps form.now) (form_steps other.now) n) }
 {

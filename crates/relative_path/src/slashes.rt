@@ -23,7 +23,7 @@ pub(crate) fn without_leading_slashes(text: &str) -> &str
     ensures same { components result.now ≡ components text.now }
 {
     if text.as_bytes().first() == Some(&b'/') {
-        without_leading_run(text)
+        without_leading_slashes_slow(text)
     } else {
         text
     }
@@ -31,7 +31,7 @@ pub(crate) fn without_leading_slashes(text: &str) -> &str
 
 // Drops the slashes at the start of the text: first in runs of sixteen, then one by one.
 #[inline(never)]
-fn without_leading_run(text: &str) -> &str
+fn without_leading_slashes_slow(text: &str) -> &str
     ensures suffix { result.now ≡ drop (length text.now - length result.now) text.now }
     ensures start { slice_index result.now 0 ≢ slash }
     ensures same { components result.now ≡ components text.now }
@@ -51,7 +51,7 @@ pub(crate) fn without_trailing_slashes(text: &str) -> &str
     ensures same { components result.now ≡ components text.now }
 {
     if text.as_bytes().last() == Some(&b'/') {
-        without_trailing_run(text)
+        without_trailing_slashes_slow(text)
     } else {
         text
     }
@@ -59,7 +59,7 @@ pub(crate) fn without_trailing_slashes(text: &str) -> &str
 
 // Drops the slashes at the end of the text: first in runs of sixteen, then one by one.
 #[inline(never)]
-fn without_trailing_run(text: &str) -> &str
+fn without_trailing_slashes_slow(text: &str) -> &str
     ensures prefix { result.now ≡ take (length result.now) text.now }
     ensures end { slice_index result.now (length result.now - 1) ≢ slash }
     ensures same { components result.now ≡ components text.now }

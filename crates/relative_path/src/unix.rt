@@ -4,7 +4,7 @@
 //! start of a path without a root. Nothing here asks the file system.
 ghost use Rattle.std.specs.Prelude.{◌≡◌, ◌≢◌, ◌↔◌, ◌++◌, List, ℕ, IfOk, IfErr, IsErr, IsErrAnd, IsTrue, Some, None, false, if◌then◌else◌, string_bytes};
 ghost use Rattle.std.specs.Path.{path_bytes, path_buf_bytes};
-ghost use Rattle.relative_path.specs.Editing.{without_curs};
+ghost use Rattle.relative_path.specs.Editing.{without_cur_dirs};
 ghost use Rattle.relative_path.specs.Error.{from_path_kind, relative_to_kind};
 ghost use Rattle.relative_path.specs.RelativePath.{path_text, path_components};
 ghost use Rattle.relative_path.specs.Steps.{Step, components, spell};
@@ -50,7 +50,7 @@ pub fn view(text: &str) -> Result<RelativePath<'_>, FromPathError>
 /// ```
 pub fn from_path(alloc: Global, text: &str) -> Result<RelativePathBuf, FromPathError>
     ensures relative { IfOk result (λ path. has_root text.now ≡ false) }
-    ensures ok { IfOk result (λ path. path.text ≡ spell (without_curs (unix_components text.now))) }
+    ensures ok { IfOk result (λ path. path.text ≡ spell (without_cur_dirs (unix_components text.now))) }
     ensures kind { IfErr result (λ error. from_path_kind error
         ≡ (if has_root text.now then from_path_kinds.NonRelative else from_path_kinds.OutOfMemory)) }
 {

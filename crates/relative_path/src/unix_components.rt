@@ -2,7 +2,7 @@
 ghost use Rattle.std.specs.Prelude.{◌≡◌, ◌≢◌, ◌<◌, ◌-◌, [], ℕ, List, length, take, drop, slice_index, MatchOption, Some, None};
 ghost use Rattle.std.specs.Iterator.{YieldsFirstBy, item_count};
 ghost use Rattle.relative_path.specs.Components.{step_of};
-ghost use Rattle.relative_path.specs.Editing.{without_curs};
+ghost use Rattle.relative_path.specs.Editing.{without_cur_dirs};
 ghost use Rattle.relative_path.specs.Steps.{slash, components};
 ghost use Rattle.relative_path.specs.Unix.{has_root, counted, unix_components, but_last, without_shared};
 ghost use Rattle.relative_path.specs.UnixComponents.{unix_left};
@@ -17,7 +17,7 @@ pub(crate) struct UnixComponents<'a> {
     // What is left of the path.
     left: &'a str,
     // Whether a `.` counts no more: after a root, and after the first component.
-    drops_cur: bool,
+    skips_cur_dirs: bool,
 }
 
 impl<'a> UnixComponents<'a> {
@@ -27,17 +27,17 @@ impl<'a> UnixComponents<'a> {
     {
         UnixComponents {
             left: text,
-            drops_cur: has_root(text),
+            skips_cur_dirs: has_root(text),
         }
     }
 
     // The iterator over the components that are no `.`.
-    pub(crate) fn without_curs(text: &'a str) -> UnixComponents<'a>
-        ensures { unix_left result ≡ without_curs (components text.now) }
+    pub(crate) fn without_cur_dirs(text: &'a str) -> UnixComponents<'a>
+        ensures { unix_left result ≡ without_cur_dirs (components text.now) }
     {
         UnixComponents {
             left: text,
-            drops_cur: true,
+            skips_cur_dirs: true,
         }
     }
 }
@@ -54,9 +54,9 @@ impl<'a> Iterator for UnixComponents<'a> {
         let mut components = Components::new(self.left);
         loop {
             match components.next() {
-                Some(Component::CurDir) if self.drops_cur => {}
+                Some(Component::CurDir) if self.skips_cur_dirs => {}
                 first => {
-                    *self = UnixComponents::without_curs(components.as_str());
+                    *self = UnixComponents::without_cur_dirs(components.as_str());
                     return first;
                 }
             }
@@ -110,7 +110,7 @@ pub(crate) fn has_root(text: &str) -> bool
 }
 
 // The text without the slashes at its end, and without each `.` there that doesn't count.
-pub(crate) fn without_idle_end(text: &str, rooted: bool) -> &str
+pub(crate) fn trim_uncounted_end(text: &str, rooted: bool) -> &str
     ensures prefix { result.now ≡ take (length result.now) text.now }
     ensures end { slice_index result.now (length result.now - 1) ≢ slash }
     ensures same { counted rooted (components result.now) ≡ counted rooted (components text.now) }

@@ -6,8 +6,8 @@ ghost use Rattle.relative_path.specs.Unix.{onto, IsAbove, IsLogical};
 ghost use Rattle.relative_path.specs.UnixComponents.{unix_left};
 
 use crate::component::{Component, Components};
-use crate::unix_components::{UnixComponents, has_root, without_idle_end};
-use crate::writing::{add_piece, push_climb, with_room};
+use crate::unix_components::{UnixComponents, has_root, trim_uncounted_end};
+use crate::writing::{add_piece, copy_with_room, push_climb};
 use std::alloc::{AllocError, Global};
 
 /// The text that going up from a platform path leaves: the shortest part of its front that has the
@@ -22,11 +22,11 @@ pub fn parent_text(text: &str) -> &str
     ensures { IsAbove text.now result.now }
 {
     let rooted = has_root(text);
-    let mut components = Components::new(without_idle_end(text, rooted));
+    let mut components = Components::new(trim_uncounted_end(text, rooted));
     if components.next_back().is_none() {
         return text;
     }
-    let parent = without_idle_end(components.as_str(), rooted);
+    let parent = trim_uncounted_end(components.as_str(), rooted);
     if rooted && parent.is_empty() {
         "/"
     } else {
@@ -38,7 +38,7 @@ pub fn parent_text(text: &str) -> &str
 pub(crate) fn joined(alloc: Global, base: &str, path: &str) -> Result<String, AllocError>
     ensures { IfOk result (λ text. string_bytes text ≡ onto base.now (components path.now)) }
 {
-    let mut text = with_room(alloc, base, base.len() + path.len() + 1)?;
+    let mut text = copy_with_room(alloc, base, base.len() + path.len() + 1)?;
     for component in Components::new(path) {
         add_piece(&mut text, component.as_str());
     }
@@ -49,7 +49,7 @@ pub(crate) fn joined(alloc: Global, base: &str, path: &str) -> Result<String, Al
 pub(crate) fn joined_logically(alloc: Global, base: &str, path: &str) -> Result<String, AllocError>
     ensures { IfOk result (λ text. IsLogical base.now (components path.now) (string_bytes text)) }
 {
-    let mut text = with_room(alloc, base, base.len() + path.len() + 1)?;
+    let mut text = copy_with_room(alloc, base, base.len() + path.len() + 1)?;
     for component in Components::new(path) {
         match component {
             Component::CurDir => {}

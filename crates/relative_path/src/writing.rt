@@ -7,7 +7,7 @@ ghost use Rattle.relative_path.specs.Writing.{with_piece};
 use std::alloc::{AllocError, Global};
 
 // A copy of the text, with room for `room` bytes. It asks for memory once, if there is to be room.
-pub(crate) fn with_room(alloc: Global, text: &str, room: usize) -> Result<String, AllocError>
+pub(crate) fn copy_with_room(alloc: Global, text: &str, room: usize) -> Result<String, AllocError>
     requires { length text.now ≤ room }
     ensures text { IfOk result (λ copy. string_bytes copy ≡ text.now) }
     ensures room { IfOk result (λ copy. room ≤ string_capacity copy) }

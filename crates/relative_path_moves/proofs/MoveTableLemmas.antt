@@ -10,7 +10,7 @@ use Rattle.relative_path_moves.specs.declared.move_error.ReferenceError.{Referen
 use Rattle.relative_path_moves.specs.declared.move_error.ReferenceError.TheVariants.{AboveRoot, NoPath, OutOfMemory}
 use Rattle.relative_path_moves.specs.Places.{place_of, directory}
 use Rattle.relative_path_moves.specs.PlaceIndex.{IsFirstAt, IsNoneAt}
-use Rattle.relative_path_moves.specs.Moves.{Move, move_at, MovesFrom, AreApart, IsUnmoved, IsTarget, After, OfLink, ClimbsAbove, BelowTop}
+use Rattle.relative_path_moves.specs.Moves.{Move, move_at, MovesFrom, AreApart, IsUnmoved, IsTarget, AtNewPath, ForTargetOfLink, ClimbsAbove, BelowTop}
 use Rattle.relative_path_moves.specs.MoveError.{Refuses}
 use Rattle.relative_path_moves.specs.MoveTable.{olds_of, LeadToTarget, IsWay, IsShortestBuffer, IsLink}
 use Rattle.relative_path_moves.proofs.ForCallers.{IsTarget-only}
@@ -70,57 +70,57 @@ place_kept target cs same some none = some (sym (same.everywhere []) ∙ none)
 module _ (moves : List Move) (place from cs : List Step) (lead : LeadToTarget moves place cs)
   where
     -- what holds of all that leads where the components do holds of the target
-    pub After-all : (P : List Step → Type 0) → ((target : List Step) → IsSame target cs → P target)
-        → After moves place P
-    After-all P holds = (lead.target, lead.is, holds lead.target lead.same)
+    pub AtNewPath-all : (P : List Step → Type 0) → ((target : List Step) → IsSame target cs → P target)
+        → AtNewPath moves place P
+    AtNewPath-all P holds = (lead.target, lead.is, holds lead.target lead.same)
 
     -- what holds of nothing that leads where the components do doesn't hold of the target
-    pub After-none : (P : List Step → Type 0) → ((target : List Step) → IsSame target cs → ¬ P target)
-        → ¬ After moves place P
-    After-none P none (other, is, holds) = none lead.target lead.same (rw (lead.only other is) at holds)
+    pub AtNewPath-none : (P : List Step → Type 0) → ((target : List Step) → IsSame target cs → ¬ P target)
+        → ¬ AtNewPath moves place P
+    AtNewPath-none P none (other, is, holds) = none lead.target lead.same (rw (lead.only other is) at holds)
 
     -- a list of components leads to the target exactly if it leads to them
-    pub After-leads : (r : List Step) → After moves place (Leads from r) ↔ Leads from r cs
-    After-leads r = (
+    pub AtNewPath-leads : (r : List Step) → AtNewPath moves place (Leads from r) ↔ Leads from r cs
+    AtNewPath-leads r = (
       λ (target, is, leads). IsSame-trans (rw (lead.only target is) at leads) lead.same,
-      λ leads. After-all (Leads from r) (λ target same. IsSame-trans leads (IsSame-sym same)),
+      λ leads. AtNewPath-all (Leads from r) (λ target same. IsSame-trans leads (IsSame-sym same)),
     )
 
     -- the target climbs above the top
-    climbs : place_of cs ≡ None → After moves place ClimbsAbove
-    climbs none = After-all ClimbsAbove (λ target same. same.everywhere [] ∙ none)
+    climbs : place_of cs ≡ None → AtNewPath moves place ClimbsAbove
+    climbs none = AtNewPath-all ClimbsAbove (λ target same. same.everywhere [] ∙ none)
 
     -- then nothing is told of the way to it
-    not_below : place_of cs ≡ None → (P : List Step → Type 0) → ¬ After moves place (BelowTop P)
-    not_below none P = After-none (BelowTop P) (λ target same holds. holds.0 (same.everywhere [] ∙ none))
+    not_below : place_of cs ≡ None → (P : List Step → Type 0) → ¬ AtNewPath moves place (BelowTop P)
+    not_below none P = AtNewPath-none (BelowTop P) (λ target same holds. holds.0 (same.everywhere [] ∙ none))
 
     -- the target has a place from the top
-    not_above : place_of cs ≢ None → ¬ After moves place ClimbsAbove
-    not_above some = After-none ClimbsAbove (λ target same. place_kept target cs same some)
+    not_above : place_of cs ≢ None → ¬ AtNewPath moves place ClimbsAbove
+    not_above some = AtNewPath-none ClimbsAbove (λ target same. place_kept target cs same some)
 
     -- no list leads to the target
     abbrev IsBeyond : List Step → Type 0
     IsBeyond target = ¬ IsReachable from target
 
-    beyond : place_of cs ≢ None → (¬ IsReachable from cs) → After moves place (BelowTop IsBeyond)
-    beyond some none = After-all (BelowTop IsBeyond) (λ target same. (
+    beyond : place_of cs ≢ None → (¬ IsReachable from cs) → AtNewPath moves place (BelowTop IsBeyond)
+    beyond some none = AtNewPath-all (BelowTop IsBeyond) (λ target same. (
       place_kept target cs same some,
       λ reach. none (IsReachable-same (IsSame-refl from) same reach),
     ))
 
     -- a list leads to the target
-    not_beyond : IsReachable from cs → ¬ After moves place (BelowTop IsBeyond)
-    not_beyond reach = After-none (BelowTop IsBeyond)
+    not_beyond : IsReachable from cs → ¬ AtNewPath moves place (BelowTop IsBeyond)
+    not_beyond reach = AtNewPath-none (BelowTop IsBeyond)
         (λ target same holds. holds.1 (IsReachable-same (IsSame-refl from) (IsSame-sym same) reach))
 
     -- the shortest way to the components is the shortest to the target
-    pub After-shortest : (text : List ℕ) → place_of cs ≢ None → IsShortestText from cs text
-        → After moves place (BelowTop (λ target. IsShortestText from target text))
-    After-shortest text some way = After-all (BelowTop (λ target. IsShortestText from target text))
+    pub AtNewPath-shortest : (text : List ℕ) → place_of cs ≢ None → IsShortestText from cs text
+        → AtNewPath moves place (BelowTop (λ target. IsShortestText from target text))
+    AtNewPath-shortest text some way = AtNewPath-all (BelowTop (λ target. IsShortestText from target text))
         (λ target same. (place_kept target cs same some, IsShortestText-same (IsSame-refl from) (IsSame-sym same) way))
 
     pub above_root-way : {T : Type 0} (P : T → Type 0) (result : Result T ReferenceError) → IsWay from cs P result
-        → Refuses result AboveRoot OutOfMemory (After moves place ClimbsAbove)
+        → Refuses result AboveRoot OutOfMemory (AtNewPath moves place ClimbsAbove)
     above_root-way P (Ok way) (some, is) =
         record { only = λ e. absurd (cc e); always = λ holds. absurd (not_above some holds) }
     above_root-way P (Err AboveRoot) none = record { only = λ e. climbs none; always = λ holds. inl refl }
@@ -130,7 +130,7 @@ module _ (moves : List Move) (place from cs : List Step) (lead : LeadToTarget mo
 
     pub no_path-way : {T : Type 0} (P : T → Type 0) (result : Result T ReferenceError)
         → ((way : T) → P way → IsReachable from cs) → IsWay from cs P result
-        → Refuses result NoPath OutOfMemory (After moves place (BelowTop IsBeyond))
+        → Refuses result NoPath OutOfMemory (AtNewPath moves place (BelowTop IsBeyond))
     no_path-way P (Ok way) reach (some, is) =
         record { only = λ e. absurd (cc e); always = λ holds. absurd (not_beyond (reach way is) holds) }
     no_path-way P (Err AboveRoot) reach none =
@@ -141,8 +141,8 @@ module _ (moves : List Move) (place from cs : List Step) (lead : LeadToTarget mo
 
     pub shortest-way : (result : Result Buffer ReferenceError)
         → IsWay from cs (IsShortestBuffer from cs) result
-        → IfOk result (λ way. After moves place (BelowTop (λ target. IsShortestText from target way.text)))
-    shortest-way (Ok way) (some, leads) = After-shortest way.text some leads
+        → IfOk result (λ way. AtNewPath moves place (BelowTop (λ target. IsShortestText from target way.text)))
+    shortest-way (Ok way) (some, leads) = AtNewPath-shortest way.text some leads
     shortest-way (Err e) _ = tt
 
 -- the one path of a file after the moves
@@ -152,10 +152,10 @@ IsTarget-is moves file now target apart is =
     (IsTarget-only moves file now target apart is, λ e. rw e is)
 
 -- of a link holds what holds of its target and the directory where the page is now
-pub OfLink-now : (moves : List Move) (page reference now : List Step) (P : List Step → List Step → Type 0)
+pub ForTargetOfLink-now : (moves : List Move) (page reference now : List Step) (P : List Step → List Step → Type 0)
     → ((target : List Step) → IsTarget moves page target ↔ (target ≡ now))
-    → OfLink moves page reference P ↔ After moves (directory page ++ reference) (P (directory now))
-OfLink-now moves page reference now P is = (
+    → ForTargetOfLink moves page reference P ↔ AtNewPath moves (directory page ++ reference) (P (directory now))
+ForTargetOfLink-now moves page reference now P is = (
   λ (other, is_other, holds). rw ((is other).0 is_other) at holds,
   λ holds. (now, (is now).1 refl, holds),
 )
@@ -178,9 +178,9 @@ module _ (moves : List Move) (page reference now cs : List Step)
   where
     pub above_root-in : (result : Result (Option Buffer) ReferenceError)
         → IsWay (directory now) cs (IsLink (directory now) reference cs) result
-        → Refuses result AboveRoot OutOfMemory (OfLink moves page reference (λ _. ClimbsAbove))
+        → Refuses result AboveRoot OutOfMemory (ForTargetOfLink moves page reference (λ _. ClimbsAbove))
     above_root-in result link =
-        let same = OfLink-now moves page reference now (λ _. ClimbsAbove) is in
+        let same = ForTargetOfLink-now moves page reference now (λ _. ClimbsAbove) is in
         let refuses =
         above_root-way moves (directory page ++ reference) (directory now) cs lead (IsLink (directory now) reference cs)
         result link in
@@ -189,9 +189,9 @@ module _ (moves : List Move) (page reference now cs : List Step)
     pub no_path-in : (result : Result (Option Buffer) ReferenceError)
         → IsWay (directory now) cs (IsLink (directory now) reference cs) result
         → Refuses result NoPath OutOfMemory
-        (OfLink moves page reference (λ from. BelowTop (λ target. ¬ IsReachable from target)))
+        (ForTargetOfLink moves page reference (λ from. BelowTop (λ target. ¬ IsReachable from target)))
     no_path-in result link =
-        let same = OfLink-now moves page reference now (λ from. BelowTop (λ target. ¬ IsReachable from target)) is in
+        let same = ForTargetOfLink-now moves page reference now (λ from. BelowTop (λ target. ¬ IsReachable from target)) is in
         let refuses =
         no_path-way moves (directory page ++ reference) (directory now) cs lead (IsLink (directory now) reference cs)
         result (reach-link (directory now) reference cs) link in
@@ -199,25 +199,25 @@ module _ (moves : List Move) (page reference now cs : List Step)
 
     pub stays-in : (result : Result (Option Buffer) ReferenceError)
         → IsWay (directory now) cs (IsLink (directory now) reference cs) result
-        → IfOk result (λ way. IsNone way ↔ OfLink moves page reference (λ from. Leads from reference))
+        → IfOk result (λ way. IsNone way ↔ ForTargetOfLink moves page reference (λ from. Leads from reference))
     stays-in (Ok None) (some, same) = (λ _. leads, λ _. refl) where
-      leads : OfLink moves page reference (λ from. Leads from reference)
+      leads : ForTargetOfLink moves page reference (λ from. Leads from reference)
       leads =
-          (OfLink-now moves page reference now (λ from. Leads from reference) is).1
-          ((After-leads moves (directory page ++ reference) (directory now) cs lead reference).1 same)
+          (ForTargetOfLink-now moves page reference now (λ from. Leads from reference) is).1
+          ((AtNewPath-leads moves (directory page ++ reference) (directory now) cs lead reference).1 same)
     stays-in (Ok (Some way)) (some, (other, way_is)) = (λ none. absurd (cc none), λ holds. absurd (other (led holds))) where
-      led : OfLink moves page reference (λ from. Leads from reference) → IsSame (directory now ++ reference) cs
+      led : ForTargetOfLink moves page reference (λ from. Leads from reference) → IsSame (directory now ++ reference) cs
       led holds =
-          (After-leads moves (directory page ++ reference) (directory now) cs lead reference).0
-          ((OfLink-now moves page reference now (λ from. Leads from reference) is).0 holds)
+          (AtNewPath-leads moves (directory page ++ reference) (directory now) cs lead reference).0
+          ((ForTargetOfLink-now moves page reference now (λ from. Leads from reference) is).0 holds)
     stays-in (Err e) _ = tt
 
     pub shortest-in : (result : Result (Option Buffer) ReferenceError)
         → IsWay (directory now) cs (IsLink (directory now) reference cs) result
         → IfOk result (λ way. IfSome way (λ way.
-        OfLink moves page reference (λ from. BelowTop (λ target. IsShortestText from target way.text))))
+        ForTargetOfLink moves page reference (λ from. BelowTop (λ target. IsShortestText from target way.text))))
     shortest-in (Ok None) _ = tt
     shortest-in (Ok (Some way)) (some, (other, way_is)) =
-        (OfLink-now moves page reference now (λ from. BelowTop (λ target. IsShortestText from target way.text)) is).1
-        (After-shortest moves (directory page ++ reference) (directory now) cs lead way.text some way_is)
+        (ForTargetOfLink-now moves page reference now (λ from. BelowTop (λ target. IsShortestText from target way.text)) is).1
+        (AtNewPath-shortest moves (directory page ++ reference) (directory now) cs lead way.text some way_is)
     shortest-in (Err e) _ = tt

@@ -2,8 +2,8 @@
 use Rattle.std.proofs.Common.{◌≡◌, ◌≢◌, ◌⊎◌, ◌↔◌, ℕ, Result, Ok, Err, IsErrAnd, IsErrOf, List, inl, inr, refl, ap}
 use Rattle.relative_path_moves.specs.declared.move_error.MoveError.{MoveError}
 use Rattle.relative_path_moves.specs.declared.move_error.MoveError.TheVariants.{NoFileName, SameOld, AboveRoot, NoPath, OutOfMemory}
-use Rattle.relative_path_moves.specs.declared.move_error.MovesError.{MovesError}
-use Rattle.relative_path_moves.specs.declared.move_error.MovesError.TheVariants as moves_error
+use Rattle.relative_path_moves.specs.declared.move_error.MoveTableError.{MoveTableError}
+use Rattle.relative_path_moves.specs.declared.move_error.MoveTableError.TheVariants as moves_error
 use Rattle.relative_path_moves.specs.declared.move_error.ReferenceError.{ReferenceError}
 use Rattle.relative_path_moves.specs.declared.move_error.ReferenceError.TheVariants as reference_error
 use Rattle.relative_path_moves.specs.Moves.{Move, AreNamed, AreApart, IsFirstNameless, IsFirstPair}
@@ -17,7 +17,7 @@ is_err_of (Err f) e is = ap Err is
 -- ---- the moves are refused
 
 -- the move without a file name is the same
-pub no_file_name-moves : {S T : Type 0} (moves : List Move) (e : MovesError) (k : ℕ)
+pub no_file_name-moves : {S T : Type 0} (moves : List Move) (e : MoveTableError) (k : ℕ)
     → IsErrOf {T = S} (Err e) (moves_error.NoFileName k) ↔ IsFirstNameless moves k
     → IsErrOf {T = T} (Err (of_moves e)) (NoFileName k) ↔ IsFirstNameless moves k
 no_file_name-moves moves (moves_error.NoFileName j) k lacks = (λ is. lacks.0 (cc is), λ first. cc (lacks.1 first))
@@ -27,25 +27,25 @@ no_file_name-moves moves moves_error.OutOfMemory k lacks =
     (λ is. absurd (cc is), λ first. absurd (cc (lacks.1 first)))
 
 -- the moves with one old path are the same
-pub same_old-moves : {S T : Type 0} (e : MovesError) (j k : ℕ) (case : Type 0)
+pub same_old-moves : {S T : Type 0} (e : MoveTableError) (j k : ℕ) (case : Type 0)
     → Refuses {T = S} (Err e) (moves_error.SameOld j k) moves_error.OutOfMemory case
     → Refuses {T = T} (Err (of_moves e)) (SameOld j k) OutOfMemory case
 same_old-moves {S = S} {T = T} e j k case refuses =
     record { only = λ is. refuses.only (back e is); always = λ holds. forth e (refuses.always holds) } where
-      back : (e : MovesError) → IsErrOf {T = T} (Err (of_moves e)) (SameOld j k)
+      back : (e : MoveTableError) → IsErrOf {T = T} (Err (of_moves e)) (SameOld j k)
           → IsErrOf {T = S} (Err e) (moves_error.SameOld j k)
       back (moves_error.NoFileName i) is = absurd (cc is)
       back (moves_error.SameOld a b) is = cc is
       back moves_error.OutOfMemory is = absurd (cc is)
 
-      forth : (e : MovesError)
+      forth : (e : MoveTableError)
           → IsErrOf {T = S} (Err e) (moves_error.SameOld j k) ⊎ IsErrOf {T = S} (Err e) moves_error.OutOfMemory
           → IsErrOf {T = T} (Err (of_moves e)) (SameOld j k) ⊎ IsErrOf {T = T} (Err (of_moves e)) OutOfMemory
       forth e (inl is) = inl (cc is)
       forth e (inr is) = inr (cc is)
 
 -- no reference is refused, and none is led to
-pub Refuses-moves : {S T : Type 0} (moves : List Move) (e : MovesError) (refusal : MoveError) (P : Type 0)
+pub Refuses-moves : {S T : Type 0} (moves : List Move) (e : MoveTableError) (refusal : MoveError) (P : Type 0)
     → of_moves e ≢ refusal
     → ((k : ℕ) → IsErrOf {T = S} (Err e) (moves_error.NoFileName k) ↔ IsFirstNameless moves k)
     → ((j k : ℕ) → Refuses {T = S} (Err e) (moves_error.SameOld j k) moves_error.OutOfMemory
@@ -53,7 +53,7 @@ pub Refuses-moves : {S T : Type 0} (moves : List Move) (e : MovesError) (refusal
     → Refuses {T = T} (Err (of_moves e)) refusal OutOfMemory (AreNamed moves × AreApart moves × P)
 Refuses-moves {S = S} {T = T} moves e refusal P other lacks pair =
     record { only = λ is. absurd (other (cc is)); always = λ holds. inr (tell e lacks pair holds) } where
-      tell : (e : MovesError)
+      tell : (e : MoveTableError)
           → ((k : ℕ) → IsErrOf {T = S} (Err e) (moves_error.NoFileName k) ↔ IsFirstNameless moves k)
           → ((j k : ℕ) → Refuses {T = S} (Err e) (moves_error.SameOld j k) moves_error.OutOfMemory
           (AreNamed moves × IsFirstPair moves j k))
@@ -107,12 +107,12 @@ no_file_name-ok moves way k all_named =
     (λ is. absurd (cc is), λ first. absurd (all_named k first.within first.lacks))
 
 -- the moves aren't refused as a reference is
-pub not_above : (e : MovesError) → of_moves e ≢ AboveRoot
+pub not_above : (e : MoveTableError) → of_moves e ≢ AboveRoot
 not_above (moves_error.NoFileName k) is = cc is
 not_above (moves_error.SameOld j k) is = cc is
 not_above moves_error.OutOfMemory is = cc is
 
-pub not_beyond : (e : MovesError) → of_moves e ≢ NoPath
+pub not_beyond : (e : MoveTableError) → of_moves e ≢ NoPath
 not_beyond (moves_error.NoFileName k) is = cc is
 not_beyond (moves_error.SameOld j k) is = cc is
 not_beyond moves_error.OutOfMemory is = cc is

@@ -2,8 +2,8 @@
 use Rattle.std.specs.Prelude.{◌⊎◌, ℕ, List, ◌++◌, codes, decimal, Result, IsErrOf}
 use Rattle.relative_path_moves.specs.declared.move_error.MoveError.{MoveError}
 use Rattle.relative_path_moves.specs.declared.move_error.MoveError.TheVariants.{NoFileName, SameOld, AboveRoot, NoPath, OutOfMemory}
-use Rattle.relative_path_moves.specs.declared.move_error.MovesError.{MovesError}
-use Rattle.relative_path_moves.specs.declared.move_error.MovesError.TheVariants as moves
+use Rattle.relative_path_moves.specs.declared.move_error.MoveTableError.{MoveTableError}
+use Rattle.relative_path_moves.specs.declared.move_error.MoveTableError.TheVariants as moves
 use Rattle.relative_path_moves.specs.declared.move_error.ReferenceError.{ReferenceError}
 use Rattle.relative_path_moves.specs.declared.move_error.ReferenceError.TheVariants as reference
 
@@ -13,7 +13,7 @@ pub record Refuses {T E : Type 0} (result : Result T E) (refusal memory : E) (ca
   pub always : case → IsErrOf result refusal ⊎ IsErrOf result memory
 
 -- a refusal of the moves, as one of a reference and its moves
-abbrev pub of_moves : MovesError → MoveError
+abbrev pub of_moves : MoveTableError → MoveError
 of_moves (moves.NoFileName k) = NoFileName k
 of_moves (moves.SameOld j k) = SameOld j k
 of_moves moves.OutOfMemory = OutOfMemory

@@ -70,16 +70,16 @@ IsTarget moves place target =
     ⊎ IsUnmoved moves place × (target ≡ place)
 
 -- P holds of where the file at a place is after the moves
-abbrev pub After : List Move → List Step → (List Step → Type 0) → Type 0
-After moves place P = (target : List Step) × IsTarget moves place target × P target
+abbrev pub AtNewPath : List Move → List Step → (List Step → Type 0) → Type 0
+AtNewPath moves place P = (target : List Step) × IsTarget moves place target × P target
 
 -- P holds of the target of the reference in the file of move number i
-abbrev pub OfTarget : List Move → ℕ → List Step → (List Step → Type 0) → Type 0
-OfTarget moves i reference = After moves (meant moves i reference)
+abbrev pub ForTarget : List Move → ℕ → List Step → (List Step → Type 0) → Type 0
+ForTarget moves i reference = AtNewPath moves (meant moves i reference)
 
 -- P holds of the directory where a page is after the moves, and of the target of its reference
-abbrev pub OfLink : List Move → List Step → List Step → (List Step → List Step → Type 0) → Type 0
-OfLink moves page reference P = After moves page (λ now. After moves (directory page ++ reference) (P (directory now)))
+abbrev pub ForTargetOfLink : List Move → List Step → List Step → (List Step → List Step → Type 0) → Type 0
+ForTargetOfLink moves page reference P = AtNewPath moves page (λ now. AtNewPath moves (directory page ++ reference) (P (directory now)))
 
 -- from the top it leads to no place
 abbrev pub ClimbsAbove : List Step → Type 0

@@ -11,7 +11,7 @@
 //! ```
 #![tactic(auto)]
 
-pub use self::move_error::{MoveError, MovesError, ReferenceError};
+pub use self::move_error::{MoveError, MoveTableError, ReferenceError};
 pub use self::move_table::MoveTable;
 pub use self::place_index::PlaceIndex;
 pub use self::places::{directory, has_place};

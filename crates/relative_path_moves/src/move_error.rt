@@ -11,14 +11,14 @@ use std::fmt;
 /// A refusal prints its words.
 ///
 /// ```
-/// let refusal = MovesError::SameOld(0, 3);
+/// let refusal = MoveTableError::SameOld(0, 3);
 /// assert_eq!(rt;
 ///     refusal.to_string(alloc)?.as_str(),
 ///     "moves 0 and 3 have the same old path"
 /// );
 /// ```
 #[derive(Clone, Copy, Debug, PartialEq, Eq)]
-pub enum MovesError {
+pub enum MoveTableError {
     /// The first move whose old or new path has no file name.
     NoFileName(usize),
     /// The lexicographically first two moves whose old paths lead to the same from every base.
@@ -27,7 +27,7 @@ pub enum MovesError {
     OutOfMemory,
 }
 
-impl fmt::Display for MovesError {
+impl fmt::Display for MoveTableError {
     ghost output = { λ refusal. Some (refusal_text (of_moves refusal)) };
 
     fn fmt<W: fmt::Write>(&self, f: &mut fmt::Formatter<W>) -> fmt::Result {
@@ -35,15 +35,15 @@ impl fmt::Display for MovesError {
     }
 }
 
-impl Error for MovesError {}
+impl Error for MoveTableError {}
 
-impl From<AllocError> for MovesError {
-    ghost use Rattle.relative_path_moves.specs.declared.move_error.MovesError.TheVariants.{OutOfMemory};
+impl From<AllocError> for MoveTableError {
+    ghost use Rattle.relative_path_moves.specs.declared.move_error.MoveTableError.TheVariants.{OutOfMemory};
 
     ghost from_gives = { λ _ refusal. refusal ≡ OutOfMemory };
 
-    fn from(_: AllocError) -> MovesError {
-        MovesError::OutOfMemory
+    fn from(_: AllocError) -> MoveTableError {
+        MoveTableError::OutOfMemory
     }
 }
 
@@ -85,7 +85,7 @@ impl From<AllocError> for ReferenceError {
     }
 }
 
-/// Why a reference and its moves have no answer: a [`MovesError`] or a [`ReferenceError`]. Moves are
+/// Why a reference and its moves have no answer: a [`MoveTableError`] or a [`ReferenceError`]. Moves are
 /// told by their numbers, counted from 0.
 ///
 /// A refusal prints its words.
@@ -134,14 +134,14 @@ impl From<AllocError> for MoveError {
     }
 }
 
-impl From<MovesError> for MoveError {
+impl From<MoveTableError> for MoveError {
     ghost from_gives = { λ error refusal. refusal ≡ of_moves error };
 
-    fn from(error: MovesError) -> MoveError {
+    fn from(error: MoveTableError) -> MoveError {
         match error {
-            MovesError::NoFileName(k) => MoveError::NoFileName(k),
-            MovesError::SameOld(j, k) => MoveError::SameOld(j, k),
-            MovesError::OutOfMemory => MoveError::OutOfMemory,
+            MoveTableError::NoFileName(k) => MoveError::NoFileName(k),
+            MoveTableError::SameOld(j, k) => MoveError::SameOld(j, k),
+            MoveTableError::OutOfMemory => MoveError::OutOfMemory,
         }
     }
 }

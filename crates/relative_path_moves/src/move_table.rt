@@ -14,8 +14,8 @@ ghost use Rattle.relative_path_moves.specs.Moves.{
   AreApart,
   IsUnmoved,
   IsTarget,
-  OfTarget,
-  OfLink,
+  ForTarget,
+  ForTargetOfLink,
   ClimbsAbove,
   BelowTop,
   IsBeyond,
@@ -25,7 +25,7 @@ ghost use Rattle.relative_path_moves.specs.MoveError.{Refuses};
 ghost use Rattle.relative_path_moves.specs.MoveTable.{olds_of, IsSound, IsWay, IsShortestBuffer, IsLink, LeadToTarget};
 ghost use Rattle.relative_path_moves.specs.PlaceIndex.{Indexes};
 
-use crate::move_error::{MovesError, ReferenceError};
+use crate::move_error::{MoveTableError, ReferenceError};
 use crate::place_index::PlaceIndex;
 use crate::places::{directory, has_place};
 use relative_path::{RelativePath, RelativePathBuf};
@@ -73,27 +73,27 @@ impl<'a> MoveTable<'a> {
     /// let moves = [("a", "b"), ("c/../a", "d")]
     ///     .map(|(old, new)| (RelativePath::new(old), RelativePath::new(new)));
     /// let refused = MoveTable::new(alloc, &moves);
-    /// assert!(rt; refused.is_err_and(|error| error == MovesError::SameOld(0, 1)));
+    /// assert!(rt; refused.is_err_and(|error| error == MoveTableError::SameOld(0, 1)));
     /// ```
     pub fn new(
         alloc: Global,
         moves: &'a [(RelativePath<'a>, RelativePath<'a>)],
-    ) -> Result<MoveTable<'a>, MovesError>
+    ) -> Result<MoveTable<'a>, MoveTableError>
         ensures moves { IfOk result (λ table. table ≡ moves_of moves.now) }
         ensures named { OnOk result (AreNamed (moves_of moves.now)) }
         ensures apart { OnOk result (AreApart (moves_of moves.now)) }
-        ensures no_file_name { (k : ℕ) → IsErrOf result (MovesError.NoFileName k)
+        ensures no_file_name { (k : ℕ) → IsErrOf result (MoveTableError.NoFileName k)
             ↔ IsFirstNameless (moves_of moves.now) k }
-        ensures same_old { (j k : ℕ) → Refuses result (MovesError.SameOld j k) MovesError.OutOfMemory
+        ensures same_old { (j k : ℕ) → Refuses result (MoveTableError.SameOld j k) MoveTableError.OutOfMemory
             (AreNamed (moves_of moves.now) × IsFirstPair (moves_of moves.now) j k) }
-        ensures out_of_memory { IsErrOf result MovesError.OutOfMemory → AreNamed (moves_of moves.now) }
+        ensures out_of_memory { IsErrOf result MoveTableError.OutOfMemory → AreNamed (moves_of moves.now) }
     {
         if let Some(k) = first_nameless(moves) {
-            return Err(MovesError::NoFileName(k));
+            return Err(MoveTableError::NoFileName(k));
         }
         match by_old_path(alloc, moves)? {
             (by_old, None) => Ok(MoveTable { moves, by_old }),
-            (_, Some((j, k))) => Err(MovesError::SameOld(j, k)),
+            (_, Some((j, k))) => Err(MoveTableError::SameOld(j, k)),
         }
     }
 
@@ -134,11 +134,11 @@ impl<'a> MoveTable<'a> {
     ) -> Result<RelativePathBuf, ReferenceError>
         requires { i < length self.now }
         ensures above_root { Refuses result ReferenceError.AboveRoot ReferenceError.OutOfMemory
-            (OfTarget self.now i (path_components reference.entry) ClimbsAbove) }
+            (ForTarget self.now i (path_components reference.entry) ClimbsAbove) }
         ensures no_path { Refuses result ReferenceError.NoPath ReferenceError.OutOfMemory
-            (OfTarget self.now i (path_components reference.entry) (BelowTop (IsBeyond self.now i))) }
+            (ForTarget self.now i (path_components reference.entry) (BelowTop (IsBeyond self.now i))) }
         ensures shortest { IfOk result (λ way.
-            OfTarget self.now i (path_components reference.entry)
+            ForTarget self.now i (path_components reference.entry)
             (BelowTop (IsMovedText self.now i way.text))) }
     {
         let (old, new) = self.paths(i);
@@ -172,16 +172,16 @@ impl<'a> MoveTable<'a> {
         reference: RelativePath<'_>,
     ) -> Result<Option<RelativePathBuf>, ReferenceError>
         ensures above_root { Refuses result ReferenceError.AboveRoot ReferenceError.OutOfMemory
-            (OfLink self.now (path_components page.entry) (path_components reference.entry)
+            (ForTargetOfLink self.now (path_components page.entry) (path_components reference.entry)
             (λ _. ClimbsAbove)) }
         ensures no_path { Refuses result ReferenceError.NoPath ReferenceError.OutOfMemory
-            (OfLink self.now (path_components page.entry) (path_components reference.entry)
+            (ForTargetOfLink self.now (path_components page.entry) (path_components reference.entry)
             (λ directory. BelowTop (λ target. ¬ IsReachable directory target))) }
         ensures stays { IfOk result (λ way. IsNone way
-            ↔ OfLink self.now (path_components page.entry) (path_components reference.entry)
+            ↔ ForTargetOfLink self.now (path_components page.entry) (path_components reference.entry)
             (λ directory. Leads directory (path_components reference.entry))) }
         ensures shortest { IfOk result (λ way. IfSome way (λ way.
-            OfLink self.now (path_components page.entry) (path_components reference.entry)
+            ForTargetOfLink self.now (path_components page.entry) (path_components reference.entry)
             (λ directory. BelowTop (λ target. IsShortestText directory target way.text)))) }
     {
         let now = self.path_after(alloc, page)?;

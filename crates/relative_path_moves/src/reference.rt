@@ -7,7 +7,7 @@ ghost use Rattle.relative_path_moves.specs.Moves.{
   AreNamed,
   IsFirstPair,
   AreApart,
-  OfTarget,
+  ForTarget,
   ClimbsAbove,
   BelowTop,
   IsBeyond,
@@ -56,15 +56,15 @@ pub fn moved(
         (AreNamed (moves_of moves.now) × IsFirstPair (moves_of moves.now) j k) }
     ensures above_root { Refuses result MoveError.AboveRoot MoveError.OutOfMemory
         (AreNamed (moves_of moves.now) × AreApart (moves_of moves.now)
-        × OfTarget (moves_of moves.now) i (path_components reference.entry) ClimbsAbove) }
+        × ForTarget (moves_of moves.now) i (path_components reference.entry) ClimbsAbove) }
     ensures no_path { Refuses result MoveError.NoPath MoveError.OutOfMemory
         (AreNamed (moves_of moves.now) × AreApart (moves_of moves.now)
-        × OfTarget (moves_of moves.now) i (path_components reference.entry)
+        × ForTarget (moves_of moves.now) i (path_components reference.entry)
         (BelowTop (IsBeyond (moves_of moves.now) i))) }
     ensures out_of_memory { IsErrOf result MoveError.OutOfMemory → AreNamed (moves_of moves.now) }
     ensures shortest { IfOk result (λ way. AreNamed (moves_of moves.now)
         × AreApart (moves_of moves.now)
-        × OfTarget (moves_of moves.now) i (path_components reference.entry)
+        × ForTarget (moves_of moves.now) i (path_components reference.entry)
         (BelowTop (IsMovedText (moves_of moves.now) i way.text))) }
 {
     Ok(MoveTable::new(alloc, moves)?.moved(alloc, i, reference)?)

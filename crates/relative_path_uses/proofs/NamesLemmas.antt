@@ -4,7 +4,7 @@ use Rattle.std.proofs.lemmas.List.Elements.{All-from_recursion}
 use Rattle.std.proofs.lemmas.List.Folds.{list_any_none}
 use Rattle.std.specs.List.{All, AllByRecursion, list_any}
 use Rattle.relative_path.specs.Steps.{Step, name, is_slash, components}
-use Rattle.relative_path.proofs.ForCallers.{AreProper, AreProper-components, name-proper, no_slash-proper}
+use Rattle.relative_path.proofs.ForCallers.{SpellThemselves, SpellThemselves-components, name-proper, no_slash-proper}
 use Rattle.relative_path_uses.specs.FromTop.{SpellsPlace}
 use Rattle.relative_path_uses.specs.Names.{is_unportable, is_unportable_step, IsPlainName}
 use Rattle.relative_path_uses.proofs.TargetsLemmas.{or_false}
@@ -15,7 +15,7 @@ unportable-names [] = refl
 unportable-names (n ∷ place) = ap (λ others. is_unportable n || others) (unportable-names place)
 
 -- names that are components and that no platform reads otherwise
-plain_names : (place : List (List ℕ)) → AreProper (map name place) → list_any is_unportable place ≡ false
+plain_names : (place : List (List ℕ)) → SpellThemselves (map name place) → list_any is_unportable place ≡ false
     → AllByRecursion IsPlainName place
 plain_names [] proper none = tt
 plain_names (n ∷ place) (first, rest) none =
@@ -36,7 +36,7 @@ pub All-IsPlainName : (cs : List Step) (text : List ℕ) (spells : SpellsPlace c
     → list_any is_unportable_step (components text) ≡ false → All IsPlainName spells.place
 All-IsPlainName cs text spells none =
     All-from_recursion IsPlainName spells.place
-    (plain_names spells.place (rw spells.names at (AreProper-components text))
+    (plain_names spells.place (rw spells.names at (SpellThemselves-components text))
     (sym (unportable-names spells.place) ∙ sym (ap (list_any is_unportable_step) spells.names) ∙ none))
 
 -- a place has a name that is read otherwise, where its text has such a component

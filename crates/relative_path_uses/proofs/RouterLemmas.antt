@@ -3,14 +3,14 @@ use Rattle.std.proofs.Common.{◌≡◌, ◌≢◌, ◌↔◌, ℕ, false, List,
 use Rattle.std.specs.List.{list_any}
 use Rattle.relative_path.specs.Steps.{Step, name, components, spell}
 use Rattle.relative_path.specs.Editing.{with_separator, unslashed}
-use Rattle.relative_path.proofs.ForCallers.{AreProper, AreProper-components, name-proper, unslashed-spell}
+use Rattle.relative_path.proofs.ForCallers.{SpellThemselves, SpellThemselves-components, name-proper, unslashed-spell}
 use Rattle.relative_path_uses.specs.FromTop.{SpellsPlace}
 use Rattle.relative_path_uses.specs.Names.{is_unportable_step}
 use Rattle.relative_path_uses.specs.Router.{IsRefusedRequest, below, added, IsServed}
 use Rattle.relative_path_uses.proofs.NamesLemmas.{unportable-names, All-IsPlainName}
 
 -- the text of names that are components is pushed as it is
-added-spell : (root : List ℕ) (place : List (List ℕ)) → AreProper (map name place)
+added-spell : (root : List ℕ) (place : List (List ℕ)) → SpellThemselves (map name place)
     → added root (spell (map name place)) ≡ below root place
 added-spell root [] proper = refl
 added-spell root (n ∷ place) proper =
@@ -29,7 +29,7 @@ added-spell root (n ∷ place) proper =
 pub IsServed-added : (root : List ℕ) (request : List Step) (text file : List ℕ) → SpellsPlace request text
     → list_any is_unportable_step (components text) ≡ false → file ≡ added root text → IsServed root request file
 IsServed-added root request text file spells none is =
-    let proper : AreProper (map name spells.place) = rw spells.names at (AreProper-components text) in
+    let proper : SpellThemselves (map name spells.place) = rw spells.names at (SpellThemselves-components text) in
     record {
       place = spells.place;
       named = spells.named;

@@ -9,7 +9,7 @@ use Rattle.relative_path.specs.Relating.{Leads, IsReachable, IsShortestText}
 use Rattle.relative_path.specs.RelativePathBuf.{Buffer}
 use Rattle.relative_path.specs.Editing.{pushed}
 use Rattle.relative_path.specs.Naming.{last_name}
-use Rattle.relative_path.proofs.ForCallers.{IsProper, AreProper, AreProper-components, walk-append, walk-some, IsSame-sym, IsSame-trans, IsSame-append_right, IsSame-name_up, IsSame-last_name, Leads-same, IsReachable-same, IsShortestText-same, components-pushed, spell-pushed}
+use Rattle.relative_path.proofs.ForCallers.{SpellsItself, SpellThemselves, SpellThemselves-components, walk-append, walk-some, IsSame-sym, IsSame-trans, IsSame-append_right, IsSame-name_up, IsSame-last_name, Leads-same, IsReachable-same, IsShortestText-same, components-pushed, spell-pushed}
 use Rattle.relative_path_moves.specs.Places.{directory}
 use Rattle.relative_path.specs.RelativePath.{path_components}
 use Rattle.relative_path.specs.declared.path.RelativePath.{RelativePath}
@@ -17,7 +17,7 @@ use Rattle.relative_path_moves.specs.PlaceIndex.{path_at, Indexes}
 use Rattle.relative_path_moves.specs.declared.place_index.PlaceIndex.{PlaceIndex}
 use Rattle.relative_path_uses.specs.UrlReference.{is_misread, IsReference}
 use Rattle.relative_path_uses.specs.UrlPath.{url_path, resolved, Resolves}
-use Rattle.relative_path_uses.proofs.UrlPathLemmas.{IsProper-cur, AreProper-walk, spell-dotted, resolved-walk}
+use Rattle.relative_path_uses.proofs.UrlPathLemmas.{SpellsItself-cur, SpellThemselves-walk, spell-dotted, resolved-walk}
 use Rattle.std.proofs.lemmas.Bool.{cond_both}
 use Rattle.relative_path_uses.specs.SiteMap.{above_page, IsShortestNamed, IsFirstNamelessPage, IsPageLink, IsHref}
 
@@ -125,7 +125,7 @@ module _ (from to : List Step) (m n : List ℕ) (from_named : last_name from ≡
 
   -- the way between the directories, and then the name, is the shortest list that ends in a name
   pub IsShortestNamed-between : (way link : List ℕ) → IsShortestText (directory from) (directory to) way
-      → IsProper (name n) → link ≡ pushed way n → IsShortestNamed (above_page from) to link
+      → SpellsItself (name n) → link ≡ pushed way n → IsShortestNamed (above_page from) to link
   IsShortestNamed-between way link is proper pushes =
       let steps : components link ≡ components way ++ name n ∷ [] =
       ap components pushes ∙ components-pushed way n ∙ ap (λ cs. components way ++ cs) proper in
@@ -163,7 +163,7 @@ some_of_way f t f' t' found way is from to shortest = rw (from, to) at (rw is at
 -- ---- where a reference resolves
 
 resolved-reference : (directory target : List (List ℕ)) (file link reference : List ℕ) (front : List Step) (n : List ℕ)
-    → AreProper (map name (directory ++ file ∷ [])) → link ≡ spell (components link)
+    → SpellThemselves (map name (directory ++ file ∷ [])) → link ≡ spell (components link)
     → components link ≡ front ++ name n ∷ [] → walk directory (components link) ≡ Some target
     → reference ≡ (if is_misread link then codes "./" ++ link else link)
     → resolved (url_path (directory ++ file ∷ [])) reference ≡ url_path target
@@ -174,14 +174,14 @@ resolved-reference directory target file link reference front n proper spelled e
     ap (resolved (url_path (directory ++ file ∷ [])))
     (is ∙ ap (λ link. codes "./" ++ link) spelled ∙ spell-dotted (components link) front n ends)
     ∙ resolved-walk directory target file n (cur ∷ components link) (cur ∷ front) proper
-    (IsProper-cur, AreProper-components link) (ap (λ cs. cur ∷ cs) ends) leads)
+    (SpellsItself-cur, SpellThemselves-components link) (ap (λ cs. cur ∷ cs) ends) leads)
     (λ read is.
     ap (resolved (url_path (directory ++ file ∷ []))) (is ∙ spelled)
-    ∙ resolved-walk directory target file n (components link) front proper (AreProper-components link) ends leads)
+    ∙ resolved-walk directory target file n (components link) front proper (SpellThemselves-components link) ends leads)
     text
 
 pub Resolves-between : (from to : List Step) (m : List ℕ) (link reference : List ℕ) → last_name from ≡ Some m
-    → AreProper from → IsShortestNamed (above_page from) to link → IsReference link reference
+    → SpellThemselves from → IsShortestNamed (above_page from) to link → IsReference link reference
     → Resolves from to reference
 Resolves-between from to m link reference named proper is refers base target from_is to_is =
     tell (walk [] (directory from)) refl where
@@ -199,8 +199,8 @@ Resolves-between from to m link reference named proper is refers base target fro
           sym (ap (option_and_then (λ place. walk place (components link)))
           ((IsSame-above from m named).everywhere [] ∙ some))
           ∙ sym (walk-append [] (above_page from) (components link)) ∙ is.leads.everywhere [] ∙ to_is in
-          let names : AreProper (map name (place ++ m ∷ [])) =
-          rw whole at (AreProper-walk from [] base proper tt from_is) in
+          let names : SpellThemselves (map name (place ++ m ∷ [])) =
+          rw whole at (SpellThemselves-walk from [] base proper tt from_is) in
           let (front, n, ends) = is.named in
           ap (λ base. resolved (url_path base) reference) whole
           ∙ resolved-reference place target m link reference front n names is.spelled ends leads refers.text

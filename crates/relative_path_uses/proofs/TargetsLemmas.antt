@@ -9,9 +9,9 @@ use Rattle.std.specs.List.{position, position_or_len, list_any, before_first, be
 use Rattle.std.specs.Str.{IsCharBoundary}
 use Rattle.relative_path.specs.Steps.{slash, is_slash, components, spell}
 use Rattle.relative_path.specs.Unix.{has_root}
-use Rattle.relative_path.proofs.ForCallers.{AreProper-components, has_root-spell}
+use Rattle.relative_path.proofs.ForCallers.{SpellThemselves-components, has_root-spell}
 use Rattle.relative_path_uses.specs.UrlReference.{is_misread, has_scheme, IsReference}
-use Rattle.relative_path_uses.specs.Targets.{ends_path, path_of, tail_of, is_kept, HasTarget, HasTargets}
+use Rattle.relative_path_uses.specs.Targets.{ends_path, path_of, tail_of, is_not_relative, HasTarget, HasTargets}
 use Rattle.markdown_targets.specs.declared.span.Span.{Span}
 use Rattle.markdown_targets.specs.declared.target.LinkTarget.{LinkTarget}
 use Rattle.markdown_targets.specs.Spans.{AreInOrder}
@@ -72,12 +72,12 @@ path_of-moved (b ∷ bs) target none =
 
 -- what spells components has no root
 has_root-spelled : (text : List ℕ) → text ≡ spell (components text) → has_root text ≡ false
-has_root-spelled text is = ap has_root is ∙ has_root-spell (components text) (AreProper-components text)
+has_root-spelled text is = ap has_root is ∙ has_root-spell (components text) (SpellThemselves-components text)
 
 -- the reference of such a text is a path from the page's directory
-pub is_kept-reference : (way reference : List ℕ) → way ≡ spell (components way) → IsReference way reference
-    → is_kept reference ≡ false
-is_kept-reference way reference spelled is =
+pub is_not_relative-reference : (way reference : List ℕ) → way ≡ spell (components way) → IsReference way reference
+    → is_not_relative reference ≡ false
+is_not_relative-reference way reference spelled is =
     ap (λ misread. misread || has_root reference) is.read
     ∙ subst (λ text. has_root text ≡ false) (sym is.text)
     (cond_both (is_misread way) _ way (λ text. has_root text ≡ false) (λ _. refl)
@@ -92,9 +92,9 @@ has_scheme-slash text = ap (list_any _) (same text) where
       ∙ sym (before_first-next is_slash b bs)
 
 -- and so it is with a slash after it
-pub is_kept-slash : (text : List ℕ) → is_kept text ≡ false → is_kept (text ++ slash ∷ []) ≡ false
-is_kept-slash [] relative = absurd (grind (arith, relative))
-is_kept-slash (b ∷ bs) relative = ap (λ scheme. scheme || is_slash b) (has_scheme-slash (b ∷ bs)) ∙ relative
+pub is_not_relative-slash : (text : List ℕ) → is_not_relative text ≡ false → is_not_relative (text ++ slash ∷ []) ≡ false
+is_not_relative-slash [] relative = absurd (grind (arith, relative))
+is_not_relative-slash (b ∷ bs) relative = ap (λ scheme. scheme || is_slash b) (has_scheme-slash (b ∷ bs)) ∙ relative
 
 -- ---- targets in order
 
@@ -148,7 +148,7 @@ PicksSoFar-skip page targets span spans picks =
 
 -- where its path is relative
 pub PicksSoFar-take : (page : List ℕ) (targets : List Target) (span : Span) (spans : List Span)
-    → PicksSoFar page targets (span ∷ spans) → is_kept (path_of (between span.start span.end page)) ≡ false
+    → PicksSoFar page targets (span ∷ spans) → is_not_relative (path_of (between span.start span.end page)) ≡ false
     → PicksSoFar page (targets ++ record { start = span.start; end = span.end } ∷ []) spans
 PicksSoFar-take page targets span spans picks relative =
     let (after, is, rest) = picks.left in

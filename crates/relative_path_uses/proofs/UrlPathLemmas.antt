@@ -5,7 +5,7 @@ use Rattle.std.proofs.lemmas.List.{map-append}
 use Rattle.std.proofs.lemmas.List.Splits.{slice_split_none, slice_split_at}
 use Rattle.relative_path.specs.Steps.{Step, cur, up, name, slash, is_slash, step_text, classed, spell}
 use Rattle.relative_path.specs.Walk.{walk}
-use Rattle.relative_path.proofs.ForCallers.{IsProper, AreProper, classed-proper, no_slash-proper}
+use Rattle.relative_path.proofs.ForCallers.{SpellsItself, SpellThemselves, classed-proper, no_slash-proper}
 use Rattle.relative_path.proofs.OnLiterals.{relative_path_on_literals}
 use Rattle.relative_path_uses.specs.UrlPath.{url_path, segments_of, without_last, merged, without_dots, resolved}
 
@@ -38,18 +38,18 @@ without_dots-names (n ∷ ns) before cs =
     ∙ ap (λ ns. without_dots ns cs) (append_assoc before (n ∷ []) ns)
 
 -- the texts of components are classed as these
-pub classed-step_texts : (cs : List Step) → AreProper cs → map classed (map step_text cs) ≡ cs
+pub classed-step_texts : (cs : List Step) → SpellThemselves cs → map classed (map step_text cs) ≡ cs
 classed-step_texts [] proper = refl
 classed-step_texts (c ∷ cs) (first, rest) =
     ap₂ (λ c cs. c ∷ cs) (classed-proper c first) (classed-step_texts cs rest)
 
-pub classed-names : (ns : List (List ℕ)) → AreProper (map name ns) → map classed ns ≡ map name ns
+pub classed-names : (ns : List (List ℕ)) → SpellThemselves (map name ns) → map classed ns ≡ map name ns
 classed-names [] proper = refl
 classed-names (n ∷ ns) (first, rest) =
     ap₂ (λ c cs. c ∷ cs) (classed-proper (name n) first) (classed-names ns rest)
 
 -- the slashes of a text that spells components cut it into theirs
-pub slice_split-spell : (c : Step) (cs : List Step) → AreProper (c ∷ cs)
+pub slice_split-spell : (c : Step) (cs : List Step) → SpellThemselves (c ∷ cs)
     → slice_split is_slash (spell (c ∷ cs)) ≡ map step_text (c ∷ cs)
 slice_split-spell c [] (first, rest) = slice_split_none is_slash (step_text c) (no_slash-proper c first)
 slice_split-spell c (d ∷ cs) (first, rest) =
@@ -57,7 +57,7 @@ slice_split-spell c (d ∷ cs) (first, rest) =
     ∙ ap (λ ps. step_text c ∷ ps) (slice_split-spell d cs rest)
 
 -- and those of a URL path into the empty text before it and its segments
-slice_split-url_path : (ns : List (List ℕ)) → AreProper (map name ns)
+slice_split-url_path : (ns : List (List ℕ)) → SpellThemselves (map name ns)
     → slice_split is_slash (url_path ns) ≡ [] ∷ ns
 slice_split-url_path [] proper = refl
 slice_split-url_path (n ∷ []) (first, rest) =
@@ -68,7 +68,7 @@ slice_split-url_path (n ∷ m ∷ ns) (first, rest) =
     (slice_split_at is_slash n slash (m ++ url_path ns) (no_slash-proper (name n) first) refl
     ∙ ap (λ ps. n ∷ drop 1 ps) (slice_split-url_path (m ∷ ns) rest))
 
-pub segments_of-url_path : (ns : List (List ℕ)) → AreProper (map name ns) → segments_of (url_path ns) ≡ ns
+pub segments_of-url_path : (ns : List (List ℕ)) → SpellThemselves (map name ns) → segments_of (url_path ns) ≡ ns
 segments_of-url_path ns proper = ap (drop 1) (slice_split-url_path ns proper)
 
 pub without_last-push : (ns : List (List ℕ)) (n : List ℕ) → without_last (ns ++ n ∷ []) ≡ ns
@@ -77,29 +77,29 @@ without_last-push ns n =
     ap (λ k. take k (ns ++ n ∷ [])) count ∙ take_at ns (n ∷ []) (length ns) refl
 
 -- a walk from proper names by proper components leads to proper names
-AreProper-push : (ns : List (List ℕ)) (n : List ℕ) → AreProper (map name ns) → IsProper (name n)
-    → AreProper (map name (ns ++ n ∷ []))
-AreProper-push [] n proper last = (last, tt)
-AreProper-push (m ∷ ns) n (first, rest) last = (first, AreProper-push ns n rest last)
+SpellThemselves-push : (ns : List (List ℕ)) (n : List ℕ) → SpellThemselves (map name ns) → SpellsItself (name n)
+    → SpellThemselves (map name (ns ++ n ∷ []))
+SpellThemselves-push [] n proper last = (last, tt)
+SpellThemselves-push (m ∷ ns) n (first, rest) last = (first, SpellThemselves-push ns n rest last)
 
-AreProper-take : (k : ℕ) (ns : List (List ℕ)) → AreProper (map name ns) → AreProper (map name (take k ns))
-AreProper-take zero ns proper = tt
-AreProper-take (suc k) [] proper = tt
-AreProper-take (suc k) (n ∷ ns) (first, rest) = (first, AreProper-take k ns rest)
+SpellThemselves-take : (k : ℕ) (ns : List (List ℕ)) → SpellThemselves (map name ns) → SpellThemselves (map name (take k ns))
+SpellThemselves-take zero ns proper = tt
+SpellThemselves-take (suc k) [] proper = tt
+SpellThemselves-take (suc k) (n ∷ ns) (first, rest) = (first, SpellThemselves-take k ns rest)
 
-pub AreProper-walk : (cs : List Step) (base target : List (List ℕ)) → AreProper cs → AreProper (map name base)
-    → walk base cs ≡ Some target → AreProper (map name target)
-AreProper-walk [] base target proper names leads =
+pub SpellThemselves-walk : (cs : List Step) (base target : List (List ℕ)) → SpellThemselves cs → SpellThemselves (map name base)
+    → walk base cs ≡ Some target → SpellThemselves (map name target)
+SpellThemselves-walk [] base target proper names leads =
     let same : base ≡ target = cc in rw (← same) names
-AreProper-walk (cur ∷ cs) base target (first, rest) names leads = AreProper-walk cs base target rest names leads
-AreProper-walk (name n ∷ cs) base target (first, rest) names leads =
-    AreProper-walk cs (base ++ n ∷ []) target rest (AreProper-push base n names first) leads
-AreProper-walk (up ∷ cs) [] target (first, rest) names leads = absurd (cc)
-AreProper-walk (up ∷ cs) (b ∷ base) target (first, rest) names leads =
-    AreProper-walk cs (take (length base) (b ∷ base)) target rest (AreProper-take (length base) (b ∷ base) names) leads
+SpellThemselves-walk (cur ∷ cs) base target (first, rest) names leads = SpellThemselves-walk cs base target rest names leads
+SpellThemselves-walk (name n ∷ cs) base target (first, rest) names leads =
+    SpellThemselves-walk cs (base ++ n ∷ []) target rest (SpellThemselves-push base n names first) leads
+SpellThemselves-walk (up ∷ cs) [] target (first, rest) names leads = absurd (cc)
+SpellThemselves-walk (up ∷ cs) (b ∷ base) target (first, rest) names leads =
+    SpellThemselves-walk cs (take (length base) (b ∷ base)) target rest (SpellThemselves-take (length base) (b ∷ base) names) leads
 
 -- a list that ends in a name has a first component
-slice_split-ends : (cs front : List Step) (n : List ℕ) → cs ≡ front ++ name n ∷ [] → AreProper cs
+slice_split-ends : (cs front : List Step) (n : List ℕ) → cs ≡ front ++ name n ∷ [] → SpellThemselves cs
     → slice_split is_slash (spell cs) ≡ map step_text cs
 slice_split-ends (c ∷ cs) front n ends proper = slice_split-spell c cs proper
 slice_split-ends [] [] n ends proper = absurd (cc)
@@ -112,18 +112,18 @@ spell-dotted (c ∷ cs) front n ends = refl
 spell-dotted [] [] n ends = absurd (cc)
 spell-dotted [] (f ∷ front) n ends = absurd (cc)
 
-pub IsProper-cur : IsProper cur
+pub SpellsItself-cur : SpellsItself cur
 unfolding relative_path_on_literals
-IsProper-cur = refl
+SpellsItself-cur = refl
 
-AreProper-front : (ns : List (List ℕ)) (n : List ℕ) → AreProper (map name (ns ++ n ∷ [])) → AreProper (map name ns)
-AreProper-front [] n proper = tt
-AreProper-front (m ∷ ns) n (first, rest) = (first, AreProper-front ns n rest)
+SpellThemselves-front : (ns : List (List ℕ)) (n : List ℕ) → SpellThemselves (map name (ns ++ n ∷ [])) → SpellThemselves (map name ns)
+SpellThemselves-front [] n proper = tt
+SpellThemselves-front (m ∷ ns) n (first, rest) = (first, SpellThemselves-front ns n rest)
 
 -- from the URL path of a file in a directory, a text that spells components with a name at their end resolves to where
 -- they lead from that directory
 pub resolved-walk : (directory target : List (List ℕ)) (file n : List ℕ) (cs front : List Step)
-    → AreProper (map name (directory ++ file ∷ [])) → AreProper cs → cs ≡ front ++ name n ∷ []
+    → SpellThemselves (map name (directory ++ file ∷ [])) → SpellThemselves cs → cs ≡ front ++ name n ∷ []
     → walk directory cs ≡ Some target
     → resolved (url_path (directory ++ file ∷ [])) (spell cs) ≡ url_path target
 resolved-walk directory target file n cs front proper steps ends leads =
@@ -133,7 +133,7 @@ resolved-walk directory target file n cs front proper steps ends leads =
     ap₂ (λ xs ys. xs ++ ys) kept (slice_split-ends cs front n ends steps) in
     let classes : map classed (directory ++ map step_text cs) ≡ map name directory ++ cs =
     map-append classed directory (map step_text cs)
-    ∙ ap₂ (λ xs ys. xs ++ ys) (classed-names directory (AreProper-front directory file proper)) (classed-step_texts cs steps) in
+    ∙ ap₂ (λ xs ys. xs ++ ys) (classed-names directory (SpellThemselves-front directory file proper)) (classed-step_texts cs steps) in
     let lands : without_dots directory cs ≡ target =
     ap (without_dots directory) ends
     ∙ without_dots-walk front n directory target (ap (walk directory) (sym ends) ∙ leads) in

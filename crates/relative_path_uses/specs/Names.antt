@@ -60,12 +60,12 @@ names_device text =
     is_device word && list_all is_space (drop (length word) stem)
 
 -- the name ends in a dot or a space, which some platforms drop
-abbrev pub ends_open : List ℕ → Bool
-ends_open text = is_open (get_or text (length text - 1) 0)
+abbrev pub ends_in_dot_or_space : List ℕ → Bool
+ends_in_dot_or_space text = is_open (get_or text (length text - 1) 0)
 
 -- Windows reads the name otherwise: as more names, as a shorter one, or as a device
 abbrev pub is_unportable : List ℕ → Bool
-is_unportable text = holds_foreign text || ends_open text || names_device text
+is_unportable text = holds_foreign text || ends_in_dot_or_space text || names_device text
 
 -- the component is such a name
 abbrev pub is_unportable_step : Step → Bool

@@ -19,8 +19,8 @@ abbrev pub tail_of : List ℕ → List ℕ
 tail_of target = drop (length (path_of target)) target
 
 -- the path isn't one from the page's directory: it is empty, has a scheme, or begins with a slash
-abbrev pub is_kept : List ℕ → Bool
-is_kept path = is_misread path || has_root path
+abbrev pub is_not_relative : List ℕ → Bool
+is_not_relative path = is_misread path || has_root path
 
 -- the text of a target in a page
 abbrev pub target_text : List ℕ → Target → List ℕ
@@ -32,7 +32,7 @@ pub record HasTarget (page : List ℕ) (target : Target) : Type 0 where
   pub within : target.end ≤ length page
   pub start : IsCharBoundary page target.start
   pub end : IsCharBoundary page target.end
-  pub relative : is_kept (path_of (target_text page target)) ≡ false
+  pub relative : is_not_relative (path_of (target_text page target)) ≡ false
 
 -- from byte `at` on the page has these targets, each after the end of the one before
 abbrev pub HasTargets : List ℕ → ℕ → List Target → Type 0

@@ -2,7 +2,7 @@
 ghost use Rattle.std.specs.Prelude.{◌≡◌, false, map, IfOk, IsTrue};
 ghost use Rattle.std.specs.List.{between};
 ghost use Rattle.markdown_targets.specs.Spans.{IsSpanOf, AreInOrder};
-ghost use Rattle.relative_path_uses.specs.Targets.{is_kept, path_of, HasTargets};
+ghost use Rattle.relative_path_uses.specs.Targets.{is_not_relative, path_of, HasTargets};
 
 use crate::target::{Target, is_relative};
 use markdown_targets::{LinkTarget, Span, TargetKind, link_targets};
@@ -55,7 +55,7 @@ fn relative_targets(
 fn is_of_page(page: &str, link: LinkTarget) -> bool
     requires { IsSpanOf page.now link.span }
     ensures { IsTrue result
-        → is_kept (path_of (between link.span.start link.span.end page.now)) ≡ false }
+        → is_not_relative (path_of (between link.span.start link.span.end page.now)) ≡ false }
 {
     is_markdown(link.kind) && is_relative(&page[link.span.start..link.span.end])
 }

@@ -10,7 +10,7 @@
 
 pub use self::finder::targets;
 pub use self::manifest::{ManifestError, manifest_files};
-pub use self::rewriter::{Left, RewrittenPage, rewritten};
+pub use self::rewriter::{RewrittenPage, Unchanged, rewritten};
 pub use self::router::served;
 pub use self::site_map::{SiteMap, SiteMapError};
 pub use self::target::Target;

@@ -140,13 +140,13 @@ fn files_below(
 {
     let mut paths = Vec::new(alloc);
     for (k, file) in files.iter().enumerate() {
-        paths.push(file_below(alloc, base, file, k)?)?;
+        paths.push(file_of_entry(alloc, base, file, k)?)?;
     }
     Ok(paths)
 }
 
 // File number `k` as the normal path of the directory and the file.
-fn file_below(
+fn file_of_entry(
     alloc: Global,
     base: RelativePath<'_>,
     file: &Value,

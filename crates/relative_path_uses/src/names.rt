@@ -4,7 +4,7 @@ ghost use Rattle.std.specs.List.{before_first, list_all, list_any};
 ghost use Rattle.std.specs.Str.{str_eq_ignore_ascii_case};
 ghost use Rattle.relative_path.specs.Components.{step_of};
 ghost use Rattle.relative_path.specs.RelativePath.{path_components};
-ghost use Rattle.relative_path_uses.specs.Names.{ends_open, holds_foreign, is_device, is_space, is_unportable, is_unportable_step, names_device};
+ghost use Rattle.relative_path_uses.specs.Names.{ends_in_dot_or_space, holds_foreign, is_device, is_space, is_unportable, is_unportable_step, names_device};
 
 use relative_path::{Component, RelativePath};
 
@@ -52,8 +52,8 @@ fn holds_foreign(name: &str) -> bool
 }
 
 // Whether a name ends in a dot or a space, which some platforms drop.
-fn ends_open(name: &str) -> bool
-    ensures { result ≡ ends_open name.now }
+fn ends_in_dot_or_space(name: &str) -> bool
+    ensures { result ≡ ends_in_dot_or_space name.now }
 {
     name.bytes().last().is_some_and(|b| b == b'.' || b == b' ')
 }
@@ -77,7 +77,7 @@ fn is_blank_after(text: &str, count: usize) -> bool
 fn is_unportable(name: &str) -> bool
     ensures { result ≡ is_unportable name.now }
 {
-    holds_foreign(name) || ends_open(name) || names_device(name)
+    holds_foreign(name) || ends_in_dot_or_space(name) || names_device(name)
 }
 
 // Whether a component is such a name.

@@ -5,14 +5,14 @@ ghost use Rattle.relative_path_uses.specs.Targets.{HasTargets};
 ghost use Rattle.relative_path_uses.specs.Rewriter.{
   Becomes,
   BecomesPart,
-  has_unfit,
+  needs_escapes,
   IsNewPath,
   IsRefusedPath,
   IsRewritten,
-  is_unfit,
+  needs_escape,
   Part,
   StillLeads,
-  told,
+  reported,
   with_slash,
 };
 
@@ -24,7 +24,7 @@ use std::alloc::{AllocError, Global};
 
 /// Why [`rewritten`] leaves a link as it is.
 #[derive(Clone, Copy, Debug, PartialEq, Eq)]
-pub enum Left {
+pub enum Unchanged {
     /// It leads above the root.
     AboveRoot,
     /// No path leads from the page's new directory to where it leads.
@@ -38,14 +38,14 @@ pub enum Left {
 pub struct RewrittenPage {
     /// Its text.
     pub text: String,
-    /// The links that are left as they are: at which byte of the page before the moves the target
+    /// The links that stay unchanged although they lead elsewhere now: at which byte of the page before the moves the target
     /// stands, and why.
-    pub left: Vec<(usize, Left)>,
+    pub unchanged: Vec<(usize, Unchanged)>,
 }
 
 // Why a path has no new one.
 enum PathError {
-    Left(Left),
+    Unchanged(Unchanged),
     OutOfMemory,
 }
 
@@ -66,9 +66,9 @@ impl From<AllocError> for PathError {
 /// `from` is the page's before the moves, whether or not it moves itself. A target that still leads
 /// there stays. Of one that doesn't, the path becomes the shortest one, its slash at the end, its query
 /// and its fragment stay, and read back it is that path. A target that has no path there, or none that
-/// can be written in a link, stays and is told in `left`. Nothing is encoded or decoded.
+/// can be written in a link, stays and is reported in `unchanged`. Nothing is encoded or decoded.
 ///
-/// It takes memory for the text, at first as much as the page has, for what is left, and for what
+/// It takes memory for the text, at first as much as the page has, for the unchanged links, and for what
 /// [`MoveTable::moved_in`] needs for each target. Only want of memory refuses a page.
 ///
 /// ```
@@ -79,7 +79,7 @@ impl From<AllocError> for PathError {
 /// let found = targets(alloc, page)?;
 /// let new = rewritten(alloc, page, &found, &table, RelativePath::new("a.md"))?;
 /// assert_eq!(rt; new.text.as_str(), "[b](more/b.md#top), [c](../img/c.png), [d](../d.md)");
-/// assert_eq!(rt; new.left.as_slice(), [(35, Left::AboveRoot)].as_slice());
+/// assert_eq!(rt; new.unchanged.as_slice(), [(35, Unchanged::AboveRoot)].as_slice());
 /// ```
 pub fn rewritten(
     alloc: Global,
@@ -90,39 +90,39 @@ pub fn rewritten(
 ) -> Result<RewrittenPage, AllocError>
     requires { HasTargets page.now 0 targets.now }
     ensures rewritten { IfOk result (λ new. IsRewritten table.now (path_components from.entry) page.now targets.now
-        (string_bytes new.text) new.left.items) }
+        (string_bytes new.text) new.unchanged.items) }
 {
     let mut text = String::with_capacity(alloc, page.len())?;
-    let mut left = Vec::new(alloc);
+    let mut unchanged = Vec::new(alloc);
     let mut at = 0;
     let mut rest = targets;
     while let Some((target, others)) = rest.split_first() {
         text.push_str(&page[at..target.start])?;
         let angled = target.is_angled(page);
         let why = push_target(alloc, &mut text, target.text(page), angled, table, from)?;
-        push_left(&mut left, target.start, why)?;
+        push_unchanged(&mut unchanged, target.start, why)?;
         at = target.end;
         rest = others;
     }
     text.push_str(&page[at..])?;
-    Ok(RewrittenPage { text, left })
+    Ok(RewrittenPage { text, unchanged })
 }
 
-// Adds a target that is left to the others.
-fn push_left(
-    left: &mut Vec<(usize, Left)>,
+// Adds an unchanged target to the others.
+fn push_unchanged(
+    unchanged: &mut Vec<(usize, Unchanged)>,
     start: usize,
-    why: Option<Left>,
+    why: Option<Unchanged>,
 ) -> Result<(), AllocError>
-    ensures { IfOk result (λ _. left.new.items ≡ left.old.items ++ told start why) }
+    ensures { IfOk result (λ _. unchanged.new.items ≡ unchanged.old.items ++ reported start why) }
 {
     if let Some(why) = why {
-        left.push((start, why))?;
+        unchanged.push((start, why))?;
     }
     Ok(())
 }
 
-// Adds what a target becomes; answers why it is left, if it is.
+// Adds what a target becomes. Returns why it is unchanged, if it should have moved.
 fn push_target(
     alloc: Global,
     text: &mut String,
@@ -130,10 +130,10 @@ fn push_target(
     angled: bool,
     table: &MoveTable<'_>,
     from: RelativePath<'_>,
-) -> Result<Option<Left>, AllocError>
-    ensures { IfOk result (λ left. (part : Part)
+) -> Result<Option<Unchanged>, AllocError>
+    ensures { IfOk result (λ unchanged. (part : Part)
         × BecomesPart table.now (path_components from.entry) angled target.now part
-        × (part.left ≡ left) × (string_bytes text.new ≡ string_bytes text.old ++ part.text)) }
+        × (part.unchanged ≡ unchanged) × (string_bytes text.new ≡ string_bytes text.old ++ part.text)) }
 {
     let (path, tail) = split_path(target);
     match new_path(alloc, path, angled, table, from) {
@@ -146,7 +146,7 @@ fn push_target(
             text.push_str(target)?;
             Ok(None)
         }
-        Err(PathError::Left(why)) => {
+        Err(PathError::Unchanged(why)) => {
             text.push_str(target)?;
             Ok(Some(why))
         }
@@ -165,19 +165,19 @@ fn new_path(
     ensures new { IfOk result (λ new. MatchOption new
         (StillLeads table.now (path_components from.entry) path.now)
         (λ new. IsNewPath table.now (path_components from.entry) path.now (string_bytes new)
-        × (has_unfit angled (string_bytes new) ≡ false))) }
-    ensures left { IfErr result (IsRefusedPath table.now (path_components from.entry) angled path.now) }
+        × (needs_escapes angled (string_bytes new) ≡ false))) }
+    ensures unchanged { IfErr result (IsRefusedPath table.now (path_components from.entry) angled path.now) }
 {
     let way = match table.moved_in(alloc, from, RelativePath::new(path)) {
         Ok(Some(way)) => way,
         Ok(None) => return Ok(None),
-        Err(ReferenceError::AboveRoot) => return Err(PathError::Left(Left::AboveRoot)),
-        Err(ReferenceError::NoPath) => return Err(PathError::Left(Left::NoPath)),
+        Err(ReferenceError::AboveRoot) => return Err(PathError::Unchanged(Unchanged::AboveRoot)),
+        Err(ReferenceError::NoPath) => return Err(PathError::Unchanged(Unchanged::NoPath)),
         Err(ReferenceError::OutOfMemory) => return Err(PathError::OutOfMemory),
     };
     let new = with_slash(path, url_reference(alloc, way)?)?;
-    if has_unfit(angled, &new) {
-        return Err(PathError::Left(Left::Unwritable));
+    if needs_escapes(angled, &new) {
+        return Err(PathError::Unchanged(Unchanged::Unwritable));
     }
     Ok(Some(new))
 }
@@ -193,15 +193,15 @@ fn with_slash(path: &str, mut reference: String) -> Result<String, AllocError>
 }
 
 // Whether a path can't be written in a link.
-fn has_unfit(angled: bool, path: &str) -> bool
-    ensures { result ≡ has_unfit angled path.now }
+fn needs_escapes(angled: bool, path: &str) -> bool
+    ensures { result ≡ needs_escapes angled path.now }
 {
-    path.bytes().any(|b| is_unfit(angled, b))
+    path.bytes().any(|b| needs_escape(angled, b))
 }
 
 // Whether a byte of a path is read otherwise in a link.
-fn is_unfit(angled: bool, b: u8) -> bool
-    ensures { result ≡ is_unfit angled b }
+fn needs_escape(angled: bool, b: u8) -> bool
+    ensures { result ≡ needs_escape angled b }
 {
     b < 32
         || b == 127

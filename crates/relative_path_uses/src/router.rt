@@ -50,11 +50,11 @@ pub fn served(alloc: Global, root: &str, request: &str) -> Result<Option<String>
     if has_unportable_name(place) {
         return Ok(None);
     }
-    Ok(Some(file_below(alloc, root, place)?))
+    Ok(Some(file_in_root(alloc, root, place)?))
 }
 
 // The root, and a path after it, unless that is empty.
-fn file_below(alloc: Global, root: &str, path: RelativePath<'_>) -> Result<String, AllocError>
+fn file_in_root(alloc: Global, root: &str, path: RelativePath<'_>) -> Result<String, AllocError>
     ensures { IfOk result (λ file. string_bytes file ≡ added root.now (path_text path.entry)) }
 {
     if path.as_str().is_empty() {

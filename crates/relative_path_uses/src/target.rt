@@ -1,7 +1,7 @@
 //! Targets of links: where they stand in a page, and what of each is its path.
 ghost use Rattle.std.specs.Prelude.{◌≡◌, ◌-◌, ◌==◌, ◌↔◌, false, length, get_or, IsTrue};
 ghost use Rattle.std.specs.List.{position};
-ghost use Rattle.relative_path_uses.specs.Targets.{ends_path, path_of, tail_of, is_kept, target_text, HasTarget, is_angled};
+ghost use Rattle.relative_path_uses.specs.Targets.{ends_path, path_of, tail_of, is_not_relative, target_text, HasTarget, is_angled};
 
 use crate::url_reference::is_misread;
 
@@ -73,14 +73,14 @@ fn path_end(target: &str) -> Option<usize>
 
 // Whether the path of a target is relative to the page's directory.
 pub(crate) fn is_relative(target: &str) -> bool
-    ensures { IsTrue result ↔ (is_kept (path_of target.now) ≡ false) }
+    ensures { IsTrue result ↔ (is_not_relative (path_of target.now) ≡ false) }
 {
-    !is_kept(split_path(target).0)
+    !is_not_relative(split_path(target).0)
 }
 
 // Whether a path isn't one from the page's directory.
-fn is_kept(path: &str) -> bool
-    ensures { result ≡ is_kept path.now }
+fn is_not_relative(path: &str) -> bool
+    ensures { result ≡ is_not_relative path.now }
 {
     is_misread(path) || path.starts_with('/')
 }

@@ -3,7 +3,7 @@ use Rattle.std.specs.Prelude.{◌≡◌, ℕ, ◌<◌, ◌≤◌, List, length, 
 use Rattle.relpath_lib.specs.declared.fault.Fault.{Fault}
 use Rattle.relpath_lib.specs.declared.fault.Fault.TheVariants.{Read, InputTooLong, NotText, OutOfMemory, Write}
 use Rattle.relpath_lib.specs.declared.meter.Meter.{Meter}
-use Rattle.relpath_lib.specs.Meter.{calls_of, failures_of, IfKnown, Gives, HasEnded}
+use Rattle.relpath_lib.specs.Meter.{calls_of, failures_of, IfKnown, Consumed, HasEnded}
 
 -- how many bytes an input may have
 abbrev pub max_input_len : ℕ
@@ -29,18 +29,18 @@ IsRead reader = (0 < calls_of reader) × (failures_of reader ≡ 0)
 
 -- the bytes that came are at most as many as the limit
 abbrev pub CameWithin : {R : Type 0} → (R → Option (List ℕ)) → Meter R → Meter R → Type 0
-CameWithin remaining old new = (came : List ℕ) × Gives remaining old new came × (length came ≤ max_input_len)
+CameWithin remaining old new = (came : List ℕ) × Consumed remaining old new came × (length came ≤ max_input_len)
 
 -- the bytes that came are more than the limit
 abbrev pub CameBeyond : {R : Type 0} → (R → Option (List ℕ)) → Meter R → Meter R → Type 0
-CameBeyond remaining old new = (came : List ℕ) × Gives remaining old new came × IsTooLong came
+CameBeyond remaining old new = (came : List ℕ) × Consumed remaining old new came × IsTooLong came
 
 -- the reader was read to its end with no failure, and P holds of all its bytes, where they are known
 pub record ReadsAll {R : Type 0} (remaining : R → Option (List ℕ)) (old new : Meter R)
     (P : List ℕ → Type 0) : Type 0 where
   pub end : HasEnded remaining new
   pub failures : failures_of new ≡ 0
-  pub input : IfKnown remaining old (λ input. P input × Gives remaining old new input)
+  pub input : IfKnown remaining old (λ input. P input × Consumed remaining old new input)
 
 -- what is known where the reading ended with this fault
 abbrev pub StopsShort : {R : Type 0} → (R → Option (List ℕ)) → Meter R → Meter R → Fault → Type 0

@@ -57,16 +57,16 @@ abbrev pub IfKnown : {T : Type 0} → (T → Option (List ℕ)) → Meter T → 
 IfKnown known m P = IfSome (bytes_of known m) P
 
 -- the metered reader gave these bytes
-abbrev pub Gives : {R : Type 0} → (R → Option (List ℕ)) → Meter R → Meter R → List ℕ → Type 0
-Gives remaining old new bytes = Consumes (bytes_of remaining old) (bytes_of remaining new) bytes
+abbrev pub Consumed : {R : Type 0} → (R → Option (List ℕ)) → Meter R → Meter R → List ℕ → Type 0
+Consumed remaining old new bytes = Consumes (bytes_of remaining old) (bytes_of remaining new) bytes
 
 -- the metered reader has nothing left
 abbrev pub HasEnded : {R : Type 0} → (R → Option (List ℕ)) → Meter R → Type 0
 HasEnded remaining m = IsAtEnd (bytes_of remaining m)
 
 -- the metered writer gained these bytes and nothing else
-abbrev pub Gains : {W : Type 0} → (W → Option (List ℕ)) → Meter W → Meter W → List ℕ → Type 0
-Gains contents old new bytes = Appends (bytes_of contents old) (bytes_of contents new) bytes
+abbrev pub Appended : {W : Type 0} → (W → Option (List ℕ)) → Meter W → Meter W → List ℕ → Type 0
+Appended contents old new bytes = Appends (bytes_of contents old) (bytes_of contents new) bytes
 
 -- the metered reader gave nothing, or the metered writer gained nothing
 abbrev pub KeepsBytes : {T : Type 0} → (T → Option (List ℕ)) → Meter T → Meter T → Type 0

@@ -3,7 +3,7 @@ use Rattle.std.specs.Prelude.{◌≡◌, ℕ, ◌≤◌, List, [], length, Optio
 use Rattle.relpath_lib.specs.declared.fault.Fault.{Fault}
 use Rattle.relpath_lib.specs.declared.fault.Fault.TheVariants.{Read, InputTooLong, NotText, OutOfMemory, Write}
 use Rattle.relpath_lib.specs.declared.meter.Meter.{Meter}
-use Rattle.relpath_lib.specs.Meter.{calls_of, Gains}
+use Rattle.relpath_lib.specs.Meter.{calls_of, Appended}
 use Rattle.relpath_lib.specs.Output.{IsOutput}
 
 -- what `run` had to write where it ended so: the output of its input, or nothing where it ended before
@@ -23,4 +23,4 @@ pub record Writes {W : Type 0} (contents : W → Option (List ℕ)) (old new : M
   pub answers : HasToWrite result input output
   pub only : (other : List ℕ) → HasToWrite result input other → other ≡ output
   pub calls : calls_of new ≤ length output
-  pub gained : OnOk result (Gains contents old new output)
+  pub gained : OnOk result (Appended contents old new output)

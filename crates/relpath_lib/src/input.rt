@@ -8,7 +8,7 @@ ghost use Rattle.relpath_lib.specs.Meter.{
   failures_of,
   IsFresh,
   CountsCall,
-  Gives,
+  Consumed,
   HasEnded,
   KeepsBytes,
 };
@@ -28,7 +28,7 @@ const STEP: usize = 1_024;
 /// asked for once, before the first read.
 pub fn read_input<R: Read>(alloc: Global, reader: &mut Meter<R>) -> Result<Vec<u8>, Fault>
     requires { IsFresh reader.old }
-    ensures input { IfOk result (λ input. Gives R.remaining reader.old reader.new input.items) }
+    ensures input { IfOk result (λ input. Consumed R.remaining reader.old reader.new input.items) }
     ensures end { OnOk result (HasEnded R.remaining reader.new) }
     ensures within { IfOk result (λ input. vec_len input ≤ max_input_len) }
     ensures read { OnOk result (IsRead reader.new) }
@@ -76,7 +76,7 @@ fn read_more<R: Read>(
     ensures front { take filled input.new ≡ take filled input.old }
     ensures within { IfOk result (λ count. filled + count ≤ length input.new) }
     ensures came { IfOk result (λ count.
-        Gives R.remaining reader.old reader.new (take count (drop filled input.new))) }
+        Consumed R.remaining reader.old reader.new (take count (drop filled input.new))) }
     ensures end { IfOk result (λ count. count ≡ 0 → HasEnded R.remaining reader.new) }
     ensures err { OnErr result (KeepsBytes R.remaining reader.old reader.new) }
     ensures fault { IfErr result (λ fault. fault ≡ Fault.Read) }

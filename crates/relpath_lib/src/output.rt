@@ -1,6 +1,6 @@
 //! The whole output: making it, and writing it.
 ghost use Rattle.std.specs.Prelude.{◌≡◌, ◌+◌, ◌<◌, ◌≤◌, List, ℕ, take, length, string_bytes, is_err, IfOk, IfErr, OnOk, if◌then◌else◌};
-ghost use Rattle.relpath_lib.specs.Meter.{calls_of, flushes_of, failures_of, IsFresh, CountsCall, CountsFailure, Gains};
+ghost use Rattle.relpath_lib.specs.Meter.{calls_of, flushes_of, failures_of, IsFresh, CountsCall, CountsFailure, Appended};
 ghost use Rattle.relpath_lib.specs.Output.{IsOutput};
 
 use crate::command::answer_line;
@@ -33,7 +33,7 @@ pub fn answer_lines(alloc: Global, text: &str) -> Result<String, AllocError>
 /// Writes all the bytes, then flushes.
 pub fn write_output<W: Write>(writer: &mut Meter<W>, bytes: &[u8]) -> Result<(), Fault>
     requires { IsFresh writer.old }
-    ensures gained { OnOk result (Gains W.contents writer.old writer.new bytes.now) }
+    ensures gained { OnOk result (Appended W.contents writer.old writer.new bytes.now) }
     ensures fault { IfErr result (λ fault. fault ≡ Fault.Write) }
     ensures failures { failures_of writer.new ≡ (if is_err result then 1 else 0) }
     ensures writes { calls_of writer.new ≤ length bytes.now }
@@ -48,7 +48,7 @@ pub fn write_output<W: Write>(writer: &mut Meter<W>, bytes: &[u8]) -> Result<(),
 pub fn write_all<W: Write>(writer: &mut Meter<W>, bytes: &[u8]) -> Result<(), Fault>
     requires calls { calls_of writer.old + length bytes.now ≤ u64.MAX }
     requires failures { failures_of writer.old < u64.MAX }
-    ensures gained { OnOk result (Gains W.contents writer.old writer.new bytes.now) }
+    ensures gained { OnOk result (Appended W.contents writer.old writer.new bytes.now) }
     ensures fault { IfErr result (λ fault. fault ≡ Fault.Write) }
     ensures writes { calls_of writer.new ≤ calls_of writer.old + length bytes.now }
     ensures flushes { flushes_of writer.new ≡ flushes_of writer.old }
@@ -69,7 +69,7 @@ fn write_some<W: Write>(writer: &mut Meter<W>, bytes: &[u8]) -> Result<usize, Fa
     ensures some { IfOk result (λ taken. 0 < taken) }
     ensures within { IfOk result (λ taken. taken ≤ length bytes.now) }
     ensures gained { IfOk result (λ taken.
-        Gains W.contents writer.old writer.new (take taken bytes.now)) }
+        Appended W.contents writer.old writer.new (take taken bytes.now)) }
     ensures fault { IfErr result (λ fault. fault ≡ Fault.Write) }
     ensures counts { CountsCall writer.old writer.new (is_err result) }
 {

@@ -1,7 +1,7 @@
 //! What is told of how `run` ended.
 ghost use Rattle.std.specs.Prelude.{◌≡◌, Err, is_err, IsOk, OnOk, if◌then◌else◌};
 ghost use Rattle.std.specs.Process.{exit_status};
-ghost use Rattle.relpath_lib.specs.Meter.{failures_of, IsFresh, Gains};
+ghost use Rattle.relpath_lib.specs.Meter.{failures_of, IsFresh, Appended};
 ghost use Rattle.relpath_lib.specs.Report.{report_of, status_of};
 
 use crate::fault::Fault;
@@ -23,7 +23,7 @@ pub fn report<W: Write>(ended: Result<(), Fault>, errors: &mut Meter<W>) -> Exit
     requires { IsFresh errors.old }
     ensures status { exit_status result ≡ status_of ended }
     ensures printed { failures_of errors.new ≡ 0 →
-        Gains W.contents errors.old errors.new (report_of ended) }
+        Appended W.contents errors.old errors.new (report_of ended) }
     ensures silent { IsOk ended → errors.new ≡ errors.old }
 {
     match ended {
@@ -39,7 +39,7 @@ pub fn report<W: Write>(ended: Result<(), Fault>, errors: &mut Meter<W>) -> Exit
 // Prints the line that names a fault.
 fn print_fault<W: Write>(fault: Fault, errors: &mut Meter<W>) -> Result<(), Fault>
     requires { IsFresh errors.old }
-    ensures printed { OnOk result (Gains W.contents errors.old errors.new (report_of (Err fault))) }
+    ensures printed { OnOk result (Appended W.contents errors.old errors.new (report_of (Err fault))) }
     ensures failures { failures_of errors.new ≡ (if is_err result then 1 else 0) }
 {
     write_all(errors, b"relpath: ")?;

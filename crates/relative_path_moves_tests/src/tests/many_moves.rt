@@ -1,6 +1,6 @@
 use super::{Case, all_become, as_paths, becomes, read_moves, same, text_of, told_in};
 use relative_path::RelativePath;
-use relative_path_moves::{MoveError, MoveTable, MovesError, ReferenceError};
+use relative_path_moves::{MoveError, MoveTable, MoveTableError, ReferenceError};
 use std::alloc::{AllocError, Global};
 use std::fmt::Display;
 use std::test::Fail;
@@ -240,12 +240,15 @@ fn refusals_print_their_words(rt: HostRuntime) -> Result<(), Fail> {
 #[test]
 fn refusals_of_moves_print_their_words(rt: HostRuntime) -> Result<(), Fail> {
     for (refusal, words) in &[
-        (MovesError::NoFileName(1_000), "move 1000 lacks a file name"),
         (
-            MovesError::SameOld(10, usize::MAX),
+            MoveTableError::NoFileName(1_000),
+            "move 1000 lacks a file name",
+        ),
+        (
+            MoveTableError::SameOld(10, usize::MAX),
             "moves 10 and 18446744073709551615 have the same old path",
         ),
-        (MovesError::OutOfMemory, "out of memory"),
+        (MoveTableError::OutOfMemory, "out of memory"),
     ] {
         prints(rt.alloc(), refusal, words)?;
     }

@@ -2,7 +2,7 @@ use super::pages::PAGE;
 use super::same;
 use relative_path::RelativePath;
 use relative_path_moves::MoveTable;
-use relative_path_uses::{Left, RewrittenPage, rewritten, targets};
+use relative_path_uses::{RewrittenPage, Unchanged, rewritten, targets};
 use std::alloc::Global;
 use std::test::Fail;
 
@@ -71,7 +71,7 @@ fn after(
     Ok(rewritten(alloc, page, &found, &table, RelativePath::new(from))?)
 }
 
-// Fails where it becomes another text than is expected, or a link is left.
+// Fails where it becomes another text than is expected, or a link is reported as unchanged.
 fn becomes(
     alloc: Global,
     moves: &[(RelativePath<'_>, RelativePath<'_>)],
@@ -81,7 +81,7 @@ fn becomes(
 ) -> Result<(), Fail> {
     let new = after(alloc, moves, from, page)?;
     same(page, &new.text.as_str(), &expected)?;
-    same(page, &new.left.as_slice(), &[].as_slice())
+    same(page, &new.unchanged.as_slice(), &[].as_slice())
 }
 
 #[test]
@@ -110,32 +110,50 @@ fn moves_a_page_that_stays(rt: HostRuntime) -> Result<(), Fail> {
     becomes(rt.alloc(), &moves, "docs/d.md", page, expected)
 }
 
-// Old and new paths of a page, the page with one link that is left, and where and why.
-const LEFT: [(&str, &str, &str, usize, Left); 8] = [
-    ("a.md", "b.md", "[e](../e.md)", 4, Left::AboveRoot),
-    ("d.md", "../x/d.md", "[e](e.md)", 4, Left::NoPath),
-    ("My Docs/a.md", "b/a.md", "[x](x.md)", 4, Left::Unwritable),
-    ("(a)/a.md", "b/a.md", "[x](x.md)", 4, Left::Unwritable),
-    ("a#/a.md", "b/a.md", "[x](x.md)", 4, Left::Unwritable),
-    ("a\n/a.md", "b/a.md", "[x](<x.md>)", 5, Left::Unwritable),
-    ("a>/a.md", "b/a.md", "[x](<x.md>)", 5, Left::Unwritable),
-    ("a`|&/a.md", "b/a.md", "![x](x.md)", 5, Left::Unwritable),
+// Old and new paths of a page, the page with one unchanged link, and where and why.
+const UNCHANGED: [(&str, &str, &str, usize, Unchanged); 8] = [
+    ("a.md", "b.md", "[e](../e.md)", 4, Unchanged::AboveRoot),
+    ("d.md", "../x/d.md", "[e](e.md)", 4, Unchanged::NoPath),
+    (
+        "My Docs/a.md",
+        "b/a.md",
+        "[x](x.md)",
+        4,
+        Unchanged::Unwritable,
+    ),
+    ("(a)/a.md", "b/a.md", "[x](x.md)", 4, Unchanged::Unwritable),
+    ("a#/a.md", "b/a.md", "[x](x.md)", 4, Unchanged::Unwritable),
+    (
+        "a\n/a.md",
+        "b/a.md",
+        "[x](<x.md>)",
+        5,
+        Unchanged::Unwritable,
+    ),
+    ("a>/a.md", "b/a.md", "[x](<x.md>)", 5, Unchanged::Unwritable),
+    (
+        "a`|&/a.md",
+        "b/a.md",
+        "![x](x.md)",
+        5,
+        Unchanged::Unwritable,
+    ),
 ];
 
 // Fails where the link isn't left so.
 fn leaves(
     alloc: Global,
-    (old, new, page, at, why): (&str, &str, &str, usize, Left),
+    (old, new, page, at, why): (&str, &str, &str, usize, Unchanged),
 ) -> Result<(), Fail> {
     let moves = [(RelativePath::new(old), RelativePath::new(new))];
     let moved = after(alloc, &moves, old, page)?;
     same(old, &moved.text.as_str(), &page)?;
-    same(old, &moved.left.as_slice(), &[(at, why)].as_slice())
+    same(old, &moved.unchanged.as_slice(), &[(at, why)].as_slice())
 }
 
 #[test]
 fn leaves_a_link_that_it_cant_move(rt: HostRuntime) -> Result<(), Fail> {
-    for row in &LEFT {
+    for row in &UNCHANGED {
         leaves(rt.alloc(), *row)?;
     }
     Ok(())
@@ -150,8 +168,8 @@ fn moves_the_others_beside_a_link_that_is_left(rt: HostRuntime) -> Result<(), Fa
     same(page, &moved.text.as_str(), &expected)?;
     same(
         page,
-        &moved.left.as_slice(),
-        &[(4, Left::Unwritable)].as_slice(),
+        &moved.unchanged.as_slice(),
+        &[(4, Unchanged::Unwritable)].as_slice(),
     )
 }
 

@@ -1,7 +1,7 @@
 use Rattle.std.proofs.Common.{◌≡◌, ℕ, Bool, true, false, not, cond, refl, sym, ◌∙◌, ap, length, slice_index, arith}
 use Rattle.std.proofs.lemmas.List.{nil_from_length}
 use mir.Val.{bool_byte}
-use Rattle.relative_path.specs.Counting.{begun, begun_from}
+use Rattle.relative_path.specs.Counting.{begun, starts_from}
 use Rattle.relative_path.specs.Steps.{is_slash, components}
 use Rattle.relative_path.proofs.StepsLemmas.{components-nil}
 use Rattle.relative_path.proofs.CountingLemmas.{begun-components, begun-start}
@@ -22,10 +22,10 @@ as_number false = refl
 pub returns-clause-count : goal.returns-clause-count
 returns-clause-count c =
     let bytes = c.as_bytes-bytes.result.now in
-    let rest : c.if-bytes-gt-BLOCK.begun ≡ begun_from bytes 1 =
+    let rest : c.if-bytes-gt-BLOCK.begun ≡ starts_from bytes 1 =
     elim c.if-bytes-gt-BLOCK.branch [
-      | then-bytes-gt-BLOCK w ↦ w.begun-is ∙ w.begun_by_blocks-begun.ensures.count
-      | else-bytes-gt-BLOCK w ↦ w.begun-is ∙ w.begun_by_one-begun.ensures.count
+      | then-bytes-gt-BLOCK w ↦ w.begun-is ∙ w.starts_by_blocks-begun.ensures.count
+      | else-bytes-gt-BLOCK w ↦ w.begun-is ∙ w.starts_by_byte-begun.ensures.count
     ] in
     let item = c.in-Some.ensures.item.3 in
     let first : c.from.result ≡ cond (not (is_slash (slice_index bytes 0))) 1 0 =

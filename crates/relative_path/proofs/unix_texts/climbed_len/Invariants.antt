@@ -1,8 +1,8 @@
 use Rattle.std.proofs.Common.{◌≡◌, ◌+◌, ◌*◌}
-use Rattle.relative_path.specs.NormalForm.{padded_len}
+use Rattle.relative_path.specs.NormalForm.{slashed_len}
 use Rattle.relative_path.specs.UnixComponents.{unix_left}
 use Rattle.relative_path.proofs.unix_texts.climbed_len.Given as goal
 
 abbrev pub invariant-loop-component : goal.invariant-loop-component
 invariant-loop-component l =
-    l.len + padded_len (unix_left l.component-iterator) ≡ 3 * l.climb + padded_len (unix_left l.fn.components)
+    l.len + slashed_len (unix_left l.component-iterator) ≡ 3 * l.climb + slashed_len (unix_left l.fn.components)

@@ -1,9 +1,9 @@
 use Rattle.std.proofs.Common.{◌∙◌, refl, sym, ap, length, string_bytes, arith}
 use Rattle.relative_path.specs.Components.{components_left, step_of}
 use Rattle.relative_path.specs.Writing.{with_piece}
-use Rattle.relative_path.specs.NormalForm.{padded_len}
+use Rattle.relative_path.specs.NormalForm.{slashed_len}
 use Rattle.relative_path.specs.Unix.{onto}
-use Rattle.relative_path.proofs.UnixTextsLemmas.{length-with_step_le, padded_len-components}
+use Rattle.relative_path.proofs.UnixTextsLemmas.{length-with_step_le, slashed_len-components}
 use Rattle.relative_path.proofs.unix_texts.joined.Goals as goal
 
 pub loop-component-init : goal.loop-component-init
@@ -11,13 +11,13 @@ loop-component-init c =
     rw
     (c.into_iter-component-iterator.ensures.into_iter_gives, c.new-component-items.ensures, c.in_ok-text.ensures.text) (
       refl,
-      omega (arith, padded_len-components c.args.path.now, c.in_ok-text.ensures.room),
+      omega (arith, slashed_len-components c.args.path.now, c.in_ok-text.ensures.room),
     )
 
 pub add_piece-requires : goal.add_piece-requires
 add_piece-requires c =
     let text = string_bytes c.loop-component.text in
-    let first = ap padded_len c.in-Some.ensures.steps.0 in
+    let first = ap slashed_len c.in-Some.ensures.steps.0 in
     let piece = ap (λ p. length (with_piece text p)) c.as_str.ensures in
     omega (arith, c.loop-component.invariant.1, first, piece, length-with_step_le text (step_of c.in-Some.component))
 
@@ -32,7 +32,7 @@ loop-component-preserved c =
       omega (
         arith,
         before.1,
-        ap padded_len first,
+        ap slashed_len first,
         ap length added,
         length-with_step_le text (step_of c.in-Some.component),
         c.add_piece.ensures.room,

@@ -1,9 +1,9 @@
 use Rattle.std.proofs.Common.{ap, length, arith, string_bytes}
-use Rattle.relative_path.specs.NormalForm.{padded_len}
+use Rattle.relative_path.specs.NormalForm.{slashed_len}
 use Rattle.relative_path.specs.Steps.{name}
 use Rattle.std.proofs.lemmas.Str.{IsUtf8-string_bytes}
 use Rattle.relative_path.proofs.SlicesLemmas.{IsPrefix, IsCharBoundary-IsPrefix}
-use Rattle.relative_path.proofs.UnixTextsLemmas.{length-with_step_le, padded_len-components}
+use Rattle.relative_path.proofs.UnixTextsLemmas.{length-with_step_le, slashed_len-components}
 use Rattle.relative_path.proofs.unix_texts.joined_logically.Goals as goal
 
 pub loop-component-init : goal.loop-component-init
@@ -11,7 +11,7 @@ loop-component-init c =
     rw
     (c.into_iter-component-iterator.ensures.into_iter_gives, c.new-component-items.ensures, c.in_ok-text.ensures.text) (
       λ end leads. leads,
-      omega (arith, padded_len-components c.args.path.now, c.in_ok-text.ensures.room),
+      omega (arith, slashed_len-components c.args.path.now, c.in_ok-text.ensures.room),
     )
 
 pub truncate-requires : goal.truncate-requires
@@ -25,7 +25,7 @@ truncate-requires c =
 pub add_piece-requires : goal.add_piece-requires
 add_piece-requires c =
     let text = string_bytes c.loop-component.text in
-    let first = ap padded_len (rw c.in-Normal.is at c.in-Some.ensures.steps.0) in
+    let first = ap slashed_len (rw c.in-Normal.is at c.in-Some.ensures.steps.0) in
     omega (arith, c.loop-component.invariant.1, first, length-with_step_le text (name c.in-Normal.name.now))
 
 pub loop-component-preserved : goal.loop-component-preserved
@@ -38,7 +38,7 @@ loop-component-preserved c =
       omega (
         arith,
         before.1,
-        ap padded_len first,
+        ap slashed_len first,
         ap length added,
         length-with_step_le text (name c.in-Normal.name.now),
         c.add_piece.ensures.room,

@@ -7,8 +7,8 @@ use Rattle.relative_path.proofs.unix_texts.parent_text.Goals.{else-rooted-via-th
 
 pub returns-then-is_empty : goal.returns-then-is_empty
 returns-then-is_empty c =
-    let e = c.without_idle_end.ensures in
-    let e' = c.without_idle_end-parent.ensures in
+    let e = c.trim_uncounted_end.ensures in
+    let e' = c.trim_uncounted_end-parent.ensures in
     let trimmed = IsIdleFree-from c.has_root-rooted.ensures refl e.prefix e.end e.same e.last in
     let trimmed' =
     IsIdleFree-from c.has_root-rooted.ensures c.as_str.ensures e'.prefix e'.end e'.same e'.last in
@@ -18,8 +18,8 @@ returns-then-is_empty c =
 
 pub returns-else-rooted : goal.returns-else-rooted
 returns-else-rooted c =
-    let e = c.without_idle_end.ensures in
-    let e' = c.without_idle_end-parent.ensures in
+    let e = c.trim_uncounted_end.ensures in
+    let e' = c.trim_uncounted_end-parent.ensures in
     let trimmed = IsIdleFree-from c.has_root-rooted.ensures refl e.prefix e.end e.same e.last in
     let trimmed' =
     IsIdleFree-from c.has_root-rooted.ensures c.as_str.ensures e'.prefix e'.end e'.same e'.last in

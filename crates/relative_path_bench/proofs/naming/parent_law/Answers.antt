@@ -8,9 +8,9 @@ use Rattle.relative_path_bench.proofs.naming.parent_law.Goals as goal
 pub returns-in_err-parent-clause-found : goal.returns-in_err-parent-clause-found
 returns-in_err-parent-clause-found c =
     let cs = path_components c.args.path in
-    let solid = nonempty_text (path_text c.args.path) (kept_len cs)
+    let non_slash = nonempty_text (path_text c.args.path) (kept_len cs)
     (name c.in_ok-file_name.file_name.now) c.in_ok-file_name.ensures.placed in
-    absurd (true≢false (sym (c.in_err-parent.ensures.some.1 solid)))
+    absurd (true≢false (sym (c.in_err-parent.ensures.some.1 non_slash)))
 
 pub returns-clause-joined : goal.returns-clause-joined
 returns-clause-joined c =

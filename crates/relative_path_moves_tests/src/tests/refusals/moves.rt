@@ -3,7 +3,7 @@ use super::long_text;
 use super::marks::{begin, end};
 use crate::tests::{as_paths, same, text_of};
 use relative_path::{RelativePath, RelativePathBuf};
-use relative_path_moves::{MoveError, MoveTable, MovesError, ReferenceError, moved};
+use relative_path_moves::{MoveError, MoveTable, MoveTableError, ReferenceError, moved};
 use std::alloc::Global;
 use std::test::Fail;
 
@@ -71,7 +71,7 @@ fn makes(alloc: Global, moves: &[(RelativePath<'_>, RelativePath<'_>)]) -> Resul
     end(alloc, answer.is_err())?;
     match answer {
         Ok(table) => same("a table", &table.len(), &moves.len()),
-        Err(error) => same("a refusal", &error, &MovesError::OutOfMemory),
+        Err(error) => same("a refusal", &error, &MoveTableError::OutOfMemory),
     }
 }
 
@@ -94,9 +94,9 @@ fn a_table_with_one_old_path_twice(rt: HostRuntime) -> Result<(), Fail> {
     begin(rt.alloc());
     let answer = MoveTable::new(rt.alloc(), &moves);
     let error = answer.err();
-    end(rt.alloc(), error == Some(MovesError::OutOfMemory))?;
-    let is_told = error == Some(MovesError::SameOld(0, 1))
-        || error == Some(MovesError::OutOfMemory);
+    end(rt.alloc(), error == Some(MoveTableError::OutOfMemory))?;
+    let is_told = error == Some(MoveTableError::SameOld(0, 1))
+        || error == Some(MoveTableError::OutOfMemory);
     same("one old path", &is_told, &true)
 }
 

@@ -7,4 +7,4 @@ pub loop-k-preserved : goal.loop-k-preserved
 loop-k-preserved c =
     rw c.in_ok-push.ensures.items
     (AreFiles-next (path_components c.args.base) c.args.files.now _ c.loop-k.paths.items _ c.loop-k.k
-    c.loop-k-test.true c.loop-k.invariant (rw c.index-files-k.is at c.in_ok-file_below.ensures.file))
+    c.loop-k-test.true c.loop-k.invariant (rw c.index-files-k.is at c.in_ok-file_of_entry.ensures.file))

@@ -1,23 +1,23 @@
 -- The table answers, and its way is written as a reference.
 use Rattle.std.proofs.Common.{is_some, Err, sym, ◌∙◌, ap, string_bytes}
 use Rattle.relative_path.specs.RelativePath.{path_components}
-use Rattle.relative_path_uses.specs.Rewriter.{has_unfit}
+use Rattle.relative_path_uses.specs.Rewriter.{needs_escapes}
 use Rattle.relative_path_uses.proofs.RewriterLemmas.{IsNewPath-way, IsNone-some}
 use Rattle.relative_path_uses.proofs.rewriter.new_path.Goals as goal
 
 pub returns-in-Ok-None-clause-new : goal.returns-in-Ok-None-clause-new
 returns-in-Ok-None-clause-new c = rw c.new.ensures at (c.in-Ok-None.ensures.stays.0 (ap is_some c.in-Ok-None.field-0-is))
 
-pub returns-in-Err-AboveRoot-clause-left : goal.returns-in-Err-AboveRoot-clause-left
-returns-in-Err-AboveRoot-clause-left c =
+pub returns-in-Err-AboveRoot-clause-unchanged : goal.returns-in-Err-AboveRoot-clause-unchanged
+returns-in-Err-AboveRoot-clause-unchanged c =
     rw c.new.ensures at (c.in-Err-AboveRoot.ensures.above_root.only (ap Err c.in-Err-AboveRoot.field-0-is))
 
-pub returns-in-Err-NoPath-clause-left : goal.returns-in-Err-NoPath-clause-left
-returns-in-Err-NoPath-clause-left c =
+pub returns-in-Err-NoPath-clause-unchanged : goal.returns-in-Err-NoPath-clause-unchanged
+returns-in-Err-NoPath-clause-unchanged c =
     rw c.new.ensures at (c.in-Err-NoPath.ensures.no_path.only (ap Err c.in-Err-NoPath.field-0-is))
 
-pub returns-then-has_unfit-clause-left : goal.returns-then-has_unfit-clause-left
-returns-then-has_unfit-clause-left c = (
+pub returns-then-needs_escapes-clause-unchanged : goal.returns-then-needs_escapes-clause-unchanged
+returns-then-needs_escapes-clause-unchanged c = (
   string_bytes c.in_ok-new.new,
   IsNewPath-way c.args.table.now (path_components c.args.from) c.args.path.now c.in-Ok-Some.way.text
       (string_bytes c.in_ok-url_reference.field-0) (string_bytes c.in_ok-new.new)
@@ -25,7 +25,7 @@ returns-then-has_unfit-clause-left c = (
       (c.in-Ok-Some.ensures.stays.1 (rw (sym c.new.ensures) at still)))
       (rw (c.in-Ok-Some.field-0-is, c.new.ensures) at c.in-Ok-Some.ensures.shortest)
       c.in_ok-url_reference.ensures c.in_ok-new.ensures,
-  ap (has_unfit c.args.angled) (sym c.deref.ensures) ∙ sym c.has_unfit.ensures ∙ c.if-has_unfit.true,
+  ap (needs_escapes c.args.angled) (sym c.deref.ensures) ∙ sym c.needs_escapes.ensures ∙ c.if-needs_escapes.true,
 )
 
 pub returns-clause-new : goal.returns-clause-new
@@ -36,5 +36,5 @@ returns-clause-new c = (
       (c.in-Ok-Some.ensures.stays.1 (rw (sym c.new.ensures) at still)))
       (rw (c.in-Ok-Some.field-0-is, c.new.ensures) at c.in-Ok-Some.ensures.shortest)
       c.in_ok-url_reference.ensures c.in_ok-new.ensures,
-  ap (has_unfit c.args.angled) (sym c.deref.ensures) ∙ sym c.has_unfit.ensures ∙ c.if-has_unfit.false,
+  ap (needs_escapes c.args.angled) (sym c.deref.ensures) ∙ sym c.needs_escapes.ensures ∙ c.if-needs_escapes.false,
 )

@@ -2,7 +2,7 @@
 use Rattle.std.proofs.Common.{◌++◌, ◌∙◌, ap, sym, string_bytes}
 use Rattle.std.proofs.lemmas.Str.{IsCharBoundary-start}
 use Rattle.relative_path.specs.RelativePath.{path_components}
-use Rattle.relative_path_uses.specs.Rewriter.{told}
+use Rattle.relative_path_uses.specs.Rewriter.{reported}
 use Rattle.relative_path_uses.proofs.RewriterLemmas.{Progress-start, Progress-next, IsRewritten-last, no_targets}
 use Rattle.relative_path_uses.proofs.rewriter.rewritten.Goals as goal
 
@@ -12,27 +12,27 @@ loop-target-init c = record {
   rest = c.requires;
   progress =
       Progress-start c.args.table.now (path_components c.args.from) c.args.page.now c.args.targets.now
-      (string_bytes c.in_ok-text.text) c.new-left.result.items c.in_ok-text.ensures.bytes c.new-left.ensures.items;
+      (string_bytes c.in_ok-text.text) c.new-unchanged.result.items c.in_ok-text.ensures.bytes c.new-unchanged.ensures.items;
 }
 
 pub loop-target-preserved : goal.loop-target-preserved
 loop-target-preserved c =
     let first = c.in-Some.ensures.cases.0 in
     let (after, is, others) = rw first at c.loop-target.invariant.rest in
-    let (part, becomes, left_is, added) = c.in_ok-why.ensures in
+    let (part, becomes, unchanged_is, added) = c.in_ok-why.ensures in
     record {
       start = is.end;
       rest = others;
       progress =
           Progress-next c.args.table.now (path_components c.args.from) c.args.page.now c.args.targets.now
           c.loop-target.at c.in-Some.target.now c.in-Some.others.now (string_bytes c.loop-target.text)
-          (string_bytes c.push_target.new.text) c.loop-target.left.items c.push_left.new.left.items part
+          (string_bytes c.push_target.new.text) c.loop-target.unchanged.items c.push_unchanged.new.unchanged.items part
           (rw first at c.loop-target.invariant.progress)
           (rw (c.text.ensures, c.is_angled-angled.ensures) at becomes)
           (added ∙ ap (λ text. text ++ part.text) (c.in_ok-push_str.ensures.bytes
           ∙ ap (λ gap. string_bytes c.loop-target.text ++ gap) c.range.ensures.value))
-          (c.in_ok-push_left.ensures
-          ∙ ap (λ why. c.loop-target.left.items ++ told c.in-Some.target.now.start why) (sym left_is));
+          (c.in_ok-push_unchanged.ensures
+          ∙ ap (λ why. c.loop-target.unchanged.items ++ reported c.in-Some.target.now.start why) (sym unchanged_is));
     }
 
 pub returns : goal.returns
@@ -42,7 +42,7 @@ returns c =
       rewritten =
           IsRewritten-last c.args.table.now (path_components c.args.from) c.args.page.now c.args.targets.now
           c.loop-target.at (string_bytes c.loop-target.text) (string_bytes c.push_str-2.new.self)
-          c.loop-target.left.items (rw none at c.loop-target.invariant.progress)
+          c.loop-target.unchanged.items (rw none at c.loop-target.invariant.progress)
           (c.in_ok-push_str-2.ensures.bytes
           ∙ ap (λ rest. string_bytes c.loop-target.text ++ rest) c.range_from.ensures.value);
     }

@@ -11,7 +11,7 @@ invariant-loop-target l = record {
   start : IsCharBoundary l.page l.at;
   rest : HasTargets l.page l.at l.rest;
   progress :
-      Progress l.table (path_components l.from) l.page l.targets l.at l.rest (string_bytes l.text) l.left.items;
+      Progress l.table (path_components l.from) l.page l.targets l.at l.rest (string_bytes l.text) l.unchanged.items;
 }
 
 abbrev pub decreases-loop-target : goal.decreases-loop-target

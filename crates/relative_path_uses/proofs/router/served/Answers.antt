@@ -31,7 +31,7 @@ returns-clause-file c =
     let spells : SpellsPlace (components c.args.request.now) c.in-Some.place.text =
     rw c.new.ensures at (rw c.in-Some.is at c.in_ok-place.ensures.some) in
     let none = sym c.has_unportable_name.ensures ∙ c.if-has_unportable_name.false in
-    let file : string_bytes c.in_ok-file_below.field-0 ≡ added c.args.root.now c.in-Some.place.text =
-    rw c.as_relative_path-place.ensures at c.in_ok-file_below.ensures in
+    let file : string_bytes c.in_ok-file_in_root.field-0 ≡ added c.args.root.now c.in-Some.place.text =
+    rw c.as_relative_path-place.ensures at c.in_ok-file_in_root.ensures in
     IsServed-added c.args.root.now (components c.args.request.now) c.in-Some.place.text _ spells
     (rw c.as_relative_path-place.ensures at none) file

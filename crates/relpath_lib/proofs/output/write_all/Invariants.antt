@@ -1,12 +1,12 @@
 -- The writer gained what is written, at least a byte by each write.
 use Rattle.std.proofs.Common.{◌≡◌, ◌+◌, ◌-◌, ◌≤◌, take, length}
-use Rattle.relpath_lib.specs.Meter.{calls_of, flushes_of, failures_of, Gains}
+use Rattle.relpath_lib.specs.Meter.{calls_of, flushes_of, failures_of, Appended}
 use Rattle.relpath_lib.proofs.output.write_all.Given as goal
 
 abbrev pub invariant-loop-written : goal.invariant-loop-written
 invariant-loop-written g l = record {
   within : l.written ≤ length l.bytes;
-  gained : Gains g.W.Write.contents l.fn.writer l.writer (take l.written l.bytes);
+  gained : Appended g.W.Write.contents l.fn.writer l.writer (take l.written l.bytes);
   writes : calls_of l.writer ≤ calls_of l.fn.writer + l.written;
   flushes : flushes_of l.writer ≡ flushes_of l.fn.writer;
   failures : failures_of l.writer ≡ failures_of l.fn.writer;

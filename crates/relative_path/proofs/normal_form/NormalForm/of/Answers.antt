@@ -1,7 +1,7 @@
 use Rattle.std.proofs.Common.{◌<◌, ◌^◌, length, ap, arith, rules}
 use Rattle.relative_path.specs.Spans.{source_text}
 use Rattle.relative_path.specs.declared.spans.Source.TheVariants.{First}
-use Rattle.relative_path.proofs.NormalFormLemmas.{IsNormalFormOf-form}
+use Rattle.relative_path.proofs.NormalFormLemmas.{IsSpellableNormalForm-form}
 use Rattle.relative_path.proofs.NormalizingLemmas.{length-spell-components}
 use Rattle.relative_path.proofs.normal_form.NormalForm.of.Goals as goal
 
@@ -9,7 +9,7 @@ pub returns-clause-normal_form : goal.returns-clause-normal_form
 returns-clause-normal_form c =
     let empty = c.in_ok-form.ensures.steps in
     let text = ap (λ sources. source_text sources First) c.in_ok-form.ensures.sources in
-    IsNormalFormOf-form _ c.follow_all.result (rw (empty, text) at c.follow_all.ensures.steps)
+    IsSpellableNormalForm-form _ c.follow_all.result (rw (empty, text) at c.follow_all.ensures.steps)
 
 pub returns-clause-short : goal.returns-clause-short
 returns-clause-short c =

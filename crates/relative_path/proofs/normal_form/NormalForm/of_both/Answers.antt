@@ -3,7 +3,7 @@ use Rattle.relative_path.specs.NormalForm.{form_steps, Reduces}
 use Rattle.relative_path.specs.Spans.{source_text}
 use Rattle.relative_path.specs.Steps.{components}
 use Rattle.relative_path.specs.declared.spans.Source.TheVariants.{First, Second}
-use Rattle.relative_path.proofs.NormalFormLemmas.{Reduces-trans, Reduces-append_right, IsNormalFormOf-form, length-spell-append}
+use Rattle.relative_path.proofs.NormalFormLemmas.{Reduces-trans, Reduces-append_right, IsSpellableNormalForm-form, length-spell-append}
 use Rattle.relative_path.proofs.NormalizingLemmas.{length-spell-components}
 use Rattle.relative_path.proofs.normal_form.NormalForm.of_both.Goals as goal
 
@@ -17,7 +17,7 @@ returns-clause-normal_form c =
     let both =
     subst (λ text. Reduces (form_steps c.follow_all.result ++ components text) (form_steps c.follow_all-2.result)) second
     c.follow_all-2.ensures.steps in
-    IsNormalFormOf-form _ c.follow_all-2.result (Reduces-trans (Reduces-append_right _ one) both)
+    IsSpellableNormalForm-form _ c.follow_all-2.result (Reduces-trans (Reduces-append_right _ one) both)
 
 pub returns-clause-short : goal.returns-clause-short
 returns-clause-short c =

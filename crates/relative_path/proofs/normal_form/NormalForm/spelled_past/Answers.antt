@@ -4,7 +4,7 @@ use Rattle.relative_path.specs.NormalForm.{form_names, form_steps}
 use Rattle.relative_path.specs.Spans.{span_text}
 use Rattle.relative_path.specs.Steps.{up, step_text, components, spell}
 use Rattle.relative_path.proofs.StepsLemmas.{components-spell}
-use Rattle.relative_path.proofs.NormalFormLemmas.{AreProper-climbed, AreProper-names_past, length-spell, length-spell-unwritten, length-with_pieces_le, with_pieces-climbed}
+use Rattle.relative_path.proofs.NormalFormLemmas.{SpellThemselves-ups_then_names, SpellThemselves-names_past, length-spell, length-spell-unwritten, length-with_pieces_le, with_pieces-ups_then_names}
 use Rattle.relative_path.proofs.SpansLemmas.{AreOrdered-unwritten, IsCutUnwritten-names, unwritten_count, unwritten_count-names, with_unwritten-names}
 use Rattle.relative_path.proofs.normal_form.NormalForm.spelled_past.Goals as goal
 
@@ -29,7 +29,7 @@ push_climb-requires c =
     let cut = c.names_past.ensures.cut in
     let lens = length-spell-unwritten form c.args.climb c.args.skipped c.names_past.result.now c.first_run-next.result cut
     c.names_past.ensures.names (c.first_run-next.ensures form.sources cut) in
-    let whole = with_pieces-climbed c.args.climb past (AreProper-names_past form c.args.skipped) in
+    let whole = with_pieces-ups_then_names c.args.climb past (SpellThemselves-names_past form c.args.skipped) in
     let shorter = length-with_pieces_le (fold with_piece [] climbs) past in
     let len = rw c.in_ok-len.ensures.ok_part at c.spelled_len.ensures in
     rw c.in_ok-text.ensures.bytes (omega (arith, lens.0, ap length whole, shorter, len, c.in_ok-text.ensures.capacity))
@@ -51,7 +51,7 @@ loop-next-init c =
           with_unwritten-names form.sources names c.first_run-next.result (string_bytes c.push_climb.new.text) first
           ∙ ap (fold with_piece (string_bytes c.push_climb.new.text)) c.names_past.ensures.names
           ∙ ap (λ text. fold with_piece text past) written
-          ∙ with_pieces-climbed c.args.climb past (AreProper-names_past form c.args.skipped);
+          ∙ with_pieces-ups_then_names c.args.climb past (SpellThemselves-names_past form c.args.skipped);
       cut = IsCutUnwritten-names form.sources names _ first;
       room = omega (arith, lens.0, len, c.in_ok-text.ensures.capacity, c.push_climb.ensures.room);
     }
@@ -96,7 +96,7 @@ returns-clause-text c = rw c.in_default.is at c.loop-next.invariant.text
 
 pub returns-clause-components : goal.returns-clause-components
 returns-clause-components c =
-    let proper = AreProper-climbed c.args.climb _ (AreProper-names_past c.args.self.now c.args.skipped) in
+    let proper = SpellThemselves-ups_then_names c.args.climb _ (SpellThemselves-names_past c.args.self.now c.args.skipped) in
     ap components (returns-clause-text c) ∙ components-spell _ proper
 
 -- a text of nothing has no byte

@@ -5,9 +5,9 @@ use Rattle.relative_path.specs.Steps.{Step, name, components}
 use Rattle.relative_path.specs.Editing.{kept_len}
 use Rattle.relative_path.specs.Naming.{last_name, file_name_of}
 use Rattle.relative_path.specs.RelativePath.{path_text, path_components}
-use Rattle.relative_path.proofs.StepsLemmas.{AreProper-components}
+use Rattle.relative_path.proofs.StepsLemmas.{SpellThemselves-components}
 use Rattle.relative_path.proofs.NamingExtensionLemmas.{slice_get-last_name}
-use Rattle.relative_path.proofs.NamingEditsLemmas.{IsProper-last_name}
+use Rattle.relative_path.proofs.NamingEditsLemmas.{SpellsItself-last_name}
 use Rattle.relative_path.proofs.path.RelativePath.file_name.Goals as goal
 
 placed : (cs : List Step) (found : Option (Bor (List ℕ))) → option_copied found ≡ last_name cs
@@ -19,7 +19,7 @@ placed cs (Some n) is = slice_get-last_name cs n.now (sym is)
 alone : (text : List ℕ) (found : Option (Bor (List ℕ))) → option_copied found ≡ file_name_of text
     → IfSome found (λ n. components n.now ≡ name n.now ∷ [])
 alone text None is = tt
-alone text (Some n) is = IsProper-last_name (components text) n.now (AreProper-components text) (sym is)
+alone text (Some n) is = SpellsItself-last_name (components text) n.now (SpellThemselves-components text) (sym is)
 
 pub returns-clause-alone : goal.returns-clause-alone
 returns-clause-alone c = alone (path_text c.args.self) _ c.last_component.ensures.name

@@ -10,7 +10,7 @@ use Rattle.relative_path.proofs.path.RelativePath.join.Goals as goal
 
 pub returns-clause-components : goal.returns-clause-components
 returns-clause-components c = ap components c.push_reserved.ensures.text ∙ components-pushed _ _
-    ∙ ap (λ text. components text ++ path_components c.args.path) (c.from-joined.ensures.0 ∙ c.in_ok-with_room.ensures.text)
+    ∙ ap (λ text. components text ++ path_components c.args.path) (c.from-joined.ensures.0 ∙ c.in_ok-copy_with_room.ensures.text)
 
 pub returns-clause-in_turn : goal.returns-clause-in_turn
 returns-clause-in_turn c =

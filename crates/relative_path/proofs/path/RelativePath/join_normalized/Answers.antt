@@ -1,5 +1,5 @@
 use Rattle.std.proofs.Common.{rules, ◌∙◌}
-use Rattle.relative_path.proofs.NormalFormLemmas.{IsNormalFormOf-nil, IsNormalTextOf-spell}
+use Rattle.relative_path.proofs.NormalFormLemmas.{IsSpellableNormalForm-nil, IsNormalTextOf-spell}
 use Rattle.relative_path.proofs.WalkLemmas.{LeadsBelow-in_turn, LeadsInTurn-same, StaysBelow-in_turn}
 use Rattle.relative_path.proofs.path.RelativePath.join_normalized.Goals as goal
 
@@ -18,5 +18,5 @@ returns-clause-stays_below c = StaysBelow-in_turn _ _ _ (returns-clause-in_turn 
 
 pub returns-in_err-into_text-clause-succeeds : goal.returns-in_err-into_text-clause-succeeds
 returns-in_err-into_text-clause-succeeds c = λ none.
-    let ok = c.in_err-into_text.ensures.succeeds (IsNormalFormOf-nil _ _ none c.in_ok-form.ensures.normal_form) in
+    let ok = c.in_err-into_text.ensures.succeeds (IsSpellableNormalForm-nil _ _ none c.in_ok-form.ensures.normal_form) in
     search rules

@@ -5,10 +5,10 @@ pub returns-clause-none : goal.returns-clause-none
 returns-clause-none c =
     let first = c.in_ok-form.ensures.normal_form.same in
     let second = c.in_ok-other.ensures.normal_form.same in
-    parting_none _ _ _ (same_parting _ _ _ _ _ first second c.parting.ensures)
+    parting_none _ _ _ (same_parting _ _ _ _ _ first second c.shortest_separating_base.ensures)
 
 pub returns-clause-some : goal.returns-clause-some
 returns-clause-some c =
     let first = c.in_ok-form.ensures.normal_form.same in
     let second = c.in_ok-other.ensures.normal_form.same in
-    parting_some _ _ _ (same_parting _ _ _ _ _ first second c.parting.ensures)
+    parting_some _ _ _ (same_parting _ _ _ _ _ first second c.shortest_separating_base.ensures)

@@ -1,7 +1,7 @@
 use Rattle.std.proofs.Common.{rules, ◌∙◌, arith, ap, length}
 use Rattle.relative_path.specs.RelativePath.{path_text}
 use Rattle.relative_path.proofs.NormalizingLemmas.{length-spell-components, components-IsNormalTextOf}
-use Rattle.relative_path.proofs.NormalFormLemmas.{IsNormalFormOf-nil, IsNormalTextOf-spell}
+use Rattle.relative_path.proofs.NormalFormLemmas.{IsSpellableNormalForm-nil, IsNormalTextOf-spell}
 use Rattle.relative_path.proofs.path.RelativePath.normalize.Goals as goal
 
 pub returns-clause-normal_form : goal.returns-clause-normal_form
@@ -19,5 +19,5 @@ returns-clause-normal_stays c = components-IsNormalTextOf _ _ (returns-clause-no
 
 pub returns-in_err-into_text-clause-succeeds : goal.returns-in_err-into_text-clause-succeeds
 returns-in_err-into_text-clause-succeeds c = λ none.
-    let ok = c.in_err-into_text.ensures.succeeds (IsNormalFormOf-nil _ _ none c.in_ok-normal.ensures.normal_form) in
+    let ok = c.in_err-into_text.ensures.succeeds (IsSpellableNormalForm-nil _ _ none c.in_ok-normal.ensures.normal_form) in
     search rules

@@ -2,7 +2,7 @@
 use Rattle.std.proofs.Common.{◌≡◌, ◌∷◌, ℕ, List, subst, arith}
 use Rattle.relative_path.specs.Steps.{Step, components}
 use Rattle.relative_path.specs.RelativePath.{path_text}
-use Rattle.relative_path.proofs.StepsLemmas.{AreProper, IsProper, AreProper-components}
+use Rattle.relative_path.proofs.StepsLemmas.{SpellThemselves, SpellsItself, SpellThemselves-components}
 use Rattle.relative_path.proofs.NormalizingLemmas.{Follows, Normalizes, Normalizes-start, Normalizes-follow, Normalizes-end, pushed_fits}
 use Rattle.relative_path.proofs.path.RelativePath.normalize_into.Goals as goal
 
@@ -20,12 +20,12 @@ loop-component-init c =
 -- the invariant with the first component written out, and that component is proper
 taken : (source : List Step) (limit : ℕ) (text rest : List ℕ) (c : Step) (left : List Step)
     → Normalizes source limit text (components rest) → components rest ≡ c ∷ left
-    → Normalizes source limit text (c ∷ left) × IsProper c
+    → Normalizes source limit text (c ∷ left) × SpellsItself c
 taken source limit text rest c left h first =
-    (subst (Normalizes source limit text) first h, (subst AreProper first (AreProper-components rest)).0)
+    (subst (Normalizes source limit text) first h, (subst SpellThemselves first (SpellThemselves-components rest)).0)
 
-pub follow-requires : goal.follow-requires
-follow-requires c =
+pub push_in_normal_form-requires : goal.push_in_normal_form-requires
+push_in_normal_form-requires c =
     let here = taken _ _ _ _ _ _ c.loop-component.invariant.normalizes c.in-Some.ensures.steps.0 in
     let fits = pushed_fits _ _ _ _ _ here.0 here.1 in
     let room = c.loop-component.invariant.fits in
@@ -35,7 +35,7 @@ pub loop-component-preserved : goal.loop-component-preserved
 loop-component-preserved c =
     let before = c.loop-component.invariant in
     let here = taken _ _ _ _ _ _ before.normalizes c.in-Some.ensures.steps.0 in
-    let followed = c.follow.ensures in
+    let followed = c.push_in_normal_form.ensures in
     let step : Follows _ _ _ =
     record { normal_text = followed.normal; same = followed.same; no_longer = followed.no_longer } in
     record {

@@ -7,7 +7,7 @@ use Rattle.relative_path.proofs.path.RelativePath.with_extension.Goals as goal
 
 pub returns-clause-text : goal.returns-clause-text
 returns-clause-text c =
-    let front = c.from-extended.ensures.0 ∙ c.in_ok-with_room.ensures.text in
+    let front = c.from-extended.ensures.0 ∙ c.in_ok-copy_with_room.ensures.text in
     rw (c.push_extension.ensures.text, front)
     (IsExtended-push _ _ _ (c.in-Some.ensures.found.0 refl) c.in-Some.ensures.text)
 

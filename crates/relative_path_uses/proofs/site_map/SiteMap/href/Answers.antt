@@ -2,7 +2,7 @@
 use Rattle.std.proofs.Common.{◌≡◌, ap, ◌∙◌, None, Some, string_bytes, rules}
 use Rattle.relative_path.specs.Editing.{pushed}
 use Rattle.relative_path.specs.RelativePath.{path_text, path_components}
-use Rattle.relative_path.proofs.ForCallers.{AreProper, AreProper-components, IsProper-last_name}
+use Rattle.relative_path.proofs.ForCallers.{SpellThemselves, SpellThemselves-components, SpellsItself-last_name}
 use Rattle.relative_path_moves.specs.Places.{directory}
 use Rattle.relative_path_moves.specs.PlaceIndex.{path_at}
 use Rattle.relative_path_uses.specs.SiteMap.{above_page, IsShortestNamed}
@@ -29,15 +29,15 @@ link : (c : goal.In_ok-url_reference)
     c.push.new.self.text
 link c =
     let (m, from_named) = some_name (path_at c.args.self.now c.args.from) c.page.ensures.named in
-    let proper : AreProper (path_at c.args.self.now c.args.to) =
-    rw c.page-page.ensures.path at (AreProper-components (path_text c.page-page.result)) in
+    let proper : SpellThemselves (path_at c.args.self.now c.args.to) =
+    rw c.page-page.ensures.path at (SpellThemselves-components (path_text c.page-page.result)) in
     let pushes : c.push.new.self.text ≡ pushed c.in-Some.link.text c.file_name.result.now = search rules in
     IsShortestNamed-between (path_at c.args.self.now c.args.from) (path_at c.args.self.now c.args.to) m
     c.file_name.result.now from_named c.file_name.ensures c.in-Some.link.text c.push.new.self.text
     (some_of_way (path_components c.directory.result) (path_components c.directory-2.result) _ _ c.in_ok-way.way
     c.in-Some.link c.in-Some.is (c.directory.ensures.components ∙ ap directory c.page.ensures.path)
     (c.directory-2.ensures.components ∙ ap directory c.page-page.ensures.path) c.in_ok-way.ensures.shortest)
-    (IsProper-last_name (path_at c.args.self.now c.args.to) c.file_name.result.now proper c.file_name.ensures) pushes
+    (SpellsItself-last_name (path_at c.args.self.now c.args.to) c.file_name.result.now proper c.file_name.ensures) pushes
 
 pub returns-clause-href : goal.returns-clause-href
 returns-clause-href c = (c.push.new.self.text, link c, c.in_ok-url_reference.ensures)
@@ -50,7 +50,7 @@ returns-clause-alike c page other same_page same_other =
 pub returns-clause-resolves : goal.returns-clause-resolves
 returns-clause-resolves c =
     let (m, from_named) = some_name (path_at c.args.self.now c.args.from) c.page.ensures.named in
-    let proper : AreProper (path_at c.args.self.now c.args.from) =
-    rw c.page.ensures.path at (AreProper-components (path_text c.page.result)) in
+    let proper : SpellThemselves (path_at c.args.self.now c.args.from) =
+    rw c.page.ensures.path at (SpellThemselves-components (path_text c.page.result)) in
     Resolves-between (path_at c.args.self.now c.args.from) (path_at c.args.self.now c.args.to) m c.push.new.self.text
     (string_bytes c.in_ok-url_reference.field-0) from_named proper (link c) c.in_ok-url_reference.ensures

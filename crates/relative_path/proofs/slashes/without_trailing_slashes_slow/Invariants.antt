@@ -2,7 +2,7 @@ use Rattle.std.proofs.Common.{◌≡◌, length, take}
 use denote.Text.{Utf8}
 use denote.Shadow.{shadow}
 use Rattle.relative_path.specs.Steps.{components}
-use Rattle.relative_path.proofs.slashes.without_trailing_run.Given as goal
+use Rattle.relative_path.proofs.slashes.without_trailing_slashes_slow.Given as goal
 
 abbrev pub invariant-loop-shorter : goal.invariant-loop-shorter
 invariant-loop-shorter l = record {

@@ -1,6 +1,6 @@
 use Rattle.std.proofs.Common.{◌∙◌, rules}
 use Rattle.relative_path.proofs.SlashesLemmas.{components-strip_suffix, components-trim_end, end-trim_end, prefix-strip_suffix, prefix-trans}
-use Rattle.relative_path.proofs.slashes.without_trailing_run.Goals as goal
+use Rattle.relative_path.proofs.slashes.without_trailing_slashes_slow.Goals as goal
 
 pub loop-shorter-preserved : goal.loop-shorter-preserved
 loop-shorter-preserved c =

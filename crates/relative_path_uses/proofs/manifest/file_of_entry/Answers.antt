@@ -6,7 +6,7 @@ use Rattle.relative_path_uses.specs.FromTop.{SpellsPlace}
 use Rattle.relative_path_uses.proofs.FromTopLemmas.{SpellsPlace-empty}
 use Rattle.relative_path_uses.proofs.NamesLemmas.{any-unportable}
 use Rattle.relative_path_uses.proofs.ManifestLemmas.{IsFileOf-place}
-use Rattle.relative_path_uses.proofs.manifest.file_below.Goals as goal
+use Rattle.relative_path_uses.proofs.manifest.file_of_entry.Goals as goal
 
 pub returns-then-len-eq0-clause-refused : goal.returns-then-len-eq0-clause-refused
 returns-then-len-eq0-clause-refused c =

@@ -2,8 +2,8 @@ use Rattle.std.proofs.Common.{◌≡◌, sym, ap₂, ◌∙◌, true≢false}
 use Rattle.std.specs.Prelude.{min}
 use Rattle.relative_path.specs.NormalForm.{form_climb, form_names}
 use Rattle.relative_path.proofs.RelatingLemmas.{LeadsApart-lower}
-use Rattle.relative_path.proofs.relating.parting.Goals as goal
-use Rattle.relative_path.proofs.relating.parting.Goals.{else-climb-via-then-climb+else-have_same_names, else-climb-via-else-climb}
+use Rattle.relative_path.proofs.relating.shortest_separating_base.Goals as goal
+use Rattle.relative_path.proofs.relating.shortest_separating_base.Goals.{else-climb-via-then-climb+else-have_same_names, else-climb-via-else-climb}
 
 pub returns-else-climb : goal.returns-else-climb
 returns-else-climb c =

@@ -1,10 +1,10 @@
 use Rattle.std.proofs.Common.{◌≡◌, ◌+◌, ◌-◌, ◌<◌, length}
-use Rattle.relative_path.specs.Counting.{begun_from}
-use Rattle.relative_path.proofs.counting.begun_by_blocks.Given as goal
+use Rattle.relative_path.specs.Counting.{starts_from}
+use Rattle.relative_path.proofs.counting.starts_by_blocks.Given as goal
 
 abbrev pub invariant-loop-at : goal.invariant-loop-at
 invariant-loop-at l = record {
-  count : l.count + begun_from l.bytes l.at ≡ begun_from l.bytes 1;
+  count : l.count + starts_from l.bytes l.at ≡ starts_from l.bytes 1;
   bound : l.count < l.at;
   within : l.at < length l.bytes;
 }

@@ -1,6 +1,6 @@
 use Rattle.std.proofs.Common.{◌∙◌, rules}
 use Rattle.relative_path.proofs.SlashesLemmas.{components-strip_prefix, components-trim_start, start-trim_start, suffix-trans}
-use Rattle.relative_path.proofs.slashes.without_leading_run.Goals as goal
+use Rattle.relative_path.proofs.slashes.without_leading_slashes_slow.Goals as goal
 
 pub loop-shorter-preserved : goal.loop-shorter-preserved
 loop-shorter-preserved c =

@@ -2,10 +2,10 @@
 use Rattle.std.proofs.Common.{refl, sym, arith, true≢false}
 use Rattle.relative_path.specs.Components.{step_of}
 use Rattle.relative_path.specs.Steps.{components}
-use Rattle.relative_path.proofs.StepsLemmas.{IsProper}
+use Rattle.relative_path.proofs.StepsLemmas.{SpellsItself}
 use Rattle.relative_path.proofs.NormalStepsLemmas.{IsNormal-push_name}
 use Rattle.relative_path.proofs.NormalizingLemmas.{Follows, Follows-cur, Follows-push, Follows-pop, IsNormal-push_up}
-use Rattle.relative_path.proofs.buf.RelativePathBuf.follow.Goals as goal
+use Rattle.relative_path.proofs.buf.RelativePathBuf.push_in_normal_form.Goals as goal
 
 pub returns-in-CurDir : goal.returns-in-CurDir
 returns-in-CurDir c =
@@ -24,7 +24,7 @@ returns-in-ParentDir c =
 pub returns-in-ParentDir-2 : goal.returns-in-ParentDir-2
 returns-in-ParentDir-2 c =
     let text = c.args.self.now.text in
-    let alone : IsProper (step_of c.args.component) = c.requires.alone in
+    let alone : SpellsItself (step_of c.args.component) = c.requires.alone in
     let ends = IsNormal-push_up (components text) c.requires.normal.normal (λ ds n e. true≢false
     (sym (c.if-ends_in_name.ensures.1 (ds, n, e)))) in
     let f : Follows text (step_of c.args.component) c.push_reserved.new.self.text =
@@ -35,7 +35,7 @@ returns-in-ParentDir-2 c =
 pub returns-in-Normal : goal.returns-in-Normal
 returns-in-Normal c =
     let text = c.args.self.now.text in
-    let alone : IsProper (step_of c.args.component) = c.requires.alone in
+    let alone : SpellsItself (step_of c.args.component) = c.requires.alone in
     let ends = IsNormal-push_name (components text) c.in-Normal.name.now c.requires.normal.normal in
     let f : Follows text (step_of c.args.component) c.push_reserved-in-Normal.new.self.text =
     rw (c.push_reserved-in-Normal.ensures.text, c.new-in-Normal.ensures, c.in-Normal.is)

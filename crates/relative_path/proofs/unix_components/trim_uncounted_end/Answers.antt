@@ -2,8 +2,8 @@ use Rattle.std.proofs.Common.{length, refl, sym, ap, ◌∙◌, inl, inr, eqb-tr
 use Rattle.std.proofs.lemmas.Bool.{eqb-false, not-true, not-false}
 use Rattle.std.proofs.lemmas.List.{nil_from_length}
 use Rattle.relative_path.proofs.UnixComponentsLemmas.{LosesIdle-cur, LastCounts-taken}
-use Rattle.relative_path.proofs.unix_components.without_idle_end.Goals as goal
-use Rattle.relative_path.proofs.unix_components.without_idle_end.Goals.{then-rooted, else-rooted}
+use Rattle.relative_path.proofs.unix_components.trim_uncounted_end.Goals as goal
+use Rattle.relative_path.proofs.unix_components.trim_uncounted_end.Goals.{then-rooted, else-rooted}
 
 pub returns-in_default-clause-last : goal.returns-in_default-clause-last
 returns-in_default-clause-last c =

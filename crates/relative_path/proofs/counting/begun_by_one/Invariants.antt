@@ -1,9 +1,0 @@
-use Rattle.std.proofs.Common.{◌≡◌, ◌+◌, ◌<◌}
-use Rattle.relative_path.specs.Counting.{begun_from}
-use Rattle.relative_path.proofs.counting.begun_by_one.Given as goal
-
-abbrev pub invariant-loop-at : goal.invariant-loop-at
-invariant-loop-at l = record {
-  count : l.count + begun_from l.bytes l.at ≡ begun_from l.bytes 1;
-  bound : l.count < l.at;
-}
