@@ -1,11 +1,11 @@
 -- Texts that are written one component at a time.
-use Rattle.std.proofs.Common.{◌≡◌, ℕ, ◌≤◌, true, not, List, [], ◌∷◌, ◌++◌, fold, map, length, replicate, sym, refl, ap, ap₂, ◌∙◌, arith}
+use Rattle.std.proofs.Common.{◌≡◌, ℕ, ◌≤◌, true, not, List, [], ◌∷◌, ◌++◌, fold, map, length, replicate, sym, refl, ap, ap₂, ◌∙◌, arith, Bool}
 use Rattle.std.proofs.lemmas.List.{map-append}
 use Rattle.std.proofs.lemmas.List.Sums.{fold-append}
 use Rattle.relative_path.specs.Steps.{Step, up, step_text, components, spell, SpellThemselves}
 use Rattle.relative_path.specs.Editing.{is_cur, without_cur_dirs}
 use Rattle.relative_path.specs.Writing.{with_piece}
-use Rattle.relative_path.specs.Unix.{onto}
+use Rattle.relative_path.specs.Unix.{onto, counted}
 use Rattle.relative_path.proofs.StepsLemmas.{SpellThemselves-append, SpellThemselves-ups}
 use Rattle.relative_path.proofs.WritingLemmas.{map_step_text-ups, length-with_pieces_le, with_pieces-spell}
 use Rattle.relative_path.proofs.SpellingLemmas.{length-spell, slashed_len-filter, slashed_len-components}
@@ -29,6 +29,12 @@ onto-ups n cs proper =
     ∙ ap (λ ps. fold with_piece [] (ps ++ map step_text cs)) (sym (map_step_text-ups n))
     ∙ ap (fold with_piece []) (sym (map-append step_text (replicate n up) cs))
     ∙ with_pieces-spell (replicate n up ++ cs) (SpellThemselves-append (replicate n up) cs (SpellThemselves-ups n) proper)
+
+-- the components of a text that count, after climbs
+pub onto-counted : (n : ℕ) (rooted : Bool) (text : List ℕ)
+    → onto (fold with_piece [] (replicate n (step_text up))) (counted rooted (components text))
+    ≡ spell (replicate n up ++ counted rooted (components text))
+onto-counted n rooted text = onto-ups n (counted rooted (components text)) (SpellThemselves-counted rooted text)
 
 -- ---- without any `.`
 

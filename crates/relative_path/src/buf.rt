@@ -109,9 +109,9 @@ impl RelativePathBuf {
 
     /// Returns the components of a platform path, without any `.`, joined by single slashes.
     ///
-    /// Fails with `NonRelative`, before it allocates, if the path begins with a slash. Otherwise it
-    /// allocates once: as many bytes as the platform path has, if there are any. Its only other
-    /// error is `OutOfMemory`.
+    /// Fails with `NonRelative`, before it allocates, if the path begins with a slash. Otherwise
+    /// the call allocates once: as many bytes as the platform path has, if there are any. The only
+    /// other error is `OutOfMemory`.
     ///
     /// ```
     /// let buf = RelativePathBuf::from_path(alloc, Path::new("./foo//bar/."))?;
@@ -249,9 +249,9 @@ impl RelativePathBuf {
 
     /// Replaces the file name.
     ///
-    /// If the path has no file name, the new one is pushed onto the path. The result then leads
-    /// *below* the path, not beside it: `..` with the name `x` is `../x`. The new name may have
-    /// several components, and each `..` among them climbs as in any path: `a/b` with the name
+    /// If the path has no file name, the new file name is pushed onto the path. The result then
+    /// leads *below* the path, not beside it: `..` with the name `x` is `../x`. The new name may
+    /// have several components, and each `..` among them climbs as in any path: `a/b` with the name
     /// `../../../x` is `a/../../../x`, which leads above its base.
     ///
     /// Allocates once, and only if the result doesn't fit the capacity. The only error is lack of
@@ -287,7 +287,7 @@ impl RelativePathBuf {
     }
 
     /// Replaces the extension of the file name; an empty `extension` removes it. Returns whether
-    /// the path has a file name. A path without one is left as it is.
+    /// the path has a file name. A path without a file name is left as it is.
     ///
     /// An extension that isn't empty and has no slash keeps the path's directory. An empty
     /// extension leaves the stem of the file name as the last component, even if the stem is `..`

@@ -135,14 +135,14 @@ pub struct Components<'a> {
 }
 
 impl<'a> Components<'a> {
-    // The iterator over a whole text.
+    // Returns the iterator over a whole text.
     pub(crate) fn new(text: &'a str) -> Components<'a>
         ensures { text_left result ≡ text.now }
     {
         Components { text }
     }
 
-    // The text that is left.
+    // Returns the text that is left.
     pub(crate) fn as_str(&self) -> &'a str
         ensures { result.now ≡ text_left self.now }
     {
@@ -227,7 +227,7 @@ pub struct Iter<'a> {
 }
 
 impl<'a> Iter<'a> {
-    // The iterator over a whole text.
+    // Returns the iterator over a whole text.
     pub(crate) fn new(text: &'a str) -> Iter<'a>
         ensures { iter_text_left result ≡ text.now }
     {

@@ -31,7 +31,7 @@ pub enum FromPathErrorKind {
 }
 
 impl FromPathErrorKind {
-    // The words that an error of this kind prints.
+    // Returns the words that an error of this kind prints.
     fn words(self) -> &'static str
         ensures { result.now ≡ from_path_words self }
     {
@@ -47,7 +47,7 @@ impl FromPathErrorKind {
 /// The error of the calls named `from_path`, and of [`crate::unix::view`]: the platform path isn't
 /// relative, or an allocation failed.
 ///
-/// It prints the words for its kind. Two errors are equal if their kinds are.
+/// The error prints the words for its kind. Two errors are equal if their kinds are.
 ///
 /// ```
 /// let refused = unix::view("/foo").unwrap_err();
@@ -125,7 +125,7 @@ pub enum RelativeToErrorKind {
 }
 
 impl RelativeToErrorKind {
-    // The words that an error of this kind prints.
+    // Returns the words that an error of this kind prints.
     fn words(self) -> &'static str
         ensures { result.now ≡ relative_to_words self }
     {
@@ -142,7 +142,7 @@ impl RelativeToErrorKind {
 /// The error of both calls named `relative_to`: no relative path leads from the root to the path,
 /// or an allocation failed.
 ///
-/// It prints the words for its kind. Two errors are equal if their kinds are.
+/// The error prints the words for its kind. Two errors are equal if their kinds are.
 ///
 /// ```
 /// let refused = unix::relative_to(alloc, ".", "a/../..").unwrap_err();

@@ -15,7 +15,7 @@ use crate::slashes::without_trailing_slashes;
 pub(crate) struct LastComponent<'a> {
     // The text before that component, without slashes at its end; empty if there is no such component.
     pub(crate) before: &'a str,
-    // The component's name, if it is one.
+    // The text of the component, if the component is a name.
     pub(crate) name: Option<&'a str>,
     // The text up to the end of the component.
     pub(crate) up_to_end: &'a str,

@@ -1,5 +1,4 @@
-//! Normal forms as a count of climbs and a table of names, each a span of a text: for `normalize`, `relative` and their
-//! kin.
+//! Normal forms as a count of climbs and a table of names, each a span of a text.
 ghost use Rattle.std.specs.Prelude.{◌≡◌, ◌+◌, ◌-◌, ◌*◌, ◌≤◌, ◌<◌, ◌^◌, ◌++◌, [], ◌∷◌, drop, length, map, slice_index_or, string_bytes, IfOk, IfSome, IsOk, MatchOption};
 ghost use Rattle.std.specs.List.{All, common_prefix_len};
 ghost use Rattle.std.specs.Str.{bytes_eq};

@@ -37,8 +37,8 @@ use std::fmt;
 use std::hash::{Hash, Hasher};
 use std::path::{Path, PathBuf};
 
-/// The error of [`RelativePath::strip_prefix`]: the path doesn't start with the base. It carries
-/// nothing else, so any two are equal.
+/// The error of [`RelativePath::strip_prefix`]: the path doesn't start with the base. Any two of
+/// these errors are equal.
 ///
 /// ```
 /// let stripped = RelativePath::new("foo/bar").strip_prefix(RelativePath::new("fo"));
@@ -61,7 +61,7 @@ pub struct RelativePath<'a> {
 }
 
 impl<'a> RelativePath<'a> {
-    /// Views a text as a path; any text is one. Allocates nothing.
+    /// Views a text as a path; any text is a path. Allocates nothing.
     ///
     /// ```
     /// assert_eq!(rt; RelativePath::new("foo/bar"), RelativePath::new("foo//bar"));
@@ -155,6 +155,8 @@ impl<'a> RelativePath<'a> {
     /// ```
     pub fn components(self) -> Components<'a>
         ensures text { text_left result ≡ path_text self.entry }
+        // `runs` and `count` say nothing of this result. They stay, since callers take them from here: by `runs` a
+        // `count()` is proved, with no file of proofs, to be the number of components, and by `count` to fit a `usize`.
         ensures runs { GivesComponents }
         ensures count { length (path_components self.entry) ≤ length (path_text self.entry) }
     {
@@ -170,6 +172,7 @@ impl<'a> RelativePath<'a> {
     /// ```
     pub fn iter(self) -> Iter<'a>
         ensures text { iter_text_left result ≡ path_text self.entry }
+        // As at `components`, callers take `runs` and `count` from here.
         ensures runs { GivesTextsOfComponents }
         ensures count { length (path_components self.entry) ≤ length (path_text self.entry) }
     {
@@ -378,9 +381,9 @@ impl<'a> RelativePath<'a> {
 
     /// Returns a copy of this path with its file name replaced.
     ///
-    /// If the path has no file name, the new one is pushed onto the path. The result then leads
-    /// *below* the path, not beside it: `..` with the name `x` is `../x`. The new name may have
-    /// several components, and each `..` among them climbs as in any path: `a/b` with the name
+    /// If the path has no file name, the new file name is pushed onto the path. The result then
+    /// leads *below* the path, not beside it: `..` with the name `x` is `../x`. The new name may
+    /// have several components, and each `..` among them climbs as in any path: `a/b` with the name
     /// `../../../x` is `a/../../../x`, which leads above its base.
     ///
     /// Allocates once: the result, if it isn't empty. The only error is lack of memory.
@@ -546,8 +549,8 @@ impl<'a> RelativePath<'a> {
         Ok(normal.into_text(alloc)?.into())
     }
 
-    /// Writes the text that `normalize` returns into an empty buffer, whose capacity is at least
-    /// the length of this path. Allocates nothing.
+    /// Writes the text that `normalize` returns into `out`, which has to be empty and to have a
+    /// capacity of at least this path's length. Allocates nothing.
     ///
     /// ```
     /// let path = RelativePath::new("a/.././b/../c/d");
@@ -570,9 +573,9 @@ impl<'a> RelativePath<'a> {
     /// Returns the shortest path from where this path leads to where `to` leads, whatever base both
     /// start from. Normalising either path first doesn't change the result.
     ///
-    /// The result is empty if both paths lead to the same place. It is also empty if no path leads
-    /// from this one to `to`, as from `..` to `a`: [`RelativePath::try_relative`] tells the two
-    /// cases apart.
+    /// The result is empty if both paths lead to the same place, and also if no path leads from
+    /// this path to `to`, as from `..` to `a`. [`RelativePath::try_relative`] tells the two cases
+    /// apart.
     ///
     /// Allocates at most three times: for each path that has components, a table with a span for
     /// each of them; and the result, if it isn't empty. Fails only if an allocation fails, or if
@@ -596,6 +599,7 @@ impl<'a> RelativePath<'a> {
         ensures shortest_to { IfOk result (λ way. (target : List Step)
             → IsNormalTextOf target (path_text to.entry) → IsReachable (path_components self.entry) target
             → IsShortestText (path_components self.entry) target way.text) }
+        // `climbs` and `through` say nothing of this result. They stay, since laws are proved from contracts alone.
         ensures climbs { (from_steps to_steps : List Step)
             → IsNormalForm (path_components self.entry) from_steps
             → IsNormalForm (path_components to.entry) to_steps
@@ -794,7 +798,7 @@ impl fmt::Display for RelativePath<'_> {
     }
 }
 
-/// A path to be printed, as [`RelativePath::display`] returns it. It prints as the path does.
+/// A path to be printed, as [`RelativePath::display`] returns it; it prints as the path does.
 ///
 /// ```
 /// let display = RelativePath::new("foo").display();

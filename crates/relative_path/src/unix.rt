@@ -39,8 +39,8 @@ pub fn view(text: &str) -> Result<RelativePath<'_>, FromPathError>
 
 /// Returns the components of a platform path, without any `.`, joined by single slashes.
 ///
-/// Fails with `NonRelative`, before it allocates, if the text begins with a slash. Otherwise it
-/// allocates once: as many bytes as the text has, if there are any. Its only other error is
+/// Fails with `NonRelative`, before it allocates, if the text begins with a slash. Otherwise the
+/// call allocates once: as many bytes as the text has, if there are any. The only other error is
 /// `OutOfMemory`.
 ///
 /// ```
@@ -99,9 +99,9 @@ pub fn to_logical_path(
 /// followed by the rest of `path`.
 ///
 /// Fails with `PrefixMismatch` if only one of the texts begins with a slash, and with
-/// `AmbiguousTraversal` if the rest of `root` climbs above what both begin with. Both errors come
-/// before it allocates. Otherwise it allocates once: the result at its exact length, if it isn't
-/// empty. Its only other error is `OutOfMemory`.
+/// `AmbiguousTraversal` if the rest of `root` climbs above what both begin with; both errors come
+/// before any allocation. Otherwise the call allocates once: the result at its exact length, if it
+/// isn't empty. The only other error is `OutOfMemory`.
 ///
 /// ```
 /// let path = unix::relative_to(alloc, "/foo/qux", "/foo/bar/./baz")?;
@@ -136,7 +136,7 @@ pub fn relative_to(
 
 /// The call on platform paths that the standard library lacks.
 ///
-/// [`Path`] and [`PathBuf`] implement this trait, and no other type is meant to.
+/// [`Path`] and [`PathBuf`] implement the trait. It isn't meant for other types.
 ///
 /// ```
 /// let baz = Path::new("/foo/bar/baz");

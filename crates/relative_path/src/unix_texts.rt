@@ -10,9 +10,9 @@ use crate::unix_components::{UnixComponents, has_root, trim_uncounted_end};
 use crate::writing::{add_piece, copy_with_room, push_climb};
 use std::alloc::{AllocError, Global};
 
-/// Returns what going up from a platform path leaves: the shortest prefix of the text that has the
-/// same root and all its components but the last. A text without a component is returned whole.
-/// Allocates nothing.
+/// Goes up from a platform path: returns the shortest prefix of the text that has the same root and
+/// all its components but the last. A text without a component is returned whole. Allocates
+/// nothing.
 ///
 /// ```
 /// assert_eq!(rt; unix::parent_text("//foo/./bar"), "//foo");

@@ -1,39 +1,54 @@
-use Rattle.std.proofs.Common.{rules, [], ap, ◌∙◌, arith, drop, fold, length, map, replicate, string_bytes}
+use Rattle.std.proofs.Common.{◌≡◌, ◌≤◌, ◌+◌, ◌-◌, ◌*◌, ℕ, rules, [], ap, ◌∙◌, arith, drop, fold, length, map, replicate, string_bytes}
+use Rattle.relative_path.specs.declared.normal_form.NormalForm.{NormalForm}
 use Rattle.relative_path.specs.Writing.{with_piece}
-use Rattle.relative_path.specs.NormalForm.{form_names, form_steps}
-use Rattle.relative_path.specs.Spans.{span_text}
-use Rattle.relative_path.specs.Steps.{up, step_text, components, spell}
+use Rattle.relative_path.specs.NormalForm.{form_names, form_steps, ups_then_names}
+use Rattle.relative_path.specs.Spans.{rest_len, span_text}
+use Rattle.relative_path.specs.Steps.{up, step_text, components, spell, slashed_len}
 use Rattle.relative_path.proofs.NormalFormLemmas.{SpellThemselves-ups_then_names, SpellThemselves-names_past, length-spell-unwritten, with_pieces-ups_then_names}
-use Rattle.relative_path.proofs.SpansLemmas.{AreOrdered-unwritten, IsCutUnwritten-names, unwritten_count, unwritten_count-names, with_unwritten-names}
+use Rattle.relative_path.proofs.SpansLemmas.{AreOrdered-unwritten, AreUnwritten, IsCutUnwritten-names, unwritten_count, unwritten_count-names, with_unwritten-names}
 use Rattle.relative_path.proofs.SpellingLemmas.{components-spell, length-spell}
 use Rattle.relative_path.proofs.WritingLemmas.{length-with_pieces_le}
 use Rattle.relative_path.proofs.normal_form.NormalForm.spelled_past.Goals as goal
+use Rattle.relative_path.proofs.normal_form.NormalForm.spelled_past.Goals.{After-first_run-next}
+
+-- the names that are left to write, as a run and the names after it
+first : (c : After-first_run-next)
+    → AreUnwritten c.args.self.now.sources c.names_past.result.now c.first_run-next.result
+first c = c.first_run-next.ensures c.args.self.now.sources c.names_past.ensures.cut
+
+-- how many bytes the whole text has
+lens : (c : After-first_run-next)
+    → (length (spell (ups_then_names c.args.climb (drop c.args.skipped (form_names c.args.self.now))))
+    ≡ 3 * c.args.climb + rest_len c.first_run-next.result - 1)
+    × (rest_len c.first_run-next.result ≤ slashed_len (form_steps c.args.self.now))
+lens c =
+    length-spell-unwritten c.args.self.now c.args.climb c.args.skipped c.names_past.result.now c.first_run-next.result
+    c.names_past.ensures.cut c.names_past.ensures.names (first c)
+
+-- the climbs, and then the names, are the whole text
+spelled : (form : NormalForm) (climb skipped : ℕ)
+    → fold with_piece (fold with_piece [] (replicate climb (step_text up))) (drop skipped (form_names form))
+    ≡ spell (ups_then_names climb (drop skipped (form_names form)))
+spelled form climb skipped = with_pieces-ups_then_names climb _ (SpellThemselves-names_past form skipped)
 
 pub spelled_len-requires : goal.spelled_len-requires
 spelled_len-requires c =
     let form = c.args.self.now in
-    let cut = c.names_past.ensures.cut in
-    let names = c.names_past.result.now in
-    let first = c.first_run-next.ensures form.sources cut in
-    let lens = length-spell-unwritten form c.args.climb c.args.skipped names c.first_run-next.result cut
-    c.names_past.ensures.names first in
+    let len = lens (goal.at.spelled_len-requires c).After-first_run-next in
+    let cut = IsCutUnwritten-names form.sources c.names_past.result.now _ (first (goal.at.spelled_len-requires c).After-first_run-next) in
     record {
-      ordered = AreOrdered-unwritten form.sources c.first_run-next.result (IsCutUnwritten-names form.sources names _ first);
-      bound = omega (arith, lens.1, c.requires.short, length-spell (form_steps form));
+      ordered = AreOrdered-unwritten form.sources c.first_run-next.result cut;
+      bound = omega (arith, len.1, c.requires.short, length-spell (form_steps form));
     }
 
 pub push_climb-requires : goal.push_climb-requires
 push_climb-requires c =
-    let form = c.args.self.now in
-    let past = drop c.args.skipped (form_names form) in
-    let climbs = replicate c.args.climb (step_text up) in
-    let cut = c.names_past.ensures.cut in
-    let lens = length-spell-unwritten form c.args.climb c.args.skipped c.names_past.result.now c.first_run-next.result cut
-    c.names_past.ensures.names (c.first_run-next.ensures form.sources cut) in
-    let whole = with_pieces-ups_then_names c.args.climb past (SpellThemselves-names_past form c.args.skipped) in
-    let shorter = length-with_pieces_le (fold with_piece [] climbs) past in
+    let counted = lens (goal.at.push_climb-requires c).After-first_run-next in
+    let whole = spelled c.args.self.now c.args.climb c.args.skipped in
+    let climbs = fold with_piece [] (replicate c.args.climb (step_text up)) in
+    let shorter = length-with_pieces_le climbs (drop c.args.skipped (form_names c.args.self.now)) in
     let len = rw c.in_ok-len.ensures.ok_part at c.spelled_len.ensures in
-    rw c.in_ok-text.ensures.bytes (omega (arith, lens.0, ap length whole, shorter, len, c.in_ok-text.ensures.capacity))
+    rw c.in_ok-text.ensures.bytes (omega (arith, counted.0, ap length whole, shorter, len, c.in_ok-text.ensures.capacity))
 
 pub loop-next-init : goal.loop-next-init
 loop-next-init c =
@@ -41,20 +56,17 @@ loop-next-init c =
     let names = c.names_past.result.now in
     let past = drop c.args.skipped (form_names form) in
     let climbs = replicate c.args.climb (step_text up) in
-    let cut = c.names_past.ensures.cut in
-    let first = c.first_run-next.ensures form.sources cut in
-    let lens = length-spell-unwritten form c.args.climb c.args.skipped names c.first_run-next.result cut
-    c.names_past.ensures.names first in
+    let unwritten = first (goal.at.loop-next-init c).After-first_run-next in
+    let counted = lens (goal.at.loop-next-init c).After-first_run-next in
     let written = c.push_climb.ensures.text ∙ ap (λ text. fold with_piece text climbs) c.in_ok-text.ensures.bytes in
     let len = rw c.in_ok-len.ensures.ok_part at c.spelled_len.ensures in
     record {
       text =
-          with_unwritten-names form.sources names c.first_run-next.result (string_bytes c.push_climb.new.text) first
+          with_unwritten-names form.sources names c.first_run-next.result (string_bytes c.push_climb.new.text) unwritten
           ∙ ap (fold with_piece (string_bytes c.push_climb.new.text)) c.names_past.ensures.names
-          ∙ ap (λ text. fold with_piece text past) written
-          ∙ with_pieces-ups_then_names c.args.climb past (SpellThemselves-names_past form c.args.skipped);
-      cut = IsCutUnwritten-names form.sources names _ first;
-      room = omega (arith, lens.0, len, c.in_ok-text.ensures.capacity, c.push_climb.ensures.room);
+          ∙ ap (λ text. fold with_piece text past) written ∙ spelled form c.args.climb c.args.skipped;
+      cut = IsCutUnwritten-names form.sources names _ unwritten;
+      room = omega (arith, counted.0, len, c.in_ok-text.ensures.capacity, c.push_climb.ensures.room);
     }
 
 pub add_piece-requires : goal.add_piece-requires
@@ -103,19 +115,13 @@ returns-clause-components c =
 -- the text of no components is empty
 pub returns-in_err-len-clause-succeeds : goal.returns-in_err-len-clause-succeeds
 returns-in_err-len-clause-succeeds c = λ none.
-    let form = c.args.self.now in
-    let cut = c.names_past.ensures.cut in
-    let lens = length-spell-unwritten form c.args.climb c.args.skipped c.names_past.result.now c.first_run-next.result cut
-    c.names_past.ensures.names (c.first_run-next.ensures form.sources cut) in
+    let counted = lens (goal.at.returns-in_err-len-clause-succeeds c).After-first_run-next in
     let large = rw c.in_err-len.ensures.ok_part at c.spelled_len.ensures in
-    absurd (omega (arith, lens.0, ap (λ cs. length (spell cs)) none, large))
+    absurd (omega (arith, counted.0, ap (λ cs. length (spell cs)) none, large))
 
 pub returns-in_err-text-clause-succeeds : goal.returns-in_err-text-clause-succeeds
 returns-in_err-text-clause-succeeds c = λ none.
-    let form = c.args.self.now in
-    let cut = c.names_past.ensures.cut in
-    let lens = length-spell-unwritten form c.args.climb c.args.skipped c.names_past.result.now c.first_run-next.result cut
-    c.names_past.ensures.names (c.first_run-next.ensures form.sources cut) in
+    let counted = lens (goal.at.returns-in_err-text-clause-succeeds c).After-first_run-next in
     let len = rw c.in_ok-len.ensures.ok_part at c.spelled_len.ensures in
-    let ok = c.in_err-text.ensures.succeeds (omega (arith, lens.0, ap (λ cs. length (spell cs)) none, len)) in
+    let ok = c.in_err-text.ensures.succeeds (omega (arith, counted.0, ap (λ cs. length (spell cs)) none, len)) in
     search rules
