@@ -2,8 +2,7 @@
 ghost use Rattle.std.specs.Prelude.{IfOk};
 ghost use Rattle.relpath_lib.specs.Output.{IsOutput};
 
-use relpath_lib::run::run;
-use relpath_lib::{Fault, Meter};
+use relpath_lib::{Fault, Meter, run};
 use std::alloc::Global;
 use std::test::Fail;
 
@@ -13,7 +12,7 @@ pub fn output_of(alloc: Global, commands: &[u8]) -> Result<Vec<u8>, Fault>
 {
     let mut reader = Meter::new(commands);
     let mut writer = Meter::new(Vec::new(alloc));
-    run(alloc, &mut reader, &mut writer)?;
+    run::run(alloc, &mut reader, &mut writer)?;
     Ok(writer.into_inner())
 }
 
