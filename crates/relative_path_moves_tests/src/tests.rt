@@ -1,4 +1,5 @@
 //! Tests of what no contract says.
+mod calling;
 mod large;
 mod many_moves;
 mod one_move;

@@ -2,6 +2,7 @@
 use std::fmt::Debug;
 use std::test::Fail;
 
+mod calling;
 mod fault;
 mod meter;
 mod refusals;

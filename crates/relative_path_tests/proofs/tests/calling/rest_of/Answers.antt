@@ -1,7 +1,7 @@
 -- The path is its prefix and what follows it.
 use Rattle.relative_path.specs.RelativePath.{path_components}
 use Rattle.relative_path.proofs.ForCallers.{walk-append_some}
-use Rattle.relative_path_bench.proofs.tests.calling.rest_of.Goals as goal
+use Rattle.relative_path_tests.proofs.tests.calling.rest_of.Goals as goal
 
 pub returns : goal.returns
 returns c = λ base place is.

@@ -7,7 +7,7 @@ use Rattle.relative_path.specs.Steps.{Step, up}
 use Rattle.relative_path.specs.Prefixing.{StartsWith}
 use Rattle.relative_path.specs.RelativePath.{path_text, path_components}
 use Rattle.relative_path.proofs.ForCallers.{IsSome-walk_normal, components-up}
-use Rattle.relative_path_bench.proofs.tests.calling.is_normal_inside.Goals as goal
+use Rattle.relative_path_tests.proofs.tests.calling.is_normal_inside.Goals as goal
 
 first_up : (cs : List Step) → slice_get cs 0 ≡ Some up → StartsWith cs (up ∷ [])
 first_up [] is = absurd (cc)

@@ -3,7 +3,7 @@ use Rattle.std.proofs.lemmas.Bool.{true_from_ne_false}
 use Rattle.relative_path.specs.RelativePath.{path_components}
 use Rattle.relative_path.specs.Normalizing.{IsNormalForm}
 use Rattle.relative_path.proofs.ForCallers.{IsReachable-climb, IsSame-refl}
-use Rattle.relative_path_bench.proofs.tests.calling.link_between.Goals as goal
+use Rattle.relative_path_tests.proofs.tests.calling.link_between.Goals as goal
 
 pub returns : goal.returns
 returns c = λ from_normal to_normal level.

@@ -5,7 +5,7 @@ use Rattle.relative_path.specs.Steps.{name}
 use Rattle.relative_path.specs.Editing.{kept}
 use Rattle.relative_path.specs.Naming.{last_name}
 use Rattle.relative_path.proofs.ForCallers.{components-place, kept-name, last_name-name}
-use Rattle.relative_path_bench.proofs.tests.calling.place_of.Goals as goal
+use Rattle.relative_path_tests.proofs.tests.calling.place_of.Goals as goal
 
 pub returns-clause-file_name : goal.returns-clause-file_name
 returns-clause-file_name c = λ place n is.

@@ -1,5 +1,5 @@
 use Rattle.std.proofs.Common.{◌≡◌, ◌+◌, ◌*◌, ◌%◌, ◌^◌, take, fold}
-use Rattle.relative_path_bench.proofs.tests.comparing.WritesHasher.write.Given as goal
+use Rattle.relative_path_tests.proofs.tests.comparing.WritesHasher.write.Given as goal
 
 abbrev pub invariant-loop-byte : goal.invariant-loop-byte
 invariant-loop-byte l =

@@ -3,7 +3,7 @@ use Rattle.std.proofs.Common.{◌≡◌, [], ◌∷◌, ◌++◌, refl}
 use Rattle.relative_path.specs.RelativePath.{path_text, path_components}
 use Rattle.relative_path.specs.Steps.{up}
 use Rattle.relative_path.proofs.ForCallers.{components-up}
-use Rattle.relative_path_bench.proofs.tests.calling.relink.Goals as goal
+use Rattle.relative_path_tests.proofs.tests.calling.relink.Goals as goal
 
 pub returns : goal.returns
 returns c =
