@@ -163,8 +163,8 @@ pub fn place_of(alloc: Global, path: RelativePath<'_>) -> Result<RelativePathBuf
     Ok(normal)
 }
 
-/// The shortest link from a directory to a target. It is never `None` if the directory stays below its
-/// base.
+/// The shortest link from a directory to a target. It is never `None` if the directory stays below
+/// its base.
 pub fn link_from(
     alloc: Global,
     directory: RelativePath<'_>,
@@ -176,8 +176,8 @@ pub fn link_from(
     Ok(found)
 }
 
-/// The shortest link from one directory to another. It is never `None` if both are normal and the first
-/// climbs no higher than the second.
+/// The shortest link from one directory to another. It is never `None` if both are normal and the
+/// first climbs no higher than the second.
 pub fn link_between(
     alloc: Global,
     from: RelativePath<'_>,
@@ -198,8 +198,8 @@ pub fn is_normal_inside(path: RelativePath<'_>) -> bool
     path.is_normalized() && !path.starts_with(RelativePath::new(".."))
 }
 
-/// What follows a prefix of a path. If the path leads to a place, the prefix leads to a place too, and
-/// the rest leads on from there.
+/// What follows a prefix of a path. If the path leads to a place, the prefix leads to a place too,
+/// and the rest leads on from there.
 pub fn rest_of<'a>(path: RelativePath<'a>, prefix: RelativePath<'_>) -> Option<RelativePath<'a>>
     ensures { IfSome result (λ rest. (base place : List (List ℕ))
         → walk base (path_components path.entry) ≡ Some place
