@@ -10,9 +10,8 @@ use relative_path::{RelativePath, RelativePathBuf};
 use relative_path_shared::{FromValueError, from_value};
 use serde_json::Value;
 use std::alloc::Global;
-use std::test::Fail;
 
-/// The file that a JSON value names, seen from a directory.
+/// The file to which the path in a JSON value leads from a directory.
 fn file_of_value(
     alloc: Global,
     directory: RelativePath<'_>,
@@ -28,7 +27,7 @@ fn file_of_value(
 }
 
 #[test]
-fn finds_the_file_of_a_value(rt: HostRuntime) -> Result<(), Fail> {
+fn finds_the_file_of_a_value(rt: HostRuntime) -> Result<(), std::test::Fail> {
     let alloc = rt.alloc();
     let docs = RelativePath::new("docs/guide");
     let value = Value::from_str(alloc, "\"../img/a.png\"")?;

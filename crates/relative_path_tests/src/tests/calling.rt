@@ -15,8 +15,8 @@ ghost use Rattle.relative_path.specs.Relating.{IsReachable, IsShortestText};
 use relative_path::{RelativePath, RelativePathBuf};
 use std::alloc::{AllocError, Global};
 
-/// The shortest link from a directory to what a link in another directory means; `None` exactly if
-/// none leads there.
+/// The shortest link from the directory `to` to the target of a link that is written in `directory`;
+/// `None` exactly if no path leads from `to` to that target.
 pub fn carry(
     alloc: Global,
     directory: RelativePath<'_>,
@@ -59,7 +59,7 @@ pub fn depth(path: RelativePath<'_>) -> usize
     path.components().count()
 }
 
-/// Whether a path stays below its base. Then there is one place below each base where it leads.
+/// Whether a path stays below its base. If so, it leads to one and the same place below every base.
 pub fn stays_below(path: RelativePath<'_>) -> bool
     ensures answer { IsTrue result ↔ IsSome (walk [] (path_components path.entry)) }
     ensures place { IsTrue result → (place : List (List ℕ)) × LeadsBelow [] place (path_components path.entry) }
@@ -67,7 +67,7 @@ pub fn stays_below(path: RelativePath<'_>) -> bool
     path.climb() == 0
 }
 
-/// Whether each of some paths stays below its base.
+/// Whether every path of a slice stays below its base.
 pub fn all_stay_below(paths: &[RelativePath<'_>]) -> bool
     ensures { IsTrue result ↔ All (λ path. IsSome (walk [] (path_components path))) paths.now }
 {
@@ -79,8 +79,8 @@ pub fn all_stay_below(paths: &[RelativePath<'_>]) -> bool
     true
 }
 
-/// The page that a build makes of a source, below `out_dir`. A source that can leave its base, or
-/// has no file name, makes none.
+/// The page that a build makes of a source, below `out_dir`; `None` for a source that can leave its
+/// base or has no file name.
 pub fn output(
     alloc: Global,
     out_dir: RelativePath<'_>,
@@ -149,8 +149,8 @@ pub fn link(
     Ok(way)
 }
 
-/// The normal path to where a path leads. If that is a place from the top, the file name is the last
-/// name of the place, and the directory has the others.
+/// The normal form of a path. If the path leads to a place from the top, the file name is the place's
+/// last name, and the directory has the names before it.
 pub fn place_of(alloc: Global, path: RelativePath<'_>) -> Result<RelativePathBuf, AllocError>
     ensures file_name { IfOk result (λ normal. (place : List (List ℕ)) (n : List ℕ)
         → walk [] (path_components path.entry) ≡ Some (place ++ n ∷ [])
@@ -163,8 +163,8 @@ pub fn place_of(alloc: Global, path: RelativePath<'_>) -> Result<RelativePathBuf
     Ok(normal)
 }
 
-/// The shortest link from a directory. There is one to every target if the directory stays below its
-/// base.
+/// The shortest link from a directory to a target. It is never `None` if the directory stays below
+/// its base.
 pub fn link_from(
     alloc: Global,
     directory: RelativePath<'_>,
@@ -176,8 +176,8 @@ pub fn link_from(
     Ok(found)
 }
 
-/// The shortest link between two directories. There is one if both are normal and the first climbs no
-/// higher than the second.
+/// The shortest link from one directory to another. It is never `None` if both are normal and the
+/// first climbs no higher than the second.
 pub fn link_between(
     alloc: Global,
     from: RelativePath<'_>,
@@ -198,7 +198,7 @@ pub fn is_normal_inside(path: RelativePath<'_>) -> bool
     path.is_normalized() && !path.starts_with(RelativePath::new(".."))
 }
 
-/// What follows a prefix of a path. Where the path leads to a place, the prefix leads to a place too,
+/// What follows a prefix of a path. If the path leads to a place, the prefix leads to a place too,
 /// and the rest leads on from there.
 pub fn rest_of<'a>(path: RelativePath<'a>, prefix: RelativePath<'_>) -> Option<RelativePath<'a>>
     ensures { IfSome result (λ rest. (base place : List (List ℕ))
