@@ -6,43 +6,43 @@ use Rattle.relative_path.specs.Walk.{walk, IsSame, LeadsBelow}
 use Rattle.relative_path.specs.Normalizing.{AreNames, IsNormal, IsNormalForm, climb}
 use Rattle.relative_path.proofs.WalkLemmas.{IsSame-refl, IsSame-sym, LeadsBelow-in_turn, LeadsInTurn-same}
 
--- the climb after steps that ups_then_names so far and left so many names that a later `..` leaves again
+-- the climb after steps that climbed so far and left so many names that a later `..` leaves again
 abbrev pub climb_after : ℕ → ℕ → List Step → ℕ
-climb_after ups_then_names names [] = ups_then_names
-climb_after ups_then_names names (cur ∷ cs) = climb_after ups_then_names names cs
-climb_after ups_then_names zero (up ∷ cs) = climb_after (suc ups_then_names) zero cs
-climb_after ups_then_names (suc names) (up ∷ cs) = climb_after ups_then_names names cs
-climb_after ups_then_names names (name n ∷ cs) = climb_after ups_then_names (suc names) cs
+climb_after climbed names [] = climbed
+climb_after climbed names (cur ∷ cs) = climb_after climbed names cs
+climb_after climbed zero (up ∷ cs) = climb_after (suc climbed) zero cs
+climb_after climbed (suc names) (up ∷ cs) = climb_after climbed names cs
+climb_after climbed names (name n ∷ cs) = climb_after climbed (suc names) cs
 
-climb_after_ge : (ups_then_names names : ℕ) (cs : List Step) → ups_then_names ≤ climb_after ups_then_names names cs
-climb_after_ge ups_then_names names [] = omega arith
-climb_after_ge ups_then_names names (cur ∷ cs) = climb_after_ge ups_then_names names cs
-climb_after_ge ups_then_names zero (up ∷ cs) = omega (arith, climb_after_ge (suc ups_then_names) zero cs)
-climb_after_ge ups_then_names (suc names) (up ∷ cs) = climb_after_ge ups_then_names names cs
-climb_after_ge ups_then_names names (name n ∷ cs) = climb_after_ge ups_then_names (suc names) cs
+climb_after_ge : (climbed names : ℕ) (cs : List Step) → climbed ≤ climb_after climbed names cs
+climb_after_ge climbed names [] = omega arith
+climb_after_ge climbed names (cur ∷ cs) = climb_after_ge climbed names cs
+climb_after_ge climbed zero (up ∷ cs) = omega (arith, climb_after_ge (suc climbed) zero cs)
+climb_after_ge climbed (suc names) (up ∷ cs) = climb_after_ge climbed names cs
+climb_after_ge climbed names (name n ∷ cs) = climb_after_ge climbed (suc names) cs
 
 -- where no steps are left the climb so far is all of it
-pub climb_after-nil : (names : ℕ) {ups_then_names n : ℕ} {cs : List Step} → cs ≡ [] → climb_after ups_then_names names cs ≡ n
-    → ups_then_names ≡ n
+pub climb_after-nil : (names : ℕ) {climbed n : ℕ} {cs : List Step} → cs ≡ [] → climb_after climbed names cs ≡ n
+    → climbed ≡ n
 climb_after-nil names none comes_to = rw none at comes_to
 
 -- steps lead anywhere from such a place exactly if the base of it has as many names
-IsSome-walk_after : (base : ℕ) (place : List (List ℕ)) (ups_then_names names : ℕ) (cs : List Step)
-    → length place + ups_then_names ≡ base + names → ups_then_names ≤ base
-    → IsSome (walk place cs) ↔ (climb_after ups_then_names names cs ≤ base)
-IsSome-walk_after base place ups_then_names names [] at few = (λ _. few, λ _. refl)
-IsSome-walk_after base place ups_then_names names (cur ∷ cs) at few = IsSome-walk_after base place ups_then_names names cs at few
-IsSome-walk_after base [] ups_then_names zero (up ∷ cs) at few =
-    (λ some. absurd (cc), λ within. absurd (omega (arith, at, within, climb_after_ge (suc ups_then_names) zero cs)))
-IsSome-walk_after base (n ∷ ns) ups_then_names zero (up ∷ cs) at few =
+IsSome-walk_after : (base : ℕ) (place : List (List ℕ)) (climbed names : ℕ) (cs : List Step)
+    → length place + climbed ≡ base + names → climbed ≤ base
+    → IsSome (walk place cs) ↔ (climb_after climbed names cs ≤ base)
+IsSome-walk_after base place climbed names [] at few = (λ _. few, λ _. refl)
+IsSome-walk_after base place climbed names (cur ∷ cs) at few = IsSome-walk_after base place climbed names cs at few
+IsSome-walk_after base [] climbed zero (up ∷ cs) at few =
+    (λ some. absurd (cc), λ within. absurd (omega (arith, at, within, climb_after_ge (suc climbed) zero cs)))
+IsSome-walk_after base (n ∷ ns) climbed zero (up ∷ cs) at few =
     let len = length-take-le (length ns) (n ∷ ns) (omega arith) in
-    IsSome-walk_after base (take (length ns) (n ∷ ns)) (suc ups_then_names) zero cs (omega (arith, at, len)) (omega (arith, at))
-IsSome-walk_after base [] ups_then_names (suc names) (up ∷ cs) at few = absurd (omega (arith, at, few))
-IsSome-walk_after base (n ∷ ns) ups_then_names (suc names) (up ∷ cs) at few =
+    IsSome-walk_after base (take (length ns) (n ∷ ns)) (suc climbed) zero cs (omega (arith, at, len)) (omega (arith, at))
+IsSome-walk_after base [] climbed (suc names) (up ∷ cs) at few = absurd (omega (arith, at, few))
+IsSome-walk_after base (n ∷ ns) climbed (suc names) (up ∷ cs) at few =
     let len = length-take-le (length ns) (n ∷ ns) (omega arith) in
-    IsSome-walk_after base (take (length ns) (n ∷ ns)) ups_then_names names cs (omega (arith, at, len)) few
-IsSome-walk_after base place ups_then_names names (name n ∷ cs) at few =
-    IsSome-walk_after base (place ++ n ∷ []) ups_then_names (suc names) cs (omega (arith, at, length_push place n)) few
+    IsSome-walk_after base (take (length ns) (n ∷ ns)) climbed names cs (omega (arith, at, len)) few
+IsSome-walk_after base place climbed names (name n ∷ cs) at few =
+    IsSome-walk_after base (place ++ n ∷ []) climbed (suc names) cs (omega (arith, at, length_push place n)) few
 
 pub IsSome-walk : (cs : List Step) (base : List (List ℕ)) → IsSome (walk base cs) ↔ (climb_after 0 0 cs ≤ length base)
 IsSome-walk cs base = IsSome-walk_after (length base) base 0 0 cs (omega arith) (omega arith)
@@ -56,17 +56,17 @@ climb_after_le cs ds same =
     let within = (IsSome-walk cs base).0 (rw (same.everywhere base) some) in
     omega (arith, within, level)
 
-climb_after-names : (ups_then_names names : ℕ) (cs : List Step) → AreNames cs → climb_after ups_then_names names cs ≡ ups_then_names
-climb_after-names ups_then_names names [] are = refl
-climb_after-names ups_then_names names (cur ∷ cs) are = absurd are
-climb_after-names ups_then_names names (up ∷ cs) are = absurd are
-climb_after-names ups_then_names names (name n ∷ cs) are = climb_after-names ups_then_names (suc names) cs are
+climb_after-names : (climbed names : ℕ) (cs : List Step) → AreNames cs → climb_after climbed names cs ≡ climbed
+climb_after-names climbed names [] are = refl
+climb_after-names climbed names (cur ∷ cs) are = absurd are
+climb_after-names climbed names (up ∷ cs) are = absurd are
+climb_after-names climbed names (name n ∷ cs) are = climb_after-names climbed (suc names) cs are
 
-climb_after-normal : (ups_then_names : ℕ) (cs : List Step) → IsNormal cs → climb_after ups_then_names 0 cs ≡ ups_then_names + climb cs
-climb_after-normal ups_then_names [] normal = omega arith
-climb_after-normal ups_then_names (cur ∷ cs) normal = absurd normal
-climb_after-normal ups_then_names (up ∷ cs) normal = omega (arith, climb_after-normal (suc ups_then_names) cs normal)
-climb_after-normal ups_then_names (name n ∷ cs) normal = omega (arith, climb_after-names ups_then_names 1 cs normal)
+climb_after-normal : (climbed : ℕ) (cs : List Step) → IsNormal cs → climb_after climbed 0 cs ≡ climbed + climb cs
+climb_after-normal climbed [] normal = omega arith
+climb_after-normal climbed (cur ∷ cs) normal = absurd normal
+climb_after-normal climbed (up ∷ cs) normal = omega (arith, climb_after-normal (suc climbed) cs normal)
+climb_after-normal climbed (name n ∷ cs) normal = omega (arith, climb_after-names climbed 1 cs normal)
 
 pub climb_after-normal_form : (cs ds : List Step) → IsNormalForm cs ds → climb_after 0 0 cs ≡ climb ds
 climb_after-normal_form cs ds form =

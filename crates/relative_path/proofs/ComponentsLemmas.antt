@@ -1,13 +1,12 @@
 -- Taking the first or the last component off a text: a trim, a cut at a slash, and a trim.
-use Rattle.std.proofs.Common.{◌≡◌, ◌≢◌, ◌==◌, eqb-true, ℕ, ◌-◌, Bool, true, List, [], ◌∷◌, ◌++◌, length, get_or, take, drop, Option, Some, None, sym, refl, ap, ap₂, ◌∙◌, subst, inl, inr, arith, false, length-append, take_at}
-use Rattle.std.proofs.lemmas.Bool.{eqb-false}
+use Rattle.std.proofs.Common.{◌≡◌, ◌≢◌, ℕ, ◌-◌, List, [], ◌∷◌, ◌++◌, length, get_or, take, drop, Option, Some, None, sym, refl, ap, ap₂, ◌∙◌, subst, inl, inr, arith, length-append, take_at}
 use Rattle.std.specs.Iterator.{MakesProgress, item_count}
 use Rattle.std.specs.List.{position_or_len, before_first, after_first, before_last, after_last}
 use Rattle.std.specs.Prelude.{⊤, ◌+◌}
 use Rattle.relative_path.specs.Slashes.{last_start}
 use Rattle.std.proofs.lemmas.Iterator.{YieldsList}
 use Rattle.std.proofs.lemmas.Iterator.Consumers.{YieldsList-from_shown}
-use Rattle.std.proofs.lemmas.List.{nil_from_length, get_or_at, drop_all}
+use Rattle.std.proofs.lemmas.List.{drop_all}
 use Rattle.std.specs.Borrow.{Bor}
 use Rattle.std.proofs.iter.runs.Sources.{from_front}
 use Rattle.relative_path.specs.declared.component.Component.{Component}
@@ -21,7 +20,7 @@ use Rattle.relative_path.specs.Comparing.{steps_cmp}
 use Rattle.relative_path.specs.ComparingLaws.{steps_comparison}
 use Rattle.relative_path.specs.Slices.{IsRest, IsFront}
 use Rattle.relative_path.specs.Components.{step_of, text_left, components_left, TakesFirst, TakesLast, TakesFirstText, text_of, iter_text_left, texts_left, GivesComponents, GivesTextsOfComponents}
-use Rattle.relative_path.proofs.StepsLemmas.{HasNoSlash, components-nil, components-append, components_whole}
+use Rattle.relative_path.proofs.StepsLemmas.{HasNoSlash, components-nil, components-append, components_whole, last-append_slash}
 use Rattle.relative_path.proofs.SlashesLemmas.{joined_first, joined_last, HasNoSlash-before_first, HasNoSlash-after_last}
 use Rattle.relative_path.proofs.SlicesLemmas.{IsSuffix, IsSuffix-drop, IsSuffix-of_drop, IsSuffix-trans, IsPrefix, IsPrefix-take, IsPrefix-trans, IsShortestPrefix-from, IsShortestPrefix-nil}
 
@@ -46,13 +45,6 @@ IsRest-none text r none empty = rw empty (record {
 
 IsFront-none : (text p : List ℕ) → components text ≡ [] → p ≡ [] → IsFront text p
 IsFront-none text p none empty = rw (empty, none) (IsShortestPrefix-nil text)
-
--- what a test for the empty text says
-pub nil_from_is_empty : (text : List ℕ) (b : Bool) → b ≡ (length text == 0) → b ≡ true → text ≡ []
-nil_from_is_empty text b is e = nil_from_length text (eqb-true _ _ (sym is ∙ e))
-
-pub some_from_is_empty : (text : List ℕ) (b : Bool) → b ≡ (length text == 0) → b ≡ false → text ≢ []
-some_from_is_empty text b is e empty = eqb-false _ _ (sym is ∙ e) (ap length empty)
 
 -- where a text is trimmed to nothing, it has no component
 pub TakesFirst-none : (text trimmed : List ℕ) → IsTrimmedStart text trimmed → trimmed ≡ []
@@ -94,12 +86,6 @@ pub record IsTrimmedEnd (text trimmed : List ℕ) : Type 0 where
   pub prefix : IsPrefix text trimmed
   pub end : get_or trimmed (length trimmed - 1) 0 ≢ slash
   pub same : components trimmed ≡ components text
-
--- a slash put after a text ends it
-pub last-append_slash : (xs : List ℕ) → get_or (xs ++ slash ∷ []) (length (xs ++ slash ∷ []) - 1) 0 ≡ slash
-last-append_slash xs =
-    let index : length (xs ++ slash ∷ []) - 1 ≡ length xs = omega (arith, length-append xs (slash ∷ [])) in
-    ap (λ i. get_or (xs ++ slash ∷ []) i 0) index ∙ get_or_at xs slash [] 0 (length xs) refl
 
 -- where a text is trimmed to nothing, it has no component
 pub TakesLast-none : (text trimmed : List ℕ) → IsTrimmedEnd text trimmed → trimmed ≡ [] → TakesLast text None trimmed

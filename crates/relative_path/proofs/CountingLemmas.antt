@@ -1,5 +1,5 @@
 -- Where the components of a text begin.
-use Rattle.std.proofs.Common.{◌≡◌, ℕ, zero, suc, ◌+◌, ◌-◌, ◌*◌, ◌/◌, ◌%◌, ◌^◌, ◌<◌, ◌≤◌, Bool, true, false, not, ◌&&◌, cond, List, [], ◌∷◌, filter, map, get_or, take, drop, length, refl, sym, ap, ap₂, ◌∙◌, subst, ⊎_elim, arith, min, w64}
+use Rattle.std.proofs.Common.{◌≡◌, ℕ, zero, suc, ◌+◌, ◌-◌, ◌*◌, ◌/◌, ◌%◌, ◌^◌, ◌<◌, ◌≤◌, Bool, true, false, not, ◌&&◌, cond, List, [], ◌∷◌, filter, map, get_or, take, drop, length, refl, sym, ap, ap₂, ◌∙◌, subst, arith, min, w64, ⊎_elim}
 use Rattle.std.specs.Int.{bit_at, bit_not}
 use Rattle.std.specs.Int.Bits.{bit_and}
 use Rattle.std.specs.Int.RustNames.{count_ones}

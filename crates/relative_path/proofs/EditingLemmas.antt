@@ -1,16 +1,18 @@
 -- What pushes and pops do to the components of a text.
-use Rattle.std.proofs.Common.{◌≡◌, ◌≢◌, ℕ, suc, ◌+◌, ◌-◌, ◌<◌, ◌≤◌, false, List, [], ◌∷◌, ◌++◌, replicate, length, get_or, take, Option, Some, None, MatchOption, Bor, sym, refl, ap, ap₂, ◌∙◌, subst, ⊎_elim, append_assoc, append-nil, arith, lit<, ne_eqb, eqb, eqb-true, length-append, take_at, take_all, zero, add-one}
+use Rattle.std.proofs.Common.{◌≡◌, ◌≢◌, ℕ, suc, ◌+◌, ◌-◌, ◌<◌, ◌≤◌, false, List, [], ◌∷◌, ◌++◌, replicate, length, get_or, take, Option, Some, None, MatchOption, Bor, sym, refl, ap, ap₂, ◌∙◌, subst, append_assoc, append-nil, arith, lit<, ne_eqb, eqb, eqb-true, length-append, take_at, zero, add-one, not, ⊎_elim}
 use Rattle.std.specs.Option.{unwrap_or}
 use Rattle.std.specs.List.{suffix_len, prefix_len}
 use Rattle.std.specs.Str.Pattern.{FindsCharPrefix, StripsPrefix}
-use Rattle.std.proofs.lemmas.Bool.{cond-true, cond-false, cases_Bool}
-use Rattle.std.proofs.lemmas.List.{reverse-append, take_more, replicate_more, length-replicate}
+use Rattle.std.proofs.lemmas.Bool.{cond-true, cond-false, cases_Bool, cond_both}
+use Rattle.std.proofs.lemmas.List.{reverse-append, replicate_more, length-replicate}
 use Rattle.std.proofs.lemmas.Str.Pattern.{strip_prefix_char}
-use Rattle.relative_path.specs.Steps.{slash, Step, cur, components}
+use Rattle.std.proofs.lemmas.List.Elements.{filter-append}
+use Rattle.relative_path.specs.Steps.{slash, Step, cur, components, up, name, step_text, spell, SpellThemselves, SpellsItself}
 use Rattle.relative_path.specs.Slices.{IsShortestPrefix, IsCut, IsFront}
-use Rattle.relative_path.specs.Editing.{with_separator, unslashed, pushed, is_cur, kept_len, IsPopped}
-use Rattle.relative_path.proofs.StepsLemmas.{components-nil, components-append, components-slash, components-trailing_slash}
-use Rattle.relative_path.proofs.SlicesLemmas.{IsPrefix, take-IsPrefix, IsPrefix-trans, IsPrefix-shortest, IsShortestPrefix-from, IsShortestPrefix-trans}
+use Rattle.relative_path.specs.Editing.{with_separator, unslashed, pushed, is_cur, kept_len, IsPopped, without_cur_dirs}
+use Rattle.relative_path.proofs.StepsLemmas.{components-nil, components-append, components-slash, components-trailing_slash, SpellThemselves-components, HasNoSlash-proper, HasNoSlash-start, nonempty_proper}
+use Rattle.relative_path.proofs.SlicesLemmas.{IsPrefix, IsPrefix-trans, IsPrefix-shortest, IsShortestPrefix-from, IsShortestPrefix-trans, end-IsShortestPrefix, ends_separated}
+use Rattle.relative_path.proofs.SpellingLemmas.{spell_end, spell_nonempty, spell-append}
 
 -- what `strip_prefix` gives, or the text
 pub unslashed-strip_prefix : (text : List ℕ) (r : Option (Bor (List ℕ))) (whole : Bor (List ℕ)) → whole.now ≡ text
@@ -45,30 +47,6 @@ kept_len-push cs c other =
     let last : suffix_len is_cur (cs ++ c ∷ []) ≡ 0 =
     ap (prefix_len is_cur) (reverse-append cs (c ∷ [])) ∙ cond-false (is_cur c) _ _ other in
     omega (arith, last, length-append cs (c ∷ []))
-
--- the text ends in a slash, or has no byte
-ends_separated : (text : List ℕ) → get_or text (length text - 1) 0 ≡ slash
-    → text ≡ take (length text - 1) text ++ slash ∷ []
-ends_separated [] e = absurd (omega (arith, e))
-ends_separated (b ∷ bs) e =
-    let long : length (b ∷ bs) ≤ length (b ∷ bs) - 1 + 1 = omega arith in
-    sym (take_all (length (b ∷ bs) - 1 + 1) (b ∷ bs) long) ∙ take_more (b ∷ bs) (length (b ∷ bs) - 1) 0 (omega arith)
-    ∙ ap (λ x. take (length (b ∷ bs) - 1) (b ∷ bs) ++ x ∷ []) e
-
--- the shortest front with its components ends in no slash
-pub end-IsShortestPrefix : {text p : List ℕ} {cs : List Step} → IsShortestPrefix text cs p
-    → get_or p (length p - 1) 0 ≢ slash
-end-IsShortestPrefix {text} {p} {cs} s = λ e.
-    let front = take (length p - 1) p in
-    let same =
-    ap components (sym (take-IsPrefix (IsPrefix-shortest s) (length p - 1) (omega arith)))
-    ∙ sym (components-trailing_slash front) ∙ ap components (sym (ends_separated p e)) ∙ s.same_components in
-    let shorter = s.shortest (length p - 1) same in
-    empty p (omega arith) e
-  where
-    empty : (q : List ℕ) → length q ≡ 0 → get_or q (length q - 1) 0 ≢ slash
-    empty [] none = λ e. absurd (omega (arith, e))
-    empty (b ∷ bs) none = absurd (omega arith)
 
 -- what is left of a text is a front of it that ends in no slash, and only `.` components were dropped
 pub record LosesCurs (text left : List ℕ) : Type 0 where
@@ -165,3 +143,62 @@ components-pushed text path =
 pub unslashed-non_slash : (path : List ℕ) → get_or path 0 0 ≢ slash → unslashed path ≡ path
 unslashed-non_slash [] start = refl
 unslashed-non_slash (b ∷ bs) start = cond-false _ _ _ (ne_eqb b slash start)
+
+length-with_separator_le : (text : List ℕ) → length text ≤ length (with_separator text)
+length-with_separator_le [] = omega arith
+length-with_separator_le (b ∷ bs) =
+    let separated = (b ∷ bs) ++ slash ∷ [] in
+    let longer = length-append (b ∷ bs) (slash ∷ []) in
+    cond_both _ (b ∷ bs) separated (λ x. length (b ∷ bs) ≤ length x) (λ _. omega arith) (λ _. omega (arith, longer))
+
+pub length-pushed_le : (text path : List ℕ) → length text ≤ length (pushed text path)
+length-pushed_le text path =
+    omega (arith, length-with_separator_le text, length-append (with_separator text) (unslashed path))
+
+-- ---- without each `.`
+
+pub without_cur_dirs-curs : (n : ℕ) → without_cur_dirs (replicate n cur) ≡ []
+without_cur_dirs-curs zero = refl
+without_cur_dirs-curs (suc n) = without_cur_dirs-curs n
+
+pub without_cur_dirs-at : (cs : List Step) (c : Step) (n : ℕ) → is_cur c ≡ false
+    → without_cur_dirs (cs ++ c ∷ replicate n cur) ≡ without_cur_dirs cs ++ c ∷ []
+without_cur_dirs-at cs c n other =
+    filter-append (λ d. not (is_cur d)) cs (c ∷ replicate n cur)
+    ∙ ap (λ ds. without_cur_dirs cs ++ ds) (cond-true _ _ _ (ap not other) ∙ ap (λ ds. c ∷ ds) (without_cur_dirs-curs n))
+
+pub without_cur_dirs-twice : (cs : List Step) → without_cur_dirs (without_cur_dirs cs) ≡ without_cur_dirs cs
+without_cur_dirs-twice [] = refl
+without_cur_dirs-twice (cur ∷ cs) = without_cur_dirs-twice cs
+without_cur_dirs-twice (up ∷ cs) = ap (λ ds. up ∷ ds) (without_cur_dirs-twice cs)
+without_cur_dirs-twice (name n ∷ cs) = ap (λ ds. name n ∷ ds) (without_cur_dirs-twice cs)
+
+pub long_other : (c : Step) → 1 < length (step_text c) → is_cur c ≡ false
+long_other cur long = absurd (omega arith)
+long_other up long = refl
+long_other (name n) long = refl
+
+-- ---- a push onto what spells components
+
+-- a component pushed after the text that spells others
+pushed-spell : (cs : List Step) (c : Step) → SpellThemselves cs → SpellsItself c
+    → pushed (spell cs) (step_text c) ≡ spell (cs ++ c ∷ [])
+pushed-spell cs c propers proper = ap (λ x. with_separator (spell cs) ++ x) non_slash ∙ after cs propers
+  where
+    non_slash : unslashed (step_text c) ≡ step_text c
+    non_slash =
+        unslashed-non_slash (step_text c)
+        (subst (λ x. get_or x 0 0 ≢ slash) (append-nil (step_text c))
+        (HasNoSlash-start (step_text c) [] (nonempty_proper c proper) (HasNoSlash-proper c proper)))
+
+    after : (ds : List Step) → SpellThemselves ds → with_separator (spell ds) ++ step_text c ≡ spell (ds ++ c ∷ [])
+    after [] h = refl
+    after (d ∷ ds) h =
+        ap (λ x. x ++ step_text c)
+        (with_separator-non_slash (spell (d ∷ ds)) (spell_nonempty d ds h.0) (spell_end (d ∷ ds) h))
+        ∙ append_assoc (spell (d ∷ ds)) (slash ∷ []) (step_text c) ∙ sym (spell-append d ds c [])
+
+pub spell-pushed : (text : List ℕ) (c : Step) → text ≡ spell (components text) → SpellsItself c
+    → pushed text (step_text c) ≡ spell (components text ++ c ∷ [])
+spell-pushed text c spelled proper =
+    ap (λ x. pushed x (step_text c)) spelled ∙ pushed-spell (components text) c (SpellThemselves-components text) proper

@@ -5,25 +5,23 @@ use Rattle.std.specs.Prelude.{slice_get}
 use Rattle.std.proofs.lemmas.Bool.{cond-false}
 use Rattle.std.proofs.lemmas.List.{length-replicate}
 use Rattle.std.proofs.lemmas.List.Elements.{All-from_recursion}
-use Rattle.relative_path.specs.Steps.{Step, cur, up, name, slash, is_slash, step_text, classed, components, spell}
+use Rattle.relative_path.specs.Steps.{Step, cur, up, name, slash, is_slash, step_text, classed, components, spell, SpellsItself, SpellThemselves}
 use Rattle.relative_path.specs.Walk.{walk, IsSame, LeadsInTurn, StaysBelow}
 use Rattle.relative_path.specs.Normalizing.{AreNames, IsNormal, IsNormalForm, IsNormalTextOf, climb}
 use Rattle.relative_path.specs.Editing.{kept, pushed, unslashed}
 use Rattle.relative_path.specs.Naming.{last_name}
 use Rattle.relative_path.specs.Relating.{Leads, IsReachable, IsShortestText}
 use Rattle.relative_path.specs.Unix.{has_root}
+use Rattle.relative_path.proofs.ListsLemmas as lists
 use Rattle.relative_path.proofs.StepsLemmas as steps
 use Rattle.relative_path.proofs.WalkLemmas as walks
 use Rattle.relative_path.proofs.EditingLemmas as editing
 use Rattle.relative_path.proofs.NamingExtensionLemmas as extensions
 use Rattle.relative_path.proofs.NamingEditsLemmas as edits
 use Rattle.relative_path.proofs.NormalStepsLemmas.{normal_unique}
-use Rattle.relative_path.proofs.NormalizingLemmas as normalizing
 use Rattle.relative_path.proofs.ClimbingLemmas.{climb_after, IsSome-walk}
 use Rattle.relative_path.proofs.RelatingLemmas as relating
 use Rattle.relative_path.proofs.OnLiterals.{relative_path_on_literals}
--- the text of a component has that component and no other; each component of a list is so
-pub use Rattle.relative_path.proofs.StepsLemmas.{SpellsItself, SpellThemselves}
 
 -- ---- where lists lead
 
@@ -36,7 +34,7 @@ walk-append = walks.walk-append
 pub walk-append_some : (base place : List (List ℕ)) (cs ds : List Step) → walk base (cs ++ ds) ≡ Some place
     → (between : List (List ℕ)) × (walk base cs ≡ Some between) × (walk between ds ≡ Some place)
 walk-append_some base place cs ds is =
-    let (between, there) = walks.IsSome-value (walk base cs) (walks.IsSome-walk_front base cs ds (rw is refl)) in
+    let (between, there) = lists.IsSome-value (walk base cs) (walks.IsSome-walk_front base cs ds (rw is refl)) in
     (between, there, ap (option_and_then (λ place. walk place ds)) (sym there) ∙ sym (walk-append base cs ds) ∙ is)
 
 -- names lead from a base down to them
@@ -48,7 +46,7 @@ pub walk-some : (cs : List Step) → (base : List (List ℕ)) × (place : List (
 walk-some cs =
     let base : List (List ℕ) = replicate (climb_after 0 0 cs) [] in
     let level = length-replicate {A = List ℕ} (climb_after 0 0 cs) [] in
-    let (place, is) = walks.IsSome-value (walk base cs) ((IsSome-walk cs base).1 (omega (arith, level))) in
+    let (place, is) = lists.IsSome-value (walk base cs) ((IsSome-walk cs base).1 (omega (arith, level))) in
     (base, place, is)
 
 -- a normal list that doesn't begin with `..` has a place from the top
@@ -191,7 +189,7 @@ name-proper n proper = (
 -- a push of a component onto a text that spells its own makes one that spells one more
 pub spell-pushed : (text : List ℕ) (c : Step) → text ≡ spell (components text) → SpellsItself c
     → pushed text (step_text c) ≡ spell (components text ++ c ∷ [])
-spell-pushed = normalizing.spell-pushed
+spell-pushed = editing.spell-pushed
 
 has_root-non_slash : (n rest : List ℕ) → steps.HasNoSlash n → 0 < length n → has_root (n ++ rest) ≡ false
 has_root-non_slash [] rest none some = absurd (omega arith)

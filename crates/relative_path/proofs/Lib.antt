@@ -1,25 +1,27 @@
+mod ListsLemmas
 mod StepsLemmas
 mod SlicesLemmas
+mod SpellingLemmas
 mod WalkLemmas
 mod NormalStepsLemmas
 mod ClimbingLemmas
 mod SlashesLemmas
-mod ComponentsLemmas
+mod CountingLemmas
 mod EditingLemmas
-mod PrefixingLemmas
-mod PushingLemmas
+mod WritingLemmas
+mod SpansLemmas
+mod ComponentsLemmas
 mod NamingLemmas
 mod NamingExtensionLemmas
 mod NamingEditsLemmas
-mod NormalizingLemmas
-mod CountingLemmas
-mod SpansLemmas
+mod PrefixingLemmas
 mod NormalFormLemmas
-mod WritingLemmas
+mod NormalizingLemmas
 mod RelatingLemmas
 mod UnixComponentsLemmas
-mod UnixLemmas
+mod UnixAboveLemmas
 mod UnixTextsLemmas
 mod UnixWaysLemmas
+mod PushingLemmas
 pub mod OnLiterals
 pub mod ForCallers

@@ -3,15 +3,15 @@ use Rattle.std.proofs.Common.{◌≡◌, ℕ, zero, suc, List, [], ◌∷◌, �
 use Rattle.std.specs.Prelude.{IsTrue, IsSome}
 use Rattle.std.specs.Option.{option_and_then}
 use Rattle.std.proofs.lemmas.Bool.{cond-true}
-use Rattle.relative_path.specs.Steps.{Step, cur, name, dot, components}
+use Rattle.relative_path.specs.Steps.{Step, cur, name, dot, components, SpellsItself, SpellThemselves}
 use Rattle.relative_path.specs.Walk.{walk, IsSame}
 use Rattle.relative_path.specs.Editing.{kept_len, kept, IsPopped}
 use Rattle.relative_path.specs.Naming.{name_of, last_name, file_name_of, stem_of, is_extension, base_components, IsBeside, IsNamed, IsExtended}
-use Rattle.relative_path.proofs.StepsLemmas.{SpellsItself, SpellThemselves}
-use Rattle.relative_path.proofs.WalkLemmas.{IsSome-value, IsSame-sym, IsSame-append_left, IsSome-walk_front, IsSome-walk_name}
+use Rattle.relative_path.proofs.WalkLemmas.{IsSame-sym, IsSame-append_left, IsSome-walk_front, IsSome-walk_name}
 use Rattle.relative_path.proofs.EditingLemmas.{kept_len-curs, kept_len-push}
 use Rattle.relative_path.proofs.NamingLemmas.{last_other-at, components-IsNamed}
 use Rattle.relative_path.proofs.NamingExtensionLemmas.{last_name-split, kept-name, last_name-name, components-IsExtended, IsExtended-unnamed}
+use Rattle.relative_path.proofs.ListsLemmas.{IsSome-value}
 
 -- a list with a file name leads where the name leads after what a parent keeps
 pub IsSame-last_name : (cs : List Step) (n : List ℕ) → last_name cs ≡ Some n → IsSame cs (kept cs ++ name n ∷ [])

@@ -9,13 +9,14 @@ use Rattle.std.proofs.lemmas.Option.{slice_get_within, get_or_from_slice_get}
 use Rattle.std.specs.List.{AllByRecursion, list_all, suffix_len, before_last, after_last}
 use Rattle.std.specs.Option.{option_and_then, option_map}
 use Rattle.std.specs.Prelude.{slice_get, IsSome, IsTrue}
-use Rattle.relative_path.specs.Steps.{slash, dot, is_slash, is_not_empty, Step, cur, up, name, step_text, classed, components}
+use Rattle.relative_path.specs.Steps.{slash, dot, is_slash, is_not_empty, Step, cur, up, name, step_text, classed, components, SpellsItself, SpellThemselves}
 use Rattle.relative_path.specs.Editing.{is_cur, kept_len, kept}
 use Rattle.relative_path.specs.Naming.{name_of, last_name, file_name_of, is_dot, has_stem, stem_of, extension_of, is_plain_byte, is_plain_extension, is_extension, dotted, IsExtended}
-use Rattle.relative_path.proofs.StepsLemmas.{HasNoSlash, HasNoSlash-append, SpellsItself, SpellThemselves, components-nil, components-append, components-trailing_slash, components_whole, step_text-classed, SpellThemselves-components, HasNoSlash-proper, nonempty_proper}
-use Rattle.relative_path.proofs.WalkLemmas.{IsSome-value}
-use Rattle.relative_path.proofs.EditingLemmas.{kept_len-curs, kept_len-push}
-use Rattle.relative_path.proofs.NamingLemmas.{no_dot, IsExtendedAt, IsSplit, IsSplit-dot, last_slash, last_same, slice_get-at, without_cur_dirs-curs, last_other-at}
+use Rattle.relative_path.proofs.StepsLemmas.{HasNoSlash, HasNoSlash-append, components-nil, components-append, components-trailing_slash, components_whole, step_text-classed, SpellThemselves-components, HasNoSlash-proper, nonempty_proper, HasNoSlash-append_left}
+use Rattle.relative_path.proofs.EditingLemmas.{kept_len-curs, kept_len-push, without_cur_dirs-curs}
+use Rattle.relative_path.proofs.NamingLemmas.{no_dot, IsExtendedAt, IsSplit, IsSplit-dot, last_other-at}
+use Rattle.relative_path.proofs.ListsLemmas.{IsSome-value, last_same, slice_get-at}
+use Rattle.relative_path.proofs.SlashesLemmas.{last_slash}
 
 -- ---- where the file name stands
 
@@ -104,10 +105,6 @@ parts_at_dot n stem =
     stem_len (suc k) stem = omega arith
 
 -- ---- a new extension
-
-HasNoSlash-append_left : (xs ys : List ℕ) → HasNoSlash (xs ++ ys) → HasNoSlash xs
-HasNoSlash-append_left [] ys none = tt
-HasNoSlash-append_left (b ∷ bs) ys none = (none.0, HasNoSlash-append_left bs ys none.1)
 
 -- the bytes of a plain extension
 HasNoSlash-plain : (e : List ℕ) → list_all is_plain_byte e ≡ true → HasNoSlash e

@@ -1,23 +1,23 @@
 -- The file name of a text, where it stands, and its stem.
-use Rattle.std.proofs.Common.{◌≡◌, ◌≢◌, ℕ, zero, suc, ◌+◌, ◌-◌, ◌<◌, ◌≤◌, Bool, true, false, not, cond, List, [], ◌∷◌, ◌++◌, All, length, get_or, take, drop, replicate, Option, Some, None, Bor, ◌⊎◌, inl, inr, ⊎_elim, sym, refl, ap, ap₂, ◌∙◌, arith, ne_eqb, eqb-true, append_assoc, append-nil, length-append, take_at, take_all}
+use Rattle.std.proofs.Common.{◌≡◌, ◌≢◌, ℕ, ◌+◌, ◌-◌, ◌<◌, ◌≤◌, Bool, true, false, not, cond, List, [], ◌∷◌, ◌++◌, All, length, get_or, take, drop, replicate, Option, Some, None, Bor, inl, inr, sym, refl, ap, ap₂, ◌∙◌, arith, ne_eqb, append_assoc, append-nil, length-append, take_at, take_all}
 use Rattle.std.specs.List.{slice_range, suffix_len, before_last, after_last}
 use Rattle.std.specs.Str.{IsCharBoundary}
 use Rattle.std.proofs.lemmas.List.{get_or_at, get_or-append_right, drop_at, append_cancel_right}
 use Rattle.std.proofs.lemmas.Str.{IsCharBoundary-end, IsCharBoundary-before_ascii}
-use Rattle.std.proofs.lemmas.List.Elements.{filter-append}
 use Rattle.std.proofs.lemmas.List.Sums.{suffix_len_is}
 use Rattle.std.specs.Prelude.{slice_get, is_some, IsSome, IfSome, MatchOption}
 use Rattle.std.specs.Option.{option_and_then, option_copied}
-use Rattle.std.proofs.lemmas.Bool.{cases_Bool, cond_both, cond-true, cond-false}
-use Rattle.relative_path.specs.Steps.{slash, dot, is_slash, is_not_empty, Step, cur, up, name, step_text, classed, components}
+use Rattle.std.proofs.lemmas.Bool.{cond_both, cond-true, cond-false}
+use Rattle.relative_path.specs.Steps.{slash, dot, is_not_empty, Step, cur, up, name, step_text, classed, components}
 use Rattle.relative_path.specs.Slices.{IsCut, IsFront}
 use Rattle.relative_path.specs.Editing.{is_cur, kept_len, pushed, without_cur_dirs, IsPopped}
 use Rattle.relative_path.specs.Naming.{name_of, last_other, last_name, file_name_of, is_dot, has_stem, stem_of, extension_of, dotted, base_components, IsBase, IsNamed, IsExtended}
 use Rattle.relative_path.specs.RelativePathBuf.{ExceedsRoom}
-use Rattle.relative_path.proofs.StepsLemmas.{HasNoSlash, components-nil, components-append, components_whole, step_text-classed}
-use Rattle.relative_path.proofs.ComponentsLemmas.{last-append_slash}
+use Rattle.relative_path.proofs.StepsLemmas.{HasNoSlash, components-nil, components-append, components_whole, step_text-classed, last-append_slash}
 use Rattle.relative_path.proofs.SlicesLemmas.{IsPrefix, IsPrefix-take, IsPrefix-append_left, IsPrefix-trans, IsPrefix-shortest, IsShortestPrefix-unique}
-use Rattle.relative_path.proofs.EditingLemmas.{LosesCurs, IsPopped-none, IsPopped-front, IsCut-through, components-pushed}
+use Rattle.relative_path.proofs.EditingLemmas.{LosesCurs, IsPopped-none, IsPopped-front, IsCut-through, components-pushed, without_cur_dirs-at, without_cur_dirs-curs}
+use Rattle.relative_path.proofs.ListsLemmas.{last_same, slice_get-at}
+use Rattle.relative_path.proofs.SlashesLemmas.{last_slash}
 
 -- ---- a name cut at its last dot
 
@@ -104,24 +104,6 @@ IsSplit-dot n (b ∷ bs) extension (joined, other) nonempty =
 
 -- ---- the text of the last component
 
--- the text has no slash, or a last one
-pub last_slash : (text : List ℕ)
-    → HasNoSlash text ⊎ ((xs : List ℕ) × (ys : List ℕ) × (text ≡ xs ++ slash ∷ ys) × HasNoSlash ys)
-last_slash [] = inl tt
-last_slash (b ∷ bs) = elim (last_slash bs) [
-  | inl none ↦
-      ⊎_elim (λ e. inr ([], bs, ap (λ x. x ∷ bs) (eqb-true b slash e), none)) (λ e. inl (e, none))
-      (cases_Bool (is_slash b))
-  | inr (xs, ys, joined, none) ↦ inr (b ∷ xs, ys, ap (λ x. b ∷ x) joined, none)
-]
-
-pub last_same : (cs ds : List Step) (c d : Step) → cs ++ c ∷ [] ≡ ds ++ d ∷ [] → c ≡ d
-last_same cs ds c d e =
-    let count : length ds ≡ length cs =
-    omega (arith, ap length e, length-append cs (c ∷ []), length-append ds (d ∷ [])) in
-    sym (get_or_at cs c [] c (length cs) refl) ∙ ap (λ l. get_or l (length cs) c) e
-    ∙ get_or_at ds d [] c (length cs) count
-
 -- a text that ends in no slash ends in the text of its last component
 pub ends_in_last : (text : List ℕ) (cs : List Step) (c : Step) → get_or text (length text - 1) 0 ≢ slash
     → components text ≡ cs ++ c ∷ [] → (head : List ℕ) × (text ≡ head ++ step_text c)
@@ -147,20 +129,6 @@ ends_in_last text cs c end last = elim (last_slash text) [
         sym (step_text-classed (b ∷ bs)) ∙ ap step_text (sym same)
 
 -- ---- the end of a path
-
-pub slice_get-at : (cs : List Step) (c : Step) (ds : List Step) → slice_get (cs ++ c ∷ ds) (length cs) ≡ Some c
-slice_get-at [] c ds = refl
-slice_get-at (b ∷ cs) c ds = slice_get-at cs c ds
-
-pub without_cur_dirs-curs : (n : ℕ) → without_cur_dirs (replicate n cur) ≡ []
-without_cur_dirs-curs zero = refl
-without_cur_dirs-curs (suc n) = without_cur_dirs-curs n
-
-without_cur_dirs-at : (cs : List Step) (c : Step) (n : ℕ) → is_cur c ≡ false
-    → without_cur_dirs (cs ++ c ∷ replicate n cur) ≡ without_cur_dirs cs ++ c ∷ []
-without_cur_dirs-at cs c n other =
-    filter-append (λ d. not (is_cur d)) cs (c ∷ replicate n cur)
-    ∙ ap (λ ds. without_cur_dirs cs ++ ds) (cond-true _ _ _ (ap not other) ∙ ap (λ ds. c ∷ ds) (without_cur_dirs-curs n))
 
 pub last_other-at : (cs : List Step) (c : Step) (n : ℕ) → is_cur c ≡ false
     → last_other (cs ++ c ∷ replicate n cur) ≡ Some c

@@ -1,29 +1,27 @@
 -- Climbs and names: that they are normal, what one component more does to them, and the text that spells them.
-use Rattle.std.proofs.Common.{◌≡◌, ℕ, zero, suc, ◌+◌, ◌-◌, ◌<◌, ◌≤◌, true, List, [], ◌∷◌, ◌++◌, All, Option, Some, None, map, replicate, length, drop, sym, refl, ap, ◌∙◌, subst, append_assoc, append-nil, arith, length-append, fold, ◌*◌}
+use Rattle.std.proofs.Common.{◌≡◌, ℕ, zero, suc, ◌+◌, ◌-◌, ◌<◌, ◌≤◌, true, List, [], ◌∷◌, ◌++◌, All, Option, Some, None, map, replicate, length, drop, sym, refl, ap, ◌∙◌, subst, append_assoc, append-nil, arith, fold, ◌*◌, take}
 use Rattle.std.specs.List.{AllByRecursion}
 use Rattle.std.specs.Option.{is_some, option_to_list}
 use Rattle.std.proofs.lemmas.List.Elements.{recursion_from_All, All-from_recursion, All-drop, All-head, All-tail}
 use Rattle.std.proofs.lemmas.List.Sums.{fold-append}
-use Rattle.std.proofs.lemmas.List.{nil_from_length, map_push}
-use Rattle.relative_path.specs.Steps.{Step, cur, up, name, slash, step_text, components, spell}
+use Rattle.std.proofs.lemmas.List.{nil_from_length, map_push, replicate-append-replicate}
+use Rattle.relative_path.specs.Steps.{Step, cur, up, name, step_text, components, spell, SpellsItself, SpellThemselves, slashed_len}
 use Rattle.relative_path.specs.Writing.{with_piece}
-use Rattle.relative_path.specs.Walk.{IsSame}
-use Rattle.relative_path.specs.Normalizing.{AreNames, IsNormal, IsNormalTextOf}
+use Rattle.relative_path.specs.Walk.{IsSame, walk}
+use Rattle.relative_path.specs.Normalizing.{IsNormal, IsNormalTextOf, climb}
 use Rattle.relative_path.specs.declared.normal_form.NormalForm.{NormalForm}
 use Rattle.relative_path.specs.declared.spans.Sources.{Sources}
 use Rattle.relative_path.specs.declared.spans.Span.{Span}
 use Rattle.relative_path.specs.Spans.{span_text, spans_len, rest_len, CutsName}
-use Rattle.relative_path.specs.NormalForm.{ups_then_names, form_names, form_steps, slashed_len, Reduces, IsSpellableNormalForm}
-use Rattle.relative_path.proofs.StepsLemmas.{SpellsItself, SpellsItself-up, SpellThemselves, components-spell, nonempty_proper, components-nil}
-use Rattle.relative_path.proofs.NormalStepsLemmas.{normal_unique}
+use Rattle.relative_path.specs.NormalForm.{ups_then_names, form_names, form_steps, Reduces, IsSpellableNormalForm}
+use Rattle.relative_path.proofs.StepsLemmas.{SpellsItself-up, components-nil, SpellThemselves-names}
+use Rattle.relative_path.proofs.NormalStepsLemmas.{normal_unique, AreNames-map, names_of, walk-normal, walk-normal_none}
 use Rattle.relative_path.proofs.SpansLemmas.{length-run, AreUnwritten, Unwritten, rest_len-names}
 use Rattle.relative_path.proofs.WalkLemmas.{IsSame-refl, IsSame-sym, IsSame-trans, IsSame-append_right, IsSame-cur, IsSame-name_up}
+use Rattle.relative_path.proofs.SpellingLemmas.{components-spell, slashed_len-append, length-spell, slashed_len-drop_le}
+use Rattle.relative_path.proofs.WritingLemmas.{with_pieces-spell}
 
 -- ---- reducing a list of components
-
-pub slashed_len-append : (cs ds : List Step) → slashed_len (cs ++ ds) ≡ slashed_len cs + slashed_len ds
-slashed_len-append [] ds = omega arith
-slashed_len-append (c ∷ cs) ds = omega (arith, slashed_len-append cs ds)
 
 pub Reduces-refl : (cs : List Step) → Reduces cs cs
 Reduces-refl cs = record { same = IsSame-refl cs; no_longer = omega arith }
@@ -85,38 +83,56 @@ Reduces-pop f climb xs ys (Some x) joined some =
 
 -- ---- climbs and names are normal
 
-AreNames-map : (names : List (List ℕ)) → AreNames (map name names)
-AreNames-map [] = tt
-AreNames-map (n ∷ ns) = AreNames-map ns
-
 pub IsNormal-ups_then_names : (climb : ℕ) (names : List (List ℕ)) → IsNormal (ups_then_names climb names)
 IsNormal-ups_then_names zero [] = tt
 IsNormal-ups_then_names zero (n ∷ ns) = AreNames-map ns
 IsNormal-ups_then_names (suc climb) names = IsNormal-ups_then_names climb names
 
--- ---- the text that spells climbs and names
+-- ---- where climbs and names lead
 
-SpellThemselves-names : (names : List (List ℕ)) → AllByRecursion (λ n. SpellsItself (name n)) names → SpellThemselves (map name names)
-SpellThemselves-names [] proper = tt
-SpellThemselves-names (n ∷ ns) proper = (proper.0, SpellThemselves-names ns proper.1)
+pub climb-ups_then_names : (ups : ℕ) (ns : List (List ℕ)) → climb (ups_then_names ups ns) ≡ ups
+climb-ups_then_names zero [] = refl
+climb-ups_then_names zero (n ∷ ns) = refl
+climb-ups_then_names (suc ups) ns = ap (λ k. suc k) (climb-ups_then_names ups ns)
+
+names_of-ups_then_names : (ups : ℕ) (ns : List (List ℕ)) → names_of (ups_then_names ups ns) ≡ ns
+names_of-ups_then_names zero [] = refl
+names_of-ups_then_names zero (n ∷ ns) = ap (λ x. n ∷ x) (names_of-ups_then_names zero ns)
+names_of-ups_then_names (suc ups) ns = names_of-ups_then_names ups ns
+
+pub ups_then_names-ups : (ups more : ℕ) (ns : List (List ℕ))
+    → replicate ups up ++ ups_then_names more ns ≡ ups_then_names (ups + more) ns
+ups_then_names-ups ups more ns =
+    let joined = replicate-append-replicate ups more up in
+    sym (append_assoc (replicate ups up) (replicate more up) (map name ns)) ∙ ap (λ x. x ++ map name ns) joined
+
+pub walk-ups_then_names_none : (base : List (List ℕ)) (ups : ℕ) (ns : List (List ℕ)) → length base < ups
+    → walk base (ups_then_names ups ns) ≡ None
+walk-ups_then_names_none base ups ns short =
+    let climbs = climb-ups_then_names ups ns in
+    walk-normal_none base (ups_then_names ups ns) (IsNormal-ups_then_names ups ns) (omega arith)
+
+pub walk-ups_then_names : (base : List (List ℕ)) (ups : ℕ) (ns : List (List ℕ)) → ups ≤ length base
+    → walk base (ups_then_names ups ns) ≡ Some (take (length base - ups) base ++ ns)
+walk-ups_then_names base ups ns long =
+    let climbs = climb-ups_then_names ups ns in
+    let names = names_of-ups_then_names ups ns in
+    let leads = walk-normal base (ups_then_names ups ns) (IsNormal-ups_then_names ups ns) (omega arith) in
+    rw (climbs, names) at leads
+
+-- from a base of as many names as its `..`, a normal list leads to its own names
+pub walk-ups_then_names_level : (base : List (List ℕ)) (ups : ℕ) (ns : List (List ℕ)) → length base ≡ ups
+    → walk base (ups_then_names ups ns) ≡ Some ns
+walk-ups_then_names_level base ups ns level =
+    let none : length base - ups ≡ zero = omega arith in
+    walk-ups_then_names base ups ns (omega arith) ∙ ap (λ k. Some (take k base ++ ns)) none
+
+-- ---- the text that spells climbs and names
 
 pub SpellThemselves-ups_then_names : (climb : ℕ) (names : List (List ℕ)) → AllByRecursion (λ n. SpellsItself (name n)) names
     → SpellThemselves (ups_then_names climb names)
 SpellThemselves-ups_then_names zero names proper = SpellThemselves-names names proper
 SpellThemselves-ups_then_names (suc climb) names proper = (SpellsItself-up, SpellThemselves-ups_then_names climb names proper)
-
-length-spell-padded : (c : Step) (cs : List Step) → length (spell (c ∷ cs)) + 1 ≡ slashed_len (c ∷ cs)
-length-spell-padded c [] = omega arith
-length-spell-padded c (d ∷ cs) =
-    omega (arith, length-append (step_text c) (slash ∷ spell (d ∷ cs)), length-spell-padded d cs)
-
-pub length-spell : (cs : List Step) → length (spell cs) ≡ slashed_len cs - 1
-length-spell [] = omega arith
-length-spell (c ∷ cs) = omega (arith, length-spell-padded c cs)
-
-pub length-spell-append : (cs ds : List Step) → length (spell (cs ++ ds)) ≤ length (spell cs) + 1 + length (spell ds)
-length-spell-append cs ds =
-    omega (arith, length-spell (cs ++ ds), length-spell cs, length-spell ds, slashed_len-append cs ds)
 
 -- what reduces a list to climbs and proper names gives its normal form
 pub IsSpellableNormalForm-Reduces : (cs : List Step) (climb : ℕ) (names : List (List ℕ))
@@ -161,32 +177,6 @@ IsSpellableNormalForm-form cs form reduces =
 
 -- ---- writing pieces one after another
 
-length-with_piece_le : (text p : List ℕ) → length text ≤ length (with_piece text p)
-length-with_piece_le [] p = omega arith
-length-with_piece_le (b ∷ bs) p = omega (arith, length-append bs (slash ∷ p))
-
-pub length-with_pieces_le : (text : List ℕ) (ps : List (List ℕ)) → length text ≤ length (fold with_piece text ps)
-length-with_pieces_le text [] = omega arith
-length-with_pieces_le text (p ∷ ps) =
-    omega (arith, length-with_piece_le text p, length-with_pieces_le (with_piece text p) ps)
-
-pub with_pieces-non_slash : (b : ℕ) (bs : List ℕ) (c : Step) (cs : List Step)
-    → fold with_piece (b ∷ bs) (map step_text (c ∷ cs)) ≡ (b ∷ bs) ++ slash ∷ spell (c ∷ cs)
-with_pieces-non_slash b bs c [] = refl
-with_pieces-non_slash b bs c (d ∷ cs) =
-    with_pieces-non_slash b (bs ++ slash ∷ step_text c) d cs
-    ∙ append_assoc (b ∷ bs) (slash ∷ step_text c) (slash ∷ spell (d ∷ cs))
-
--- the texts of proper components one after another spell them
-pub with_pieces-spell : (cs : List Step) → SpellThemselves cs → fold with_piece [] (map step_text cs) ≡ spell cs
-with_pieces-spell [] proper = refl
-with_pieces-spell (c ∷ []) proper = refl
-with_pieces-spell (c ∷ d ∷ cs) proper = after (step_text c) (nonempty_proper c proper.0)
-  where
-    after : (p : List ℕ) → 0 < length p → fold with_piece p (map step_text (d ∷ cs)) ≡ p ++ slash ∷ spell (d ∷ cs)
-    after [] none = absurd (omega arith)
-    after (b ∷ bs) some = with_pieces-non_slash b bs d cs
-
 map_step_text-names : (names : List (List ℕ)) → map step_text (map name names) ≡ names
 map_step_text-names [] = refl
 map_step_text-names (n ∷ ns) = ap (λ ps. n ∷ ps) (map_step_text-names ns)
@@ -210,13 +200,6 @@ pub slashed_len-ups_then_names : (climb : ℕ) (names : List (List ℕ))
     → slashed_len (ups_then_names climb names) ≡ 3 * climb + slashed_len (map name names)
 slashed_len-ups_then_names zero names = omega arith
 slashed_len-ups_then_names (suc climb) names = omega (arith, slashed_len-ups_then_names climb names)
-
--- some of the names have no more bytes than all
-pub slashed_len-drop_le : (n : ℕ) (names : List (List ℕ))
-    → slashed_len (map name (drop n names)) ≤ slashed_len (map name names)
-slashed_len-drop_le zero names = omega arith
-slashed_len-drop_le (suc n) [] = omega arith
-slashed_len-drop_le (suc n) (x ∷ names) = omega (arith, slashed_len-drop_le n names)
 
 -- the names of a table, counted by their spans
 pub spans_len-padded : (sources : Sources) (spans : List Span) → All (CutsName sources) spans

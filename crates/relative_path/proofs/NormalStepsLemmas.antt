@@ -1,10 +1,11 @@
 -- Normal lists of steps: their parts, where they lead, that each is the only one that leads there, and their texts.
-use Rattle.std.proofs.Common.{◌≡◌, ℕ, zero, suc, ◌-◌, ◌<◌, ◌≤◌, Bool, true, false, List, [], ◌∷◌, ◌++◌, length, take, map, replicate, Some, None, refl, sym, ap, ◌∙◌, append_assoc, append-nil, arith, length-append, length-take-le, take_all, take_at, take-take}
+use Rattle.std.proofs.Common.{◌≡◌, ℕ, zero, suc, ◌-◌, ◌<◌, ◌≤◌, Bool, true, false, List, [], ◌∷◌, ◌++◌, length, take, map, replicate, Some, None, refl, sym, ap, ◌∙◌, append-nil, arith, length-take-le, take_all, take_at, take-take, ◌≢◌, subst, inl, inr}
 use Rattle.std.proofs.lemmas.List.{append_cancel_left, length-replicate}
-use Rattle.relative_path.specs.Steps.{Step, cur, up, name, slash, step_text, spell}
+use Rattle.relative_path.specs.Steps.{Step, cur, up, name}
 use Rattle.relative_path.specs.Walk.{walk, IsSame}
 use Rattle.relative_path.specs.Normalizing.{AreNames, IsNormal, climb}
-use Rattle.relative_path.proofs.WalkLemmas.{IsSame-sym}
+use Rattle.relative_path.proofs.WalkLemmas.{IsSame-sym, walk-names}
+use Rattle.relative_path.proofs.ListsLemmas.{last_view}
 
 -- ---- the parts of a normal list
 
@@ -20,6 +21,10 @@ AreNames-push_name [] n names = tt
 AreNames-push_name (cur ∷ cs) n names = absurd names
 AreNames-push_name (up ∷ cs) n names = absurd names
 AreNames-push_name (name m ∷ cs) n names = AreNames-push_name cs n names
+
+pub AreNames-map : (names : List (List ℕ)) → AreNames (map name names)
+AreNames-map [] = tt
+AreNames-map (n ∷ ns) = AreNames-map ns
 
 pub IsNormal-push_name : (cs : List Step) (n : List ℕ) → IsNormal cs → IsNormal (cs ++ name n ∷ [])
 IsNormal-push_name [] n normal = tt
@@ -75,6 +80,21 @@ IsNormal-not_cur (cur ∷ cs) normal = normal
 IsNormal-not_cur (up ∷ cs) normal = IsNormal-not_cur cs normal
 IsNormal-not_cur (name n ∷ cs) normal = AreNames-not_cur cs normal
 
+-- a normal list that does not end in a name takes one `..` more
+pub IsNormal-push_up : (cs : List Step) → IsNormal cs → ((ds : List Step) (n : List ℕ) → cs ≢ ds ++ name n ∷ [])
+    → IsNormal (cs ++ up ∷ [])
+IsNormal-push_up cs normal other = elim (last_view cs) [
+  | inl none ↦ rw none tt
+  | inr (ds, c, joined) ↦
+      rw joined (push_up ds c (subst IsNormal joined normal) (λ n e. other ds n (joined ∙ ap (λ d. ds ++ d ∷ []) e)))
+]
+  where
+    push_up : (ds : List Step) (c : Step) → IsNormal (ds ++ c ∷ []) → ((n : List ℕ) → c ≢ name n)
+        → IsNormal ((ds ++ c ∷ []) ++ up ∷ [])
+    push_up ds cur h none = absurd (IsNormal-not_cur ds h)
+    push_up ds up h none = IsNormal-push_up_after_up ds h
+    push_up ds (name n) h none = absurd (none n refl)
+
 AreNames-parts : (cs : List Step) → AreNames cs → cs ≡ map name (names_of cs)
 AreNames-parts [] names = refl
 AreNames-parts (cur ∷ cs) names = absurd names
@@ -89,13 +109,6 @@ IsNormal-parts (up ∷ cs) normal = ap (λ x. up ∷ x) (IsNormal-parts cs norma
 IsNormal-parts (name n ∷ cs) normal = ap (λ x. name n ∷ x) (AreNames-parts cs normal)
 
 -- ---- where a normal list leads
-
-pub walk-names : (base : List (List ℕ)) (cs : List Step) → AreNames cs → walk base cs ≡ Some (base ++ names_of cs)
-walk-names base [] names = ap Some (sym (append-nil base))
-walk-names base (cur ∷ cs) names = absurd names
-walk-names base (up ∷ cs) names = absurd names
-walk-names base (name n ∷ cs) names =
-    walk-names (base ++ n ∷ []) cs names ∙ ap Some (append_assoc base (n ∷ []) (names_of cs))
 
 -- from a base that is shorter than the climb, a normal list leads nowhere
 pub walk-normal_none : (base : List (List ℕ)) (cs : List Step) → IsNormal cs → length base < climb cs
@@ -122,7 +135,8 @@ walk-normal (n ∷ ns) (up ∷ cs) normal long =
     ∙ ap (λ x. Some (x ++ names_of cs))
     (take-take (suc (length ns) - suc (climb cs)) (length ns) (n ∷ ns) (omega arith))
 walk-normal base (name n ∷ cs) normal long =
-    walk-names base (name n ∷ cs) normal ∙ ap (λ x. Some (x ++ n ∷ names_of cs)) (sym (take_all _ base (omega arith)))
+    ap (λ ns. walk base (name n ∷ ns)) (AreNames-parts cs normal) ∙ walk-names base (n ∷ names_of cs)
+    ∙ ap (λ x. Some (x ++ n ∷ names_of cs)) (sym (take_all _ base (omega arith)))
 
 -- the higher climb leads nowhere from a base that the lower one just clears
 climb_not_less : (cs ds : List Step) → IsNormal cs → IsNormal ds → IsSame cs ds → climb cs < climb ds → ⊥
@@ -162,30 +176,6 @@ normal_unique cs ds normal_cs normal_ds same =
     let parts_cs = IsNormal-parts cs normal_cs in
     let parts_ds = IsNormal-parts ds normal_ds in
     cc
-
--- ---- the text of a list
-
--- a slash joins the texts of two nonempty lists
-pub spell-append : (c : Step) (cs : List Step) (d : Step) (ds : List Step)
-    → spell ((c ∷ cs) ++ (d ∷ ds)) ≡ spell (c ∷ cs) ++ slash ∷ spell (d ∷ ds)
-spell-append c [] d ds = refl
-spell-append c (e ∷ es) d ds =
-    ap (λ x. step_text c ++ slash ∷ x) (spell-append e es d ds)
-    ∙ sym (append_assoc (step_text c) (slash ∷ spell (e ∷ es)) (slash ∷ spell (d ∷ ds)))
-
-pub length-spell-append_le : (cs ds : List Step) → length (spell cs) ≤ length (spell (cs ++ ds))
-length-spell-append_le [] ds = omega arith
-length-spell-append_le (c ∷ cs) [] = rw (append-nil cs) (omega arith)
-length-spell-append_le (c ∷ cs) (d ∷ ds) =
-    rw (spell-append c cs d ds) (omega (arith, length-append {A = ℕ}))
-
--- without one of its steps a list has no longer text
-pub length-spell-drop_one : (cs ds : List Step) (c : Step) → length (spell (cs ++ ds)) ≤ length (spell (cs ++ c ∷ ds))
-length-spell-drop_one [] [] c = omega arith
-length-spell-drop_one [] (d ∷ ds) c = omega (arith, length-append {A = ℕ})
-length-spell-drop_one (e ∷ es) [] c = rw (append-nil es) (length-spell-append_le (e ∷ es) (c ∷ []))
-length-spell-drop_one (e ∷ es) (d ∷ ds) c =
-    rw (spell-append e es d ds, spell-append e es c (d ∷ ds)) (omega (arith, length-append {A = ℕ}))
 
 -- ---- a test of a normal list
 

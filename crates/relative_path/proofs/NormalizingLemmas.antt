@@ -1,52 +1,16 @@
 -- Normalising a text component by component.
-use Rattle.std.proofs.Common.{◌≡◌, ◌≢◌, ◌⊎◌, ℕ, suc, ◌+◌, ◌≤◌, List, [], ◌∷◌, ◌++◌, map, filter, length, get_or, take, sym, refl, ap, ap₂, ◌∙◌, subst, inl, inr, append_assoc, append-nil, arith, length-append, take_at}
-use Rattle.std.specs.List.{join_with_byte, slice_split}
-use Rattle.std.proofs.lemmas.List.Splits.{join_with_byte-slice_split}
-use Rattle.relative_path.specs.Steps.{slash, is_slash, is_not_empty, pieces, Step, cur, up, name, step_text, classed, components, spell}
+use Rattle.std.proofs.Common.{◌≡◌, ℕ, ◌≤◌, List, [], ◌∷◌, ◌++◌, length, take, sym, refl, ap, ap₂, ◌∙◌, subst, append_assoc, append-nil, arith, take_at}
+use Rattle.relative_path.specs.Steps.{Step, cur, up, name, step_text, components, spell, SpellThemselves, SpellsItself}
 use Rattle.relative_path.specs.Walk.{IsSame}
 use Rattle.relative_path.specs.Normalizing.{IsNormal, IsNormalText, IsNormalTextOf}
 use Rattle.relative_path.specs.Slices.{IsShortestPrefix}
-use Rattle.relative_path.specs.Editing.{pushed, with_separator, unslashed, kept_len, IsPopped}
-use Rattle.relative_path.proofs.StepsLemmas.{components-nil, components-spell, SpellThemselves, SpellsItself, SpellThemselves-components, SpellThemselves-append_left, HasNoSlash-proper, HasNoSlash-start, nonempty_proper, spell_end, spell_nonempty, step_text-classed, parts_len, parts_len-filter}
-use Rattle.relative_path.proofs.SlicesLemmas.{IsPrefix, IsPrefix-append, IsShortestPrefix-from, IsShortestPrefix-unique}
-use Rattle.relative_path.proofs.EditingLemmas.{components-pushed, with_separator-non_slash, unslashed-non_slash, kept_len-push}
+use Rattle.relative_path.specs.Editing.{pushed, kept_len, IsPopped}
+use Rattle.relative_path.proofs.StepsLemmas.{components-nil, SpellThemselves-components, SpellThemselves-append_left}
+use Rattle.relative_path.proofs.SlicesLemmas.{IsPrefix, IsShortestPrefix-from, IsShortestPrefix-unique}
+use Rattle.relative_path.proofs.EditingLemmas.{components-pushed, kept_len-push, spell-pushed}
 use Rattle.relative_path.proofs.WalkLemmas.{IsSame-refl, IsSame-sym, IsSame-trans, IsSame-append_right, IsSame-cur, IsSame-name_up}
-use Rattle.relative_path.proofs.NormalStepsLemmas.{IsNormal-push_up_after_up, IsNormal-front, IsNormal-not_cur, normal_unique, spell-append, length-spell-append_le, length-spell-drop_one}
-
--- ---- a text is no shorter than what spells its components
-
-length-join_with_byte : (c : ℕ) (p : List ℕ) (ps : List (List ℕ))
-    → suc (length (join_with_byte c (p ∷ ps))) ≡ parts_len (p ∷ ps) + length (p ∷ ps)
-length-join_with_byte c p [] = omega arith
-length-join_with_byte c p (q ∷ ps) =
-    omega (arith, length-append p (c ∷ join_with_byte c (q ∷ ps)), length-join_with_byte c q ps)
-
-length-filter_le : (ps : List (List ℕ)) → length (filter is_not_empty ps) ≤ length ps
-length-filter_le [] = omega arith
-length-filter_le ([] ∷ ps) = omega (arith, length-filter_le ps)
-length-filter_le ((b ∷ bs) ∷ ps) = omega (arith, length-filter_le ps)
-
-length-join-filter : (c : ℕ) (ps : List (List ℕ))
-    → length (join_with_byte c (filter is_not_empty ps)) ≤ length (join_with_byte c ps)
-length-join-filter c [] = omega arith
-length-join-filter c (p ∷ ps) =
-    shorter (filter is_not_empty (p ∷ ps)) (parts_len-filter (p ∷ ps)) (length-filter_le (p ∷ ps))
-  where
-    shorter : (qs : List (List ℕ)) → parts_len qs ≡ parts_len (p ∷ ps) → length qs ≤ length (p ∷ ps)
-        → length (join_with_byte c qs) ≤ length (join_with_byte c (p ∷ ps))
-    shorter [] same fewer = omega arith
-    shorter (q ∷ qs) same fewer = omega (arith, length-join_with_byte c q qs, length-join_with_byte c p ps)
-
-step_texts : (ps : List (List ℕ)) → map step_text (map classed ps) ≡ ps
-step_texts [] = refl
-step_texts (p ∷ ps) = ap₂ (λ x xs. x ∷ xs) (step_text-classed p) (step_texts ps)
-
-pub length-spell-components : (text : List ℕ) → length (spell (components text)) ≤ length text
-unfolding components pieces
-length-spell-components text =
-    let spelled = ap (λ ps. length (join_with_byte slash ps)) (step_texts (pieces text)) in
-    let shorter = length-join-filter slash (slice_split is_slash text) in
-    omega (arith, spelled, shorter, ap length (join_with_byte-slice_split slash text))
+use Rattle.relative_path.proofs.NormalStepsLemmas.{IsNormal-front, normal_unique}
+use Rattle.relative_path.proofs.SpellingLemmas.{components-spell, spell_end, IsPrefix-spell, length-spell-append_le, length-spell-drop_one, length-spell-components}
 
 -- ---- one component at a time
 
@@ -76,29 +40,6 @@ Normalizes-cur source limit text left h = record {
   fits = let shorter = length-spell-drop_one (components text) left cur in let fits = h.fits in omega arith;
 }
 
--- a component pushed after the text that spells others
-pushed-spell : (cs : List Step) (c : Step) → SpellThemselves cs → SpellsItself c
-    → pushed (spell cs) (step_text c) ≡ spell (cs ++ c ∷ [])
-pushed-spell cs c propers proper = ap (λ x. with_separator (spell cs) ++ x) non_slash ∙ after cs propers
-  where
-    non_slash : unslashed (step_text c) ≡ step_text c
-    non_slash =
-        unslashed-non_slash (step_text c)
-        (subst (λ x. get_or x 0 0 ≢ slash) (append-nil (step_text c))
-        (HasNoSlash-start (step_text c) [] (nonempty_proper c proper) (HasNoSlash-proper c proper)))
-
-    after : (ds : List Step) → SpellThemselves ds → with_separator (spell ds) ++ step_text c ≡ spell (ds ++ c ∷ [])
-    after [] h = refl
-    after (d ∷ ds) h =
-        ap (λ x. x ++ step_text c)
-        (with_separator-non_slash (spell (d ∷ ds)) (spell_nonempty d ds h.0) (spell_end (d ∷ ds) h))
-        ∙ append_assoc (spell (d ∷ ds)) (slash ∷ []) (step_text c) ∙ sym (spell-append d ds c [])
-
-pub spell-pushed : (text : List ℕ) (c : Step) → text ≡ spell (components text) → SpellsItself c
-    → pushed text (step_text c) ≡ spell (components text ++ c ∷ [])
-spell-pushed text c spelled proper =
-    ap (λ x. pushed x (step_text c)) spelled ∙ pushed-spell (components text) c (SpellThemselves-components text) proper
-
 Normalizes-push : (source : List Step) (limit : ℕ) (text : List ℕ) (c : Step) (left : List Step)
     → Normalizes source limit text (c ∷ left) → SpellsItself c → IsNormal (components text ++ c ∷ [])
     → Normalizes source limit (pushed text (step_text c)) left
@@ -126,10 +67,6 @@ pushed_fits source limit text c left h proper =
     let longer = length-spell-append_le (components text ++ c ∷ []) left in
     let fits = h.fits in
     omega arith
-
-IsPrefix-spell : (cs : List Step) (c : Step) → IsPrefix (spell (cs ++ c ∷ [])) (spell cs)
-IsPrefix-spell [] c = record { front = refl }
-IsPrefix-spell (d ∷ cs) c = rw (spell-append d cs c []) (IsPrefix-append (spell (d ∷ cs)) (slash ∷ step_text c))
 
 Normalizes-pop : (source : List Step) (limit : ℕ) (text popped : List ℕ) (cs : List Step) (n : List ℕ) (left : List Step)
     → Normalizes source limit text (up ∷ left) → components text ≡ cs ++ name n ∷ [] → IsPopped text popped
@@ -235,28 +172,6 @@ Normalizes-end source limit text left h none =
     )
 
 -- ---- when a `..` stays
-
-pub last_view : (cs : List Step) → (cs ≡ []) ⊎ ((ds : List Step) × (c : Step) × (cs ≡ ds ++ c ∷ []))
-last_view [] = inl refl
-last_view (c ∷ cs) = elim (last_view cs) [
-  | inl none ↦ inr ([], c, ap (λ x. c ∷ x) none)
-  | inr (ds, d, joined) ↦ inr (c ∷ ds, d, ap (λ x. c ∷ x) joined)
-]
-
--- a normal list that does not end in a name takes one `..` more
-pub IsNormal-push_up : (cs : List Step) → IsNormal cs → ((ds : List Step) (n : List ℕ) → cs ≢ ds ++ name n ∷ [])
-    → IsNormal (cs ++ up ∷ [])
-IsNormal-push_up cs normal other = elim (last_view cs) [
-  | inl none ↦ rw none tt
-  | inr (ds, c, joined) ↦
-      rw joined (push_up ds c (subst IsNormal joined normal) (λ n e. other ds n (joined ∙ ap (λ d. ds ++ d ∷ []) e)))
-]
-  where
-    push_up : (ds : List Step) (c : Step) → IsNormal (ds ++ c ∷ []) → ((n : List ℕ) → c ≢ name n)
-        → IsNormal ((ds ++ c ∷ []) ++ up ∷ [])
-    push_up ds cur h none = absurd (IsNormal-not_cur ds h)
-    push_up ds up h none = IsNormal-push_up_after_up ds h
-    push_up ds (name n) h none = absurd (none n refl)
 
 -- a normal list is what its normal text has
 pub components-IsNormalTextOf : (cs : List Step) (text : List ℕ) → IsNormalTextOf cs text → IsNormal cs

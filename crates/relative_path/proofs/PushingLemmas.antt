@@ -1,36 +1,24 @@
 -- Pushes one after another: what some of them leave, and how long the text grows.
 use Rattle.std.proofs.Common.{◌≡◌, ℕ, suc, ◌+◌, ◌<◌, ◌≤◌, true, false, List, [], ◌∷◌, ◌++◌, map, length, take, drop, get_or, Option, IfSome, sym, refl, ap, ap₂, ◌∙◌, append_assoc, append-nil, arith, length-append, take_at}
 use Rattle.std.specs.List.{slice_get}
-use Rattle.std.proofs.lemmas.Bool.{cond_both}
 use Rattle.std.proofs.lemmas.List.{map-append, drop_all}
 use Rattle.std.proofs.iter.runs.Made.{run, to_end, to_item}
 use Rattle.relative_path.specs.declared.path.RelativePath.{RelativePath}
-use Rattle.relative_path.specs.Steps.{slash}
-use Rattle.relative_path.specs.Editing.{pushed, with_separator, unslashed}
+use Rattle.relative_path.specs.Editing.{pushed}
 use Rattle.relative_path.specs.RelativePath.{path_text}
 use Rattle.relative_path.specs.RelativePathBuf.{Buffer}
 use Rattle.relative_path.specs.Pushing.{pushed_all, StopsWithin, PushesAll, PushesUntilFull, PushesWholeRun, StopsRun}
+use Rattle.relative_path.proofs.EditingLemmas.{length-pushed_le}
 
 pub pushed_all-append : (text : List ℕ) (ps qs : List (List ℕ))
     → pushed_all text (ps ++ qs) ≡ pushed_all (pushed_all text ps) qs
 pushed_all-append text [] qs = refl
 pushed_all-append text (p ∷ ps) qs = pushed_all-append (pushed text p) ps qs
 
-length-with_separator-le : (text : List ℕ) → length text ≤ length (with_separator text)
-length-with_separator-le [] = omega arith
-length-with_separator-le (b ∷ bs) =
-    let separated = (b ∷ bs) ++ slash ∷ [] in
-    let longer = length-append (b ∷ bs) (slash ∷ []) in
-    cond_both _ (b ∷ bs) separated (λ x. length (b ∷ bs) ≤ length x) (λ _. omega arith) (λ _. omega (arith, longer))
-
-length-pushed-le : (text path : List ℕ) → length text ≤ length (pushed text path)
-length-pushed-le text path =
-    omega (arith, length-with_separator-le text, length-append (with_separator text) (unslashed path))
-
 -- no push makes a text shorter
-pub length-pushed_all-le : (text : List ℕ) (ps : List (List ℕ)) → length text ≤ length (pushed_all text ps)
-length-pushed_all-le text [] = omega arith
-length-pushed_all-le text (p ∷ ps) = omega (arith, length-pushed-le text p, length-pushed_all-le (pushed text p) ps)
+pub length-pushed_all_le : (text : List ℕ) (ps : List (List ℕ)) → length text ≤ length (pushed_all text ps)
+length-pushed_all_le text [] = omega arith
+length-pushed_all_le text (p ∷ ps) = omega (arith, length-pushed_le text p, length-pushed_all_le (pushed text p) ps)
 
 -- where some were pushed, and the room is too short for the next one
 module _ (old new : Buffer) (front : List (List ℕ)) (path : List ℕ) (more texts : List (List ℕ))
@@ -61,7 +49,7 @@ module _ (old new : Buffer) (front : List (List ℕ)) (path : List ℕ) (more te
         before_end = omega (arith, ap length joined, count, length-append (front ++ path ∷ []) more);
         text = text ∙ ap (pushed_all old.text) (sym first);
         stopped = rw (first_and_one, one_more) stopped;
-        full = omega (arith, stopped, room, ap length whole, length-pushed_all-le (pushed new.text path) more);
+        full = omega (arith, stopped, room, ap length whole, length-pushed_all_le (pushed new.text path) more);
       }
 
 -- what is read place by place is the front of the texts

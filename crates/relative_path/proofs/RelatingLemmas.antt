@@ -1,18 +1,19 @@
 -- The shortest way from one place to another, and from one normal list to another; where normal lists lead apart.
-use Rattle.std.proofs.Common.{◌≡◌, ◌≢◌, ◌⊎◌, ◌↔◌, ℕ, zero, suc, ◌+◌, ◌-◌, ◌<◌, ◌≤◌, true, cond, bytes_eq, List, [], ◌∷◌, ◌++◌, length, take, map, replicate, Option, Some, None, IsNone, MatchOption, true≢false, option_and_then, refl, sym, ap, ◌∙◌, subst, inl, inr, append_assoc, append-nil, arith, length-append, drop}
+use Rattle.std.proofs.Common.{◌≡◌, ◌≢◌, ◌⊎◌, ◌↔◌, ℕ, zero, suc, ◌+◌, ◌-◌, ◌<◌, ◌≤◌, cond, bytes_eq, List, [], ◌∷◌, ◌++◌, length, take, map, replicate, Option, Some, None, IsNone, MatchOption, true≢false, option_and_then, refl, sym, ap, ◌∙◌, subst, inl, inr, append_assoc, append-nil, arith, length-append, drop}
 use Rattle.std.specs.Prelude.{min}
 use Rattle.std.specs.List.{common_prefix_len}
 use Rattle.std.proofs.lemmas.Bool.{cond-true, cond-false, cases_Bool, cases_lt}
-use Rattle.std.proofs.lemmas.List.{length_push, length-replicate, replicate-append-replicate, take-replicate}
+use Rattle.std.proofs.lemmas.List.{length-replicate, take-replicate}
 use Rattle.std.proofs.lemmas.Slice.Eq.{bytes_eq-Decides}
 use Rattle.relative_path.specs.Steps.{Step, cur, up, name, components, spell}
 use Rattle.relative_path.specs.Walk.{walk, IsSame, StaysBelow}
 use Rattle.relative_path.specs.Normalizing.{IsNormalForm, climb}
 use Rattle.relative_path.specs.NormalForm.{ups_then_names}
 use Rattle.relative_path.specs.Relating.{Leads, IsReachable, IsShortest, IsShortestText, LeadsApart}
-use Rattle.relative_path.proofs.WalkLemmas.{walk-append, IsSame-below, IsSame-refl, IsSame-sym, IsSame-trans, IsSame-append_left, IsSame-append_right, IsSame-name_up}
-use Rattle.relative_path.proofs.NormalStepsLemmas.{names_of, IsNormal-parts, walk-normal, walk-normal_none}
-use Rattle.relative_path.proofs.NormalFormLemmas.{IsNormal-ups_then_names}
+use Rattle.relative_path.proofs.WalkLemmas.{walk-append, IsSame-below, IsSame-refl, IsSame-sym, IsSame-trans, IsSame-append_left, IsSame-append_right, IsSame-name_up, above_name}
+use Rattle.relative_path.proofs.NormalStepsLemmas.{names_of, IsNormal-parts}
+use Rattle.relative_path.proofs.NormalFormLemmas.{walk-ups_then_names_level, walk-ups_then_names_none, ups_then_names-ups, walk-ups_then_names}
+use Rattle.relative_path.proofs.ListsLemmas.{bytes_eq-same, length-snoc}
 
 -- ---- the shortest way from a place to a place
 
@@ -22,15 +23,9 @@ way [] ns = map name ns
 way (m ∷ ms) [] = replicate (suc (length ms)) up
 way (m ∷ ms) (n ∷ ns) = cond (bytes_eq m n) (way ms ns) (replicate (suc (length ms)) up ++ map name (n ∷ ns))
 
-bytes_eq-same : (n : List ℕ) → bytes_eq n n ≡ true
-bytes_eq-same n = (bytes_eq-Decides n n).1 refl
-
 way-same : (ns : List (List ℕ)) → way ns ns ≡ []
 way-same [] = refl
 way-same (n ∷ ns) = cond-true (bytes_eq n n) _ _ (bytes_eq-same n) ∙ way-same ns
-
-length-snoc : (ms : List (List ℕ)) (n : List ℕ) → length (ms ++ n ∷ []) ≡ suc (length ms)
-length-snoc ms n = omega (arith, length_push ms n)
 
 -- one name more on the place that the way starts from is a `..` more, or a name less
 way-push : (ms : List (List ℕ)) (n : List ℕ) (ns : List (List ℕ))
@@ -49,12 +44,6 @@ way-push (m ∷ ms) n (k ∷ ks) = elim (cases_Bool (bytes_eq m k)) [
       let more = ap (λ x. replicate (suc x) up ++ map name (k ∷ ks)) (length-snoc ms n) in
       inl (rw (cond-false (bytes_eq m k) _ _ e, cond-false (bytes_eq m k) _ _ e) more)
 ]
-
--- a place but the top is the place above it and one name
-above_name : (n : List ℕ) (ns : List (List ℕ))
-    → (last : List ℕ) × (n ∷ ns ≡ take (length ns) (n ∷ ns) ++ last ∷ [])
-above_name n [] = (n, refl)
-above_name n (m ∷ ms) = let rest = above_name m ms in (rest.0, ap (λ x. n ∷ x) rest.1)
 
 -- what is no shorter than the way, with one step more
 way_shortest-up : (place : List (List ℕ)) (n : List ℕ) (ns : List (List ℕ)) (s : List Step)
@@ -135,45 +124,6 @@ way-other_name ms (n ∷ ns) = elim (cases_Bool (bytes_eq (0 ∷ n) n)) [
   | inr e ↦ cond-false (bytes_eq (0 ∷ n) n) _ _ e
 ]
 
--- ---- the parts of a normal list
-
-pub climb-ups_then_names : (ups : ℕ) (ns : List (List ℕ)) → climb (ups_then_names ups ns) ≡ ups
-climb-ups_then_names zero [] = refl
-climb-ups_then_names zero (n ∷ ns) = refl
-climb-ups_then_names (suc ups) ns = ap (λ k. suc k) (climb-ups_then_names ups ns)
-
-names_of-ups_then_names : (ups : ℕ) (ns : List (List ℕ)) → names_of (ups_then_names ups ns) ≡ ns
-names_of-ups_then_names zero [] = refl
-names_of-ups_then_names zero (n ∷ ns) = ap (λ x. n ∷ x) (names_of-ups_then_names zero ns)
-names_of-ups_then_names (suc ups) ns = names_of-ups_then_names ups ns
-
-walk-climbed_none : (base : List (List ℕ)) (ups : ℕ) (ns : List (List ℕ)) → length base < ups
-    → walk base (ups_then_names ups ns) ≡ None
-walk-climbed_none base ups ns short =
-    let climbs = climb-ups_then_names ups ns in
-    walk-normal_none base (ups_then_names ups ns) (IsNormal-ups_then_names ups ns) (omega arith)
-
-walk-ups_then_names : (base : List (List ℕ)) (ups : ℕ) (ns : List (List ℕ)) → ups ≤ length base
-    → walk base (ups_then_names ups ns) ≡ Some (take (length base - ups) base ++ ns)
-walk-ups_then_names base ups ns long =
-    let climbs = climb-ups_then_names ups ns in
-    let names = names_of-ups_then_names ups ns in
-    let leads = walk-normal base (ups_then_names ups ns) (IsNormal-ups_then_names ups ns) (omega arith) in
-    rw (climbs, names) at leads
-
-ups_then_names-ups : (ups more : ℕ) (ns : List (List ℕ))
-    → replicate ups up ++ ups_then_names more ns ≡ ups_then_names (ups + more) ns
-ups_then_names-ups ups more ns =
-    let joined = replicate-append-replicate ups more up in
-    sym (append_assoc (replicate ups up) (replicate more up) (map name ns)) ∙ ap (λ x. x ++ map name ns) joined
-
--- from a base of as many names as its `..`, a normal list leads to its own names
-walk-climbed_level : (base : List (List ℕ)) (ups : ℕ) (ns : List (List ℕ)) → length base ≡ ups
-    → walk base (ups_then_names ups ns) ≡ Some ns
-walk-climbed_level base ups ns level =
-    let none : length base - ups ≡ zero = omega arith in
-    walk-ups_then_names base ups ns (omega arith) ∙ ap (λ k. Some (take k base ++ ns)) none
-
 -- ---- lists that lead
 
 replicate-up_more : (k : ℕ) (ds : List Step) → replicate (suc k) up ++ ds ≡ replicate k up ++ up ∷ ds
@@ -246,8 +196,8 @@ IsShortest-level ups ms ns =
     let base : List (List ℕ) = replicate ups [] in
     let len = length-replicate {A = List ℕ} ups [] in
     let at : LeadFrom base ms ns (ups_then_names ups ms) (ups_then_names ups ns) = record {
-      source = walk-climbed_level base ups ms len;
-      target = walk-climbed_level base ups ns len;
+      source = walk-ups_then_names_level base ups ms len;
+      target = walk-ups_then_names_level base ups ns len;
     } in
     IsShortest-from _ _ _ _ _ _ at refl (Leads-level ups ms ns)
 
@@ -264,7 +214,7 @@ IsShortest-higher ups (suc k) ms ns higher =
     let names = ap (λ x. Some (x ++ ms)) (take-replicate (suc k) (ups + suc k) other (omega arith)) in
     let at : LeadFrom base place ns (ups_then_names ups ms) (ups_then_names (ups + suc k) ns) = record {
       source = walk-ups_then_names base ups ms (omega arith) ∙ kept ∙ names;
-      target = walk-climbed_level base (ups + suc k) ns len;
+      target = walk-ups_then_names_level base (ups + suc k) ns len;
     } in
     let joined = length-append (replicate (suc k) other) ms in
     let counted : length place ≡ length ms + suc k = omega (arith, joined, length-replicate (suc k) other) in
@@ -278,8 +228,8 @@ pub unreachable_higher : (ups more : ℕ) (ms ns : List (List ℕ)) → more < u
 unreachable_higher ups more ms ns higher (r, leads) =
     let base : List (List ℕ) = replicate more [] in
     let len = length-replicate {A = List ℕ} more [] in
-    let none = walk-climbed_none base ups ms (omega arith) in
-    let some = walk-climbed_level base more ns len in
+    let none = walk-ups_then_names_none base ups ms (omega arith) in
+    let some = walk-ups_then_names_level base more ns len in
     let joined = walk-append base (ups_then_names ups ms) r in
     let same = leads.everywhere base in
     let lost = joined ∙ ap (option_and_then (λ place. walk place r)) none in
@@ -291,21 +241,21 @@ pub LeadsApart-higher : (ups more : ℕ) (ms ns : List (List ℕ)) → ups < mor
     → LeadsApart (ups_then_names ups ms) (ups_then_names more ns) ups
 LeadsApart-higher ups more ms ns higher = record {
   apart = λ base level same.
-      let some = walk-climbed_level base ups ms level in
-      let none = walk-climbed_none base more ns (omega arith) in
+      let some = walk-ups_then_names_level base ups ms level in
+      let none = walk-ups_then_names_none base more ns (omega arith) in
       absurd (cc);
   together = λ base short.
-      walk-climbed_none base ups ms short ∙ sym (walk-climbed_none base more ns (omega arith));
+      walk-ups_then_names_none base ups ms short ∙ sym (walk-ups_then_names_none base more ns (omega arith));
 }
 
 pub LeadsApart-names : (ups : ℕ) (ms ns : List (List ℕ)) → ms ≢ ns
     → LeadsApart (ups_then_names ups ms) (ups_then_names ups ns) ups
 LeadsApart-names ups ms ns other = record {
   apart = λ base level same.
-      let from_ms = walk-climbed_level base ups ms level in
-      let from_ns = walk-climbed_level base ups ns level in
+      let from_ms = walk-ups_then_names_level base ups ms level in
+      let from_ns = walk-ups_then_names_level base ups ns level in
       other (cc);
-  together = λ base short. walk-climbed_none base ups ms short ∙ sym (walk-climbed_none base ups ns short);
+  together = λ base short. walk-ups_then_names_none base ups ms short ∙ sym (walk-ups_then_names_none base ups ns short);
 }
 
 pub LeadsApart-sym : (cs ds : List Step) (n : ℕ) → LeadsApart cs ds n → LeadsApart ds cs n
@@ -356,9 +306,9 @@ LeadsApart-same cs cs' ds ds' n first second h = record {
 
 -- ---- a list leads exactly if the source's normal form climbs no higher
 
-reachable_climbed : (ups more : ℕ) (ms ns : List (List ℕ))
+IsReachable-ups_then_names : (ups more : ℕ) (ms ns : List (List ℕ))
     → IsReachable (ups_then_names ups ms) (ups_then_names more ns) ↔ (ups ≤ more)
-reachable_climbed ups more ms ns = (
+IsReachable-ups_then_names ups more ms ns = (
   λ reachable. elim (cases_lt more ups) [
     | inl higher ↦ absurd (unreachable_higher ups more ms ns higher reachable)
     | inr lower ↦ lower
@@ -401,7 +351,7 @@ pub IsReachable-climb : (f t fs ts : List Step) → IsNormalForm f fs → IsNorm
 IsReachable-climb f t fs ts from to =
     let source = IsNormal-parts fs from.normal in
     let target = IsNormal-parts ts to.normal in
-    let climbs = reachable_climbed (climb fs) (climb ts) (names_of fs) (names_of ts) in
+    let climbs = IsReachable-ups_then_names (climb fs) (climb ts) (names_of fs) (names_of ts) in
     let there = λ (reachable : IsReachable f t). IsReachable-same f fs t ts from.same to.same reachable in
     let back = IsReachable-same fs f ts t (IsSame-sym f fs from.same) (IsSame-sym t ts to.same) in (
       λ reachable. climbs.0 (rw (← source, ← target) (there reachable)),
@@ -409,40 +359,6 @@ IsReachable-climb f t fs ts from to =
     )
 
 -- ---- the way as the code finds it
-
-common_prefix_len-same : (ns : List (List ℕ)) → common_prefix_len bytes_eq ns ns ≡ length ns
-common_prefix_len-same [] = refl
-common_prefix_len-same (n ∷ ns) =
-    cond-true (bytes_eq n n) _ _ (bytes_eq-same n) ∙ (let rest = common_prefix_len-same ns in omega arith)
-
-same_from_common : (ms ns : List (List ℕ)) → common_prefix_len bytes_eq ms ns ≡ length ms
-    → common_prefix_len bytes_eq ms ns ≡ length ns → ms ≡ ns
-same_from_common [] [] all all' = refl
-same_from_common [] (n ∷ ns) all all' = absurd (omega (arith, all'))
-same_from_common (m ∷ ms) [] all all' = absurd (omega (arith, all))
-same_from_common (m ∷ ms) (n ∷ ns) all all' = elim (cases_Bool (bytes_eq m n)) [
-  | inl e ↦
-      let counted = sym (cond-true (bytes_eq m n) (1 + common_prefix_len bytes_eq ms ns) 0 e) in
-      let first = counted ∙ all in
-      let second = counted ∙ all' in
-      let same = (bytes_eq-Decides m n).0 e in
-      let rest = same_from_common ms ns (omega arith) (omega arith) in
-      cc
-  | inr e ↦
-      let none = sym (cond-false (bytes_eq m n) (1 + common_prefix_len bytes_eq ms ns) 0 e) ∙ all in
-      absurd (omega arith)
-]
-
--- two lists are the same exactly if they have all their names in common
-pub common_all : (ms ns : List (List ℕ))
-    → ((common_prefix_len bytes_eq ms ns ≡ length ms) × (common_prefix_len bytes_eq ms ns ≡ length ns)) ↔ (ms ≡ ns)
-common_all ms ns = (
-  λ all. same_from_common ms ns all.0 all.1,
-  λ same. (
-    ap (common_prefix_len bytes_eq ms) (sym same) ∙ common_prefix_len-same ms,
-    ap (λ x. common_prefix_len bytes_eq x ns) same ∙ common_prefix_len-same ns,
-  ),
-)
 
 -- where both climb as high
 pub IsShortest-common : (ups : ℕ) (ms ns : List (List ℕ)) → let common = common_prefix_len bytes_eq ms ns in

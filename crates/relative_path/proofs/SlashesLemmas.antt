@@ -1,5 +1,5 @@
 -- A text trimmed of the slashes at an end, and cut at its first or its last slash.
-use Rattle.std.proofs.Common.{◌≡◌, ◌≢◌, ◌<◌, ℕ, suc, zero, cond, List, [], ◌∷◌, ◌++◌, All, take, drop, replicate, Option, Some, None, MatchOption, Bor, refl, sym, subst, ap, ap₂, ◌∙◌, lit<, take-append-drop, append-nil, ◌+◌, ◌-◌, ◌*◌, ◌^◌, length, get_or, get_or-drop, length-take, length-drop, arith, take_all, ◌≤◌, ⊎_elim, pow_mono, eqb-true, ◌⊎◌, inl, inr, w64, Bool, false, not, map, reverse, ne_eqb}
+use Rattle.std.proofs.Common.{◌≡◌, ◌≢◌, ◌<◌, ℕ, suc, zero, cond, List, [], ◌∷◌, ◌++◌, All, take, drop, replicate, Option, Some, None, MatchOption, Bor, refl, sym, subst, ap, ap₂, ◌∙◌, lit<, take-append-drop, append-nil, ◌+◌, ◌-◌, ◌*◌, ◌^◌, length, get_or, get_or-drop, length-take, length-drop, arith, take_all, ◌≤◌, pow_mono, eqb-true, ◌⊎◌, inl, inr, w64, Bool, false, not, map, reverse, ne_eqb, append_assoc, ⊎_elim}
 use Rattle.std.proofs.Math.Nat.{pow-suc, eq-or-lt_of_le}
 use Rattle.std.specs.Int.{bit_at, trailing_zeros}
 use Rattle.std.specs.Int.Count.{count_leading_zeros}
@@ -15,7 +15,7 @@ use Rattle.std.specs.Str.{IsUtf8, IsCharBoundary}
 use Rattle.std.specs.Str.Pattern.{RFindsChar, FindsTextPrefix, FindsTextSuffix, SplitsAroundMatch, StripsPrefix, StripsSuffix, FindsCharPrefix, FindsCharSuffix, IsTrimStartMatches, IsTrimEndMatches, CutsPrefixes, CutsSuffixes}
 use Rattle.std.proofs.lemmas.List.Elements.{All-from_get_or, recursion_from_All}
 use Rattle.std.proofs.lemmas.Str.Pattern.{NoCharPasses-char, drop_at_char}
-use Rattle.relative_path.specs.Steps.{slash, is_slash, components}
+use Rattle.relative_path.specs.Steps.{slash, is_slash, components, Step}
 use Rattle.std.proofs.lemmas.List.{get_or-map, drop_all, drop_more, take_more, get_or-take, get_or-reverse, length-reverse, length-map}
 use Rattle.std.proofs.lemmas.Str.{encode_ascii, IsCharBoundary-after_ascii, IsCharBoundary-before_ascii, IsCharBoundary-start, IsCharBoundary-end}
 use Rattle.relative_path.proofs.StepsLemmas.{components-nil, components-append, components-slash, components-trailing_slash, HasNoSlash}
@@ -349,3 +349,58 @@ rsplit_once_parts c text (Some parts) (i, j, found, front, back, _, _, _) ascii 
     let last =
     All-from_get_or (λ b. b ≢ c) (drop j text) 0 (λ k h. NoCharPasses-char c (drop j text) k found.0 ascii h) in
     (joined ∙ ap₂ (λ x y. x ++ c ∷ y) (sym front) (sym back), rw back last)
+
+-- ---- a text cut in two
+
+-- the text has no slash, or a last one
+pub last_slash : (text : List ℕ)
+    → HasNoSlash text ⊎ ((xs : List ℕ) × (ys : List ℕ) × (text ≡ xs ++ slash ∷ ys) × HasNoSlash ys)
+last_slash [] = inl tt
+last_slash (b ∷ bs) = elim (last_slash bs) [
+  | inl none ↦
+      ⊎_elim (λ e. inr ([], bs, ap (λ x. x ∷ bs) (eqb-true b slash e), none)) (λ e. inl (e, none))
+      (cases_Bool (is_slash b))
+  | inr (xs, ys, joined, none) ↦ inr (b ∷ xs, ys, ap (λ x. b ∷ x) joined, none)
+]
+
+-- the text has no slash, or a first one
+first_slash : (text : List ℕ)
+    → HasNoSlash text ⊎ ((xs : List ℕ) × (ys : List ℕ) × (text ≡ xs ++ slash ∷ ys) × HasNoSlash xs)
+first_slash [] = inl tt
+first_slash (b ∷ bs) = ⊎_elim
+    (λ e. inr ([], bs, ap (λ x. x ∷ bs) (eqb-true b slash e), tt))
+    (λ e. elim (first_slash bs) [
+      | inl none ↦ inl (e, none)
+      | inr (xs, ys, joined, none) ↦ inr (b ∷ xs, ys, ap (λ x. b ∷ x) joined, (e, none))
+    ])
+    (cases_Bool (is_slash b))
+
+-- whatever follows a text, only its last piece can change
+pub components-before : (front : List ℕ)
+    → (cs : List Step) × (x : List ℕ) × HasNoSlash x
+    × ((rest : List ℕ) → components (front ++ rest) ≡ cs ++ components (x ++ rest))
+components-before front = elim (last_slash front) [
+  | inl none ↦ ([], front, none, λ rest. refl)
+  | inr (xs, ys, joined, none) ↦ (
+    components xs,
+    ys,
+    none,
+    λ rest. ap (λ t. components (t ++ rest)) joined ∙ ap components (append_assoc xs (slash ∷ ys) rest)
+        ∙ components-append xs (ys ++ rest),
+  )
+]
+
+-- whatever stands before a text, only its first piece can change
+pub components-after : (rest : List ℕ)
+    → (cs : List Step) × (y : List ℕ) × HasNoSlash y
+    × ((front : List ℕ) → components (front ++ rest) ≡ components (front ++ y) ++ cs)
+components-after rest = elim (first_slash rest) [
+  | inl none ↦ ([], rest, none, λ front. sym (append-nil (components (front ++ rest))))
+  | inr (xs, ys, joined, none) ↦ (
+    components ys,
+    xs,
+    none,
+    λ front. ap (λ t. components (front ++ t)) joined ∙ ap components (sym (append_assoc front xs (slash ∷ ys)))
+        ∙ components-append (front ++ xs) ys,
+  )
+]

@@ -1,12 +1,13 @@
 -- Prefixes and suffixes of a text that are fixed by their components.
-use Rattle.std.proofs.Common.{◌≡◌, ◌≢◌, ℕ, ◌+◌, ◌-◌, ◌<◌, ◌≤◌, List, [], ◌++◌, length, get_or, take, drop, sym, refl, ap, ◌∙◌, subst, ⊎_elim, append_assoc, arith, take-append-drop, length-drop, length-take, take-take, take_at, get_or-drop}
+use Rattle.std.proofs.Common.{◌≡◌, ◌≢◌, ℕ, ◌+◌, ◌-◌, ◌<◌, ◌≤◌, List, [], ◌++◌, length, get_or, take, drop, sym, refl, ap, ◌∙◌, subst, append_assoc, arith, take-append-drop, length-drop, length-take, take-take, take_at, get_or-drop, take_all, ⊎_elim, ◌∷◌}
 use Rattle.std.proofs.lemmas.Bool.{cases_lt}
 use Rattle.std.proofs.lemmas.List.Prefix.{end_rest}
 use Rattle.std.specs.Str.{IsUtf8, IsCharBoundary}
 use Rattle.std.proofs.lemmas.Str.{IsCharBoundary-from_take}
+use Rattle.std.proofs.lemmas.List.{take_more}
 use Rattle.relative_path.specs.Steps.{slash, Step, components}
 use Rattle.relative_path.specs.Slices.{IsShortestPrefix}
-use Rattle.relative_path.proofs.StepsLemmas.{components-nil, total_len-components, solid_len, solid_len-append, last-not_solid}
+use Rattle.relative_path.proofs.StepsLemmas.{components-nil, total_len-components, solid_len, solid_len-append, last-not_solid, components-trailing_slash}
 
 -- p is the front of the text
 pub record IsPrefix (text p : List ℕ) : Type 0 where
@@ -101,6 +102,30 @@ IsShortestPrefix-unique {text} {p} {q} s t =
 -- the empty front has no components
 pub IsShortestPrefix-nil : (text : List ℕ) → IsShortestPrefix text [] []
 IsShortestPrefix-nil text = record { prefix = refl; same_components = components-nil; shortest = λ k e. omega arith }
+
+-- the text ends in a slash, or has no byte
+pub ends_separated : (text : List ℕ) → get_or text (length text - 1) 0 ≡ slash
+    → text ≡ take (length text - 1) text ++ slash ∷ []
+ends_separated [] e = absurd (omega (arith, e))
+ends_separated (b ∷ bs) e =
+    let long : length (b ∷ bs) ≤ length (b ∷ bs) - 1 + 1 = omega arith in
+    sym (take_all (length (b ∷ bs) - 1 + 1) (b ∷ bs) long) ∙ take_more (b ∷ bs) (length (b ∷ bs) - 1) 0 (omega arith)
+    ∙ ap (λ x. take (length (b ∷ bs) - 1) (b ∷ bs) ++ x ∷ []) e
+
+-- the shortest front with its components ends in no slash
+pub end-IsShortestPrefix : {text p : List ℕ} {cs : List Step} → IsShortestPrefix text cs p
+    → get_or p (length p - 1) 0 ≢ slash
+end-IsShortestPrefix {text} {p} {cs} s = λ e.
+    let front = take (length p - 1) p in
+    let same =
+    ap components (sym (take-IsPrefix (IsPrefix-shortest s) (length p - 1) (omega arith)))
+    ∙ sym (components-trailing_slash front) ∙ ap components (sym (ends_separated p e)) ∙ s.same_components in
+    let shorter = s.shortest (length p - 1) same in
+    empty p (omega arith) e
+  where
+    empty : (q : List ℕ) → length q ≡ 0 → get_or q (length q - 1) 0 ≢ slash
+    empty [] none = λ e. absurd (omega (arith, e))
+    empty (b ∷ bs) none = absurd (omega arith)
 
 -- r is the end of the text
 pub record IsSuffix (text r : List ℕ) : Type 0 where

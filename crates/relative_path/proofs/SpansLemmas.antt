@@ -1,17 +1,17 @@
 -- Spans of names: where the components of a text stand in it, and the runs that names next to each other make.
-use Rattle.std.proofs.Common.{◌≡◌, ◌≢◌, ◌⊎◌, ◌<◌, ◌≤◌, ℕ, suc, ◌+◌, ◌-◌, List, [], ◌∷◌, ◌++◌, length, append_assoc, fold, map, All, Option, Some, None, Bor, MatchOption, IfSome, get_or, take, drop, slice_range, sym, refl, ap, ap₂, ◌∙◌, subst, inl, inr, ⊎_elim, append-nil, arith, eqb-true, length-append, length-take, length-drop, get_or-drop, take_at}
+use Rattle.std.proofs.Common.{◌≡◌, ◌≢◌, ◌⊎◌, ◌<◌, ◌≤◌, ℕ, suc, ◌+◌, ◌-◌, List, [], ◌∷◌, ◌++◌, length, append_assoc, fold, map, All, Option, Some, None, Bor, MatchOption, IfSome, get_or, take, drop, slice_range, sym, refl, ap, ap₂, ◌∙◌, subst, inl, inr, append-nil, arith, eqb-true, length-append, length-take, length-drop, get_or-drop, take_at, ⊎_elim}
 use Rattle.std.proofs.Math.Seq.{take-add}
 use Rattle.std.specs.Str.{IsUtf8, IsCharBoundary}
 use Rattle.std.proofs.lemmas.Bool.{cases_Bool}
 use Rattle.std.proofs.lemmas.List.Elements.{All-head, All-tail, All-weaker}
 use Rattle.std.proofs.lemmas.List.{drop-drop, drop_more, get_or_at}
 use Rattle.std.proofs.lemmas.Str.{IsCharBoundary-from_drop}
-use Rattle.relative_path.specs.Steps.{slash, is_slash, Step, cur, classed, step_text, components}
+use Rattle.relative_path.specs.Steps.{slash, is_slash, Step, cur, classed, step_text, components, SpellsItself, SpellThemselves}
 use Rattle.relative_path.specs.declared.spans.Source.{Source}
 use Rattle.relative_path.specs.declared.spans.Sources.{Sources}
 use Rattle.relative_path.specs.declared.spans.Span.{Span}
 use Rattle.relative_path.specs.Spans.{source_text, span_text, IsRun, Cuts, CutsName, IsFirstRun, IsOrdered, rest_len, spans_len}
-use Rattle.relative_path.proofs.StepsLemmas.{HasNoSlash, SpellsItself, SpellThemselves, SpellThemselves-components, components-append, components-nil, components_whole, nonempty_proper, step_text-classed}
+use Rattle.relative_path.proofs.StepsLemmas.{HasNoSlash, SpellThemselves-components, components-append, components-nil, components_whole, nonempty_proper, step_text-classed}
 use Rattle.relative_path.proofs.SlashesLemmas.{IsCharBoundary-piece}
 use Rattle.relative_path.specs.Writing.{with_piece}
 

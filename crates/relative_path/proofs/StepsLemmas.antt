@@ -1,12 +1,12 @@
 -- How the components of a text follow its slashes.
-use Rattle.std.proofs.Common.{◌≡◌, ◌≢◌, ℕ, suc, ◌+◌, ◌-◌, ◌<◌, ◌≤◌, false, cond, List, [], ◌∷◌, ◌++◌, map, length, get_or, filter, get_or-append-add, bytes_eq, sym, refl, ap, ap₂, ◌∙◌, eqb-true, ⊎_elim, append_assoc, append-nil, arith, length-append}
+use Rattle.std.proofs.Common.{◌≡◌, ◌≢◌, ℕ, suc, ◌+◌, ◌-◌, ◌<◌, ◌≤◌, false, cond, List, [], ◌∷◌, ◌++◌, map, length, get_or, filter, get_or-append-add, bytes_eq, sym, refl, ap, ◌∙◌, eqb-true, append-nil, arith, length-append, zero, Bool, replicate, drop, ⊎_elim}
 use Rattle.std.specs.List.{slice_split, onto_first, AllByRecursion}
 use Rattle.std.proofs.lemmas.Bool.{cond-true, cond-false, cond_both, cases_Bool, eqb-false}
 use Rattle.std.proofs.lemmas.List.Elements.{filter-append, All-from_recursion}
-use Rattle.std.proofs.lemmas.List.{map-append}
+use Rattle.std.proofs.lemmas.List.{map-append, get_or_at}
 use Rattle.std.proofs.lemmas.Slice.Eq.{bytes_eq-Decides}
 use Rattle.std.proofs.lemmas.List.Splits.{length-slice_split, slice_split_none}
-use Rattle.relative_path.specs.Steps.{slash, dot, is_slash, is_not_empty, pieces, Step, cur, up, name, step_text, classed, components, spell}
+use Rattle.relative_path.specs.Steps.{slash, dot, is_slash, is_not_empty, pieces, Step, cur, up, name, step_text, classed, components, SpellsItself, SpellThemselves}
 
 -- no byte is a slash
 abbrev pub HasNoSlash : List ℕ → Type 0
@@ -15,6 +15,10 @@ HasNoSlash bs = AllByRecursion (λ b. is_slash b ≡ false) bs
 pub HasNoSlash-append : (xs ys : List ℕ) → HasNoSlash xs → HasNoSlash ys → HasNoSlash (xs ++ ys)
 HasNoSlash-append [] ys none none' = none'
 HasNoSlash-append (b ∷ bs) ys none none' = (none.0, HasNoSlash-append bs ys none.1 none')
+
+pub HasNoSlash-append_left : (xs ys : List ℕ) → HasNoSlash (xs ++ ys) → HasNoSlash xs
+HasNoSlash-append_left [] ys none = tt
+HasNoSlash-append_left (b ∷ bs) ys none = (none.0, HasNoSlash-append_left bs ys none.1)
 
 -- ---- cutting
 
@@ -79,14 +83,6 @@ step_text-classed p =
     (λ e. sym ((bytes_eq-Decides p (dot ∷ dot ∷ [])).0 e)) (λ _. refl))
 
 -- ---- what a component is: its own text has it alone
-
--- the text of the component has that component and no other
-abbrev pub SpellsItself : Step → Type 0
-SpellsItself c = components (step_text c) ≡ c ∷ []
-
--- each component is so
-abbrev pub SpellThemselves : List Step → Type 0
-SpellThemselves cs = AllByRecursion SpellsItself cs
 
 pub SpellsItself-up : SpellsItself up
 SpellsItself-up = components_whole (step_text up) (omega arith) (refl, (refl, tt))
@@ -173,13 +169,6 @@ SpellThemselves-components bs =
 
 -- ---- spelling
 
-pub components-spell : (cs : List Step) → SpellThemselves cs → components (spell cs) ≡ cs
-components-spell [] proper = components-nil
-components-spell (c ∷ []) proper = proper.0
-components-spell (c ∷ d ∷ cs) proper =
-    components-append (step_text c) (spell (d ∷ cs))
-    ∙ ap₂ (λ xs ys. xs ++ ys) proper.0 (components-spell (d ∷ cs) proper.1)
-
 pub SpellThemselves-append : (cs ds : List Step) → SpellThemselves cs → SpellThemselves ds → SpellThemselves (cs ++ ds)
 SpellThemselves-append [] ds proper proper' = proper'
 SpellThemselves-append (c ∷ cs) ds proper proper' = (proper.0, SpellThemselves-append cs ds proper.1 proper')
@@ -192,6 +181,12 @@ pub end-append : (xs ys : List ℕ) → 0 < length ys
 end-append xs ys nonempty =
     let index : length (xs ++ ys) - 1 ≡ length xs + (length ys - 1) = omega (arith, length-append xs ys) in
     ap (λ i. get_or (xs ++ ys) i 0) index ∙ get_or-append-add xs ys (length ys - 1) 0
+
+-- a slash put after a text ends it
+pub last-append_slash : (xs : List ℕ) → get_or (xs ++ slash ∷ []) (length (xs ++ slash ∷ []) - 1) 0 ≡ slash
+last-append_slash xs =
+    let index : length (xs ++ slash ∷ []) - 1 ≡ length xs = omega (arith, length-append xs (slash ∷ [])) in
+    ap (λ i. get_or (xs ++ slash ∷ []) i 0) index ∙ get_or_at xs slash [] 0 (length xs) refl
 
 -- ---- non_slash bytes
 
@@ -261,10 +256,6 @@ HasNoSlash-end [] h = λ e. absurd (omega (arith, e))
 HasNoSlash-end (b ∷ []) h = λ e. eqb-false b slash h.0 e
 HasNoSlash-end (b ∷ c ∷ bs) h = λ e. HasNoSlash-end (c ∷ bs) h.1 (sym (end-append (b ∷ []) (c ∷ bs) (omega arith)) ∙ e)
 
-pub spell_nonempty : (c : Step) (cs : List Step) → SpellsItself c → 0 < length (spell (c ∷ cs))
-spell_nonempty c [] proper = nonempty_proper c proper
-spell_nonempty c (d ∷ cs) proper = omega (arith, length-append (step_text c) (slash ∷ spell (d ∷ cs)))
-
 length_le_total_len : (cs : List Step) → SpellThemselves cs → length cs ≤ total_len cs
 length_le_total_len [] proper = omega arith
 length_le_total_len (c ∷ cs) proper = omega (arith, nonempty_proper c proper.0, length_le_total_len cs proper.1)
@@ -275,16 +266,26 @@ length-components_le text =
     let each = length_le_total_len (components text) (SpellThemselves-components text) in
     omega (arith, each, total_len-components text, solid_len_le text)
 
--- a text that spells proper components ends in no slash
-pub spell_end : (cs : List Step) → SpellThemselves cs → get_or (spell cs) (length (spell cs) - 1) 0 ≢ slash
-spell_end [] proper = HasNoSlash-end [] tt
-spell_end (c ∷ []) proper = HasNoSlash-end (step_text c) (HasNoSlash-proper c proper.0)
-spell_end (c ∷ d ∷ cs) proper = λ e.
-    let longer = end-append (step_text c ++ slash ∷ []) (spell (d ∷ cs)) (spell_nonempty d cs proper.1.0) in
-    let same : step_text c ++ slash ∷ spell (d ∷ cs) ≡ (step_text c ++ slash ∷ []) ++ spell (d ∷ cs) =
-    sym (append_assoc (step_text c) (slash ∷ []) (spell (d ∷ cs))) in
-    spell_end (d ∷ cs) proper.1 (sym longer ∙ ap (λ x. get_or x (length x - 1) 0) (sym same) ∙ e)
-
 pub SpellThemselves-append_left : (cs ds : List Step) → SpellThemselves (cs ++ ds) → SpellThemselves cs
 SpellThemselves-append_left [] ds proper = tt
 SpellThemselves-append_left (c ∷ cs) ds proper = (proper.0, SpellThemselves-append_left cs ds proper.1)
+
+pub SpellThemselves-filter : (p : Step → Bool) (cs : List Step) → SpellThemselves cs → SpellThemselves (filter p cs)
+SpellThemselves-filter p [] proper = tt
+SpellThemselves-filter p (c ∷ cs) proper = ⊎_elim
+    (λ e. rw (cond-true (p c) (c ∷ filter p cs) (filter p cs) e) (proper.0, SpellThemselves-filter p cs proper.1))
+    (λ e. rw (cond-false (p c) (c ∷ filter p cs) (filter p cs) e) (SpellThemselves-filter p cs proper.1))
+    (cases_Bool (p c))
+
+pub SpellThemselves-ups : (n : ℕ) → SpellThemselves (replicate n up)
+SpellThemselves-ups zero = tt
+SpellThemselves-ups (suc n) = (SpellsItself-up, SpellThemselves-ups n)
+
+pub SpellThemselves-names : (names : List (List ℕ)) → AllByRecursion (λ n. SpellsItself (name n)) names → SpellThemselves (map name names)
+SpellThemselves-names [] proper = tt
+SpellThemselves-names (n ∷ ns) proper = (proper.0, SpellThemselves-names ns proper.1)
+
+pub SpellThemselves-drop : (n : ℕ) (cs : List Step) → SpellThemselves cs → SpellThemselves (drop n cs)
+SpellThemselves-drop zero cs proper = proper
+SpellThemselves-drop (suc n) [] proper = tt
+SpellThemselves-drop (suc n) (c ∷ cs) proper = SpellThemselves-drop n cs proper.1

@@ -1,22 +1,23 @@
 -- The components that count under the Unix rules: their parts, and texts cut after them.
-use Rattle.std.proofs.Common.{◌≡◌, ◌≢◌, ◌⊎◌, ℕ, suc, ◌+◌, ◌-◌, ◌<◌, Bool, true, false, not, List, [], ◌∷◌, ◌++◌, length, get_or, drop, sym, refl, ap, ap₂, ◌∙◌, inl, inr, ⊎_elim, append-nil, arith, length-append, Option, Some, None, true≢false}
+use Rattle.std.proofs.Common.{◌≡◌, ◌≢◌, ◌⊎◌, ℕ, suc, ◌+◌, ◌-◌, ◌<◌, Bool, true, false, not, List, [], ◌∷◌, ◌++◌, length, get_or, drop, sym, refl, ap, ap₂, ◌∙◌, inl, inr, append-nil, arith, length-append, Option, Some, None, true≢false, take_at, ◌≤◌, take, ⊎_elim}
 use Rattle.std.specs.Option.{option_eq}
 use Rattle.std.specs.Ordering.{on}
 use Rattle.std.proofs.lemmas.List.{nil_from_length}
 use Rattle.std.proofs.lemmas.List.Elements.{filter-append}
-use Rattle.std.proofs.lemmas.Bool.{cond-true}
-use Rattle.relative_path.specs.Steps.{Step, cur, up, name, slash, components}
+use Rattle.std.proofs.lemmas.Bool.{cond-true, cases_Bool, cond-false}
+use Rattle.relative_path.specs.Steps.{Step, cur, up, name, slash, components, SpellThemselves, slashed_len}
 use Rattle.relative_path.specs.Comparing.{step_eq}
 use Rattle.relative_path.specs.ComparingLaws.{step_eq-Decides}
-use Rattle.relative_path.specs.Editing.{is_cur}
+use Rattle.relative_path.specs.Editing.{is_cur, without_cur_dirs}
 use Rattle.relative_path.specs.Components.{step_of, TakesLast}
 use Rattle.relative_path.specs.Slices.{IsShortestPrefix}
 use Rattle.relative_path.specs.declared.component.Component.{Component}
 use Rattle.relative_path.specs.declared.component.Component.TheVariants.{CurDir}
-use Rattle.relative_path.specs.Unix.{counted, but_last, shared_len, without_shared}
-use Rattle.relative_path.proofs.StepsLemmas.{components-nil}
-use Rattle.relative_path.proofs.EditingLemmas.{end-IsShortestPrefix}
-use Rattle.relative_path.proofs.SlicesLemmas.{IsPrefix, IsPrefix-trans, IsPrefix-shortest}
+use Rattle.relative_path.specs.Unix.{counted, but_last, shared_len, without_shared, has_root, without_inner_cur_dirs, unix_components}
+use Rattle.relative_path.proofs.StepsLemmas.{components-nil, SpellThemselves-components, SpellThemselves-filter}
+use Rattle.relative_path.proofs.SlicesLemmas.{IsPrefix, IsPrefix-trans, IsPrefix-shortest, end-IsShortestPrefix}
+use Rattle.relative_path.proofs.SpellingLemmas.{length_le_slashed_len, slashed_len-filter, slashed_len-components}
+use Rattle.relative_path.proofs.EditingLemmas.{without_cur_dirs-twice}
 
 -- ---- what two lists begin with
 
@@ -31,6 +32,18 @@ pub without_shared-both : (cs ds cs' ds' : List Step) (c d : Step) → cs ≡ c 
     → without_shared cs' ds' ≡ without_shared cs ds
 without_shared-both cs ds cs' ds' c d first second same =
     sym (ap₂ without_shared first second ∙ without_shared_both cs' ds' c d ((step_eq-Decides c d).1 same))
+
+pub take-shared : (cs ds : List Step) → take (shared_len cs ds) cs ≡ take (shared_len cs ds) ds
+take-shared [] [] = refl
+take-shared [] (d ∷ ds) = refl
+take-shared (c ∷ cs) [] = refl
+take-shared (c ∷ cs) (d ∷ ds) = ⊎_elim
+    (λ e.
+    let longer : shared_len (c ∷ cs) (d ∷ ds) ≡ suc (shared_len cs ds) =
+    omega (arith, cond-true (step_eq c d) (1 + shared_len cs ds) 0 e) in
+    rw longer (ap₂ (λ x xs. x ∷ xs) ((step_eq-Decides c d).0 e) (take-shared cs ds)))
+    (λ e. rw (cond-false (step_eq c d) (1 + shared_len cs ds) 0 e) refl)
+    (cases_Bool (step_eq c d))
 
 -- ---- the components that count
 
@@ -50,7 +63,59 @@ counted_one : (rooted : Bool) (c : Step) → is_cur c ≡ false → counted root
 counted_one true c other = cond-true (not (is_cur c)) (c ∷ []) [] (ap not other)
 counted_one false c other = refl
 
+pub but_last-push : (cs : List Step) (c : Step) → but_last (cs ++ c ∷ []) ≡ cs
+but_last-push cs c = take_at cs (c ∷ []) (length (cs ++ c ∷ []) - 1) (omega (arith, length-append cs (c ∷ [])))
+
+-- a component alone counts or not
+pub counted_alone : (rooted : Bool) (c : Step) → (counted rooted (c ∷ []) ≡ []) ⊎ (counted rooted (c ∷ []) ≡ c ∷ [])
+counted_alone true cur = inl refl
+counted_alone true up = inr refl
+counted_alone true (name n) = inr refl
+counted_alone false c = inr refl
+
+-- a component that is no `.` counts
+pub counted_first : (rooted : Bool) (c : Step) (cs : List Step) → is_cur c ≡ false
+    → counted rooted (c ∷ cs) ≡ c ∷ without_cur_dirs cs
+counted_first true cur cs other = absurd (true≢false other)
+counted_first true up cs other = refl
+counted_first true (name n) cs other = refl
+counted_first false c cs other = refl
+
 -- ---- the end of a text
+
+pub SpellThemselves-counted : (rooted : Bool) (text : List ℕ) → SpellThemselves (counted rooted (components text))
+SpellThemselves-counted rooted text = those rooted (components text) (SpellThemselves-components text)
+  where
+    those : (rooted : Bool) (cs : List Step) → SpellThemselves cs → SpellThemselves (counted rooted cs)
+    those true cs proper = SpellThemselves-filter (λ d. not (is_cur d)) cs proper
+    those false [] proper = tt
+    those false (c ∷ cs) proper = (proper.0, SpellThemselves-filter (λ d. not (is_cur d)) cs proper.1)
+
+slashed_len-counted : (rooted : Bool) (cs : List Step) → slashed_len (counted rooted cs) ≤ slashed_len cs
+slashed_len-counted true cs = slashed_len-filter (λ c. not (is_cur c)) cs
+slashed_len-counted false [] = omega arith
+slashed_len-counted false (c ∷ cs) = omega (arith, slashed_len-filter (λ d. not (is_cur d)) cs)
+
+-- a text has at most one component that counts more than it has bytes
+pub length-counted_le : (rooted : Bool) (text : List ℕ) → length (counted rooted (components text)) ≤ length text + 1
+length-counted_le rooted text =
+    omega (
+      arith,
+      length_le_slashed_len (counted rooted (components text)),
+      slashed_len-counted rooted (components text),
+      slashed_len-components text,
+    )
+
+without_cur_dirs-inner : (cs : List Step) → without_cur_dirs (without_inner_cur_dirs cs) ≡ without_cur_dirs cs
+without_cur_dirs-inner [] = refl
+without_cur_dirs-inner (cur ∷ cs) = without_cur_dirs-twice cs
+without_cur_dirs-inner (up ∷ cs) = ap (λ ds. up ∷ ds) (without_cur_dirs-twice cs)
+without_cur_dirs-inner (name n ∷ cs) = ap (λ ds. name n ∷ ds) (without_cur_dirs-twice cs)
+
+pub without_cur_dirs-unix : (text : List ℕ) → has_root text ≡ false
+    → without_cur_dirs (unix_components text) ≡ without_cur_dirs (components text)
+without_cur_dirs-unix text unrooted =
+    ap (λ r. without_cur_dirs (counted r (components text))) unrooted ∙ without_cur_dirs-inner (components text)
 
 -- only slashes and `.` components that do not count were dropped from the end of the text
 pub record LosesIdle (rooted : Bool) (text left : List ℕ) : Type 0 where

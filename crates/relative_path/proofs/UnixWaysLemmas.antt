@@ -1,28 +1,14 @@
 -- Where platform paths lead from one another.
-use Rattle.std.proofs.Common.{◌≡◌, ℕ, zero, suc, ◌+◌, List, [], ◌∷◌, ◌++◌, length, take, drop, replicate, sym, refl, ap, ap₂, ◌∙◌, subst, ⊎_elim, append_assoc, append-nil, arith, length-take-le, take-append-drop, Option, Some, None, option_and_then, option_map}
-use Rattle.std.proofs.lemmas.Bool.{cases_Bool, cond-true, cond-false}
-use Rattle.relative_path.specs.Steps.{Step, up, components, spell}
+use Rattle.std.proofs.Common.{◌≡◌, ℕ, List, [], ◌++◌, length, take, drop, replicate, sym, refl, ap, ap₂, ◌∙◌, subst, append_assoc, append-nil, take-append-drop, Option, Some, None, option_and_then, option_map}
+use Rattle.relative_path.specs.Steps.{Step, up, components, spell, SpellThemselves}
 use Rattle.relative_path.specs.Walk.{walk, IsSame}
-use Rattle.relative_path.specs.Comparing.{step_eq}
-use Rattle.relative_path.specs.ComparingLaws.{step_eq-Decides}
 use Rattle.relative_path.specs.Unix.{has_root, unix_components, shared_len, way_back, way_to}
-use Rattle.relative_path.proofs.StepsLemmas.{SpellThemselves, SpellThemselves-append, components-spell}
-use Rattle.relative_path.proofs.WalkLemmas.{walk-append, walk-below, IsSame-append_left}
-use Rattle.relative_path.proofs.UnixTextsLemmas.{SpellThemselves-counted, SpellThemselves-ups}
+use Rattle.relative_path.proofs.StepsLemmas.{SpellThemselves-append, SpellThemselves-ups, SpellThemselves-drop}
+use Rattle.relative_path.proofs.WalkLemmas.{walk-append, walk-below, IsSame-append_left, walk-replicate}
+use Rattle.relative_path.proofs.SpellingLemmas.{components-spell}
+use Rattle.relative_path.proofs.UnixComponentsLemmas.{SpellThemselves-counted, take-shared}
 
 -- ---- where lists lead from the top
-
--- as many `..` as a place has names lead from it to the top
-walk-replicate : (base : List (List ℕ)) (n : ℕ) (place : List (List ℕ)) → length place ≡ n
-    → walk (base ++ place) (replicate n up) ≡ Some base
-walk-replicate base zero [] count = ap Some (append-nil base)
-walk-replicate base zero (p ∷ ps) count = absurd (omega (arith, count))
-walk-replicate base (suc n) [] count = absurd (omega (arith, count))
-walk-replicate base (suc n) (p ∷ ps) count =
-    let one = walk-below base (p ∷ ps) (up ∷ []) (take (length ps) (p ∷ ps)) refl in
-    let len = length-take-le (length ps) (p ∷ ps) (omega arith) in
-    walk-append (base ++ p ∷ ps) (up ∷ []) (replicate n up) ∙ ap (option_and_then (λ q. walk q (replicate n up))) one
-    ∙ walk-replicate base n (take (length ps) (p ∷ ps)) (omega (arith, len, count))
 
 IsSame-back : (from to : List Step) (place : List (List ℕ)) → walk [] from ≡ Some place
     → IsSame (from ++ (replicate (length place) up ++ to)) to
@@ -37,23 +23,6 @@ IsSame-back from to place leads = record {
 }
 
 -- ---- the law
-
-take-shared : (cs ds : List Step) → take (shared_len cs ds) cs ≡ take (shared_len cs ds) ds
-take-shared [] [] = refl
-take-shared [] (d ∷ ds) = refl
-take-shared (c ∷ cs) [] = refl
-take-shared (c ∷ cs) (d ∷ ds) = ⊎_elim
-    (λ e.
-    let longer : shared_len (c ∷ cs) (d ∷ ds) ≡ suc (shared_len cs ds) =
-    omega (arith, cond-true (step_eq c d) (1 + shared_len cs ds) 0 e) in
-    rw longer (ap₂ (λ x xs. x ∷ xs) ((step_eq-Decides c d).0 e) (take-shared cs ds)))
-    (λ e. rw (cond-false (step_eq c d) (1 + shared_len cs ds) 0 e) refl)
-    (cases_Bool (step_eq c d))
-
-SpellThemselves-drop : (n : ℕ) (cs : List Step) → SpellThemselves cs → SpellThemselves (drop n cs)
-SpellThemselves-drop zero cs proper = proper
-SpellThemselves-drop (suc n) [] proper = tt
-SpellThemselves-drop (suc n) (c ∷ cs) proper = SpellThemselves-drop n cs proper.1
 
 -- what is left of both lists, and where the root's part leads from the top
 pub way_to-from : (path root : List ℕ) (own_path own_root : List Step) (place : List (List ℕ))

@@ -1,10 +1,11 @@
 -- Where joined lists of steps lead, and which lists lead to the same places.
-use Rattle.std.proofs.Common.{◌≡◌, ℕ, List, [], ◌∷◌, ◌++◌, length, map, take, Option, Some, None, option_and_then, option_map, IsSome, ◌↔◌, refl, sym, ap, ◌∙◌, arith, ◌+◌}
+use Rattle.std.proofs.Common.{◌≡◌, ℕ, List, [], ◌∷◌, ◌++◌, length, map, take, Option, Some, None, option_and_then, option_map, IsSome, ◌↔◌, refl, sym, ap, ◌∙◌, arith, ◌+◌, zero, suc, replicate, length-take-le}
 use Rattle.std.proofs.lemmas.List.{append_assoc, append-nil, length-append, length_push, take_at}
 use Rattle.std.proofs.lemmas.Option.{none-some}
 use Rattle.std.proofs.Math.Seq.{take-append-add}
 use Rattle.relative_path.specs.Steps.{Step, cur, up, name}
 use Rattle.relative_path.specs.Walk.{above, walk, IsSame, LeadsBelow, LeadsInTurn, StaysBelow}
+use Rattle.relative_path.proofs.ListsLemmas.{IsSome-value}
 
 -- the place where steps lead from a place that may be none
 abbrev walk_from : List Step → Option (List (List ℕ)) → Option (List (List ℕ))
@@ -41,15 +42,16 @@ pub walk-names : (base ns : List (List ℕ)) → walk base (map name ns) ≡ Som
 walk-names base [] = ap Some (sym (append-nil base))
 walk-names base (n ∷ ns) = walk-names (base ++ n ∷ []) ns ∙ ap Some (append_assoc base (n ∷ []) ns)
 
--- what is there has a value
-pub IsSome-value : {A : Type 0} (o : Option A) → IsSome o → (x : A) × (o ≡ Some x)
-IsSome-value None some = absurd (cc)
-IsSome-value (Some x) some = (x, refl)
-
 -- above a name just entered is the place where it was entered
 pub above-push : (base : List (List ℕ)) (n : List ℕ) → above (base ++ n ∷ []) ≡ Some base
 above-push [] n = refl
 above-push (m ∷ ms) n = ap Some (take_at (m ∷ ms) (n ∷ []) (length (ms ++ n ∷ [])) (omega (arith, length_push ms n)))
+
+-- a place but the top is the place above it and one name
+pub above_name : (n : List ℕ) (ns : List (List ℕ))
+    → (last : List ℕ) × (n ∷ ns ≡ take (length ns) (n ∷ ns) ++ last ∷ [])
+above_name n [] = (n, refl)
+above_name n (m ∷ ms) = let rest = above_name m ms in (rest.0, ap (λ x. n ∷ x) rest.1)
 
 pub IsSame-refl : (cs : List Step) → IsSame cs cs
 IsSame-refl cs = record { everywhere = λ base. refl }
@@ -104,6 +106,18 @@ walk-below top (n ∷ ns) (up ∷ cs) place e =
     ap (walk_from cs) (above-below top n ns) ∙ walk-below top (take (length ns) (n ∷ ns)) cs place e
 walk-below top base (name n ∷ cs) place e =
     ap (λ place. walk place cs) (append_assoc top base (n ∷ [])) ∙ walk-below top (base ++ n ∷ []) cs place e
+
+-- as many `..` as a place has names lead from it to the top
+pub walk-replicate : (base : List (List ℕ)) (n : ℕ) (place : List (List ℕ)) → length place ≡ n
+    → walk (base ++ place) (replicate n up) ≡ Some base
+walk-replicate base zero [] count = ap Some (append-nil base)
+walk-replicate base zero (p ∷ ps) count = absurd (omega (arith, count))
+walk-replicate base (suc n) [] count = absurd (omega (arith, count))
+walk-replicate base (suc n) (p ∷ ps) count =
+    let one = walk-below base (p ∷ ps) (up ∷ []) (take (length ps) (p ∷ ps)) refl in
+    let len = length-take-le (length ps) (p ∷ ps) (omega arith) in
+    walk-append (base ++ p ∷ ps) (up ∷ []) (replicate n up) ∙ ap (option_and_then (λ q. walk q (replicate n up))) one
+    ∙ walk-replicate base n (take (length ps) (p ∷ ps)) (omega (arith, len, count))
 
 -- what leads in turn where a second list leads, which has a place from the top, leads to that place below the first
 pub LeadsBelow-in_turn : (cs ds es : List Step) (place : List (List ℕ)) → LeadsInTurn cs ds es

@@ -1,15 +1,48 @@
 -- Climbs as text: some of them at once, or one after another.
-use Rattle.std.proofs.Common.{◌≡◌, ℕ, zero, suc, ◌+◌, ◌-◌, ◌*◌, ◌<◌, ◌≤◌, List, [], ◌∷◌, length, get_or, take, map, fold, replicate, sym, refl, ap, ◌∙◌, append-nil, arith}
+use Rattle.std.proofs.Common.{◌≡◌, ℕ, zero, suc, ◌+◌, ◌-◌, ◌*◌, ◌<◌, ◌≤◌, List, [], ◌∷◌, length, get_or, take, map, fold, replicate, sym, refl, ap, ◌∙◌, arith, ◌++◌, append_assoc, length-append}
 use Rattle.std.specs.List.{slice_range}
 use Rattle.std.specs.Str.{IsCharBoundary}
 use Rattle.std.proofs.lemmas.List.{replicate-append-replicate}
 use Rattle.std.proofs.lemmas.List.Sums.{fold-append}
 use Rattle.std.proofs.lemmas.Str.{IsCharBoundary-from_ascii}
-use Rattle.relative_path.specs.Steps.{up, slash, dot, step_text, spell}
+use Rattle.relative_path.specs.Steps.{up, slash, dot, step_text, spell, Step, SpellThemselves, slashed_len}
 use Rattle.relative_path.specs.Writing.{with_piece}
-use Rattle.relative_path.proofs.NormalFormLemmas.{length-with_pieces_le, with_pieces-non_slash, with_pieces-ups_then_names}
+use Rattle.relative_path.proofs.StepsLemmas.{nonempty_proper, SpellThemselves-ups}
 
 -- ---- the table that climbs are cut out of
+
+-- ---- pieces after a text
+
+length-with_piece_le : (text p : List ℕ) → length text ≤ length (with_piece text p)
+length-with_piece_le [] p = omega arith
+length-with_piece_le (b ∷ bs) p = omega (arith, length-append bs (slash ∷ p))
+
+pub length-with_pieces_le : (text : List ℕ) (ps : List (List ℕ)) → length text ≤ length (fold with_piece text ps)
+length-with_pieces_le text [] = omega arith
+length-with_pieces_le text (p ∷ ps) =
+    omega (arith, length-with_piece_le text p, length-with_pieces_le (with_piece text p) ps)
+
+pub length-with_step_le : (text : List ℕ) (c : Step)
+    → length (with_piece text (step_text c)) ≤ length text + slashed_len (c ∷ [])
+length-with_step_le [] c = omega arith
+length-with_step_le (b ∷ bs) c = omega (arith, length-append (b ∷ bs) (slash ∷ step_text c))
+
+pub with_pieces-non_slash : (b : ℕ) (bs : List ℕ) (c : Step) (cs : List Step)
+    → fold with_piece (b ∷ bs) (map step_text (c ∷ cs)) ≡ (b ∷ bs) ++ slash ∷ spell (c ∷ cs)
+with_pieces-non_slash b bs c [] = refl
+with_pieces-non_slash b bs c (d ∷ cs) =
+    with_pieces-non_slash b (bs ++ slash ∷ step_text c) d cs
+    ∙ append_assoc (b ∷ bs) (slash ∷ step_text c) (slash ∷ spell (d ∷ cs))
+
+-- the texts of proper components one after another spell them
+pub with_pieces-spell : (cs : List Step) → SpellThemselves cs → fold with_piece [] (map step_text cs) ≡ spell cs
+with_pieces-spell [] proper = refl
+with_pieces-spell (c ∷ []) proper = refl
+with_pieces-spell (c ∷ d ∷ cs) proper = after (step_text c) (nonempty_proper c proper.0)
+  where
+    after : (p : List ℕ) → 0 < length p → fold with_piece p (map step_text (d ∷ cs)) ≡ p ++ slash ∷ spell (d ∷ cs)
+    after [] none = absurd (omega arith)
+    after (b ∷ bs) some = with_pieces-non_slash b bs d cs
 
 -- a text of some `..`, with a slash after each
 abbrev pub climbs : ℕ → List ℕ
@@ -51,13 +84,13 @@ climbs_cut n m run some few cut =
 
 -- ---- climbs after a text
 
--- one after another they are spelled
-pub with_pieces-climb : (n : ℕ) → fold with_piece [] (replicate n (step_text up)) ≡ spell (replicate n up)
-with_pieces-climb n = with_pieces-ups_then_names n [] tt ∙ ap spell (append-nil (replicate n up))
-
 pub map_step_text-ups : (n : ℕ) → map step_text (replicate n up) ≡ replicate n (step_text up)
 map_step_text-ups zero = refl
 map_step_text-ups (suc n) = ap (λ ps. step_text up ∷ ps) (map_step_text-ups n)
+
+-- one after another they are spelled
+pub with_pieces-climb : (n : ℕ) → fold with_piece [] (replicate n (step_text up)) ≡ spell (replicate n up)
+with_pieces-climb n = ap (fold with_piece []) (sym (map_step_text-ups n)) ∙ with_pieces-spell (replicate n up) (SpellThemselves-ups n)
 
 -- at once, or one after another
 with_piece-climb : (text : List ℕ) (n : ℕ) → 0 < n

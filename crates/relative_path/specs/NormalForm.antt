@@ -1,8 +1,8 @@
 -- Normal forms as the code holds them: a count of climbs, and a table of names, each a span of a text.
-use Rattle.std.specs.Prelude.{◌≡◌, ℕ, ◌+◌, ◌≤◌, List, [], ◌∷◌, ◌++◌, map, replicate, length, vec_len, vec_capacity}
+use Rattle.std.specs.Prelude.{◌≡◌, ℕ, ◌+◌, ◌≤◌, List, ◌++◌, map, replicate, length, vec_len, vec_capacity}
 use Rattle.relative_path.specs.declared.normal_form.NormalForm.{NormalForm}
 use Rattle.relative_path.specs.declared.spans.Sources.{Sources}
-use Rattle.relative_path.specs.Steps.{Step, up, name, step_text, components, spell}
+use Rattle.relative_path.specs.Steps.{Step, up, name, components, spell, slashed_len}
 use Rattle.relative_path.specs.Walk.{IsSame}
 use Rattle.relative_path.specs.Normalizing.{IsNormal}
 use Rattle.relative_path.specs.Spans.{span_text}
@@ -10,11 +10,6 @@ use Rattle.relative_path.specs.Spans.{span_text}
 -- as many `..`, and then the names
 abbrev pub ups_then_names : ℕ → List (List ℕ) → List Step
 ups_then_names climb names = replicate climb up ++ map name names
-
--- how many bytes the components have, with a slash after each
-abbrev pub slashed_len : List Step → ℕ
-slashed_len [] = 0
-slashed_len (c ∷ cs) = length (step_text c) + 1 + slashed_len cs
 
 -- ds lead where cs lead, and have no more bytes
 pub record Reduces (cs ds : List Step) : Type 0 where

@@ -1,6 +1,6 @@
 -- A text cut at its slashes: the components of a path, and the text that spells them.
-use Rattle.std.specs.Prelude.{ℕ, Bool, true, false, ◌==◌, List, [], ◌∷◌, map, if◌then◌else◌}
-use Rattle.std.specs.List.{filter, slice_split, join_with_byte}
+use Rattle.std.specs.Prelude.{◌≡◌, ℕ, ◌+◌, Bool, true, false, ◌==◌, List, [], ◌∷◌, map, length, if◌then◌else◌}
+use Rattle.std.specs.List.{filter, slice_split, join_with_byte, AllByRecursion}
 use Rattle.std.specs.Str.{bytes_eq}
 
 -- `b'/'`
@@ -48,3 +48,16 @@ components text = map classed (pieces text)
 -- the texts of the components, joined by single slashes
 abbrev pub spell : List Step → List ℕ
 spell cs = join_with_byte slash (map step_text cs)
+
+-- how many bytes the components have, with a slash after each
+abbrev pub slashed_len : List Step → ℕ
+slashed_len [] = 0
+slashed_len (c ∷ cs) = length (step_text c) + 1 + slashed_len cs
+
+-- the text of the component has this component alone
+abbrev pub SpellsItself : Step → Type 0
+SpellsItself c = components (step_text c) ≡ c ∷ []
+
+-- each component spells itself
+abbrev pub SpellThemselves : List Step → Type 0
+SpellThemselves cs = AllByRecursion SpellsItself cs

@@ -3,8 +3,8 @@ use Rattle.std.proofs.Common.{◌≡◌, ℕ, false, List, [], ◌∷◌, map, �
 use Rattle.std.proofs.lemmas.List.Elements.{All-from_recursion}
 use Rattle.std.proofs.lemmas.List.Folds.{list_any_none}
 use Rattle.std.specs.List.{All, AllByRecursion, list_any}
-use Rattle.relative_path.specs.Steps.{Step, name, is_slash, components}
-use Rattle.relative_path.proofs.ForCallers.{SpellThemselves, SpellThemselves-components, name-proper, no_slash-proper}
+use Rattle.relative_path.specs.Steps.{Step, name, is_slash, components, SpellThemselves}
+use Rattle.relative_path.proofs.ForCallers.{SpellThemselves-components, name-proper, no_slash-proper}
 use Rattle.relative_path_uses.specs.FromTop.{SpellsPlace}
 use Rattle.relative_path_uses.specs.Names.{is_unportable, is_unportable_step, IsPlainName}
 use Rattle.relative_path_uses.proofs.TargetsLemmas.{or_false}

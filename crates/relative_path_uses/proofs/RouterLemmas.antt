@@ -1,9 +1,9 @@
 -- The text of a place is the one that stands after a root.
 use Rattle.std.proofs.Common.{◌≡◌, ◌≢◌, ◌↔◌, ℕ, false, List, [], ◌∷◌, ◌++◌, map, IsTrue, refl, sym, ap, ◌∙◌}
 use Rattle.std.specs.List.{list_any}
-use Rattle.relative_path.specs.Steps.{Step, name, components, spell}
+use Rattle.relative_path.specs.Steps.{Step, name, components, spell, SpellThemselves}
 use Rattle.relative_path.specs.Editing.{with_separator, unslashed}
-use Rattle.relative_path.proofs.ForCallers.{SpellThemselves, SpellThemselves-components, name-proper, unslashed-spell}
+use Rattle.relative_path.proofs.ForCallers.{SpellThemselves-components, name-proper, unslashed-spell}
 use Rattle.relative_path_uses.specs.FromTop.{SpellsPlace}
 use Rattle.relative_path_uses.specs.Names.{is_unportable_step}
 use Rattle.relative_path_uses.specs.Router.{IsRefusedRequest, below, added, IsServed}

@@ -3,13 +3,13 @@ use Rattle.std.proofs.Common.{◌≡◌, ◌≢◌, inl, inr, ℕ, ◌<◌, ◌+
 use Rattle.std.proofs.lemmas.List.{append_cancel_left, get_or-map, length-map, take_more, length-take-le}
 use Rattle.std.proofs.lemmas.Option.{none-some, same_Some}
 use Rattle.std.specs.Option.{option_and_then, option_copied}
-use Rattle.relative_path.specs.Steps.{Step, cur, up, name, components, spell}
+use Rattle.relative_path.specs.Steps.{Step, cur, up, name, components, spell, SpellsItself, SpellThemselves}
 use Rattle.relative_path.specs.Walk.{walk, IsSame}
 use Rattle.relative_path.specs.Relating.{Leads, IsReachable, IsShortestText}
 use Rattle.relative_path.specs.RelativePathBuf.{Buffer}
 use Rattle.relative_path.specs.Editing.{pushed}
 use Rattle.relative_path.specs.Naming.{last_name}
-use Rattle.relative_path.proofs.ForCallers.{SpellsItself, SpellThemselves, SpellThemselves-components, walk-append, walk-some, IsSame-sym, IsSame-trans, IsSame-append_right, IsSame-name_up, IsSame-last_name, Leads-same, IsReachable-same, IsShortestText-same, components-pushed, spell-pushed}
+use Rattle.relative_path.proofs.ForCallers.{SpellThemselves-components, walk-append, walk-some, IsSame-sym, IsSame-trans, IsSame-append_right, IsSame-name_up, IsSame-last_name, Leads-same, IsReachable-same, IsShortestText-same, components-pushed, spell-pushed}
 use Rattle.relative_path_moves.specs.Places.{directory}
 use Rattle.relative_path.specs.RelativePath.{path_components}
 use Rattle.relative_path.specs.declared.path.RelativePath.{RelativePath}

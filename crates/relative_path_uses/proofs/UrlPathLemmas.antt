@@ -3,9 +3,9 @@ use Rattle.std.proofs.Common.{◌≡◌, ℕ, zero, suc, ◌-◌, List, [], ◌�
 use Rattle.std.specs.List.{slice_split}
 use Rattle.std.proofs.lemmas.List.{map-append}
 use Rattle.std.proofs.lemmas.List.Splits.{slice_split_none, slice_split_at}
-use Rattle.relative_path.specs.Steps.{Step, cur, up, name, slash, is_slash, step_text, classed, spell}
+use Rattle.relative_path.specs.Steps.{Step, cur, up, name, slash, is_slash, step_text, classed, spell, SpellsItself, SpellThemselves}
 use Rattle.relative_path.specs.Walk.{walk}
-use Rattle.relative_path.proofs.ForCallers.{SpellsItself, SpellThemselves, classed-proper, no_slash-proper}
+use Rattle.relative_path.proofs.ForCallers.{classed-proper, no_slash-proper}
 use Rattle.relative_path.proofs.OnLiterals.{relative_path_on_literals}
 use Rattle.relative_path_uses.specs.UrlPath.{url_path, segments_of, without_last, merged, without_dots, resolved}
 

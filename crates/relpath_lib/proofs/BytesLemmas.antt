@@ -80,8 +80,8 @@ position-after p bytes at n r before room is whole =
     ]
 
 -- a place before which the byte isn't is within the bytes, or after the last
-pub position-le : (bytes : List ℕ) (at byte : ℕ) → at ≤ position_or_len (λ b. b == byte) bytes → at ≤ length bytes
-position-le bytes at byte before =
+pub position_le : (bytes : List ℕ) (at byte : ℕ) → at ≤ position_or_len (λ b. b == byte) bytes → at ≤ length bytes
+position_le bytes at byte before =
     let bound = prefix_len-le-length (λ b. not (b == byte)) bytes in omega arith
 
 different : (x y : ℕ) → not (x == y) ≡ true → x ≢ y

@@ -1,6 +1,6 @@
 use Rattle.std.proofs.Common.{sym, ◌∙◌, eq-eqb, eqb-true}
 use Rattle.relative_path.specs.NormalForm.{form_names}
-use Rattle.relative_path.proofs.RelatingLemmas.{common_all}
+use Rattle.relative_path.proofs.ListsLemmas.{common_all}
 use Rattle.relative_path.proofs.relating.have_same_names.Goals as goal
 
 pub returns-then-common-names_len : goal.returns-then-common-names_len

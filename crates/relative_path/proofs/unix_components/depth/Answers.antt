@@ -1,5 +1,5 @@
 use Rattle.std.proofs.Common.{[], arith, refl}
-use Rattle.relative_path.proofs.UnixTextsLemmas.{length-counted_le}
+use Rattle.relative_path.proofs.UnixComponentsLemmas.{length-counted_le}
 use Rattle.relative_path.proofs.unix_components.depth.Goals as goal
 
 pub loop-component-init : goal.loop-component-init

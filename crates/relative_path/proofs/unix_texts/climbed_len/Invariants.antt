@@ -1,6 +1,6 @@
 use Rattle.std.proofs.Common.{◌≡◌, ◌+◌, ◌*◌}
-use Rattle.relative_path.specs.NormalForm.{slashed_len}
 use Rattle.relative_path.specs.UnixComponents.{unix_left}
+use Rattle.relative_path.specs.Steps.{slashed_len}
 use Rattle.relative_path.proofs.unix_texts.climbed_len.Given as goal
 
 abbrev pub invariant-loop-component : goal.invariant-loop-component

@@ -3,7 +3,8 @@ use Rattle.relative_path.specs.Writing.{with_piece}
 use Rattle.relative_path.specs.Steps.{up, step_text}
 use Rattle.relative_path.specs.Unix.{onto}
 use Rattle.relative_path.specs.UnixComponents.{unix_left}
-use Rattle.relative_path.proofs.UnixTextsLemmas.{SpellThemselves-counted, length-onto_le, onto-ups}
+use Rattle.relative_path.proofs.UnixTextsLemmas.{length-onto_le, onto-ups}
+use Rattle.relative_path.proofs.UnixComponentsLemmas.{SpellThemselves-counted}
 use Rattle.relative_path.proofs.unix_texts.climbed_text.Goals as goal
 
 pub push_climb-requires : goal.push_climb-requires

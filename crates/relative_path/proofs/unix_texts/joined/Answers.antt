@@ -1,9 +1,10 @@
 use Rattle.std.proofs.Common.{◌∙◌, refl, sym, ap, length, string_bytes, arith}
 use Rattle.relative_path.specs.Components.{components_left, step_of}
 use Rattle.relative_path.specs.Writing.{with_piece}
-use Rattle.relative_path.specs.NormalForm.{slashed_len}
 use Rattle.relative_path.specs.Unix.{onto}
-use Rattle.relative_path.proofs.UnixTextsLemmas.{length-with_step_le, slashed_len-components}
+use Rattle.relative_path.specs.Steps.{slashed_len}
+use Rattle.relative_path.proofs.SpellingLemmas.{slashed_len-components}
+use Rattle.relative_path.proofs.WritingLemmas.{length-with_step_le}
 use Rattle.relative_path.proofs.unix_texts.joined.Goals as goal
 
 pub loop-component-init : goal.loop-component-init

@@ -1,9 +1,8 @@
 use Rattle.std.proofs.Common.{◌≡◌, ◌≤◌, ◌+◌, length, string_bytes}
 use Rattle.std.specs.String.{string_capacity}
 use Rattle.relative_path.specs.Components.{components_left}
-use Rattle.relative_path.specs.Steps.{components}
+use Rattle.relative_path.specs.Steps.{components, slashed_len}
 use Rattle.relative_path.specs.Unix.{onto}
-use Rattle.relative_path.specs.NormalForm.{slashed_len}
 use Rattle.relative_path.proofs.unix_texts.joined.Given as goal
 
 abbrev pub invariant-loop-component : goal.invariant-loop-component

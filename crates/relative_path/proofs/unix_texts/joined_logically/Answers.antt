@@ -1,9 +1,9 @@
 use Rattle.std.proofs.Common.{ap, length, arith, string_bytes}
-use Rattle.relative_path.specs.NormalForm.{slashed_len}
-use Rattle.relative_path.specs.Steps.{name}
+use Rattle.relative_path.specs.Steps.{name, slashed_len}
 use Rattle.std.proofs.lemmas.Str.{IsUtf8-string_bytes}
 use Rattle.relative_path.proofs.SlicesLemmas.{IsPrefix, IsCharBoundary-IsPrefix}
-use Rattle.relative_path.proofs.UnixTextsLemmas.{length-with_step_le, slashed_len-components}
+use Rattle.relative_path.proofs.SpellingLemmas.{slashed_len-components}
+use Rattle.relative_path.proofs.WritingLemmas.{length-with_step_le}
 use Rattle.relative_path.proofs.unix_texts.joined_logically.Goals as goal
 
 pub loop-component-init : goal.loop-component-init

@@ -1,7 +1,7 @@
 use Rattle.std.proofs.Common.{refl, sym, inl, inr, eqb-true}
 use Rattle.std.proofs.lemmas.Bool.{eqb-false}
 use Rattle.std.proofs.lemmas.List.{nil_from_length}
-use Rattle.relative_path.proofs.UnixLemmas.{IsIdleFree-from, IsAbove-parent, IsAbove-root}
+use Rattle.relative_path.proofs.UnixAboveLemmas.{IsIdleFree-from, IsAbove-parent, IsAbove-root}
 use Rattle.relative_path.proofs.unix_texts.parent_text.Goals as goal
 use Rattle.relative_path.proofs.unix_texts.parent_text.Goals.{else-rooted-via-then-rooted+else-is_empty, else-rooted-via-else-rooted}
 

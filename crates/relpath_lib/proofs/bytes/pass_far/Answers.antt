@@ -1,15 +1,15 @@
 -- A block without the byte is passed whole.
 use Rattle.std.proofs.Common.{arith}
 use Rattle.std.proofs.lemmas.Bool.{both_ways}
-use Rattle.relpath_lib.proofs.BytesLemmas.{position-le, position-passed}
+use Rattle.relpath_lib.proofs.BytesLemmas.{position_le, position-passed}
 use Rattle.relpath_lib.proofs.bytes.pass_far.Goals as goal
 
 pub overflow_sub-bytes : goal.overflow_sub-bytes
-overflow_sub-bytes c = position-le c.args.bytes.now c.loop-at.at c.args.byte c.loop-at.invariant.1
+overflow_sub-bytes c = position_le c.args.bytes.now c.loop-at.at c.args.byte c.loop-at.invariant.1
 
 pub loop-at-preserved : goal.loop-at-preserved
 loop-at-preserved c =
-    let within = position-le c.args.bytes.now c.loop-at.at c.args.byte c.loop-at.invariant.1 in (
+    let within = position_le c.args.bytes.now c.loop-at.at c.args.byte c.loop-at.invariant.1 in (
       omega (arith, c.loop-at.invariant.0),
       position-passed c.args.bytes.now c.loop-at.at 64 c.args.byte c.loop-at.invariant.1
           (omega (arith, within, c.loop-at-test.true))

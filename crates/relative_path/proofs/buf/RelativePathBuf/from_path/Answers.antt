@@ -2,7 +2,8 @@ use Rattle.std.proofs.Common.{◌∙◌, sym, ap, arith, length}
 use Rattle.relative_path.specs.Editing.{without_cur_dirs}
 use Rattle.relative_path.specs.Steps.{spell}
 use Rattle.relative_path.specs.Unix.{unix_components}
-use Rattle.relative_path.proofs.UnixTextsLemmas.{onto-without_cur_dirs, without_cur_dirs-unix, length-spell-without_cur_dirs}
+use Rattle.relative_path.proofs.UnixTextsLemmas.{onto-without_cur_dirs, length-spell-without_cur_dirs}
+use Rattle.relative_path.proofs.UnixComponentsLemmas.{without_cur_dirs-unix}
 use Rattle.relative_path.proofs.buf.RelativePathBuf.from_path.Goals as goal
 
 pub push_components-requires : goal.push_components-requires

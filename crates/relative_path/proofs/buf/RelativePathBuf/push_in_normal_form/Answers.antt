@@ -1,10 +1,9 @@
 -- A name or a `..` that stays is pushed, and a `..` after a name pops it.
 use Rattle.std.proofs.Common.{refl, sym, arith, true≢false}
 use Rattle.relative_path.specs.Components.{step_of}
-use Rattle.relative_path.specs.Steps.{components}
-use Rattle.relative_path.proofs.StepsLemmas.{SpellsItself}
-use Rattle.relative_path.proofs.NormalStepsLemmas.{IsNormal-push_name}
-use Rattle.relative_path.proofs.NormalizingLemmas.{Follows, Follows-cur, Follows-push, Follows-pop, IsNormal-push_up}
+use Rattle.relative_path.specs.Steps.{components, SpellsItself}
+use Rattle.relative_path.proofs.NormalStepsLemmas.{IsNormal-push_name, IsNormal-push_up}
+use Rattle.relative_path.proofs.NormalizingLemmas.{Follows, Follows-cur, Follows-push, Follows-pop}
 use Rattle.relative_path.proofs.buf.RelativePathBuf.push_in_normal_form.Goals as goal
 
 pub returns-in-CurDir : goal.returns-in-CurDir

@@ -1,7 +1,8 @@
 use Rattle.std.proofs.Common.{None, Some, ◌∙◌, ap, subst}
 use Rattle.relative_path.specs.Steps.{classed}
 use Rattle.relative_path.specs.Components.{TakesLast}
-use Rattle.relative_path.proofs.ComponentsLemmas.{IsTrimmedEnd, nil_from_is_empty, some_from_is_empty, TakesLast-none, TakesLast-some, MakesProgress-TakesLast}
+use Rattle.relative_path.proofs.ComponentsLemmas.{IsTrimmedEnd, TakesLast-none, TakesLast-some, MakesProgress-TakesLast}
+use Rattle.relative_path.proofs.ListsLemmas.{nil_from_is_empty, some_from_is_empty}
 use Rattle.relative_path.proofs.component.ComponentsDoubleEndedIterator.next_back.Goals as goal
 
 pub returns-then-is_empty : goal.returns-then-is_empty

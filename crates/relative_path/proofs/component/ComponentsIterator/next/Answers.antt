@@ -2,7 +2,8 @@ use Rattle.std.proofs.Common.{None, Some, ◌∙◌, ap, subst}
 use Rattle.relative_path.specs.Steps.{classed}
 use Rattle.relative_path.specs.Components.{TakesFirst}
 use Rattle.relative_path.proofs.SlicesLemmas.{IsSuffix-from}
-use Rattle.relative_path.proofs.ComponentsLemmas.{IsTrimmedStart, nil_from_is_empty, some_from_is_empty, TakesFirst-none, TakesFirst-some, MakesProgress-TakesFirst}
+use Rattle.relative_path.proofs.ComponentsLemmas.{IsTrimmedStart, TakesFirst-none, TakesFirst-some, MakesProgress-TakesFirst}
+use Rattle.relative_path.proofs.ListsLemmas.{nil_from_is_empty, some_from_is_empty}
 use Rattle.relative_path.proofs.component.ComponentsIterator.next.Goals as goal
 
 pub returns-then-is_empty : goal.returns-then-is_empty

@@ -2,7 +2,7 @@ use Rattle.std.proofs.Common.{◌<◌, ◌^◌, length, ap, arith, rules}
 use Rattle.relative_path.specs.Spans.{source_text}
 use Rattle.relative_path.specs.declared.spans.Source.TheVariants.{First}
 use Rattle.relative_path.proofs.NormalFormLemmas.{IsSpellableNormalForm-form}
-use Rattle.relative_path.proofs.NormalizingLemmas.{length-spell-components}
+use Rattle.relative_path.proofs.SpellingLemmas.{length-spell-components}
 use Rattle.relative_path.proofs.normal_form.NormalForm.of.Goals as goal
 
 pub returns-clause-normal_form : goal.returns-clause-normal_form

@@ -3,8 +3,8 @@ use Rattle.relative_path.specs.NormalForm.{form_steps, Reduces}
 use Rattle.relative_path.specs.Spans.{source_text}
 use Rattle.relative_path.specs.Steps.{components}
 use Rattle.relative_path.specs.declared.spans.Source.TheVariants.{First, Second}
-use Rattle.relative_path.proofs.NormalFormLemmas.{Reduces-trans, Reduces-append_right, IsSpellableNormalForm-form, length-spell-append}
-use Rattle.relative_path.proofs.NormalizingLemmas.{length-spell-components}
+use Rattle.relative_path.proofs.NormalFormLemmas.{Reduces-trans, Reduces-append_right, IsSpellableNormalForm-form}
+use Rattle.relative_path.proofs.SpellingLemmas.{length-spell-append, length-spell-components}
 use Rattle.relative_path.proofs.normal_form.NormalForm.of_both.Goals as goal
 
 pub returns-clause-normal_form : goal.returns-clause-normal_form

@@ -3,9 +3,10 @@ use Rattle.relative_path.specs.Writing.{with_piece}
 use Rattle.relative_path.specs.NormalForm.{form_names, form_steps}
 use Rattle.relative_path.specs.Spans.{span_text}
 use Rattle.relative_path.specs.Steps.{up, step_text, components, spell}
-use Rattle.relative_path.proofs.StepsLemmas.{components-spell}
-use Rattle.relative_path.proofs.NormalFormLemmas.{SpellThemselves-ups_then_names, SpellThemselves-names_past, length-spell, length-spell-unwritten, length-with_pieces_le, with_pieces-ups_then_names}
+use Rattle.relative_path.proofs.NormalFormLemmas.{SpellThemselves-ups_then_names, SpellThemselves-names_past, length-spell-unwritten, with_pieces-ups_then_names}
 use Rattle.relative_path.proofs.SpansLemmas.{AreOrdered-unwritten, IsCutUnwritten-names, unwritten_count, unwritten_count-names, with_unwritten-names}
+use Rattle.relative_path.proofs.SpellingLemmas.{components-spell, length-spell}
+use Rattle.relative_path.proofs.WritingLemmas.{length-with_pieces_le}
 use Rattle.relative_path.proofs.normal_form.NormalForm.spelled_past.Goals as goal
 
 pub spelled_len-requires : goal.spelled_len-requires

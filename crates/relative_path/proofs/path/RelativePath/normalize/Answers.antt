@@ -1,7 +1,8 @@
 use Rattle.std.proofs.Common.{rules, ◌∙◌, arith, ap, length}
 use Rattle.relative_path.specs.RelativePath.{path_text}
-use Rattle.relative_path.proofs.NormalizingLemmas.{length-spell-components, components-IsNormalTextOf}
+use Rattle.relative_path.proofs.NormalizingLemmas.{components-IsNormalTextOf}
 use Rattle.relative_path.proofs.NormalFormLemmas.{IsSpellableNormalForm-nil, IsNormalTextOf-spell}
+use Rattle.relative_path.proofs.SpellingLemmas.{length-spell-components}
 use Rattle.relative_path.proofs.path.RelativePath.normalize.Goals as goal
 
 pub returns-clause-normal_form : goal.returns-clause-normal_form

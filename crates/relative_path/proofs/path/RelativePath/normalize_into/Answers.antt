@@ -1,8 +1,8 @@
 -- Each turn follows the first component of what is left.
 use Rattle.std.proofs.Common.{◌≡◌, ◌∷◌, ℕ, List, subst, arith}
-use Rattle.relative_path.specs.Steps.{Step, components}
+use Rattle.relative_path.specs.Steps.{Step, components, SpellThemselves, SpellsItself}
 use Rattle.relative_path.specs.RelativePath.{path_text}
-use Rattle.relative_path.proofs.StepsLemmas.{SpellThemselves, SpellsItself, SpellThemselves-components}
+use Rattle.relative_path.proofs.StepsLemmas.{SpellThemselves-components}
 use Rattle.relative_path.proofs.NormalizingLemmas.{Follows, Normalizes, Normalizes-start, Normalizes-follow, Normalizes-end, pushed_fits}
 use Rattle.relative_path.proofs.path.RelativePath.normalize_into.Goals as goal
 

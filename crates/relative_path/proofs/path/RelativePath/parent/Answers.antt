@@ -1,8 +1,8 @@
 use Rattle.std.proofs.Common.{ap, ◌∙◌}
 use Rattle.relative_path.specs.Steps.{components}
 use Rattle.relative_path.proofs.StepsLemmas.{components-nil}
-use Rattle.relative_path.proofs.ComponentsLemmas.{nil_from_is_empty}
 use Rattle.relative_path.proofs.NamingEditsLemmas.{IsSame-IsPopped, IsSome-walk_popped}
+use Rattle.relative_path.proofs.ListsLemmas.{nil_from_is_empty}
 use Rattle.relative_path.proofs.path.RelativePath.parent.Goals as goal
 
 -- the empty text has no component

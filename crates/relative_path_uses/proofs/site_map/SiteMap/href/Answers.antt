@@ -2,7 +2,8 @@
 use Rattle.std.proofs.Common.{◌≡◌, ap, ◌∙◌, None, Some, string_bytes, rules}
 use Rattle.relative_path.specs.Editing.{pushed}
 use Rattle.relative_path.specs.RelativePath.{path_text, path_components}
-use Rattle.relative_path.proofs.ForCallers.{SpellThemselves, SpellThemselves-components, SpellsItself-last_name}
+use Rattle.relative_path.proofs.ForCallers.{SpellThemselves-components, SpellsItself-last_name}
+use Rattle.relative_path.specs.Steps.{SpellThemselves}
 use Rattle.relative_path_moves.specs.Places.{directory}
 use Rattle.relative_path_moves.specs.PlaceIndex.{path_at}
 use Rattle.relative_path_uses.specs.SiteMap.{above_page, IsShortestNamed}

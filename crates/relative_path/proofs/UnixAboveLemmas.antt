@@ -1,61 +1,20 @@
 -- Going up on a platform text.
-use Rattle.std.proofs.Common.{◌≡◌, ◌≢◌, ◌⊎◌, ℕ, ◌-◌, ◌<◌, ◌≤◌, Bool, true, false, List, [], ◌∷◌, ◌++◌, length, get_or, take, drop, sym, refl, ap, ◌∙◌, subst, inl, inr, ⊎_elim, append_assoc, append-nil, arith, length-append, take-append-drop, length-drop, take_at, eqb-true, true≢false, Option, Some, None, is_some, zero, suc}
-use Rattle.std.proofs.lemmas.Bool.{cases_Bool, cases_lt}
+use Rattle.std.proofs.Common.{◌≡◌, ◌≢◌, ◌⊎◌, ℕ, ◌-◌, ◌<◌, ◌≤◌, Bool, true, false, List, [], ◌∷◌, ◌++◌, length, get_or, take, drop, sym, refl, ap, ◌∙◌, subst, inl, inr, append_assoc, append-nil, arith, length-append, take-append-drop, length-drop, take_at, eqb-true, true≢false, Option, Some, None, is_some, zero, suc, ⊎_elim}
+use Rattle.std.proofs.lemmas.Bool.{cases_lt}
 use Rattle.std.proofs.lemmas.List.{append_cancel_left}
-use Rattle.relative_path.specs.Steps.{Step, cur, up, name, slash, is_slash, step_text, classed, components}
+use Rattle.relative_path.specs.Steps.{Step, slash, step_text, classed, components}
 use Rattle.relative_path.specs.Editing.{is_cur, without_cur_dirs}
 use Rattle.relative_path.specs.declared.component.Component.{Component}
 use Rattle.relative_path.specs.Components.{step_of, TakesLast}
 use Rattle.relative_path.specs.Unix.{has_root, counted, unix_components, but_last, IsAbove}
-use Rattle.relative_path.proofs.StepsLemmas.{HasNoSlash, HasNoSlash-append, components-nil, components-append, components-slash, components_whole, step_text-classed}
+use Rattle.relative_path.proofs.StepsLemmas.{HasNoSlash, HasNoSlash-append, components-nil, components-slash, components_whole, step_text-classed}
 use Rattle.relative_path.proofs.SlicesLemmas.{IsPrefix, IsPrefix-append, IsPrefix-trans, IsPrefix-shortest, IsShortestPrefix-from, take-IsPrefix}
-use Rattle.relative_path.proofs.NamingLemmas.{last_slash}
-use Rattle.relative_path.proofs.NormalizingLemmas.{last_view}
-use Rattle.relative_path.proofs.UnixComponentsLemmas.{counted-append, after, LosesIdle, LastCounts}
+use Rattle.relative_path.proofs.UnixComponentsLemmas.{counted-append, after, LosesIdle, LastCounts, counted_first, counted_alone, but_last-push}
+use Rattle.relative_path.proofs.ListsLemmas.{last_view, head_same}
+use Rattle.relative_path.proofs.SlashesLemmas.{components-after, components-before}
+use Rattle.relative_path.proofs.EditingLemmas.{long_other}
 
 -- ---- a text cut in two
-
--- the text has no slash, or a first one
-first_slash : (text : List ℕ)
-    → HasNoSlash text ⊎ ((xs : List ℕ) × (ys : List ℕ) × (text ≡ xs ++ slash ∷ ys) × HasNoSlash xs)
-first_slash [] = inl tt
-first_slash (b ∷ bs) = ⊎_elim
-    (λ e. inr ([], bs, ap (λ x. x ∷ bs) (eqb-true b slash e), tt))
-    (λ e. elim (first_slash bs) [
-      | inl none ↦ inl (e, none)
-      | inr (xs, ys, joined, none) ↦ inr (b ∷ xs, ys, ap (λ x. b ∷ x) joined, (e, none))
-    ])
-    (cases_Bool (is_slash b))
-
--- whatever follows a text, only its last piece can change
-components-before : (front : List ℕ)
-    → (cs : List Step) × (x : List ℕ) × HasNoSlash x
-    × ((rest : List ℕ) → components (front ++ rest) ≡ cs ++ components (x ++ rest))
-components-before front = elim (last_slash front) [
-  | inl none ↦ ([], front, none, λ rest. refl)
-  | inr (xs, ys, joined, none) ↦ (
-    components xs,
-    ys,
-    none,
-    λ rest. ap (λ t. components (t ++ rest)) joined ∙ ap components (append_assoc xs (slash ∷ ys) rest)
-        ∙ components-append xs (ys ++ rest),
-  )
-]
-
--- whatever stands before a text, only its first piece can change
-components-after : (rest : List ℕ)
-    → (cs : List Step) × (y : List ℕ) × HasNoSlash y
-    × ((front : List ℕ) → components (front ++ rest) ≡ components (front ++ y) ++ cs)
-components-after rest = elim (first_slash rest) [
-  | inl none ↦ ([], rest, none, λ front. sym (append-nil (components (front ++ rest))))
-  | inr (xs, ys, joined, none) ↦ (
-    components ys,
-    xs,
-    none,
-    λ front. ap (λ t. components (front ++ t)) joined ∙ ap components (sym (append_assoc front xs (slash ∷ ys)))
-        ∙ components-append (front ++ xs) ys,
-  )
-]
 
 -- what stands after the front adds components, or makes its last one longer
 abbrev Continues : List ℕ → List ℕ → Type 0
@@ -100,32 +59,6 @@ continues front rest =
         )
 
 -- ---- a shorter front has other components
-
-long_other : (c : Step) → 1 < length (step_text c) → is_cur c ≡ false
-long_other cur long = absurd (omega arith)
-long_other up long = refl
-long_other (name n) long = refl
-
-but_last-push : (cs : List Step) (c : Step) → but_last (cs ++ c ∷ []) ≡ cs
-but_last-push cs c = take_at cs (c ∷ []) (length (cs ++ c ∷ []) - 1) (omega (arith, length-append cs (c ∷ [])))
-
--- a component alone counts or not
-counted_alone : (rooted : Bool) (c : Step) → (counted rooted (c ∷ []) ≡ []) ⊎ (counted rooted (c ∷ []) ≡ c ∷ [])
-counted_alone true cur = inl refl
-counted_alone true up = inr refl
-counted_alone true (name n) = inr refl
-counted_alone false c = inr refl
-
--- a component that is no `.` counts
-counted_first : (rooted : Bool) (c : Step) (cs : List Step) → is_cur c ≡ false
-    → counted rooted (c ∷ cs) ≡ c ∷ without_cur_dirs cs
-counted_first true cur cs other = absurd (true≢false other)
-counted_first true up cs other = refl
-counted_first true (name n) cs other = refl
-counted_first false c cs other = refl
-
-head_same : {c d : Step} {ds : List Step} → c ∷ [] ≡ d ∷ ds → c ≡ d
-head_same {c} {d} {ds} e = ap (λ cs. get_or cs 0 c) e
 
 shorter-counted : (rooted : Bool) (front rest : List ℕ) → 0 < length rest
     → get_or (front ++ rest) (length (front ++ rest) - 1) 0 ≢ slash → LastCounts rooted (components (front ++ rest))
