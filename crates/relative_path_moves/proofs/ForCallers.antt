@@ -1,11 +1,11 @@
--- What a caller's proof may cite of the moves: a place has one target after moves that are apart.
+-- Theorems on moves that a caller's proof may cite: if no two moves have the same old path, a place has one target.
 use Rattle.std.proofs.Common.{◌≡◌, ℕ, List, inl, inr, sym, ap, ◌∙◌}
 use Rattle.std.proofs.lemmas.Bool.{cases_order}
 use Rattle.relative_path.specs.Steps.{Step}
 use Rattle.relative_path.proofs.ForCallers.{IsSame-sym, IsSame-trans}
 use Rattle.relative_path_moves.specs.Moves.{Move, move_at, AreApart, MovesFrom, IsTarget}
 
--- of moves that are apart, one at most has a place as its old path
+-- if no two moves have the same old path, at most one move has a place as its old path
 one_move : (moves : List Move) (place : List Step) (j k : ℕ) → AreApart moves → MovesFrom moves place j
     → MovesFrom moves place k → j ≡ k
 one_move moves place j k apart first second = elim (cases_order j k) [
@@ -16,7 +16,7 @@ one_move moves place j k apart first second = elim (cases_order j k) [
       (record { before = more; within = first.within; same = IsSame-trans (IsSame-sym second.same) first.same }))
 ]
 
--- so a place has one target
+-- then a place has one target
 pub IsTarget-only : (moves : List Move) (place one other : List Step) → AreApart moves → IsTarget moves place one
     → IsTarget moves place other → other ≡ one
 IsTarget-only moves place one other apart (inl (j, from, e)) (inl (k, from_2, f)) =

@@ -26,7 +26,7 @@ pub(crate) fn is_misread(link: &str) -> bool
     link.is_empty() || has_scheme(link)
 }
 
-// Whether a colon stands before the first slash.
+// Whether there is a colon before the first slash.
 fn has_scheme(text: &str) -> bool
     ensures { result ≡ has_scheme text.now }
 {

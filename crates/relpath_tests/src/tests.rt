@@ -1,4 +1,4 @@
-//! Tests of what no contract says, over readers and writers that do as they are told.
+//! Tests of what no contract says, over readers and writers that a test controls.
 use std::fmt::Debug;
 use std::test::Fail;
 

@@ -1,6 +1,7 @@
-//! Each call that takes memory, between two marks; the calls on a short text and on one of
-//! a MiB. tools/refusals runs each of these tests with each request between its marks refused in turn,
-//! so each takes a refusal as well as an answer; without that script it takes only the answer.
+//! Each call that allocates, between two marks, on a short text and on one of a MiB. tools/refusals runs
+//! each of these tests again and again, and makes one request between its marks fail after another. So
+//! a test accepts a failed allocation as well as the result; without that script it accepts only the
+//! result.
 use super::{same, text_of};
 use marks::end;
 use relative_path::RelativePathBuf;
@@ -22,7 +23,7 @@ fn long_text(alloc: Global) -> Result<String, AllocError> {
     Ok(text)
 }
 
-// The mark after a call. It fails where the answer has another text, or more room than that needs.
+// The mark after a call. Fails if the result has another text, or more room than the text needs.
 fn gives(
     alloc: Global,
     answer: &Result<RelativePathBuf, AllocError>,

@@ -95,7 +95,7 @@ fn sets_file_names(rt: HostRuntime) -> Result<(), Fail> {
     Ok(())
 }
 
-// A text, an extension, the text that setting it leaves, the answer, and the file name then.
+// A text, an extension, the text after the extension is set, the result, and the file name then.
 type Extended = (
     &'static str,
     &'static str,

@@ -68,7 +68,7 @@ fn makes_relative_paths(rt: HostRuntime) -> Result<(), Fail> {
     Ok(())
 }
 
-// Fails where this is no refusal of a root.
+// Fails if the error isn't that of a root.
 fn refuses_a_root<T: Drop>(case: &str, answer: Result<T, FromPathError>) -> Result<(), Fail> {
     let refused = answer.err().ok_or("a refusal")?;
     same(case, &refused.kind(), &FromPathErrorKind::NonRelative)
@@ -152,7 +152,7 @@ const MISMATCH: &str = "! paths contain different absolute prefixes";
 
 const AMBIGUOUS: &str = "! path traversal cannot be determined";
 
-// What `relative_to` answers, as a text.
+// The result of `relative_to`, as a text.
 fn shown(
     alloc: Global,
     answer: Result<RelativePathBuf, RelativeToError>,
@@ -163,18 +163,18 @@ fn shown(
     }
 }
 
-// What `relative_to` of two `Path`s answers, as a text.
+// The result of `relative_to` of two `Path`s, as a text.
 fn way_of_paths(alloc: Global, path: &str, root: &str) -> Result<String, AllocError> {
     shown(alloc, Path::new(path).relative_to(alloc, Path::new(root)))
 }
 
-// What `relative_to` of a `PathBuf` answers, as a text.
+// The result of `relative_to` of a `PathBuf`, as a text.
 fn way_of_buffers(alloc: Global, path: &str, root: &str) -> Result<String, AllocError> {
     let owned = PathBuf::from(String::from_str(alloc, path)?);
     shown(alloc, owned.relative_to(alloc, Path::new(root)))
 }
 
-// Fails where a form of `relative_to` doesn't answer this.
+// Fails if a form of `relative_to` doesn't return this.
 fn leads(alloc: Global, path: &str, root: &str, expected: &str) -> Result<(), Fail> {
     let way = shown(alloc, unix::relative_to(alloc, path, root))?;
     same(path, &way.as_str(), &expected)?;
@@ -184,7 +184,7 @@ fn leads(alloc: Global, path: &str, root: &str, expected: &str) -> Result<(), Fa
     same(path, &way.as_str(), &expected)
 }
 
-// A path, a root, and the way from the root to the path, or the words of a refusal.
+// A path, a root, and the path from the root to the first path, or the words of an error.
 type Way = (&'static str, &'static str, &'static str);
 
 const WAYS: [&[Way]; 7] = [
@@ -260,7 +260,7 @@ const WORKED: [Way; 5] = [
     ("é/ü", "é/日本//.", "../ü"),
 ];
 
-// Here the original crate answers something else. Where the path has nothing left of its own, it climbs once for each
+// Here the original crate returns something else. Where the path has nothing left of its own, it climbs once for each
 // component of the root, `.` and `..` too. Where the root's own part begins with `.`, it writes the path's first component
 // before the climb.
 const OWN_RULES: [Way; 10] = [
@@ -292,7 +292,7 @@ fn finds_ways_to_paths(rt: HostRuntime) -> Result<(), Fail> {
     Ok(())
 }
 
-// Fails where a refusal is not equal to its clone, or doesn't print these words, as it is and in a
+// Fails if an error isn't equal to its clone, or doesn't print these words, as it is and in a
 // width and a precision that hold them.
 fn tells<T: Clone + Drop + PartialEq + Debug + Display>(
     alloc: Global,

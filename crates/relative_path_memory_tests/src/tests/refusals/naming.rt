@@ -38,7 +38,7 @@ fn with_extension(rt: HostRuntime) -> Result<(), Fail> {
     Ok(())
 }
 
-// Sets the file name of `f/b`, which a refusal leaves.
+// Sets the file name of `f/b`, which stays if an allocation fails.
 fn set_file_name_of(alloc: Global, file_name: &str) -> Result<(), Fail> {
     let mut buf = RelativePathBuf::from_text(alloc, "f/b")?;
     begin(alloc);
@@ -102,7 +102,7 @@ fn set_extension(rt: HostRuntime) -> Result<(), Fail> {
     Ok(())
 }
 
-// A text, the room that it is given, an extension, the text that setting that leaves, and the answer.
+// A text, its room, an extension, the text after the extension is set, and the result.
 const FITTING: [(&str, usize, &str, &str, bool); 5] = [
     ("foo", 7, "bar", "foo.bar", true),
     ("foo.txt", 7, "bar", "foo.bar", true),

@@ -10,7 +10,7 @@ use std::alloc::{AllocError, Global};
 use std::path::{Path, PathBuf};
 use std::test::Fail;
 
-// The mark after a call, which fails where memory was there and the answer has another text.
+// The mark after a call. Fails if no allocation failed and the result has another text.
 fn end_with_path(
     alloc: Global,
     answer: Result<RelativePathBuf, FromPathError>,

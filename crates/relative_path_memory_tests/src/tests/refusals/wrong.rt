@@ -1,4 +1,5 @@
-//! Wrong calls, right where memory is ample. tools/refusals sees each of these tests fail.
+//! Wrong functions that are right as long as no allocation fails. tools/refusals checks that each of these tests
+//! fails.
 ghost use Rattle.std.specs.Iterator.{IsFinite};
 
 use super::editing::{is_left, long_name};
@@ -33,7 +34,7 @@ fn set_file_name(rt: HostRuntime) -> Result<(), Fail> {
     )
 }
 
-// Pushes the paths, and takes the first text back where a push is refused.
+// Pushes the paths, and restores the first text if a push fails.
 fn push_or_restore<'p, I: Iterator<Item = RelativePath<'p>>>(
     buf: &mut RelativePathBuf,
     paths: I,

@@ -1,4 +1,4 @@
--- The outcome is that of one move.
+-- The result is that of one move.
 use Rattle.std.proofs.Common.{◌≢◌, Ok, Err, refl}
 use Rattle.relative_path.specs.Steps.{components}
 use Rattle.relpath_lib.specs.Command.{TellsMoved}
