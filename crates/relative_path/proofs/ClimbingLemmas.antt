@@ -1,4 +1,4 @@
--- How many names a base must have for a list of steps to lead anywhere from it.
+-- How many names a base needs for a list of steps to lead to a place from it.
 use Rattle.std.proofs.Common.{◌≡◌, ◌↔◌, ℕ, zero, suc, ◌+◌, ◌≤◌, List, [], ◌∷◌, ◌++◌, length, take, replicate, Option, Some, None, IsSome, refl, arith}
 use Rattle.std.proofs.lemmas.List.{length_push, length-replicate, length-take-le}
 use Rattle.relative_path.specs.Steps.{Step, cur, up, name}
@@ -6,7 +6,7 @@ use Rattle.relative_path.specs.Walk.{walk, IsSame, LeadsBelow}
 use Rattle.relative_path.specs.Normalizing.{AreNames, IsNormal, IsNormalForm, climb}
 use Rattle.relative_path.proofs.WalkLemmas.{IsSame-refl, IsSame-sym, LeadsBelow-in_turn, LeadsInTurn-same}
 
--- the climb after steps that climbed so far and left so many names that a later `..` leaves again
+-- the climb of a walk that has climbed so far, and can leave this many names again by `..`
 abbrev pub climb_after : ℕ → ℕ → List Step → ℕ
 climb_after climbed names [] = climbed
 climb_after climbed names (cur ∷ cs) = climb_after climbed names cs
@@ -21,12 +21,12 @@ climb_after_ge climbed zero (up ∷ cs) = omega (arith, climb_after_ge (suc clim
 climb_after_ge climbed (suc names) (up ∷ cs) = climb_after_ge climbed names cs
 climb_after_ge climbed names (name n ∷ cs) = climb_after_ge climbed (suc names) cs
 
--- where no steps are left the climb so far is all of it
+-- if no steps are left, the climb so far is the whole climb
 pub climb_after-nil : (names : ℕ) {climbed n : ℕ} {cs : List Step} → cs ≡ [] → climb_after climbed names cs ≡ n
     → climbed ≡ n
 climb_after-nil names none comes_to = rw none at comes_to
 
--- steps lead anywhere from such a place exactly if the base of it has as many names
+-- steps lead to a place from there exactly if the base has as many names as they climb
 IsSome-walk_after : (base : ℕ) (place : List (List ℕ)) (climbed names : ℕ) (cs : List Step)
     → length place + climbed ≡ base + names → climbed ≤ base
     → IsSome (walk place cs) ↔ (climb_after climbed names cs ≤ base)
@@ -47,7 +47,7 @@ IsSome-walk_after base place climbed names (name n ∷ cs) at few =
 pub IsSome-walk : (cs : List Step) (base : List (List ℕ)) → IsSome (walk base cs) ↔ (climb_after 0 0 cs ≤ length base)
 IsSome-walk cs base = IsSome-walk_after (length base) base 0 0 cs (omega arith) (omega arith)
 
--- lists that lead to the same places climb as high
+-- lists that lead to the same places climb equally high
 climb_after_le : (cs ds : List Step) → IsSame cs ds → climb_after 0 0 cs ≤ climb_after 0 0 ds
 climb_after_le cs ds same =
     let base : List (List ℕ) = replicate (climb_after 0 0 ds) [] in
@@ -73,7 +73,7 @@ climb_after-normal_form cs ds form =
     let back = IsSame-sym cs ds form.same in
     omega (arith, climb_after_le cs ds form.same, climb_after_le ds cs back, climb_after-normal 0 ds form.normal)
 
--- steps that climb above no base lead to one place, below every base
+-- steps that don't climb lead to the same place below every base
 pub LeadsBelow-level : (cs : List Step) → climb_after 0 0 cs ≡ 0 → (place : List (List ℕ)) × LeadsBelow [] place cs
 LeadsBelow-level cs level = found (walk [] cs) refl ((IsSome-walk cs []).1 (omega (arith, level)))
   where

@@ -1,4 +1,4 @@
--- Taking the first or the last component off a text: a trim, a cut at a slash, and a trim.
+-- The first or the last component taken off a text: a trim, a cut at a slash, and a trim.
 use Rattle.std.proofs.Common.{◌≡◌, ◌≢◌, ℕ, ◌-◌, List, [], ◌∷◌, ◌++◌, length, get_or, take, drop, Option, Some, None, sym, refl, ap, ap₂, ◌∙◌, subst, inl, inr, arith, length-append, take_at}
 use Rattle.std.specs.Iterator.{MakesProgress, item_count}
 use Rattle.std.specs.List.{position_or_len, before_first, after_first, before_last, after_last}
@@ -30,12 +30,12 @@ pub record IsTrimmedStart (text trimmed : List ℕ) : Type 0 where
   pub start : get_or trimmed 0 0 ≢ slash
   pub same : components trimmed ≡ components text
 
--- a piece that has a byte is its one component
+-- a non-empty piece is its only component
 components_piece : (p : List ℕ) → p ≢ [] → HasNoSlash p → components p ≡ classed p ∷ []
 components_piece [] nonempty h = absurd (nonempty refl)
 components_piece (b ∷ bs) nonempty h = components_whole (b ∷ bs) (omega arith) h
 
--- with no component, the rest and the front are empty
+-- if there is no component, the rest and the front are empty
 IsRest-none : (text r : List ℕ) → components text ≡ [] → r ≡ [] → IsRest text r
 IsRest-none text r none empty = rw empty (record {
   suffix = sym (drop_all (length text - 0) text (omega arith));
@@ -46,7 +46,7 @@ IsRest-none text r none empty = rw empty (record {
 IsFront-none : (text p : List ℕ) → components text ≡ [] → p ≡ [] → IsFront text p
 IsFront-none text p none empty = rw (empty, none) (IsShortestPrefix-nil text)
 
--- where a text is trimmed to nothing, it has no component
+-- if a text is trimmed to nothing, it has no component
 pub TakesFirst-none : (text trimmed : List ℕ) → IsTrimmedStart text trimmed → trimmed ≡ []
     → TakesFirst text None trimmed
 TakesFirst-none text trimmed trim empty =
@@ -65,7 +65,7 @@ components-first text start some =
           ∙ ap (λ cs. classed (before_first is_slash text) ∷ cs) (sym (ap components none ∙ components-nil))
     ]
 
--- the component that stands first is the piece before the first slash, and the rest what stands after it
+-- the first component is the piece before the first slash, and the rest is the text after that slash
 pub TakesFirst-some : (text trimmed left : List ℕ) (c : Component) → IsTrimmedStart text trimmed
     → IsTrimmedStart (after_first is_slash trimmed) left → trimmed ≢ []
     → step_of c ≡ classed (before_first is_slash trimmed) → TakesFirst text (Some c) left
@@ -87,7 +87,7 @@ pub record IsTrimmedEnd (text trimmed : List ℕ) : Type 0 where
   pub end : get_or trimmed (length trimmed - 1) 0 ≢ slash
   pub same : components trimmed ≡ components text
 
--- where a text is trimmed to nothing, it has no component
+-- if a text is trimmed to nothing, it has no component
 pub TakesLast-none : (text trimmed : List ℕ) → IsTrimmedEnd text trimmed → trimmed ≡ [] → TakesLast text None trimmed
 TakesLast-none text trimmed trim empty =
     let none = sym trim.same ∙ ap components empty ∙ components-nil in (none, IsFront-none text trimmed none empty)
@@ -107,7 +107,7 @@ components-last text end some =
           ∙ ap (λ cs. cs ++ classed (after_last is_slash text) ∷ []) (sym (ap components none ∙ components-nil))
     ]
 
--- the component that stands last is the piece after the last slash, and the front what stands before it
+-- the last component is the piece after the last slash, and the front is the text before that slash
 pub TakesLast-some : (text trimmed left : List ℕ) (c : Component) → IsTrimmedEnd text trimmed
     → IsTrimmedEnd (before_last is_slash trimmed) left → trimmed ≢ []
     → step_of c ≡ classed (after_last is_slash trimmed) → TakesLast text (Some c) left
@@ -125,14 +125,14 @@ TakesLast-some text trimmed left c trim trim' some is =
           (firsts ∙ ap (λ n. take n (components text)) counted) trim'.end,
     )
 
--- ---- what follows of the lists of components, and that the iterators end
+-- ---- lists of components, and the end of the iterators
 
 equal_from_reverse : (o : Ordering) → o ≡ ordering_reverse o → o ≡ Equal
 equal_from_reverse Less e = absurd (cc)
 equal_from_reverse Equal e = refl
 equal_from_reverse Greater e = absurd (cc)
 
--- a list of components stands where it stands
+-- a list of components is equal to itself in the order
 pub steps_cmp-same : (cs : List Step) → steps_cmp cs cs ≡ Equal
 steps_cmp-same cs = equal_from_reverse (steps_cmp cs cs) (steps_comparison.total.antisymm cs cs)
 
@@ -152,7 +152,7 @@ MakesProgress-TakesLast s t (Some c) (joined, _) =
       rests = λ _. tt;
     }
 
--- an iterator gives the components of its text, one after another
+-- an iterator gives the components of its text in order
 pub YieldsList-components : (s : Components) (text : List ℕ) → text_left s ≡ text
     → YieldsList (λ s taken t. TakesFirst (text_left s) taken (text_left t)) step_of s (components text)
 YieldsList-components s text same =
@@ -160,10 +160,11 @@ YieldsList-components s text same =
     (YieldsList-from_shown (λ s taken t. TakesFirst (text_left s) taken (text_left t))
     step_of components_left (λ s t taken. ap length taken.0) (λ s c t taken. taken.0) s)
 
--- a call of `next` of a `Components`, and of an `Iter`
+-- a call of `next` of a `Components`
 abbrev walk_steps : Components → Option Component → Components → Type 0
 walk_steps s taken t = TakesFirst (text_left s) taken (text_left t)
 
+-- a call of `next` of an `Iter`
 abbrev iter_steps : Iter → Option (Bor (List ℕ)) → Iter → Type 0
 iter_steps s taken t = TakesFirstText (iter_text_left s) taken (iter_text_left t)
 

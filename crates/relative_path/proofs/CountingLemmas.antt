@@ -13,7 +13,7 @@ use Rattle.relative_path.specs.Steps.{is_slash, is_not_empty, pieces, classed, c
 use Rattle.relative_path.specs.Counting.{begun, starts_from}
 use Rattle.relative_path.proofs.SlashesLemmas.{mask_bound, mask_bit}
 
--- how many pieces have a byte, without the first
+-- how many of the pieces after the first aren't empty
 abbrev later : List (List ℕ) → ℕ
 later [] = 0
 later (p ∷ ps) = length (filter is_not_empty ps)
@@ -27,7 +27,7 @@ length-filter-onto_first : (b : ℕ) (ps : List (List ℕ))
 length-filter-onto_first b [] = refl
 length-filter-onto_first b (p ∷ ps) = omega arith
 
--- after a slash each piece with a byte begins; after another byte the first one has begun
+-- after a slash each non-empty piece begins; after another byte the first piece has already begun
 begun-split : (bs : List ℕ)
     → (begun true bs ≡ length (filter is_not_empty (slice_split is_slash bs)))
     × (begun false bs ≡ later (slice_split is_slash bs))
@@ -54,7 +54,7 @@ pub begun-components : (bs : List ℕ) → begun true bs ≡ length (components 
 unfolding components pieces
 begun-components bs = (begun-split bs).0 ∙ sym (length-map (pieces bs) classed)
 
--- the first byte, and those after it
+-- the components of a text: one at a non-slash first byte, and those that begin later
 pub begun-start : (bytes : List ℕ) → 0 < length bytes
     → begun true bytes ≡ cond (not (is_slash (get_or bytes 0 0))) 1 0 + begun (is_slash (get_or bytes 0 0)) (drop 1 bytes)
 begun-start [] some = absurd (omega arith)
@@ -66,11 +66,11 @@ begun-start (b ∷ bs) some = first (is_slash b) refl
 
 -- ---- counted by the bits of a block
 
--- a component begins there: there is no slash, and one stands before
+-- a component begins there: the byte is no slash and follows a slash
 abbrev begins_at : List ℕ → ℕ → Bool
 begins_at bytes i = not (is_slash (get_or bytes i 0)) && is_slash (get_or bytes (i - 1) 0)
 
--- one byte more
+-- one more byte
 begun-next : (after here : Bool) (b : ℕ) (bs : List ℕ) → is_slash b ≡ here
     → begun after (b ∷ bs) ≡ cond (not here && after) 1 0 + begun here bs
 begun-next true true b bs is = omega (arith, cond-true (is_slash b) (begun true bs) (1 + begun false bs) is)
@@ -84,7 +84,7 @@ starts_from-more bytes i inside =
     ap (begun (is_slash (get_or bytes (i - 1) 0))) (drop_more bytes i 0 inside)
     ∙ begun-next (is_slash (get_or bytes (i - 1) 0)) (is_slash (get_or bytes i 0)) (get_or bytes i 0) (drop (i + 1) bytes) refl
 
--- the bits of a number are its lowest and those of its half
+-- a number has as many bits set as its lowest bit and its half together
 ones-halved : (n : ℕ) → count_ones n ≡ n % 2 + count_ones (n / 2)
 unfolding count_ones
 ones-halved n =
@@ -98,7 +98,7 @@ ones-halved n =
     single (suc zero) small = refl
     single (suc (suc r)) small = absurd (omega (arith, small))
 
--- a number with a bit for each of some bytes, set where a component begins, counts those
+-- a number with a bit for each of some bytes, set where a component begins, counts the components
 ones-begun : (bytes : List ℕ) (n mask i : ℕ) → i + n ≤ length bytes → mask < 2 ^ n
     → ((k : ℕ) → k < n → bit_at mask k ≡ cond (begins_at bytes (i + k)) 1 0)
     → count_ones mask + starts_from bytes (i + n) ≡ starts_from bytes i
@@ -123,14 +123,14 @@ ones-begun bytes (suc n) mask i inside bound bits =
     let after = ap (λ j. begun (is_slash (get_or bytes j 0)) (drop (i + 1) bytes)) next in
     omega (arith, ones-halved mask, first, rest, ap (starts_from bytes) end, after, starts_from-more bytes i (omega (arith, inside)))
 
--- no slash here, and one before, as bits
+-- a byte that is no slash, and a slash before it, as bits
 min_bits : (before here : Bool) → min (cond before 1 0) (1 - cond here 1 0) ≡ cond (not here && before) 1 0
 min_bits true true = refl
 min_bits true false = refl
 min_bits false true = refl
 min_bits false false = refl
 
--- the slashes of a block, and those of the block a byte before it
+-- the slashes of a block, and those of the block that begins one byte earlier
 module _ (bytes : List ℕ) (start skipped : ℕ) (some : 0 < start) (inside : start + 16 ≤ length bytes)
     (few : skipped < 16) where
   abbrev slashes : ℕ → ℕ
@@ -162,7 +162,7 @@ module _ (bytes : List ℕ) (start skipped : ℕ) (some : 0 < start) (inside : s
       omega (arith, and_le_l (slashes (start - 1)) (bit_not w64 (slashes start)), mask_bound bytes (start - 1) 16 early) in
       shr_below both (16 - skipped) skipped (subst (λ k. both < 2 ^ k) width less)
 
-  -- where components begin in the block, but for its first bytes
+  -- the components that begin in the block, after its first bytes
   pub starts_from-block : count_ones (both / 2 ^ skipped) + starts_from bytes (start + 16) ≡ starts_from bytes (start + skipped)
   starts_from-block =
       let end : start + skipped + (16 - skipped) ≡ start + 16 = omega (arith, few) in

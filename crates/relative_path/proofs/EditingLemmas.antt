@@ -14,7 +14,7 @@ use Rattle.relative_path.proofs.StepsLemmas.{components-nil, components-append, 
 use Rattle.relative_path.proofs.SlicesLemmas.{IsPrefix, IsPrefix-trans, IsPrefix-shortest, IsShortestPrefix-from, IsShortestPrefix-trans, end-IsShortestPrefix, ends_separated}
 use Rattle.relative_path.proofs.SpellingLemmas.{spell_end, spell_nonempty, spell-append}
 
--- what `strip_prefix` gives, or the text
+-- what `strip_prefix` returns, or the text itself
 pub unslashed-strip_prefix : (text : List ℕ) (r : Option (Bor (List ℕ))) (whole : Bor (List ℕ)) → whole.now ≡ text
     → MatchOption r (FindsCharPrefix slash text None) (λ x. StripsPrefix (FindsCharPrefix slash) text x.now)
     → (unwrap_or r whole).now ≡ unslashed text
@@ -28,7 +28,7 @@ unslashed-strip_prefix text r whole all found = stripped text r (strip_prefix_ch
         same ∙ sym (cond-false _ _ _ (ne_eqb b slash (λ e. other bs (ap (λ x. x ∷ bs) e))))
     stripped bs (Some rest) joined same = sym (ap unslashed joined)
 
--- ---- dropping the components that a parent loses
+-- ---- the components that a parent loses
 
 suffix_len-curs : (cs : List Step) (n : ℕ) → suffix_len is_cur (cs ++ replicate n cur) ≡ n + suffix_len is_cur cs
 suffix_len-curs cs zero = ap (suffix_len is_cur) (append-nil cs) ∙ omega arith
@@ -48,7 +48,7 @@ kept_len-push cs c other =
     ap (prefix_len is_cur) (reverse-append cs (c ∷ [])) ∙ cond-false (is_cur c) _ _ other in
     omega (arith, last, length-append cs (c ∷ []))
 
--- what is left of a text is a front of it that ends in no slash, and only `.` components were dropped
+-- left is a prefix of the text that ends in no slash and lacks only `.` components
 pub record LosesCurs (text left : List ℕ) : Type 0 where
   pub prefix : IsPrefix text left
   pub end : get_or left (length left - 1) 0 ≢ slash
@@ -73,7 +73,7 @@ IsPopped-none text left front h none cut =
     let nothing = ap (λ cs. take (length cs - 1) cs) none in
     rw kept (subst (λ cs. IsShortestPrefix text cs front) nothing (IsShortestPrefix-trans h.prefix cut))
 
--- where the component before the lost ones stands
+-- the component before the lost ones
 module _ (text left front : List ℕ) (c : Step) (h : LosesCurs text left) (other : is_cur c ≡ false)
     (last : components left ≡ components front ++ c ∷ []) where
   whole : components text ≡ (components front ++ c ∷ []) ++ replicate h.lost cur
@@ -92,7 +92,7 @@ module _ (text left front : List ℕ) (c : Step) (h : LosesCurs text left) (othe
       let shortest = IsShortestPrefix-trans h.prefix cut in
       subst (λ cs. IsShortestPrefix text cs front) (sym cut.same_components ∙ sym firsts) shortest
 
-  -- the text up to its end has one component more
+  -- the text up to its end has one more component
   pub IsCut-through : IsCut text (kept_len (components text) + 1) left
   IsCut-through =
       let count : kept_len (components text) + 1 ≡ length (components front ++ c ∷ []) =
@@ -102,7 +102,7 @@ module _ (text left front : List ℕ) (c : Step) (h : LosesCurs text left) (othe
 
 -- ---- pushing
 
--- a text that has a byte and does not end in a slash gets one
+-- a non-empty text that doesn't end in a slash gets one
 pub with_separator-non_slash : (text : List ℕ) → 0 < length text → get_or text (length text - 1) 0 ≢ slash
     → with_separator text ≡ text ++ slash ∷ []
 with_separator-non_slash [] nonempty end = absurd (omega arith)
@@ -139,7 +139,7 @@ pub components-pushed : (text path : List ℕ) → components (pushed text path)
 components-pushed text path =
     components-with_separator text (unslashed path) ∙ ap (λ cs. components text ++ cs) (components-unslashed path)
 
--- a text that begins with no slash is pushed as it is
+-- a text that doesn't begin with a slash is pushed as it is
 pub unslashed-non_slash : (path : List ℕ) → get_or path 0 0 ≢ slash → unslashed path ≡ path
 unslashed-non_slash [] start = refl
 unslashed-non_slash (b ∷ bs) start = cond-false _ _ _ (ne_eqb b slash start)
@@ -155,12 +155,13 @@ pub length-pushed_le : (text path : List ℕ) → length text ≤ length (pushed
 length-pushed_le text path =
     omega (arith, length-with_separator_le text, length-append (with_separator text) (unslashed path))
 
--- ---- without each `.`
+-- ---- without any `.`
 
 pub without_cur_dirs-curs : (n : ℕ) → without_cur_dirs (replicate n cur) ≡ []
 without_cur_dirs-curs zero = refl
 without_cur_dirs-curs (suc n) = without_cur_dirs-curs n
 
+-- a component other than `.`, before `.` components at the end, stays last
 pub without_cur_dirs-at : (cs : List Step) (c : Step) (n : ℕ) → is_cur c ≡ false
     → without_cur_dirs (cs ++ c ∷ replicate n cur) ≡ without_cur_dirs cs ++ c ∷ []
 without_cur_dirs-at cs c n other =
@@ -173,14 +174,15 @@ without_cur_dirs-twice (cur ∷ cs) = without_cur_dirs-twice cs
 without_cur_dirs-twice (up ∷ cs) = ap (λ ds. up ∷ ds) (without_cur_dirs-twice cs)
 without_cur_dirs-twice (name n ∷ cs) = ap (λ ds. name n ∷ ds) (without_cur_dirs-twice cs)
 
+-- a component of two bytes or more isn't `.`
 pub long_other : (c : Step) → 1 < length (step_text c) → is_cur c ≡ false
 long_other cur long = absurd (omega arith)
 long_other up long = refl
 long_other (name n) long = refl
 
--- ---- a push onto what spells components
+-- ---- a push onto a text that spells components
 
--- a component pushed after the text that spells others
+-- a component that is pushed onto a text that spells others
 pushed-spell : (cs : List Step) (c : Step) → SpellThemselves cs → SpellsItself c
     → pushed (spell cs) (step_text c) ≡ spell (cs ++ c ∷ [])
 pushed-spell cs c propers proper = ap (λ x. with_separator (spell cs) ++ x) non_slash ∙ after cs propers

@@ -1,5 +1,5 @@
--- What a caller's proof may cite, beside `OnLiterals`: where lists of components lead, and what the components of a
--- text are. No other crate can name the other modules here.
+-- What a caller's proof may cite, next to `OnLiterals`: where lists of components lead, and what the components of a
+-- text are. Other crates can name no other lemma module of this crate.
 use Rattle.std.proofs.Common.{◌≡◌, ◌≢◌, ◌↔◌, ℕ, ◌<◌, ◌≤◌, false, All, List, [], ◌∷◌, ◌++◌, length, map, replicate, get_or, codes, Some, IsSome, option_and_then, refl, sym, ap, ◌∙◌, subst, arith, append_assoc, append-nil}
 use Rattle.std.specs.Prelude.{slice_get}
 use Rattle.std.proofs.lemmas.Bool.{cond-false}
@@ -25,23 +25,23 @@ use Rattle.relative_path.proofs.OnLiterals.{relative_path_on_literals}
 
 -- ---- where lists lead
 
--- a list after another leads on from where the other led
+-- after a list, another list leads on from the place where the first leads
 pub walk-append : (base : List (List ℕ)) (cs ds : List Step)
     → walk base (cs ++ ds) ≡ option_and_then (λ place. walk place ds) (walk base cs)
 walk-append = walks.walk-append
 
--- so where both lead somewhere, the first does, and the other leads on from there
+-- so if both together lead to a place, the first leads to a place, and the second leads on from there
 pub walk-append_some : (base place : List (List ℕ)) (cs ds : List Step) → walk base (cs ++ ds) ≡ Some place
     → (between : List (List ℕ)) × (walk base cs ≡ Some between) × (walk between ds ≡ Some place)
 walk-append_some base place cs ds is =
     let (between, there) = lists.IsSome-value (walk base cs) (walks.IsSome-walk_front base cs ds (rw is refl)) in
     (between, there, ap (option_and_then (λ place. walk place ds)) (sym there) ∙ sym (walk-append base cs ds) ∙ is)
 
--- names lead from a base down to them
+-- names lead from a base down to the names below it
 pub walk-names : (base ns : List (List ℕ)) → walk base (map name ns) ≡ Some (base ++ ns)
 walk-names = walks.walk-names
 
--- from some base a list leads to a place
+-- each list leads to a place from some base
 pub walk-some : (cs : List Step) → (base : List (List ℕ)) × (place : List (List ℕ)) × (walk base cs ≡ Some place)
 walk-some cs =
     let base : List (List ℕ) = replicate (climb_after 0 0 cs) [] in
@@ -74,15 +74,15 @@ IsSame-sym same = walks.IsSame-sym _ _ same
 pub IsSame-trans : {cs ds es : List Step} → IsSame cs ds → IsSame ds es → IsSame cs es
 IsSame-trans first second = walks.IsSame-trans _ _ _ first second
 
--- lists that lead to the same do so after any other list
+-- lists that lead to the same places do so after any other list
 pub IsSame-append_left : (bs : List Step) {cs ds : List Step} → IsSame cs ds → IsSame (bs ++ cs) (bs ++ ds)
 IsSame-append_left bs same = walks.IsSame-append_left bs _ _ same
 
--- and they do so before any other list
+-- lists that lead to the same places do so before any other list
 pub IsSame-append_right : {cs ds : List Step} (es : List Step) → IsSame cs ds → IsSame (cs ++ es) (ds ++ es)
 IsSame-append_right es same = walks.IsSame-append_right _ _ es same
 
--- a name and then a `..` at the end lead nowhere else
+-- a name and then a `..` at the end change nothing
 pub IsSame-name_up : (cs : List Step) (n : List ℕ) → IsSame ((cs ++ name n ∷ []) ++ up ∷ []) cs
 IsSame-name_up cs n =
     subst (λ ds. IsSame ds cs) (sym (append_assoc cs (name n ∷ []) (up ∷ [])))
@@ -94,27 +94,27 @@ IsSame-place {cs} {place} is =
     let below = walks.LeadsBelow-in_turn [] cs cs place (walks.LeadsInTurn-same [] cs cs (IsSame-refl cs)) is in
     record { everywhere = λ base. below.everywhere base ∙ sym (walk-names base place) }
 
--- a list leads where two lists lead in turn exactly if it leads where the one after the other leads
+-- es leads where cs and then ds lead exactly if it leads where the joined list leads
 pub LeadsInTurn-append : {cs ds es : List Step} → LeadsInTurn cs ds es ↔ IsSame (cs ++ ds) es
 LeadsInTurn-append {cs} {ds} {es} = (
   λ turn. record { everywhere = λ base. walk-append base cs ds ∙ sym (turn.everywhere base) },
   walks.LeadsInTurn-same cs ds es,
 )
 
--- a list that leads from f to t leads from what is the same as f to what is the same as t
+-- a list that leads from f to t also leads from g to u, if f and g lead to the same places, and t and u
 pub Leads-same : {f g t u : List Step} (r : List Step) → IsSame f g → IsSame t u → Leads f r t → Leads g r u
 Leads-same r from to leads = relating.Leads-same _ _ r _ _ from to leads
 
--- some list does so, if some list leads from f to t
+-- if some list leads from f to t, some list leads from g to u
 pub IsReachable-same : {f g t u : List Step} → IsSame f g → IsSame t u → IsReachable f t → IsReachable g u
 IsReachable-same from to reachable = relating.IsReachable-same _ _ _ _ from to reachable
 
--- from a list with a place from the top some list leads to every list
+-- from a list with a place from the top, some list leads to every other list
 pub IsReachable-from_top : (f t : List Step) → IsSome (walk [] f) → IsReachable f t
 IsReachable-from_top f t some =
     relating.IsReachable-from_below [] f t (walks.StaysBelow-in_turn [] f f (walks.LeadsInTurn-same [] f f (IsSame-refl f)) some)
 
--- some list leads between two lists that stay below the same one
+-- between two lists that stay below the same list, some list leads
 pub IsReachable-below : (bs f t : List Step) → StaysBelow bs f → StaysBelow bs t → IsReachable f t
 IsReachable-below = relating.IsReachable-below
 
@@ -123,14 +123,14 @@ pub IsReachable-climb : (f t fs ts : List Step) → IsNormalForm f fs → IsNorm
     → IsReachable f t ↔ (climb fs ≤ climb ts)
 IsReachable-climb = relating.IsReachable-climb
 
--- the shortest text from f to t is the shortest from what is the same as f to what is the same as t
+-- the shortest text from f to t is also the shortest from g to u, if f and g lead to the same places, and t and u
 pub IsShortestText-same : {f g t u : List Step} {text : List ℕ} → IsSame f g → IsSame t u → IsShortestText f t text
     → IsShortestText g u text
 IsShortestText-same from to way = relating.IsShortestText-same _ _ _ _ _ (IsSame-sym from) (IsSame-sym to) way
 
 -- ---- what the components of a text are
 
--- a text that is `..` is one component
+-- the text `..` has one component
 pub components-up : (text : List ℕ) → text ≡ codes ".." → components text ≡ up ∷ []
 unfolding relative_path_on_literals
 components-up text is = ap components is
@@ -139,15 +139,15 @@ components-up text is = ap components is
 pub components-trailing_slash : (text : List ℕ) → components (text ++ slash ∷ []) ≡ components text
 components-trailing_slash = steps.components-trailing_slash
 
--- a push adds the components of the path
+-- a push appends the components of the path
 pub components-pushed : (text path : List ℕ) → components (pushed text path) ≡ components text ++ components path
 components-pushed = editing.components-pushed
 
--- the text of each component of a text has that component and no other
+-- the components of a text spell themselves
 pub SpellThemselves-components : (text : List ℕ) → SpellThemselves (components text)
 SpellThemselves-components = steps.SpellThemselves-components
 
--- the normal text of a list with a place from the top has the place's names
+-- the normal text of a list with a place from the top has the names of the place
 pub components-place : {cs : List Step} {text : List ℕ} {place : List (List ℕ)} → IsNormalTextOf cs text
     → walk [] cs ≡ Some place → components text ≡ map name place
 components-place {cs} {text} {place} normal is =
@@ -163,19 +163,19 @@ components-place {cs} {text} {place} normal is =
 
 -- ---- the text of a component
 
--- it is a piece that is classed as the component
+-- it is a piece that stands for the component
 pub classed-proper : (c : Step) → SpellsItself c → classed (step_text c) ≡ c
 classed-proper c proper =
     ap (λ cs. get_or cs 0 c)
     (sym (steps.components_whole (step_text c) (steps.nonempty_proper c proper) (steps.HasNoSlash-proper c proper))
     ∙ proper)
 
--- none of its bytes is a slash
+-- it has no slash
 pub no_slash-proper : (c : Step) → SpellsItself c → All (λ b. is_slash b ≡ false) (step_text c)
 no_slash-proper c proper =
     All-from_recursion (λ b. is_slash b ≡ false) (step_text c) (steps.HasNoSlash-proper c proper)
 
--- a name is not empty, `.` or `..`
+-- the text of a name is not empty, `.` or `..`
 pub name-proper : (n : List ℕ) → SpellsItself (name n) → (n ≢ []) × (n ≢ codes ".") × (n ≢ codes "..")
 unfolding relative_path_on_literals
 name-proper n proper = (
@@ -184,9 +184,9 @@ name-proper n proper = (
   λ e. let above = ap components (sym e) ∙ proper in absurd (cc),
 )
 
--- ---- what spells components
+-- ---- texts that spell components
 
--- a push of a component onto a text that spells its own makes one that spells one more
+-- a component that is pushed onto a text that spells its components is spelled after them
 pub spell-pushed : (text : List ℕ) (c : Step) → text ≡ spell (components text) → SpellsItself c
     → pushed text (step_text c) ≡ spell (components text ++ c ∷ [])
 spell-pushed = editing.spell-pushed
@@ -195,7 +195,7 @@ has_root-non_slash : (n rest : List ℕ) → steps.HasNoSlash n → 0 < length n
 has_root-non_slash [] rest none some = absurd (omega arith)
 has_root-non_slash (b ∷ bs) rest none some = none.0
 
--- a text that spells components begins with no slash
+-- a text that spells components doesn't begin with a slash
 pub has_root-spell : (cs : List Step) → SpellThemselves cs → has_root (spell cs) ≡ false
 has_root-spell [] proper = refl
 has_root-spell (c ∷ []) (first, rest) =
@@ -204,7 +204,7 @@ has_root-spell (c ∷ []) (first, rest) =
 has_root-spell (c ∷ d ∷ cs) (first, rest) =
     has_root-non_slash (step_text c) (slash ∷ spell (d ∷ cs)) (steps.HasNoSlash-proper c first) (steps.nonempty_proper c first)
 
--- so a push takes it as it is
+-- so a push appends the whole text
 pub unslashed-spell : (cs : List Step) → SpellThemselves cs → unslashed (spell cs) ≡ spell cs
 unslashed-spell cs proper = whole (spell cs) (has_root-spell cs proper) where
   whole : (text : List ℕ) → has_root text ≡ false → unslashed text ≡ text
@@ -213,23 +213,23 @@ unslashed-spell cs proper = whole (spell cs) (has_root-spell cs proper) where
 
 -- ---- lists with a file name
 
--- after the file name come `.`s alone
+-- after the file name come only `.` components
 pub last_name-split : (cs : List Step) (n : List ℕ) → last_name cs ≡ Some n
     → (k : ℕ) × (cs ≡ kept cs ++ name n ∷ replicate k cur)
 last_name-split = extensions.last_name-split
 
--- a list with a file name leads where the name leads after what a parent keeps
+-- a list with a file name leads where the components that a parent keeps, and then the file name, lead
 pub IsSame-last_name : (cs : List Step) (n : List ℕ) → last_name cs ≡ Some n → IsSame cs (kept cs ++ name n ∷ [])
 IsSame-last_name = edits.IsSame-last_name
 
--- the file name of a list with a name appended is that name
+-- the file name of a list that ends in a name is that name
 pub last_name-name : (cs : List Step) (n : List ℕ) → last_name (cs ++ name n ∷ []) ≡ Some n
 last_name-name = extensions.last_name-name
 
--- and a parent keeps the list before it
+-- and a parent of the list keeps the components before that name
 pub kept-name : (cs : List Step) (n : List ℕ) → kept (cs ++ name n ∷ []) ≡ cs
 kept-name = extensions.kept-name
 
--- the file name of proper components is one component
+-- the file name of components that spell themselves spells itself
 pub SpellsItself-last_name : (cs : List Step) (n : List ℕ) → SpellThemselves cs → last_name cs ≡ Some n → SpellsItself (name n)
 SpellsItself-last_name = edits.SpellsItself-last_name

@@ -42,7 +42,7 @@ length-filter_le ((b ∷ bs) ∷ ps) = omega (arith, length-filter_le ps)
 
 -- ---- texts
 
--- a test whether a text is empty
+-- what a test for the empty text says
 pub nil_from_is_empty : (text : List ℕ) (b : Bool) → b ≡ (length text == 0) → b ≡ true → text ≡ []
 nil_from_is_empty text b is e = nil_from_length text (eqb-true _ _ (sym is ∙ e))
 
@@ -75,7 +75,7 @@ same_from_common (m ∷ ms) (n ∷ ns) all all' = elim (cases_Bool (bytes_eq m n
       absurd (omega arith)
 ]
 
--- two lists are equal exactly if they begin with all of each other
+-- two lists are equal exactly if the elements that both begin with are all of both
 pub common_all : (ms ns : List (List ℕ))
     → ((common_prefix_len bytes_eq ms ns ≡ length ms) × (common_prefix_len bytes_eq ms ns ≡ length ns)) ↔ (ms ≡ ns)
 common_all ms ns = (

@@ -1,4 +1,4 @@
--- What edits of a file name keep: the components before it, and from which bases they lead anywhere.
+-- What edits of a file name keep: the components before it, and the bases from which they lead to a place.
 use Rattle.std.proofs.Common.{◌≡◌, ℕ, zero, suc, List, [], ◌∷◌, ◌++◌, length, take, drop, replicate, Option, Some, None, refl, sym, ap, ap₂, ◌∙◌, subst, append_assoc, take_at, take-append-drop}
 use Rattle.std.specs.Prelude.{IsTrue, IsSome}
 use Rattle.std.specs.Option.{option_and_then}
@@ -13,7 +13,7 @@ use Rattle.relative_path.proofs.NamingLemmas.{last_other-at, components-IsNamed}
 use Rattle.relative_path.proofs.NamingExtensionLemmas.{last_name-split, kept-name, last_name-name, components-IsExtended, IsExtended-unnamed}
 use Rattle.relative_path.proofs.ListsLemmas.{IsSome-value}
 
--- a list with a file name leads where the name leads after what a parent keeps
+-- a list with a file name leads where the components that a parent keeps, and then the file name, lead
 pub IsSame-last_name : (cs : List Step) (n : List ℕ) → last_name cs ≡ Some n → IsSame cs (kept cs ++ name n ∷ [])
 IsSame-last_name cs n named =
     let (k, joined) = last_name-split cs n named in
@@ -25,7 +25,7 @@ IsSame-last_name cs n named =
     walk-curs base zero = refl
     walk-curs base (suc k) = walk-curs base k
 
--- the file name of proper components is one component
+-- the file name of components that spell themselves spells itself
 pub SpellsItself-last_name : (cs : List Step) (n : List ℕ) → SpellThemselves cs → last_name cs ≡ Some n → SpellsItself (name n)
 SpellsItself-last_name cs n proper named =
     let (k, joined) = last_name-split cs n named in
@@ -35,7 +35,7 @@ SpellsItself-last_name cs n proper named =
     within [] rest (first, more) = first
     within (c ∷ front) rest (first, more) = within front rest more
 
--- a list with a file name has that name after any other list
+-- a list with a file name has the same file name after any other list
 pub last_name-append : (cs ds : List Step) (n : List ℕ) → last_name ds ≡ Some n → last_name (cs ++ ds) ≡ Some n
 last_name-append cs ds n named =
     let (k, joined) = last_name-split ds n named in
@@ -43,7 +43,7 @@ last_name-append cs ds n named =
     ∙ ap last_name (sym (append_assoc cs (kept ds) (name n ∷ replicate k cur)))
     ∙ ap (option_and_then name_of) (last_other-at (cs ++ kept ds) (name n) k refl)
 
--- and a parent keeps what it keeps of that list, and all of the other
+-- and a parent keeps all of the other list, and what it keeps of this one
 pub kept-append : (cs ds : List Step) (n : List ℕ) → last_name ds ≡ Some n → kept (cs ++ ds) ≡ cs ++ kept ds
 kept-append cs ds n named =
     let (k, joined) = last_name-split ds n named in
@@ -54,7 +54,7 @@ kept-append cs ds n named =
     ∙ kept_len-curs ((cs ++ kept ds) ++ name n ∷ []) k ∙ kept_len-push (cs ++ kept ds) (name n) refl in
     ap₂ take count whole ∙ take_at (cs ++ kept ds) (name n ∷ replicate k cur) (length (cs ++ kept ds)) refl
 
--- what a joined text keeps of the path that was pushed
+-- a joined text has the file name of the path that was pushed
 pub file_name-joined : (cs : List Step) (text path : List ℕ) → components text ≡ cs ++ components path
     → IsSome (file_name_of path) → file_name_of text ≡ file_name_of path
 file_name-joined cs text path joined found =
@@ -67,7 +67,7 @@ kept-joined cs text path joined found =
     let (n, named) = IsSome-value (file_name_of path) found in
     ap kept joined ∙ kept-append cs (components path) n named
 
--- another name where the file name was is beside it
+-- a path with another file name is beside the path
 IsBeside-name : (cs ds : List Step) (n m : List ℕ) → last_name cs ≡ Some n → ds ≡ kept cs ++ name m ∷ [] → IsBeside cs ds
 IsBeside-name cs ds n m named is = record {
   directory = ap kept is ∙ kept-name (kept cs) m;
@@ -90,14 +90,14 @@ IsBeside-IsExtended text e extended plain is = at (file_name_of text) refl
         IsBeside-name (components text) (components extended) n (stem_of n ++ dot ∷ e) named
         (components-IsExtended text e extended n named is plain)
 
--- a name that is one component is the file name
+-- a new name of one component is the file name
 pub file_name-IsNamed : (text f named : List ℕ) → IsNamed text f named → components f ≡ name f ∷ []
     → file_name_of named ≡ Some f
 file_name-IsNamed text f named is one =
     ap last_name (components-IsNamed text f named is ∙ ap (λ cs. base_components (components text) ++ cs) one)
     ∙ last_name-name (base_components (components text)) f
 
--- and it is beside the one that it replaces
+-- and the new path is beside the old one
 pub IsBeside-IsNamed : (text f named : List ℕ) → IsNamed text f named → IsSome (file_name_of text)
     → components f ≡ name f ∷ [] → IsBeside (components text) (components named)
 IsBeside-IsNamed text f named is found one =
@@ -108,13 +108,13 @@ IsBeside-IsNamed text f named is found one =
 
 -- ---- what a parent keeps
 
--- with the file name after it, a parent leads where the path leads
+-- a parent, and then the file name, lead where the path leads
 pub IsSame-IsPopped : (text parent n : List ℕ) → IsPopped text parent → file_name_of text ≡ Some n
     → IsSame (components parent ++ name n ∷ []) (components text)
 IsSame-IsPopped text parent n popped named =
     rw popped.same_components (IsSame-sym _ _ (IsSame-last_name (components text) n named))
 
--- a parent leads somewhere from each base from which the path does
+-- a parent leads to a place from each base from which the path does
 pub IsSome-walk_popped : (text parent : List ℕ) → IsPopped text parent → (base : List (List ℕ))
     → IsSome (walk base (components text)) → IsSome (walk base (components parent))
 IsSome-walk_popped text parent popped base some =

@@ -1,4 +1,4 @@
--- Where a file name stands among the components, what it is cut into, and what a new extension makes of it.
+-- The position of the file name among the components, its stem and extension, and the components of an extended text.
 use Rattle.std.proofs.Common.{◌≡◌, ◌≢◌, ◌⊎◌, ℕ, zero, suc, ◌-◌, ◌<◌, true, false, not, true≢false, List, [], ◌∷◌, ◌++◌, All, length, get_or, take, drop, replicate, reverse, Option, Some, None, inl, inr, sym, refl, ap, ap₂, ◌∙◌, subst, arith, append_assoc, append-nil, length-append, eqb-true, take-append-drop, take_at}
 use Rattle.std.proofs.Math.Seq.{drop-cons}
 use Rattle.std.proofs.lemmas.Bool.{cond_both, and_parts, and_from, not-false, not-true, eqb-false}
@@ -18,9 +18,9 @@ use Rattle.relative_path.proofs.NamingLemmas.{no_dot, IsExtendedAt, IsSplit, IsS
 use Rattle.relative_path.proofs.ListsLemmas.{IsSome-value, last_same, slice_get-at}
 use Rattle.relative_path.proofs.SlashesLemmas.{last_slash}
 
--- ---- where the file name stands
+-- ---- the position of the file name
 
--- the last component that is no `.` stands before the `.`s at the end
+-- the last component other than `.`, and the `.` components after it
 record EndsIn (cs : List Step) : Type 0 where
   front : List Step
   last : Step
@@ -49,7 +49,7 @@ named_step cur n is = absurd (cc)
 named_step up n is = absurd (cc)
 named_step (name m) n is = cc
 
--- after the file name come `.`s alone
+-- after the file name come only `.` components
 pub last_name-split : (cs : List Step) (n : List ℕ) → last_name cs ≡ Some n
     → (k : ℕ) × (cs ≡ kept cs ++ name n ∷ replicate k cur)
 last_name-split cs n named = elim (ends_in cs) [
@@ -79,9 +79,9 @@ slice_get-last_name cs n named =
     ap (slice_get cs) (sym count) ∙ ap (λ ds. slice_get ds (length (kept cs))) joined
     ∙ slice_get-at (kept cs) (name n) (replicate k cur)
 
--- ---- what a name is cut into
+-- ---- the stem and the extension of a name
 
--- the byte before those that are no dots is a dot
+-- the byte before the dotless end of a name is a dot
 last_is_dot : (n : List ℕ) → suffix_len no_dot n < length n → get_or n (length n - suffix_len no_dot n - 1) 0 ≡ dot
 last_is_dot n less =
     let count = length-reverse n in
@@ -106,7 +106,7 @@ parts_at_dot n stem =
 
 -- ---- a new extension
 
--- the bytes of a plain extension
+-- a plain extension has no slash
 HasNoSlash-plain : (e : List ℕ) → list_all is_plain_byte e ≡ true → HasNoSlash e
 HasNoSlash-plain [] plain = tt
 HasNoSlash-plain (b ∷ bs) plain =
@@ -122,7 +122,7 @@ no_dot-plain e plain = All-from_recursion (λ b. b ≢ dot) e (each e plain)
         let both = and_parts _ _ plain in
         (eqb-false b dot (not-true _ (and_parts _ _ both.0).0), each bs both.1)
 
--- what stands before the last component: nothing, or a text that ends in a slash
+-- the text before the last component is empty or ends in a slash
 head_ends : (head n : List ℕ) (cs : List Step) → components (head ++ n) ≡ cs ++ name n ∷ [] → 0 < length n
     → HasNoSlash n
     → (head ≡ []) ⊎ ((xs : List ℕ) × (head ≡ xs ++ slash ∷ []))
@@ -145,7 +145,7 @@ head_ends head n cs last nonempty none = elim (last_slash head) [
         let text = ap length (ap step_text same ∙ step_text-classed ((b ∷ bs) ++ n)) in
         absurd (omega (arith, text, length-append (b ∷ bs) n))
 
--- another last component in its place
+-- another last component in place of the old one
 components-replaced : (head n m : List ℕ) (cs : List Step) → components (head ++ n) ≡ cs ++ name n ∷ [] → 0 < length n
     → HasNoSlash n
     → 0 < length m → HasNoSlash m → components (head ++ m) ≡ cs ++ classed m ∷ []
@@ -156,7 +156,7 @@ components-replaced head n m cs last nonempty none nonempty' none' =
     append_cancel_right (components head) cs (name n ∷ []) (ap (λ c. components head ++ c ∷ []) same ∙ sym before ∙ last) in
     placed m nonempty' none' ∙ ap (λ ds. ds ++ classed m ∷ []) front
   where
-    -- a piece after the head is one component more
+    -- a piece after the head is one more component
     placed : (p : List ℕ) → 0 < length p → HasNoSlash p → components (head ++ p) ≡ components head ++ classed p ∷ []
     placed p nonempty' none' = elim (head_ends head n cs last nonempty none) [
       | inl empty ↦ ap (λ x. components (x ++ p)) empty ∙ components_whole p nonempty' none'
@@ -167,7 +167,7 @@ components-replaced head n m cs last nonempty none nonempty' none' =
           ∙ ap (λ ds. ds ++ classed p ∷ []) (sym (components-trailing_slash xs) ∙ ap components (sym ends))
     ]
 
--- a text of three bytes and more is a name
+-- a piece of three bytes or more is a name
 name-classed : (m : List ℕ) → 2 < length m → classed m ≡ name m
 name-classed m long = named (classed m) (step_text-classed m)
   where
@@ -196,7 +196,7 @@ SpellThemselves-last : (cs : List Step) (c : Step) → SpellThemselves (cs ++ c 
 SpellThemselves-last [] c proper = proper.0
 SpellThemselves-last (d ∷ cs) c proper = SpellThemselves-last cs c proper.1
 
--- a plain extension can stand after a dot
+-- a plain extension can come after a dot
 pub is_extension-plain : (e : List ℕ) → IsTrue (is_plain_extension e) → IsTrue (is_extension e)
 is_extension-plain e plain =
     let both = and_parts _ _ plain in
@@ -240,7 +240,7 @@ module _ (head n : List ℕ) (cs : List Step) (last : components (head ++ n) ≡
       ∙ components-replaced head n m cs last nonempty none (omega arith) none'
       ∙ ap (λ c. cs ++ c ∷ []) (name-classed m (omega arith))
 
-  -- a plain extension is the name's own, and the stem stays
+  -- a plain extension is the extension of the new name, and the stem stays
   IsSplit-stem_dotted : (e : List ℕ) → is_plain_extension e ≡ true
       → IsSplit (stem_of n ++ dot ∷ e) (stem_of n) (Some e)
   IsSplit-stem_dotted e plain =
@@ -283,12 +283,12 @@ module _ (text e extended n : List ℕ) (named : file_name_of text ≡ Some n) (
       let (head, last, joined) = head in
       IsSplit-stem_dotted head n (kept (components text)) last e plain
 
--- without a file name the text stays
+-- a text without a file name stays
 pub IsExtended-unnamed : (text e extended : List ℕ) → file_name_of text ≡ None → IsExtended text e extended
     → extended ≡ text
 IsExtended-unnamed text e extended none is = subst (IsExtendedAt text e extended) none is
 
--- where a plain extension was set, the file name has it
+-- a plain extension that was set is the extension of the file name
 pub extension-IsExtended : (text e extended : List ℕ) → IsTrue (is_plain_extension e) → IsSome (file_name_of text)
     → IsExtended text e extended
     → option_and_then extension_of (file_name_of extended) ≡ Some e
@@ -297,7 +297,7 @@ extension-IsExtended text e extended plain found is =
     ap (option_and_then extension_of) (file_name-IsExtended text e extended n named is (is_extension-plain e plain))
     ∙ (IsSplit-IsExtended text e extended n named is plain).extension_is
 
--- and its stem stays
+-- and the stem stays
 pub stem-IsExtended : (text e extended : List ℕ) → IsTrue (is_plain_extension e) → IsExtended text e extended
     → option_map stem_of (file_name_of extended) ≡ option_map stem_of (file_name_of text)
 stem-IsExtended text e extended plain is = at (file_name_of text) refl
@@ -310,13 +310,13 @@ stem-IsExtended text e extended plain is = at (file_name_of text) refl
         ap (option_map stem_of) (file_name-IsExtended text e extended n named is (is_extension-plain e plain))
         ∙ ap Some (IsSplit-IsExtended text e extended n named is plain).stem_is
 
--- ---- what stays where a name is replaced
+-- ---- what stays when a name is replaced
 
 -- the components before a name at the end are those that a parent keeps
 pub kept-name : (cs : List Step) (n : List ℕ) → kept (cs ++ name n ∷ []) ≡ cs
 kept-name cs n =
     ap (λ k. take k (cs ++ name n ∷ [])) (kept_len-push cs (name n) refl) ∙ take_at cs (name n ∷ []) (length cs) refl
 
--- and it is the file name
+-- and the name is the file name
 pub last_name-name : (cs : List Step) (n : List ℕ) → last_name (cs ++ name n ∷ []) ≡ Some n
 last_name-name cs n = ap (option_and_then name_of) (last_other-at cs (name n) 0 refl)

@@ -1,4 +1,4 @@
--- The file name of a text, where it stands, and its stem.
+-- The file name of a text, its position and its stem.
 use Rattle.std.proofs.Common.{◌≡◌, ◌≢◌, ℕ, ◌+◌, ◌-◌, ◌<◌, ◌≤◌, Bool, true, false, not, cond, List, [], ◌∷◌, ◌++◌, All, length, get_or, take, drop, replicate, Option, Some, None, Bor, inl, inr, sym, refl, ap, ap₂, ◌∙◌, arith, ne_eqb, append_assoc, append-nil, length-append, take_at, take_all}
 use Rattle.std.specs.List.{slice_range, suffix_len, before_last, after_last}
 use Rattle.std.specs.Str.{IsCharBoundary}
@@ -71,7 +71,7 @@ before_last-no_dot xs other =
     let count : length xs - suffix_len no_dot xs - 1 ≡ 0 = omega (arith, suffix_len-no_dot xs other) in
     ap (λ n. take n xs) count
 
--- the name has that stem and that extension
+-- the name has this stem and this extension
 pub record IsSplit (n stem : List ℕ) (extension : Option (List ℕ)) : Type 0 where
   pub stem_is : stem_of n ≡ stem
   pub extension_is : extension_of n ≡ extension
@@ -104,7 +104,7 @@ IsSplit-dot n (b ∷ bs) extension (joined, other) nonempty =
 
 -- ---- the text of the last component
 
--- a text that ends in no slash ends in the text of its last component
+-- a text that doesn't end in a slash ends in the text of its last component
 pub ends_in_last : (text : List ℕ) (cs : List Step) (c : Step) → get_or text (length text - 1) 0 ≢ slash
     → components text ≡ cs ++ c ∷ [] → (head : List ℕ) × (text ≡ head ++ step_text c)
 ends_in_last text cs c end last = elim (last_slash text) [
@@ -150,7 +150,7 @@ last_name-at text left front c h other last =
     ∙ append_assoc (components front) (c ∷ []) (replicate h.lost cur) in
     ap last_name whole ∙ ap (option_and_then name_of) (last_other-at (components front) c h.lost other)
 
--- what stands before the last component that is no `.`, that component if it is a name, and the text through it
+-- the text before the last component other than `.`, the name that this component is, and the text up to its end
 pub record IsEnd (text before : List ℕ) (last : Option (Bor (List ℕ))) (through : List ℕ) : Type 0 where
   pub popped : IsPopped text before
   pub named : option_copied last ≡ file_name_of text
@@ -186,11 +186,11 @@ IsEnd-name text left front n h (last, cut) =
 
 -- ---- the stem in its text
 
--- a name is its stem and what stands after it: nothing, or a dot and the extension
+-- a name is its stem alone, or its stem, a dot and the extension
 abbrev pub IsJoined : List ℕ → List ℕ → Option (Bor (List ℕ)) → Type 0
 IsJoined n stem extension = MatchOption extension (n ≡ stem) (λ e. n ≡ stem ++ dot ∷ e.now)
 
--- what stands after the stem
+-- what comes after the stem
 after_stem : Option (Bor (List ℕ)) → List ℕ
 after_stem None = []
 after_stem (Some e) = dot ∷ e.now
@@ -222,7 +222,7 @@ module _ (through head n stem : List ℕ) (extension : Option (Bor (List ℕ))) 
   stem_end : length through - length n + length stem ≡ length (head ++ stem)
   stem_end = omega (arith, ap length placed, length-append head n, length-append head stem)
 
-  -- a character ends at the end of the stem
+  -- the end of the stem is a character boundary
   pub IsCharBoundary-stem : IsCharBoundary through (length through - length n + length stem)
   IsCharBoundary-stem = rw (stem_end, whole) (IsCharBoundary-after (head ++ stem) extension)
 
@@ -233,21 +233,21 @@ module _ (through head n stem : List ℕ) (extension : Option (Bor (List ℕ))) 
 
 -- ---- the texts that the setters leave
 
--- the text with that extension, where its file name is that one
+-- the text with this extension, if its file name is this one
 abbrev pub IsExtendedAt : List ℕ → List ℕ → List ℕ → Option (List ℕ) → Type 0
 IsExtendedAt text e extended named = MatchOption named (extended ≡ text)
     (λ n. (head : List ℕ) × IsCut text (kept_len (components text) + 1) (head ++ n) × (extended ≡ head ++ stem_of n ++ dotted e))
 
--- what a new file name is pushed onto, where the file name is that one
+-- what a new file name is pushed onto, if the file name is this one
 abbrev IsBaseAt : List ℕ → List ℕ → Option (List ℕ) → Type 0
 IsBaseAt text base named = MatchOption named (base ≡ text) (λ _. IsPopped text base)
 
--- the text up to the end of its stem is the text without its extension
+-- the text up to the end of the stem is the text without its extension
 pub IsExtended-stem : (text head n : List ℕ) → file_name_of text ≡ Some n
     → IsCut text (kept_len (components text) + 1) (head ++ n) → IsExtended text [] (head ++ stem_of n)
 IsExtended-stem text head n named cut = rw named (head, cut, sym (append-nil (head ++ stem_of n)))
 
--- an extension after it gives the extended text
+-- an extension appended to that text gives the extended text
 pub IsExtended-push : (text e front : List ℕ) → IsSome (file_name_of text) → IsExtended text [] front
     → IsExtended text e (front ++ dotted e)
 IsExtended-push text e front found extended = push (file_name_of text) found extended
@@ -276,7 +276,7 @@ pub IsNamed-unique : (text f x y : List ℕ) → IsNamed text f x → IsNamed te
 IsNamed-unique text f x y (base, is, is_x) (base', is', is_y) =
     is_x ∙ ap (λ b. pushed b f) (IsBase-unique text base base' is is') ∙ sym is_y
 
--- the new name's components come after those that the text keeps
+-- the components of the new name come after those that the text keeps
 pub components-IsNamed : (text f named : List ℕ) → IsNamed text f named
     → components named ≡ base_components (components text) ++ components f
 components-IsNamed text f named (front, is, joined) =
@@ -287,7 +287,7 @@ components-IsNamed text f named (front, is, joined) =
     front_components None none is = ap components is ∙ sym (cond-false _ _ _ (ap is_some none))
     front_components (Some n) found is = is.same_components ∙ sym (cond-true _ _ _ (ap is_some found))
 
--- ---- the fronts that the setters keep
+-- ---- the prefixes that the setters keep
 
 IsPrefix-stem : (n : List ℕ) → IsPrefix n (stem_of n)
 IsPrefix-stem n =
@@ -313,7 +313,7 @@ IsPrefix-IsBase text base is = front (file_name_of text) is
     front None same = record { front = same ∙ sym (take_all (length base) text (omega (arith, ap length same))) }
     front (Some n) popped = IsPrefix-shortest popped
 
--- ---- the one text that a setter would leave, where the room is too small
+-- ---- the only text that a setter could leave, if the room is too small
 
 pub ExceedsRoom-named : (text f base : List ℕ) (room len : ℕ) → IsBase text base → len ≡ length (pushed base f)
     → room < len → ExceedsRoom (IsNamed text f) room

@@ -1,4 +1,4 @@
--- Climbs and names: that they are normal, what one component more does to them, and the text that spells them.
+-- Climbs and names: their normality, the effect of one more component, and the text that spells them.
 use Rattle.std.proofs.Common.{◌≡◌, ℕ, zero, suc, ◌+◌, ◌-◌, ◌<◌, ◌≤◌, true, List, [], ◌∷◌, ◌++◌, All, Option, Some, None, map, replicate, length, drop, sym, refl, ap, ◌∙◌, subst, append_assoc, append-nil, arith, fold, ◌*◌, take}
 use Rattle.std.specs.List.{AllByRecursion}
 use Rattle.std.specs.Option.{is_some, option_to_list}
@@ -32,7 +32,7 @@ Reduces-trans {cs} {ds} {es} h i = record {
   no_longer = let first = h.no_longer in let second = i.no_longer in omega arith;
 }
 
--- the same components after both
+-- the same components after both lists
 pub Reduces-append_right : {cs ds : List Step} (es : List Step) → Reduces cs ds → Reduces (cs ++ es) (ds ++ es)
 Reduces-append_right {cs} {ds} es h = record {
   same = IsSame-append_right cs ds es h.same;
@@ -55,16 +55,16 @@ Reduces-name_up cs n = record {
   no_longer = omega (arith, slashed_len-append (cs ++ name n ∷ []) (up ∷ []), slashed_len-append cs (name n ∷ []));
 }
 
--- one component more taken off what is left
+-- one more component is taken off what is left
 pub Reduces-step : (source cs ds : List Step) (c : Step) (left rest : List Step)
     → Reduces source (cs ++ left) → left ≡ c ∷ rest → Reduces (cs ++ c ∷ []) ds → Reduces source (ds ++ rest)
 Reduces-step source cs ds c left rest h first step =
     let joined = ap (λ x. cs ++ x) first ∙ sym (append_assoc cs (c ∷ []) rest) in
     Reduces-trans (subst (Reduces source) joined h) (Reduces-append_right rest step)
 
--- ---- one component more
+-- ---- one more component
 
--- a name comes last
+-- a name is appended
 pub ups_then_names-push : (climb : ℕ) (names : List (List ℕ)) (n : List ℕ)
     → ups_then_names climb names ++ name n ∷ [] ≡ ups_then_names climb (names ++ n ∷ [])
 ups_then_names-push climb names n =
@@ -120,7 +120,7 @@ walk-ups_then_names base ups ns long =
     let leads = walk-normal base (ups_then_names ups ns) (IsNormal-ups_then_names ups ns) (omega arith) in
     rw (climbs, names) at leads
 
--- from a base of as many names as its `..`, a normal list leads to its own names
+-- from a base with as many names as its `..`, a normal list leads to its own names
 pub walk-ups_then_names_level : (base : List (List ℕ)) (ups : ℕ) (ns : List (List ℕ)) → length base ≡ ups
     → walk base (ups_then_names ups ns) ≡ Some ns
 walk-ups_then_names_level base ups ns level =
@@ -134,7 +134,7 @@ pub SpellThemselves-ups_then_names : (climb : ℕ) (names : List (List ℕ)) →
 SpellThemselves-ups_then_names zero names proper = SpellThemselves-names names proper
 SpellThemselves-ups_then_names (suc climb) names proper = (SpellsItself-up, SpellThemselves-ups_then_names climb names proper)
 
--- what reduces a list to climbs and proper names gives its normal form
+-- climbs and names that spell themselves, and to which a list reduces, are the list's normal form
 pub IsSpellableNormalForm-Reduces : (cs : List Step) (climb : ℕ) (names : List (List ℕ))
     → Reduces cs (ups_then_names climb names) → AllByRecursion (λ n. SpellsItself (name n)) names
     → IsSpellableNormalForm cs (ups_then_names climb names)
@@ -145,14 +145,14 @@ IsSpellableNormalForm-Reduces cs climb names reduces proper = record {
   no_longer = let shorter = reduces.no_longer in omega (arith, length-spell cs, length-spell (ups_then_names climb names));
 }
 
--- the normal form of no component has none
+-- the normal form of no components has no components
 pub IsSpellableNormalForm-nil : (cs ds : List Step) → cs ≡ [] → IsSpellableNormalForm cs ds → ds ≡ []
 IsSpellableNormalForm-nil cs ds none form =
     let shorter = form.no_longer in
     let empty = nil_from_length (spell ds) (omega (arith, shorter, ap (λ es. length (spell es)) none)) in
     sym form.of_text ∙ ap components empty ∙ components-nil
 
--- the names of a table are proper
+-- the names of a table spell themselves
 SpellThemselves-cut : (sources : Sources) (spans : List Span) → AllByRecursion (CutsName sources) spans
     → AllByRecursion (λ n. SpellsItself (name n)) (map (span_text sources) spans)
 SpellThemselves-cut sources [] cut = tt
@@ -169,13 +169,13 @@ SpellThemselves-names_past form skipped =
     let all = All-from_recursion P (form_names form) (SpellThemselves-names_of_form form) in
     recursion_from_All P _ (All-drop P skipped (form_names form) all)
 
--- what reduces a list to the components of a form makes it the list's normal form
+-- the components of a form to which a list reduces are the list's normal form
 pub IsSpellableNormalForm-form : (cs : List Step) (form : NormalForm) → Reduces cs (form_steps form)
     → IsSpellableNormalForm cs (form_steps form)
 IsSpellableNormalForm-form cs form reduces =
     IsSpellableNormalForm-Reduces cs form.climb (form_names form) reduces (SpellThemselves-names_of_form form)
 
--- ---- writing pieces one after another
+-- ---- climbs and names written in turn
 
 map_step_text-names : (names : List (List ℕ)) → map step_text (map name names) ≡ names
 map_step_text-names [] = refl
@@ -186,7 +186,7 @@ map_step_text-ups_then_names : (climb : ℕ) (names : List (List ℕ))
 map_step_text-ups_then_names zero names = map_step_text-names names
 map_step_text-ups_then_names (suc climb) names = ap (λ ps. step_text up ∷ ps) (map_step_text-ups_then_names climb names)
 
--- climbs, and after them names
+-- the climbs, and then the names
 pub with_pieces-ups_then_names : (climb : ℕ) (names : List (List ℕ)) → AllByRecursion (λ n. SpellsItself (name n)) names
     → fold with_piece (fold with_piece [] (replicate climb (step_text up))) names ≡ spell (ups_then_names climb names)
 with_pieces-ups_then_names climb names proper =
@@ -209,7 +209,7 @@ spans_len-padded sources (span ∷ spans) cut =
     let rest = spans_len-padded sources spans (All-tail (CutsName sources) span spans cut) in
     omega (arith, rest, length-run (All-head (CutsName sources) span spans cut).run)
 
--- how many bytes the climbs and the names have that are unwritten, with single slashes between
+-- how many bytes the unwritten climbs and names have, joined by single slashes
 pub length-spell-unwritten : (form : NormalForm) (climb skipped : ℕ) (names : List Span) (unwritten : Unwritten)
     → All (CutsName form.sources) names → map (span_text form.sources) names ≡ drop skipped (form_names form)
     → AreUnwritten form.sources names unwritten

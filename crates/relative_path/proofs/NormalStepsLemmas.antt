@@ -1,4 +1,4 @@
--- Normal lists of steps: their parts, where they lead, that each is the only one that leads there, and their texts.
+-- Normal lists of steps: their parts, where they lead, and that no two of them lead to the same places.
 use Rattle.std.proofs.Common.{◌≡◌, ℕ, zero, suc, ◌-◌, ◌<◌, ◌≤◌, Bool, true, false, List, [], ◌∷◌, ◌++◌, length, take, map, replicate, Some, None, refl, sym, ap, ◌∙◌, append-nil, arith, length-take-le, take_all, take_at, take-take, ◌≢◌, subst, inl, inr}
 use Rattle.std.proofs.lemmas.List.{append_cancel_left, length-replicate}
 use Rattle.relative_path.specs.Steps.{Step, cur, up, name}
@@ -9,7 +9,7 @@ use Rattle.relative_path.proofs.ListsLemmas.{last_view}
 
 -- ---- the parts of a normal list
 
--- the names, without the other steps
+-- the names of a list, without its other steps
 abbrev pub names_of : List Step → List (List ℕ)
 names_of [] = []
 names_of (cur ∷ cs) = names_of cs
@@ -32,7 +32,7 @@ IsNormal-push_name (cur ∷ cs) n normal = absurd normal
 IsNormal-push_name (up ∷ cs) n normal = IsNormal-push_name cs n normal
 IsNormal-push_name (name m ∷ cs) n normal = AreNames-push_name cs n normal
 
--- names do not end in a `..`
+-- a list of names doesn't end in `..`
 pub AreNames-not_up : (cs : List Step) → AreNames (cs ++ up ∷ []) → ⊥
 AreNames-not_up [] names = names
 AreNames-not_up (cur ∷ cs) names = names
@@ -73,14 +73,14 @@ AreNames-not_cur (cur ∷ cs) names = names
 AreNames-not_cur (up ∷ cs) names = names
 AreNames-not_cur (name n ∷ cs) names = AreNames-not_cur cs names
 
--- a normal list does not end in a `.`
+-- a normal list doesn't end in `.`
 pub IsNormal-not_cur : (cs : List Step) → IsNormal (cs ++ cur ∷ []) → ⊥
 IsNormal-not_cur [] normal = normal
 IsNormal-not_cur (cur ∷ cs) normal = normal
 IsNormal-not_cur (up ∷ cs) normal = IsNormal-not_cur cs normal
 IsNormal-not_cur (name n ∷ cs) normal = AreNames-not_cur cs normal
 
--- a normal list that does not end in a name takes one `..` more
+-- a normal list that doesn't end in a name stays normal with one more `..`
 pub IsNormal-push_up : (cs : List Step) → IsNormal cs → ((ds : List Step) (n : List ℕ) → cs ≢ ds ++ name n ∷ [])
     → IsNormal (cs ++ up ∷ [])
 IsNormal-push_up cs normal other = elim (last_view cs) [
@@ -101,7 +101,7 @@ AreNames-parts (cur ∷ cs) names = absurd names
 AreNames-parts (up ∷ cs) names = absurd names
 AreNames-parts (name n ∷ cs) names = ap (λ x. name n ∷ x) (AreNames-parts cs names)
 
--- a normal list is its climb and its names
+-- a normal list is its climb followed by its names
 pub IsNormal-parts : (cs : List Step) → IsNormal cs → cs ≡ replicate (climb cs) up ++ map name (names_of cs)
 IsNormal-parts [] normal = refl
 IsNormal-parts (cur ∷ cs) normal = absurd normal
@@ -110,7 +110,7 @@ IsNormal-parts (name n ∷ cs) normal = ap (λ x. name n ∷ x) (AreNames-parts 
 
 -- ---- where a normal list leads
 
--- from a base that is shorter than the climb, a normal list leads nowhere
+-- from a base that is shorter than the climb, a normal list leads to no place
 pub walk-normal_none : (base : List (List ℕ)) (cs : List Step) → IsNormal cs → length base < climb cs
     → walk base cs ≡ None
 walk-normal_none base [] normal short = absurd (omega arith)
@@ -121,7 +121,7 @@ walk-normal_none (n ∷ ns) (up ∷ cs) normal short =
     walk-normal_none (take (length ns) (n ∷ ns)) cs normal (omega arith)
 walk-normal_none base (name n ∷ cs) normal short = absurd (omega arith)
 
--- from any other base it leads to the base without as many names at its end, and then down its names
+-- from any other base it leads up by its climb, and then down its names
 pub walk-normal : (base : List (List ℕ)) (cs : List Step) → IsNormal cs → climb cs ≤ length base
     → walk base cs ≡ Some (take (length base - climb cs) base ++ names_of cs)
 walk-normal base [] normal long = ap Some (sym (append-nil _ ∙ take_all _ base (omega arith)))
@@ -138,7 +138,7 @@ walk-normal base (name n ∷ cs) normal long =
     ap (λ ns. walk base (name n ∷ ns)) (AreNames-parts cs normal) ∙ walk-names base (n ∷ names_of cs)
     ∙ ap (λ x. Some (x ++ n ∷ names_of cs)) (sym (take_all _ base (omega arith)))
 
--- the higher climb leads nowhere from a base that the lower one just clears
+-- from a base as long as the lower climb, the list with the higher climb leads to no place
 climb_not_less : (cs ds : List Step) → IsNormal cs → IsNormal ds → IsSame cs ds → climb cs < climb ds → ⊥
 climb_not_less cs ds normal_cs normal_ds same less =
     let base : List (List ℕ) = replicate (climb cs) [] in
@@ -148,7 +148,7 @@ climb_not_less cs ds normal_cs normal_ds same less =
     let at_base = same.everywhere base in
     cc
 
--- normal lists that lead to the same places climb as high
+-- normal lists that lead to the same places climb equally high
 pub climb_same : (cs ds : List Step) → IsNormal cs → IsNormal ds → IsSame cs ds → climb cs ≡ climb ds
 climb_same cs ds normal_cs normal_ds same =
     let not_less = climb_not_less cs ds normal_cs normal_ds same in
@@ -168,7 +168,7 @@ names_of_same cs ds normal_cs normal_ds same =
     cc in
     append_cancel_left _ _ _ place
 
--- of the normal lists, only one leads where it does
+-- normal lists that lead to the same places are equal
 pub normal_unique : (cs ds : List Step) → IsNormal cs → IsNormal ds → IsSame cs ds → cs ≡ ds
 normal_unique cs ds normal_cs normal_ds same =
     let climbs = climb_same cs ds normal_cs normal_ds same in

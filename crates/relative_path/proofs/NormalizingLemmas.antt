@@ -1,4 +1,4 @@
--- Normalising a text component by component.
+-- A text normalised one component at a time.
 use Rattle.std.proofs.Common.{◌≡◌, ℕ, ◌≤◌, List, [], ◌∷◌, ◌++◌, length, take, sym, refl, ap, ap₂, ◌∙◌, subst, append_assoc, append-nil, arith, take_at}
 use Rattle.relative_path.specs.Steps.{Step, cur, up, name, step_text, components, spell, SpellThemselves, SpellsItself}
 use Rattle.relative_path.specs.Walk.{IsSame}
@@ -14,7 +14,7 @@ use Rattle.relative_path.proofs.SpellingLemmas.{components-spell, spell_end, IsP
 
 -- ---- one component at a time
 
--- the text is normal, with what is left it leads where the source leads, and both together fit
+-- the text is normal; with the components that are left it leads where the source leads, and it fits with them
 pub record Normalizes (source : List Step) (limit : ℕ) (text : List ℕ) (left : List Step) : Type 0 where
   pub normal_text : IsNormalText text
   pub same : IsSame source (components text ++ left)
@@ -100,16 +100,17 @@ Normalizes-pop source limit text popped cs n left h last pops =
           rw cut.same_components (omega arith);
     }
 
--- ---- what following a component makes of a normal text
+-- ---- the next normal text
 
--- the text is normal, leads where the older text and the component lead, and is no longer with what is left
+-- the new text is normal, leads where the old text and the component lead, and is no longer, whatever components are
+-- left
 pub record Follows (text : List ℕ) (c : Step) (new : List ℕ) : Type 0 where
   pub normal_text : IsNormalText new
   pub same : IsSame (components text ++ c ∷ []) (components new)
   pub no_longer : (left : List Step)
       → length (spell (components new ++ left)) ≤ length (spell (components text ++ c ∷ left))
 
--- a normal text normalizes its own components with what is left
+-- a normal text normalizes its own components and those that are left
 module _ (text : List ℕ) (normal : IsNormalText text) where
   here : (left : List Step) → Normalizes (components text ++ left) (length (spell (components text ++ left))) text left
   here left = record { normal_text = normal; same = IsSame-refl (components text ++ left); fits = omega arith }
@@ -136,7 +137,7 @@ module _ (text : List ℕ) (normal : IsNormalText text) where
   Follows-pop cs n popped last pops =
       Follows-from up popped (λ left. Normalizes-pop _ _ text popped cs n left (here (up ∷ left)) last pops)
 
--- what is left leads on from there
+-- the next text with the components that are left after it
 pub Normalizes-follow : (source : List Step) (limit : ℕ) (text : List ℕ) (c : Step) (new : List ℕ) (left : List Step)
     → Normalizes source limit text (c ∷ left) → Follows text c new → Normalizes source limit new left
 Normalizes-follow source limit text c new left h f =
@@ -150,7 +151,7 @@ Normalizes-follow source limit text c new left h f =
       fits = omega arith;
     }
 
--- at the end the text is the only normal text that leads where the source leads
+-- once no component is left, the text is the only normal text that leads where the source leads
 pub Normalizes-end : (source : List Step) (limit : ℕ) (text : List ℕ) (left : List Step)
     → Normalizes source limit text left → left ≡ [] → IsNormalTextOf source text × (length text ≤ limit)
 Normalizes-end source limit text left h none =
@@ -173,7 +174,7 @@ Normalizes-end source limit text left h none =
 
 -- ---- when a `..` stays
 
--- a normal list is what its normal text has
+-- a normal list is the components of its normal text
 pub components-IsNormalTextOf : (cs : List Step) (text : List ℕ) → IsNormalTextOf cs text → IsNormal cs
     → components text ≡ cs
 components-IsNormalTextOf cs text of normal =

@@ -7,7 +7,7 @@ unfoldable pub relative_path_on_literals : ⊤
 unfolding pieces components
 relative_path_on_literals = tt
 
--- The example of CALLING.md.
+-- the example of CALLING.md
 pub components-example : components (codes "docs/../a.md") ≡ name (codes "docs") ∷ up ∷ name (codes "a.md") ∷ []
 unfolding relative_path_on_literals
 components-example = refl

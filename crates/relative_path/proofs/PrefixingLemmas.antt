@@ -1,4 +1,4 @@
--- Two iterators in step: what is taken off a path while it agrees with another.
+-- Two iterators in step: what is taken off a path as long as it agrees with another.
 use Rattle.std.proofs.Common.{◌≡◌, ◌≢◌, ℕ, zero, suc, Bool, true, false, not, List, [], ◌∷◌, ◌++◌, length, Option, Some, None, sym, refl, ap, ◌∙◌, subst, append_assoc, append-nil, arith, length-append, true≢false}
 use Rattle.std.specs.Option.{option_eq}
 use Rattle.std.specs.Ordering.{on}
@@ -12,7 +12,7 @@ use Rattle.relative_path.specs.Comparing.{step_eq}
 use Rattle.relative_path.specs.ComparingLaws.{step_eq-Decides}
 use Rattle.relative_path.specs.Prefixing.{StartsWith, EndsWith, IsDropped}
 
--- what was taken is another component than c, or none
+-- the component that was taken isn't c, or none was taken
 abbrev pub is_other : Option Component → Component → Bool
 is_other taken c = not (option_eq (on step_of step_eq) taken (Some c))
 
@@ -24,27 +24,27 @@ other_step d c e = λ same. true≢false (sym ((step_eq-Decides (step_of d) (ste
 
 -- ---- at the front
 
--- one rest more
+-- one more rest
 IsDropped-rest : (text : List ℕ) (n : ℕ) (left rest : List ℕ)
     → IsDropped text n left → IsRest left rest → IsDropped text (suc n) rest
 IsDropped-rest text zero left rest same is = (rest, subst (λ x. IsRest x rest) same is, refl)
 IsDropped-rest text (suc n) left rest (next, first, dropped) is =
     (next, first, IsDropped-rest next n left rest dropped is)
 
--- one component more is taken
+-- one more component is taken
 taken_first : (taken cs left rest : List Step) (c : Step)
     → cs ≡ taken ++ left → left ≡ c ∷ rest → cs ≡ (taken ++ c ∷ []) ++ rest
 taken_first taken cs left rest c joined first =
     joined ∙ ap (λ x. taken ++ x) first ∙ sym (append_assoc taken (c ∷ []) rest)
 
--- the same components were taken off both texts, and these are left
+-- the same components were taken off both texts, and these texts are left
 pub record Agrees (text base left base_left : List ℕ) : Type 0 where
   pub taken : List Step
   pub joined : components text ≡ taken ++ components left
   pub base_joined : components base ≡ taken ++ components base_left
   pub dropped : IsDropped text (length taken) left
 
--- all of the base was taken
+-- all components of the base were taken
 pub Agrees-all : {text base left base_left : List ℕ} → Agrees text base left base_left → components base_left ≡ []
     → (components text ≡ components base ++ components left) × IsDropped text (length (components base)) left
 Agrees-all {text} {base} {left} h none =
@@ -70,7 +70,7 @@ module _ {text base left base_left : List ℕ} (h : Agrees text base left base_l
         dropped = subst (λ n. IsDropped text n rest) more (IsDropped-rest text _ left rest h.dropped takes.1);
       }
 
-  -- the next component is another, so the text does not start with the prefix
+  -- the next component differs, so the text doesn't start with the prefix
   pub StartsWith-other : (t : Option Component) {cs : List Step}
       → TakesFirst left t rest → components base_left ≡ step_of c ∷ cs → is_other t c ≡ true
       → StartsWith (components text) (components base) → ⊥
@@ -91,13 +91,13 @@ module _ {text base left base_left : List ℕ} (h : Agrees text base left base_l
 
 -- ---- at the back
 
--- one component more is taken
+-- one more component is taken
 taken_last : (taken cs left front : List Step) (c : Step)
     → cs ≡ left ++ taken → left ≡ front ++ c ∷ [] → cs ≡ front ++ c ∷ taken
 taken_last taken cs left front c joined last =
     joined ∙ ap (λ x. x ++ taken) last ∙ append_assoc front (c ∷ []) taken
 
--- the same components were taken off both lists, and these are left
+-- the same components were taken off both lists, and these lists are left
 pub record AgreesBack (cs child left child_left : List Step) : Type 0 where
   pub taken : List Step
   pub joined : cs ≡ left ++ taken
@@ -118,7 +118,7 @@ module _ {cs child child_left : List Step} {left : List ℕ} (h : AgreesBack cs 
         child_joined = taken_last _ _ _ _ _ h.child_joined last;
       }
 
-  -- the next component from the back is another, so the list does not end with the child
+  -- the next component from the back differs, so the list doesn't end with the child
   pub EndsWith-other : (t : Option Component)
       → TakesLast left t front → child_left ≡ child_front ++ step_of c ∷ [] → is_other t c ≡ true
       → EndsWith cs child → ⊥

@@ -1,4 +1,4 @@
--- Pushes one after another: what some of them leave, and how long the text grows.
+-- Pushes one after another: what the first of them leave, and the length of the text.
 use Rattle.std.proofs.Common.{◌≡◌, ℕ, suc, ◌+◌, ◌<◌, ◌≤◌, true, false, List, [], ◌∷◌, ◌++◌, map, length, take, drop, get_or, Option, IfSome, sym, refl, ap, ap₂, ◌∙◌, append_assoc, append-nil, arith, length-append, take_at}
 use Rattle.std.specs.List.{slice_get}
 use Rattle.std.proofs.lemmas.List.{map-append, drop_all}
@@ -20,7 +20,7 @@ pub length-pushed_all_le : (text : List ℕ) (ps : List (List ℕ)) → length t
 length-pushed_all_le text [] = omega arith
 length-pushed_all_le text (p ∷ ps) = omega (arith, length-pushed_le text p, length-pushed_all_le (pushed text p) ps)
 
--- where some were pushed, and the room is too short for the next one
+-- some paths were pushed, and the next one doesn't fit the room
 module _ (old new : Buffer) (front : List (List ℕ)) (path : List ℕ) (more texts : List (List ℕ))
     (joined : texts ≡ (front ++ path ∷ []) ++ more) (text : new.text ≡ pushed_all old.text front) where
   count : length (front ++ path ∷ []) ≡ length front + 1
@@ -52,7 +52,7 @@ module _ (old new : Buffer) (front : List (List ℕ)) (path : List ℕ) (more te
         full = omega (arith, stopped, room, ap length whole, length-pushed_all_le (pushed new.text path) more);
       }
 
--- what is read place by place is the front of the texts
+-- the texts that are read by index are the first ones of the list
 front_texts : (xs : List RelativePath) (texts : List (List ℕ)) → length xs ≤ length texts
     → ((k : ℕ) → IfSome (slice_get xs k) (λ path. path_text path ≡ get_or texts k (path_text path)))
     → texts ≡ map path_text xs ++ drop (length xs) texts
@@ -61,7 +61,7 @@ front_texts (x ∷ xs) [] within reads = absurd (omega arith)
 front_texts (x ∷ xs) (u ∷ texts) within reads =
     ap₂ (λ y ys. y ∷ ys) (sym (reads 0)) (front_texts xs texts (omega arith) (λ k. reads (suc k)))
 
--- and all of them, where there are no more
+-- and all of the list, if no more follow
 all_texts : (xs : List RelativePath) (texts : List (List ℕ)) → length xs ≡ length texts
     → ((k : ℕ) → IfSome (slice_get xs k) (λ path. path_text path ≡ get_or texts k (path_text path)))
     → map path_text xs ≡ texts

@@ -1,4 +1,5 @@
--- The shortest way from one place to another, and from one normal list to another; where normal lists lead apart.
+-- The shortest way from one place to another and from one normal list to another, and the bases from which two normal
+-- lists lead apart.
 use Rattle.std.proofs.Common.{◌≡◌, ◌≢◌, ◌⊎◌, ◌↔◌, ℕ, zero, suc, ◌+◌, ◌-◌, ◌<◌, ◌≤◌, cond, bytes_eq, List, [], ◌∷◌, ◌++◌, length, take, map, replicate, Option, Some, None, IsNone, MatchOption, true≢false, option_and_then, refl, sym, ap, ◌∙◌, subst, inl, inr, append_assoc, append-nil, arith, length-append, drop}
 use Rattle.std.specs.Prelude.{min}
 use Rattle.std.specs.List.{common_prefix_len}
@@ -17,7 +18,7 @@ use Rattle.relative_path.proofs.ListsLemmas.{bytes_eq-same, length-snoc}
 
 -- ---- the shortest way from a place to a place
 
--- the way from a place to a place: up to where they part, and down
+-- the way from one place to another: up to the names that both begin with, and then down
 abbrev pub way : List (List ℕ) → List (List ℕ) → List Step
 way [] ns = map name ns
 way (m ∷ ms) [] = replicate (suc (length ms)) up
@@ -27,7 +28,7 @@ way-same : (ns : List (List ℕ)) → way ns ns ≡ []
 way-same [] = refl
 way-same (n ∷ ns) = cond-true (bytes_eq n n) _ _ (bytes_eq-same n) ∙ way-same ns
 
--- one name more on the place that the way starts from is a `..` more, or a name less
+-- with one more name on the source, the way has one more `..` at its start, or one name less
 way-push : (ms : List (List ℕ)) (n : List ℕ) (ns : List (List ℕ))
     → (way (ms ++ n ∷ []) ns ≡ up ∷ way ms ns) ⊎ (way ms ns ≡ name n ∷ way (ms ++ n ∷ []) ns)
 way-push [] n [] = inl refl
@@ -45,7 +46,7 @@ way-push (m ∷ ms) n (k ∷ ks) = elim (cases_Bool (bytes_eq m k)) [
       inl (rw (cond-false (bytes_eq m k) _ _ e, cond-false (bytes_eq m k) _ _ e) more)
 ]
 
--- what is no shorter than the way, with one step more
+-- a list that is no shorter than the way, with one more `..`
 way_shortest-up : (place : List (List ℕ)) (n : List ℕ) (ns : List (List ℕ)) (s : List Step)
     → (length (way place ns) < length s) ⊎ (s ≡ way place ns)
     → (length (way (place ++ n ∷ []) ns) < length (up ∷ s)) ⊎ (up ∷ s ≡ way (place ++ n ∷ []) ns)
@@ -60,6 +61,7 @@ way_shortest-up place n ns s before = elim (way-push place n ns) [
   ]
 ]
 
+-- a list that is no shorter than the way, with one more name
 way_shortest-name : (place : List (List ℕ)) (n : List ℕ) (ns : List (List ℕ)) (s : List Step)
     → (length (way (place ++ n ∷ []) ns) < length s) ⊎ (s ≡ way (place ++ n ∷ []) ns)
     → (length (way place ns) < length (name n ∷ s)) ⊎ (name n ∷ s ≡ way place ns)
@@ -74,7 +76,7 @@ way_shortest-name place n ns s before = elim (way-push place n ns) [
   ]
 ]
 
--- each list that leads from a place to a place is longer than the way, or is the way
+-- each list that leads from one place to another is the way, or longer than the way
 pub way_shortest : (ms ns : List (List ℕ)) (s : List Step) → walk ms s ≡ Some ns
     → (length (way ms ns) < length s) ⊎ (s ≡ way ms ns)
 way_shortest ms ns [] leads =
@@ -92,7 +94,7 @@ way_shortest (m ∷ ms) ns (up ∷ s) leads =
     subst (λ x. (length (way x ns) < length (up ∷ s)) ⊎ (up ∷ s ≡ way x ns)) (sym last.1) stepped
 way_shortest ms ns (name n ∷ s) leads = way_shortest-name ms n ns s (way_shortest (ms ++ n ∷ []) ns s leads)
 
--- the way, told by how many names both places begin with
+-- the way by the number of names that both places begin with
 pub way-common : (ms ns : List (List ℕ))
     → way ms ns ≡ ups_then_names (length ms - common_prefix_len bytes_eq ms ns) (drop (common_prefix_len bytes_eq ms ns) ns)
 way-common [] ns = refl
@@ -111,12 +113,12 @@ way-common (m ∷ ms) (n ∷ ns) = elim (cases_Bool (bytes_eq m n)) [
       rw (cond-false (bytes_eq m n) _ _ e, cond-false (bytes_eq m n) _ _ e) (ap (λ k. ups_then_names k (n ∷ ns)) whole)
 ]
 
--- a name that is not the first of these
+-- a name that differs from the first of these
 abbrev other_name : List (List ℕ) → List ℕ
 other_name [] = []
 other_name (n ∷ ns) = 0 ∷ n
 
--- from under such a name the way is all the way up, and down
+-- from below such a name the way goes all the way up, and then down
 way-other_name : (ms ns : List (List ℕ)) → way (other_name ns ∷ ms) ns ≡ ups_then_names (suc (length ms)) ns
 way-other_name ms [] = sym (append-nil (replicate (suc (length ms)) up))
 way-other_name ms (n ∷ ns) = elim (cases_Bool (bytes_eq (0 ∷ n) n)) [
@@ -130,7 +132,7 @@ replicate-up_more : (k : ℕ) (ds : List Step) → replicate (suc k) up ++ ds �
 replicate-up_more zero ds = refl
 replicate-up_more (suc k) ds = ap (λ x. up ∷ x) (replicate-up_more k ds)
 
--- names and as many `..` lead nowhere else
+-- names and equally many `..` change nothing
 IsSame-names_ups : (ns : List (List ℕ)) (ds : List Step) → IsSame (map name ns ++ (replicate (length ns) up ++ ds)) ds
 IsSame-names_ups [] ds = IsSame-refl ds
 IsSame-names_ups (n ∷ ns) ds =
@@ -138,7 +140,7 @@ IsSame-names_ups (n ∷ ns) ds =
     let shifted = ap (λ x. name n ∷ (map name ns ++ x)) (replicate-up_more (length ns) ds) in
     subst (λ x. IsSame x ds) (sym shifted) (IsSame-trans _ _ _ inner (IsSame-name_up [] ds n))
 
--- down the names of a place, and then the way from there to another
+-- down the names of a place, and then the way from there to another place
 IsSame-way : (ms ns : List (List ℕ)) → IsSame (map name ms ++ way ms ns) (map name ns)
 IsSame-way [] ns = IsSame-refl (map name ns)
 IsSame-way (m ∷ ms) [] =
@@ -152,13 +154,14 @@ IsSame-way (m ∷ ms) (n ∷ ns) = elim (cases_Bool (bytes_eq m n)) [
   | inr e ↦ rw (cond-false (bytes_eq m n) _ _ e) (IsSame-names_ups (m ∷ ms) (map name (n ∷ ns)))
 ]
 
--- where both climb as high, the way from the source's names to the target's
+-- if both climb equally high: the way from the names of the source to those of the target
 Leads-level : (ups : ℕ) (ms ns : List (List ℕ)) → Leads (ups_then_names ups ms) (way ms ns) (ups_then_names ups ns)
 Leads-level ups ms ns =
     let start = replicate ups up in
     rw (append_assoc start (map name ms) (way ms ns)) (IsSame-append_left start _ _ (IsSame-way ms ns))
 
--- where the target climbs higher, up the source's names and as far as it climbs higher, and down the target's names
+-- if the target climbs higher: up the names of the source, up as far as the target climbs higher, and down the names of
+-- the target
 Leads-higher : (ups more : ℕ) (ms ns : List (List ℕ))
     → Leads (ups_then_names ups ms) (ups_then_names (length ms + more) ns) (ups_then_names (ups + more) ns)
 Leads-higher ups more ms ns =
@@ -168,9 +171,9 @@ Leads-higher ups more ms ns =
     let onward = IsSame-append_left start _ _ (IsSame-names_ups ms (ups_then_names more ns)) in
     rw (source, ← ups_then_names-ups ups more ns) onward
 
--- ---- the shortest of them
+-- ---- the shortest of these lists
 
--- from the base, cs lead to ms and ds to ns
+-- from the base, cs leads to ms and ds to ns
 record LeadFrom (base ms ns : List (List ℕ)) (cs ds : List Step) : Type 0 where
   source : walk base cs ≡ Some ms
   target : walk base ds ≡ Some ns
@@ -181,7 +184,7 @@ walk-LeadFrom base ms ns cs s ds at leads =
     let first = ap (option_and_then (λ place. walk place s)) (sym at.source) in
     first ∙ sym (walk-append base cs s) ∙ leads.everywhere base ∙ at.target
 
--- a list that leads is the shortest if from some base it is the way
+-- a list that leads is the shortest if it is the way from some base
 IsShortest-from : (base ms ns : List (List ℕ)) (cs r ds : List Step) → LeadFrom base ms ns cs ds → way ms ns ≡ r
     → Leads cs r ds → IsShortest cs r ds
 IsShortest-from base ms ns cs r ds at is leads = record {
@@ -221,7 +224,7 @@ IsShortest-higher ups (suc k) ms ns higher =
     let is = way-other_name (replicate k other ++ ms) ns ∙ ap (λ j. ups_then_names j ns) counted in
     IsShortest-from _ _ _ _ _ _ at is (Leads-higher ups (suc k) ms ns)
 
--- ---- where none leads
+-- ---- lists between which no list leads
 
 pub unreachable_higher : (ups more : ℕ) (ms ns : List (List ℕ)) → more < ups
     → IsReachable (ups_then_names ups ms) (ups_then_names more ns) → ⊥
@@ -264,7 +267,7 @@ LeadsApart-sym cs ds n h = record {
   together = λ base short. sym (h.together base short);
 }
 
--- lists that lead apart do so at one number alone
+-- lists lead apart at one number only
 pub LeadsApart-unique : (cs ds : List Step) (m n : ℕ) → LeadsApart cs ds m → LeadsApart cs ds n → m ≡ n
 LeadsApart-unique cs ds m n at_m at_n =
     let not_less = not_before m n at_m at_n in
@@ -304,7 +307,7 @@ LeadsApart-same cs cs' ds ds' n first second h = record {
   together = λ base short. sym (first.everywhere base) ∙ h.together base short ∙ second.everywhere base;
 }
 
--- ---- a list leads exactly if the source's normal form climbs no higher
+-- ---- a list leads exactly if the normal form of the source climbs no higher
 
 IsReachable-ups_then_names : (ups more : ℕ) (ms ns : List (List ℕ))
     → IsReachable (ups_then_names ups ms) (ups_then_names more ns) ↔ (ups ≤ more)
@@ -327,7 +330,7 @@ IsShortestText-same f g t u text from to h = record {
   shortest = IsShortest-same f g (components text) t u (IsSame-sym g f from) (IsSame-sym u t to) h.shortest;
 }
 
--- from what stays below a list, some list leads to all that comes after that list
+-- from a list that stays below bs, some list leads to each list that goes on from bs
 pub IsReachable-from_below : (bs f t : List Step) → StaysBelow bs f → IsReachable f (bs ++ t)
 IsReachable-from_below bs f t inside =
     let place = inside.place in
@@ -337,7 +340,7 @@ IsReachable-from_below bs f t inside =
     (IsSame-append_left bs (map name place ++ back) t (IsSame-names_ups place t)) in
     (back, IsSame-trans (f ++ back) ((bs ++ map name place) ++ back) (bs ++ t) same there)
 
--- so it does between two lists that stay below the same one
+-- between two lists that stay below the same list, some list leads
 pub IsReachable-below : (bs f t : List Step) → StaysBelow bs f → StaysBelow bs t → IsReachable f t
 IsReachable-below bs f t from to =
     let names = map name to.place in
@@ -345,7 +348,7 @@ IsReachable-below bs f t from to =
     let back = IsSame-sym t (bs ++ names) (IsSame-below bs t to.place to.below) in
     (r, IsSame-trans (f ++ r) (bs ++ names) t leads back)
 
--- and one leads from f to t exactly where f climbs no higher than t
+-- some list leads from f to t exactly if the normal form of f climbs no higher than that of t
 pub IsReachable-climb : (f t fs ts : List Step) → IsNormalForm f fs → IsNormalForm t ts
     → IsReachable f t ↔ (climb fs ≤ climb ts)
 IsReachable-climb f t fs ts from to =
@@ -360,13 +363,13 @@ IsReachable-climb f t fs ts from to =
 
 -- ---- the way as the code finds it
 
--- where both climb as high
+-- if both climb equally high
 pub IsShortest-common : (ups : ℕ) (ms ns : List (List ℕ)) → let common = common_prefix_len bytes_eq ms ns in
     IsShortest (ups_then_names ups ms) (ups_then_names (length ms - common) (drop common ns)) (ups_then_names ups ns)
 IsShortest-common ups ms ns =
     subst (λ r. IsShortest (ups_then_names ups ms) r (ups_then_names ups ns)) (way-common ms ns) (IsShortest-level ups ms ns)
 
--- two normal lists that differ lead apart at the lower climb
+-- two normal lists that differ lead apart at the lower of their climbs
 pub LeadsApart-lower : (ups more : ℕ) (ms ns : List (List ℕ)) → (ups ≡ more → ms ≢ ns)
     → LeadsApart (ups_then_names ups ms) (ups_then_names more ns) (min ups more)
 LeadsApart-lower ups more ms ns other = elim (cases_lt ups more) [
@@ -394,7 +397,7 @@ IsShortestText-spelled f t r text same spelled shortest = record {
   shortest = rw same shortest;
 }
 
--- ---- where two lists lead apart, told by lists that lead to the same places
+-- ---- the bases from which two lists lead apart, by lists that lead to the same places
 
 pub same_parting : (cs cs' ds ds' : List Step) (r : Option ℕ) → IsSame cs cs' → IsSame ds ds'
     → MatchOption r (IsSame cs' ds') (LeadsApart cs' ds') → MatchOption r (IsSame cs ds) (LeadsApart cs ds)
@@ -416,7 +419,7 @@ parting_some cs ds (Some m) apart n =
     let is = λ (some : Some m ≡ Some n). let e : m ≡ n = cc in subst (LeadsApart cs ds) e apart in
     (is, λ at_n. ap Some (LeadsApart-unique cs ds m n apart at_n))
 
--- what leads to the middle, and then on from there, leads to the end
+-- a list to the middle, followed by a list from the middle to the end, leads to the end
 pub Leads-through : (f r middle s t : List Step) → Leads f r middle → Leads middle s t → Leads f (r ++ s) t
 Leads-through f r middle s t first second =
     rw (← append_assoc f r s)

@@ -1,4 +1,4 @@
--- A text trimmed of the slashes at an end, and cut at its first or its last slash.
+-- A text that is trimmed of the slashes at one end, and cut at its first or its last slash.
 use Rattle.std.proofs.Common.{◌≡◌, ◌≢◌, ◌<◌, ℕ, suc, zero, cond, List, [], ◌∷◌, ◌++◌, All, take, drop, replicate, Option, Some, None, MatchOption, Bor, refl, sym, subst, ap, ap₂, ◌∙◌, lit<, take-append-drop, append-nil, ◌+◌, ◌-◌, ◌*◌, ◌^◌, length, get_or, get_or-drop, length-take, length-drop, arith, take_all, ◌≤◌, pow_mono, eqb-true, ◌⊎◌, inl, inr, w64, Bool, false, not, map, reverse, ne_eqb, append_assoc, ⊎_elim}
 use Rattle.std.proofs.Math.Nat.{pow-suc, eq-or-lt_of_le}
 use Rattle.std.specs.Int.{bit_at, trailing_zeros}
@@ -94,13 +94,14 @@ pub components-strip_suffix : (n : ℕ) (text left : List ℕ)
 components-strip_suffix n text left (m, (counted, joined, _), is, _) =
     ap components is ∙ sym (components-append_replicate (take (length text - m) text) n) ∙ sym (ap components joined)
 
--- the end of an end of the text, and the front of a front
+-- a suffix of a suffix of the text is a suffix of the text
 pub suffix-trans : (whole text left : List ℕ) (n : ℕ) → text ≡ drop (length whole - length text) whole
     → left ≡ drop n text → left ≡ drop (length whole - length left) whole
 suffix-trans whole text left n outer inner =
     let joined = sym (ap (λ x. take n text ++ x) inner ∙ take-append-drop n text) in
     IsSuffix-drop (IsSuffix-trans (IsSuffix-from outer) (record { front = take n text; joined = joined }))
 
+-- a prefix of a prefix of the text is a prefix of the text
 pub prefix-trans : (whole text left : List ℕ) → text ≡ take (length text) whole → left ≡ take (length left) text
     → left ≡ take (length left) whole
 prefix-trans whole text left outer inner = (IsPrefix-trans (record { front = outer }) (record { front = inner })).front
@@ -116,13 +117,13 @@ prefix-strip_suffix n text left (m, _, is, counted) =
 abbrev is_solid : ℕ → Bool
 is_solid b = not (is_slash b)
 
--- where the first slash stands, or the end
+-- the index of the first slash, or the length of the text
 pub position_is : (bytes : List ℕ) (n : ℕ) → n ≤ length bytes → ((k : ℕ) → k < n → get_or bytes k 0 ≢ slash)
     → (n < length bytes → get_or bytes n 0 ≡ slash) → n ≡ position_or_len is_slash bytes
 position_is bytes n inside before at =
     sym (position_or_len_is is_slash bytes n 0 inside (λ k h. ne_eqb _ _ (before k h)) (λ h. eq-eqb _ _ (at h)))
 
--- where the bytes after the last slash begin, or the start
+-- the index after the last slash, or 0
 pub last_start_is : (bytes : List ℕ) (n : ℕ) → n ≤ length bytes
     → ((k : ℕ) → n ≤ k → k < length bytes → get_or bytes k 0 ≢ slash) → (0 < n → get_or bytes (n - 1) 0 ≡ slash)
     → n ≡ last_start is_slash bytes
@@ -148,11 +149,11 @@ slash_before_last bytes some =
     eqb-true _ _
     (not-false _ (ap is_solid (ap (λ i. get_or bytes i 0) (sym at) ∙ sym (get_or-reverse bytes n 0 (omega (arith, some)))) ∙ stops))
 
--- no more bytes stand before the first slash than there are
+-- the first slash comes no later than the end
 pub position_le : (bytes : List ℕ) → position_or_len is_slash bytes ≤ length bytes
 position_le = prefix_len-le-length is_solid
 
--- no slash stands after the last one
+-- no slash comes after the last one
 fails_after_last : (bytes : List ℕ) (k : ℕ) → last_start is_slash bytes ≤ k → k < length bytes
     → is_slash (get_or bytes k 0) ≡ false
 fails_after_last bytes k from to =
@@ -160,9 +161,9 @@ fails_after_last bytes k from to =
     ap is_slash (ap (λ i. get_or bytes i 0) (sym back) ∙ sym (get_or-reverse bytes (length bytes - 1 - k) 0 (omega (arith, to))))
     ∙ fails_before_first is_slash (reverse bytes) (length bytes - 1 - k) 0 (omega (arith, from, to, suffix_len-le-length is_solid bytes))
 
--- ---- searched by blocks of up to 64 bytes: a mask has a bit for each, set where that is a slash
+-- ---- a search by blocks of up to 64 bytes: a mask has a bit for each byte, set if the byte is a slash
 
--- the highest power of two in a number is a bit of it
+-- the highest power of two in a number is one of its bits
 top_bit : (n j : ℕ) → 2 ^ j ≤ n → n < 2 ^ suc j → bit_at n j ≡ 1
 top_bit n j least most =
     let whole : n ≡ 1 * 2 ^ j + (n - 2 ^ j) = omega (arith, least) in
@@ -206,7 +207,7 @@ module _ (bytes : List ℕ) (start width : ℕ) (inside : start + width ≤ leng
   wide : width ≤ 64 → mask < 2 ^ 64
   wide few = omega (arith, mask_bound, pow_mono few)
 
-  -- where no slash stands before the block
+  -- if no slash comes before the block
   pub first_in : width ≤ 64 → start ≤ position_or_len is_slash bytes → mask ≢ 0
       → start + trailing_zeros w64 mask ≡ position_or_len is_slash bytes
   first_in few after some =
@@ -230,7 +231,7 @@ module _ (bytes : List ℕ) (start width : ℕ) (inside : start + width ≤ leng
       (λ h. h)
       (cases_lt n (start + width))
 
-  -- where no slash stands after the block
+  -- if no slash comes after the block
   pub last_in : width ≤ 64 → last_start is_slash bytes ≤ start + width
       → (64 - count_leading_zeros 64 mask ≡ 0 → last_start is_slash bytes ≤ start)
       × (0 < 64 - count_leading_zeros 64 mask → start + (64 - count_leading_zeros 64 mask) ≡ last_start is_slash bytes)
@@ -258,9 +259,9 @@ module _ (bytes : List ℕ) (start width : ℕ) (inside : start + width ≤ leng
             ap (λ i. get_or bytes i 0) (sym at) ∙ slash_at (m - 1) (omega (arith, within, some, is)) (top (omega (arith, some, is)))),
       )
 
--- ---- cut
+-- ---- a cut at a slash
 
--- a text may be cut before its first slash, or at its end, and after that slash
+-- the first slash, or the end, is a character boundary
 pub IsCharBoundary-piece : (text : List ℕ) (n : ℕ) → n ≤ length text → (n < length text → get_or text n 0 ≡ slash)
     → IsCharBoundary text n
 IsCharBoundary-piece text n inside at = elim (eq-or-lt_of_le inside) [
@@ -272,12 +273,13 @@ pub IsCharBoundary_first : (text : List ℕ) → IsCharBoundary text (position_o
 IsCharBoundary_first text =
     IsCharBoundary-piece text (position_or_len is_slash text) (position_le text) (slash_at_first text)
 
+-- so is the index after the first slash
 pub IsCharBoundary_after_first : (text : List ℕ) → IsUtf8 text → position_or_len is_slash text < length text
     → IsCharBoundary text (position_or_len is_slash text + 1)
 IsCharBoundary_after_first text utf8 some =
     IsCharBoundary-after_ascii text (position_or_len is_slash text) utf8 some (omega (arith, slash_at_first text some))
 
--- and before its last slash, if it has one, and after it
+-- so is the last slash, if there is one, or the start
 pub IsCharBoundary_before_last : (text : List ℕ) → IsUtf8 text → IsCharBoundary text (last_start is_slash text - 1)
 IsCharBoundary_before_last text utf8 =
     ⊎_elim
@@ -286,6 +288,7 @@ IsCharBoundary_before_last text utf8 =
     subst (IsCharBoundary text) front (IsCharBoundary-start text utf8))
     (cases_lt 0 (last_start is_slash text))
 
+-- so is the index after the last slash
 pub IsCharBoundary_last : (text : List ℕ) → IsUtf8 text → 0 < last_start is_slash text
     → IsCharBoundary text (last_start is_slash text)
 IsCharBoundary_last text utf8 some =
@@ -294,7 +297,7 @@ IsCharBoundary_last text utf8 some =
     (IsCharBoundary-after_ascii text (last_start is_slash text - 1) utf8 (omega (arith, some))
     (omega (arith, slash_before_last text some)))
 
--- what stands before the first slash, and after the last one, has none
+-- the text before the first slash has no slash
 pub HasNoSlash-before_first : (text : List ℕ) → HasNoSlash (before_first is_slash text)
 HasNoSlash-before_first text =
     let n = position_or_len is_slash text in
@@ -303,6 +306,7 @@ HasNoSlash-before_first text =
     (λ k h. let inside : k < n = omega (arith, h, length-take n text) in
     ap is_slash (get_or-take n text k 0 inside) ∙ fails_before_first is_slash text k 0 inside))
 
+-- the text after the last slash has no slash
 pub HasNoSlash-after_last : (text : List ℕ) → HasNoSlash (after_last is_slash text)
 HasNoSlash-after_last text =
     let n = last_start is_slash text in
@@ -311,7 +315,7 @@ HasNoSlash-after_last text =
     (λ k h.
     ap is_slash (get_or-drop n text k 0) ∙ fails_after_last text (n + k) (omega arith) (omega (arith, h, length-drop n text))))
 
--- the text is what stands before its first slash, that slash and what stands after it
+-- the text is what comes before its first slash, that slash, and what comes after it
 pub joined_first : (text : List ℕ) → (text ≡ before_first is_slash text ++ slash ∷ after_first is_slash text)
     ⊎ ((text ≡ before_first is_slash text) × (after_first is_slash text ≡ []))
 joined_first text =
@@ -322,7 +326,7 @@ joined_first text =
     (λ none. inr (sym (take_all n text none), drop_all (n + 1) text (omega (arith, none))))
     (cases_lt n (length text))
 
--- and the same of its last slash
+-- the text is what comes before its last slash, that slash, and what comes after it
 pub joined_last : (text : List ℕ) → (text ≡ before_last is_slash text ++ slash ∷ after_last is_slash text)
     ⊎ ((text ≡ after_last is_slash text) × (before_last is_slash text ≡ []))
 joined_last text =
@@ -338,7 +342,7 @@ joined_last text =
     inr (sym (ap (λ k. drop k text) start), ap (λ k. take (k - 1) text) start))
     (cases_lt 0 n)
 
--- what `rsplit_once` gives at an ASCII character
+-- what `rsplit_once` returns for an ASCII character
 pub rsplit_once_parts : (c : ℕ) (text : List ℕ) (r : Option (Bor (List ℕ) × Bor (List ℕ)))
     → MatchOption r (RFindsChar c text None) (λ x. SplitsAroundMatch (RFindsChar c) text x.0.now x.1.now) → c < 128
     → MatchOption r (All (λ b. b ≢ c) text) (λ x. (text ≡ x.0.now ++ c ∷ x.1.now) × All (λ b. b ≢ c) x.1.now)
@@ -350,9 +354,9 @@ rsplit_once_parts c text (Some parts) (i, j, found, front, back, _, _, _) ascii 
     All-from_get_or (λ b. b ≢ c) (drop j text) 0 (λ k h. NoCharPasses-char c (drop j text) k found.0 ascii h) in
     (joined ∙ ap₂ (λ x y. x ++ c ∷ y) (sym front) (sym back), rw back last)
 
--- ---- a text cut in two
+-- ---- a text in two parts
 
--- the text has no slash, or a last one
+-- a text has no slash, or a last one
 pub last_slash : (text : List ℕ)
     → HasNoSlash text ⊎ ((xs : List ℕ) × (ys : List ℕ) × (text ≡ xs ++ slash ∷ ys) × HasNoSlash ys)
 last_slash [] = inl tt
@@ -363,7 +367,7 @@ last_slash (b ∷ bs) = elim (last_slash bs) [
   | inr (xs, ys, joined, none) ↦ inr (b ∷ xs, ys, ap (λ x. b ∷ x) joined, none)
 ]
 
--- the text has no slash, or a first one
+-- a text has no slash, or a first one
 first_slash : (text : List ℕ)
     → HasNoSlash text ⊎ ((xs : List ℕ) × (ys : List ℕ) × (text ≡ xs ++ slash ∷ ys) × HasNoSlash xs)
 first_slash [] = inl tt
@@ -390,7 +394,7 @@ components-before front = elim (last_slash front) [
   )
 ]
 
--- whatever stands before a text, only its first piece can change
+-- whatever precedes a text, only its first piece can change
 pub components-after : (rest : List ℕ)
     → (cs : List Step) × (y : List ℕ) × HasNoSlash y
     × ((front : List ℕ) → components (front ++ rest) ≡ components (front ++ y) ++ cs)

@@ -1,4 +1,4 @@
--- Prefixes and suffixes of a text that are fixed by their components.
+-- Prefixes and suffixes of a text that their components determine.
 use Rattle.std.proofs.Common.{◌≡◌, ◌≢◌, ℕ, ◌+◌, ◌-◌, ◌<◌, ◌≤◌, List, [], ◌++◌, length, get_or, take, drop, sym, refl, ap, ◌∙◌, subst, append_assoc, arith, take-append-drop, length-drop, length-take, take-take, take_at, get_or-drop, take_all, ⊎_elim, ◌∷◌}
 use Rattle.std.proofs.lemmas.Bool.{cases_lt}
 use Rattle.std.proofs.lemmas.List.Prefix.{end_rest}
@@ -9,7 +9,7 @@ use Rattle.relative_path.specs.Steps.{slash, Step, components}
 use Rattle.relative_path.specs.Slices.{IsShortestPrefix}
 use Rattle.relative_path.proofs.StepsLemmas.{components-nil, total_len-components, solid_len, solid_len-append, last-not_solid, components-trailing_slash}
 
--- p is the front of the text
+-- p is a prefix of the text
 pub record IsPrefix (text p : List ℕ) : Type 0 where
   pub front : p ≡ take (length p) text
 
@@ -32,14 +32,14 @@ IsPrefix-append_left head {text} {p} h =
 pub length-IsPrefix : {text p : List ℕ} → IsPrefix text p → length p ≤ length text
 length-IsPrefix {text} {p} h = let e = ap length h.front ∙ length-take (length p) text in omega (arith, e)
 
--- a shorter front of the front
+-- a prefix of the prefix
 pub take-IsPrefix : {text p : List ℕ} → IsPrefix text p → (k : ℕ) → k ≤ length p → take k p ≡ take k text
 take-IsPrefix {text} {p} h k short = ap (take k) h.front ∙ take-take k (length p) text short
 
 pub IsPrefix-trans : {text p q : List ℕ} → IsPrefix text p → IsPrefix p q → IsPrefix text q
 IsPrefix-trans {text} {p} {q} h i = record { front = i.front ∙ take-IsPrefix h (length q) (length-IsPrefix i) }
 
--- texts with the same components have as many non_slash bytes
+-- texts with the same components have equally many non-slash bytes
 solid_len-components : (xs ys : List ℕ) → components xs ≡ components ys → solid_len xs ≡ solid_len ys
 solid_len-components xs ys e =
     let p = total_len-components xs in
@@ -47,7 +47,7 @@ solid_len-components xs ys e =
     let r = rw e at p in
     omega (arith, q, r)
 
--- a front with the same components as a longer one leaves out slashes alone, the last byte among them
+-- a shorter prefix with the same components leaves out only slashes, so the longer one ends in a slash
 ends_in_slash_after : (p : List ℕ) (k : ℕ) → k < length p → components (take k p) ≡ components p
     → get_or p (length p - 1) 0 ≡ slash
 ends_in_slash_after p k short same =
@@ -58,7 +58,7 @@ ends_in_slash_after p k short same =
     let index : length p - 1 ≡ k + (length (drop k p) - 1) = omega (arith, length-drop k p) in
     ap (λ i. get_or p i 0) index ∙ sym (get_or-drop k p (length (drop k p) - 1) 0) ∙ last
 
--- a front that ends in no slash is the shortest with its components
+-- a prefix that doesn't end in a slash is the shortest with its components
 pub IsShortestPrefix-from : {text p : List ℕ} {cs : List Step} → IsPrefix text p → components p ≡ cs
     → get_or p (length p - 1) 0 ≢ slash → IsShortestPrefix text cs p
 IsShortestPrefix-from {text} {p} {cs} h same end = record {
@@ -70,7 +70,7 @@ IsShortestPrefix-from {text} {p} {cs} h same end = record {
       (cases_lt k (length p));
 }
 
--- a text is cut at the end of a character where its front is a text
+-- the end of a prefix that is UTF-8 is a character boundary
 pub IsCharBoundary-IsPrefix : {text p : List ℕ} → IsPrefix text p → IsUtf8 text → IsUtf8 p
     → IsCharBoundary text (length p)
 IsCharBoundary-IsPrefix {text} {p} h whole part =
@@ -79,7 +79,7 @@ IsCharBoundary-IsPrefix {text} {p} h whole part =
 pub IsPrefix-shortest : {text p : List ℕ} {cs : List Step} → IsShortestPrefix text cs p → IsPrefix text p
 IsPrefix-shortest h = record { front = h.prefix }
 
--- the shortest front of a front is the shortest front of the text
+-- the shortest prefix of a prefix is the shortest prefix of the text
 pub IsShortestPrefix-trans : {text q p : List ℕ} {cs : List Step} → IsPrefix text q → IsShortestPrefix q cs p
     → IsShortestPrefix text cs p
 IsShortestPrefix-trans {text} {q} {p} {cs} h s = record {
@@ -99,11 +99,11 @@ IsShortestPrefix-unique {text} {p} {q} s t =
     let same : length p ≡ length q = omega arith in
     s.prefix ∙ ap (λ k. take k text) same ∙ sym t.prefix
 
--- the empty front has no components
+-- the empty prefix has no components
 pub IsShortestPrefix-nil : (text : List ℕ) → IsShortestPrefix text [] []
 IsShortestPrefix-nil text = record { prefix = refl; same_components = components-nil; shortest = λ k e. omega arith }
 
--- the text ends in a slash, or has no byte
+-- a text that ends in a slash is its front and a slash
 pub ends_separated : (text : List ℕ) → get_or text (length text - 1) 0 ≡ slash
     → text ≡ take (length text - 1) text ++ slash ∷ []
 ends_separated [] e = absurd (omega (arith, e))
@@ -112,7 +112,7 @@ ends_separated (b ∷ bs) e =
     sym (take_all (length (b ∷ bs) - 1 + 1) (b ∷ bs) long) ∙ take_more (b ∷ bs) (length (b ∷ bs) - 1) 0 (omega arith)
     ∙ ap (λ x. take (length (b ∷ bs) - 1) (b ∷ bs) ++ x ∷ []) e
 
--- the shortest front with its components ends in no slash
+-- the shortest prefix with its components doesn't end in a slash
 pub end-IsShortestPrefix : {text p : List ℕ} {cs : List Step} → IsShortestPrefix text cs p
     → get_or p (length p - 1) 0 ≢ slash
 end-IsShortestPrefix {text} {p} {cs} s = λ e.
@@ -127,7 +127,7 @@ end-IsShortestPrefix {text} {p} {cs} s = λ e.
     empty [] none = λ e. absurd (omega (arith, e))
     empty (b ∷ bs) none = absurd (omega arith)
 
--- r is the end of the text
+-- r is a suffix of the text
 pub record IsSuffix (text r : List ℕ) : Type 0 where
   pub front : List ℕ
   pub joined : text ≡ front ++ r

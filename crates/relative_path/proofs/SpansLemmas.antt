@@ -1,4 +1,4 @@
--- Spans of names: where the components of a text stand in it, and the runs that names next to each other make.
+-- Spans of names: the positions of the components in a text, and the runs of names that are next to each other.
 use Rattle.std.proofs.Common.{◌≡◌, ◌≢◌, ◌⊎◌, ◌<◌, ◌≤◌, ℕ, suc, ◌+◌, ◌-◌, List, [], ◌∷◌, ◌++◌, length, append_assoc, fold, map, All, Option, Some, None, Bor, MatchOption, IfSome, get_or, take, drop, slice_range, sym, refl, ap, ap₂, ◌∙◌, subst, inl, inr, append-nil, arith, eqb-true, length-append, length-take, length-drop, get_or-drop, take_at, ⊎_elim}
 use Rattle.std.proofs.Math.Seq.{take-add}
 use Rattle.std.specs.Str.{IsUtf8, IsCharBoundary}
@@ -17,7 +17,7 @@ use Rattle.relative_path.specs.Writing.{with_piece}
 
 -- ---- the first component
 
--- the text is what stands before its first slash, and that slash and what stands after it, or nothing
+-- the text is what comes before its first slash, followed by that slash and the rest, or by nothing
 cut_first : (text : List ℕ) → (p : List ℕ) × (rest : List ℕ) × (text ≡ p ++ rest) × HasNoSlash p
     × ((rest ≡ []) ⊎ ((more : List ℕ) × (rest ≡ slash ∷ more)))
 cut_first [] = ([], [], refl, tt, inl refl)
@@ -28,7 +28,7 @@ cut_first (b ∷ bs) =
     (b ∷ p, rest, ap (λ x. b ∷ x) joined, (e, whole), after))
     (cases_Bool (is_slash b))
 
--- a text that begins with no slash begins with the text of its first component, and after that stands a slash, or nothing
+-- a text that doesn't begin with a slash begins with the text of its first component, followed by a slash or the end
 begins : (text : List ℕ) (c : Step) (cs : List Step) → components text ≡ c ∷ cs → get_or text 0 0 ≢ slash
     → (rest : List ℕ) × (text ≡ step_text c ++ rest) × ((rest ≡ []) ⊎ ((more : List ℕ) × (rest ≡ slash ∷ more)))
 begins text c cs first start = let (p, rest, joined, whole, after) = cut_first text in cut p rest joined whole after
@@ -50,7 +50,7 @@ begins text c cs first start = let (p, rest, joined, whole, after) = cut_first t
         ∙ ap (λ ds. ds ++ components more) (components_whole (b ∷ bs) (omega arith) whole) in
         (rest, joined ∙ ap (λ x. x ++ rest) (is (b ∷ bs) (components more) two), inr (more, slashed))
 
--- a text that is left of a whole one and begins with no slash cuts its first component out of it, where it begins
+-- a suffix of a text that doesn't begin with a slash begins with its first component, which a span cuts out of the text
 pub Cuts-first : (sources : Sources) (source : Source) (text left : List ℕ) (c : Step) (cs : List Step)
     → text ≡ source_text sources source → left ≡ drop (length text - length left) text → IsUtf8 left
     → get_or left 0 0 ≢ slash → components left ≡ c ∷ cs
@@ -90,13 +90,13 @@ Cuts-first sources source text left c cs same suffix utf8 start first =
       whole = proper;
     }
 
--- ---- runs that stand next to each other
+-- ---- runs that are next to each other
 
--- the run up to the end of another one
+-- the run from the start of one run to the end of another
 abbrev pub through : Span → Span → Span
 through run span = record { source = run.source; start = run.start; end = span.end }
 
--- two stretches with one byte between
+-- two slices with one byte between
 slice_through : (text : List ℕ) (i j k : ℕ) (b : ℕ) → i ≤ j → j < k → k ≤ length text → get_or text j 0 ≡ b
     → slice_range text i k ≡ slice_range text i j ++ b ∷ slice_range text (j + 1) k
 slice_through text i j k b first second inside between =
@@ -109,7 +109,7 @@ slice_through text i j k b first second inside between =
     ∙ ap (λ x. take (j - i) left ++ take (k - j) x) (rest ∙ drop_more text j 0 (omega arith))
     ∙ ap₂ (λ n x. take (j - i) left ++ take n (x ∷ drop (j + 1) text)) one between
 
--- a run that stands a byte after another one is joined to it by a slash
+-- a run that begins one byte after the end of another is joined to it by a slash
 pub span_text-through : (sources : Sources) (run span : Span) → IsRun sources run → IsRun sources span
     → span.source ≡ run.source → span.start ≡ run.end + 1
     → span_text sources (through run span) ≡ span_text sources run ++ slash ∷ span_text sources span
@@ -141,14 +141,14 @@ length-run {sources} {span} run =
     let inside = run.end.0 in
     omega (arith, length-take (span.end - span.start) (drop span.start text), length-drop span.start text)
 
--- two pieces with a slash between, at once or in turn
+-- two pieces joined by a slash, written at once or in turn
 with_piece-joined : (text p q : List ℕ) → 0 < length p
     → with_piece text (p ++ slash ∷ q) ≡ with_piece (with_piece text p) q
 with_piece-joined [] [] q some = absurd (omega arith)
 with_piece-joined [] (b ∷ bs) q some = refl
 with_piece-joined (b ∷ bs) p q some = sym (append_assoc (b ∷ bs) (slash ∷ p) (slash ∷ q))
 
--- two runs that stand next to each other, at once or in turn
+-- two runs that are next to each other, written at once or in turn
 pub with_piece-through : (sources : Sources) (text : List ℕ) (run span : Span) → IsRun sources run → IsRun sources span
     → span.source ≡ run.source → span.start ≡ run.end + 1
     → with_piece text (span_text sources (through run span))
@@ -172,7 +172,7 @@ module _ (sources : Sources) where
         text = λ text. refl;
       }
 
-  -- a name that stands next to the run
+  -- a name that is next to the run joins it
   pub IsFirstRun-through : (names : List Span) (run next : Span) (rest : List Span)
       → IsFirstRun sources names run (next ∷ rest) → next.source ≡ run.source → next.start ≡ run.end + 1
       → IsFirstRun sources names (through run next) rest
@@ -193,13 +193,13 @@ module _ (sources : Sources) where
 abbrev pub Unwritten : Type 0
 Unwritten = Option (Span × Bor (List Span))
 
--- how many pieces these are at most
+-- the largest number of pieces that are still to be written
 abbrev pub unwritten_count : Unwritten → ℕ
 unwritten_count None = 0
 unwritten_count (Some (run, rest)) = suc (length rest.now)
 
 module _ (sources : Sources) where
-  -- the text with all of that
+  -- the text with everything that is still to be written
   abbrev pub with_unwritten : List ℕ → Unwritten → List ℕ
   with_unwritten text None = text
   with_unwritten text (Some (run, rest)) =
@@ -210,7 +210,7 @@ module _ (sources : Sources) where
   IsCutUnwritten unwritten = IfSome unwritten (λ found. IsRun sources found.0 × All (CutsName sources) found.1.now)
 
   module _ (names : List Span) where
-    -- the names as a run and those after it
+    -- the names are the run and the names after it
     abbrev pub AreUnwritten : Unwritten → Type 0
     AreUnwritten unwritten = MatchOption unwritten (names ≡ []) (λ found. IsFirstRun sources names found.0 found.1.now)
 

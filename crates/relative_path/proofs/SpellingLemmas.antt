@@ -21,7 +21,7 @@ pub spell_nonempty : (c : Step) (cs : List Step) → SpellsItself c → 0 < leng
 spell_nonempty c [] proper = nonempty_proper c proper
 spell_nonempty c (d ∷ cs) proper = omega (arith, length-append (step_text c) (slash ∷ spell (d ∷ cs)))
 
--- it ends in no slash
+-- the text doesn't end in a slash
 pub spell_end : (cs : List Step) → SpellThemselves cs → get_or (spell cs) (length (spell cs) - 1) 0 ≢ slash
 spell_end [] proper = HasNoSlash-end [] tt
 spell_end (c ∷ []) proper = HasNoSlash-end (step_text c) (HasNoSlash-proper c proper.0)
@@ -45,14 +45,14 @@ IsPrefix-spell (d ∷ cs) c = rw (spell-append d cs c []) (IsPrefix-append (spel
 
 -- ---- length
 
--- more components make it no shorter
+-- more components make the text no shorter
 pub length-spell-append_le : (cs ds : List Step) → length (spell cs) ≤ length (spell (cs ++ ds))
 length-spell-append_le [] ds = omega arith
 length-spell-append_le (c ∷ cs) [] = rw (append-nil cs) (omega arith)
 length-spell-append_le (c ∷ cs) (d ∷ ds) =
     rw (spell-append c cs d ds) (omega (arith, length-append {A = ℕ}))
 
--- one component less makes it no longer
+-- one component less makes the text no longer
 pub length-spell-drop_one : (cs ds : List Step) (c : Step) → length (spell (cs ++ ds)) ≤ length (spell (cs ++ c ∷ ds))
 length-spell-drop_one [] [] c = omega arith
 length-spell-drop_one [] (d ∷ ds) c = omega (arith, length-append {A = ℕ})
@@ -69,7 +69,7 @@ length-spell_slashed c [] = omega arith
 length-spell_slashed c (d ∷ cs) =
     omega (arith, length-append (step_text c) (slash ∷ spell (d ∷ cs)), length-spell_slashed d cs)
 
--- it is one byte shorter than with a slash after each component
+-- the text has one byte less than the components with a slash after each
 pub length-spell : (cs : List Step) → length (spell cs) ≡ slashed_len cs - 1
 length-spell [] = omega arith
 length-spell (c ∷ cs) = omega (arith, length-spell_slashed c cs)

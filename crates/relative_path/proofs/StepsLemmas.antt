@@ -1,4 +1,4 @@
--- How the components of a text follow its slashes.
+-- How the components of a text follow from its slashes.
 use Rattle.std.proofs.Common.{◌≡◌, ◌≢◌, ℕ, suc, ◌+◌, ◌-◌, ◌<◌, ◌≤◌, false, cond, List, [], ◌∷◌, ◌++◌, map, length, get_or, filter, get_or-append-add, bytes_eq, sym, refl, ap, ◌∙◌, eqb-true, append-nil, arith, length-append, zero, Bool, replicate, drop, ⊎_elim}
 use Rattle.std.specs.List.{slice_split, onto_first, AllByRecursion}
 use Rattle.std.proofs.lemmas.Bool.{cond-true, cond-false, cond_both, cases_Bool, eqb-false}
@@ -8,7 +8,7 @@ use Rattle.std.proofs.lemmas.Slice.Eq.{bytes_eq-Decides}
 use Rattle.std.proofs.lemmas.List.Splits.{length-slice_split, slice_split_none}
 use Rattle.relative_path.specs.Steps.{slash, dot, is_slash, is_not_empty, pieces, Step, cur, up, name, step_text, classed, components, SpellsItself, SpellThemselves}
 
--- no byte is a slash
+-- no byte of the text is a slash
 abbrev pub HasNoSlash : List ℕ → Type 0
 HasNoSlash bs = AllByRecursion (λ b. is_slash b ≡ false) bs
 
@@ -46,7 +46,7 @@ pieces-append xs ys =
     ap (filter is_not_empty) (slice_split-append xs ys)
     ∙ filter-append is_not_empty (slice_split is_slash xs) (slice_split is_slash ys)
 
--- a text that has a byte and no slash is one piece
+-- a non-empty text without a slash is one piece
 pieces_whole : (b : ℕ) (bs : List ℕ) → HasNoSlash (b ∷ bs) → pieces (b ∷ bs) ≡ (b ∷ bs) ∷ []
 unfolding pieces
 pieces_whole b bs h =
@@ -67,7 +67,7 @@ pub components-trailing_slash : (xs : List ℕ) → components (xs ++ slash ∷ 
 components-trailing_slash xs =
     components-append xs [] ∙ ap (λ cs. components xs ++ cs) components-nil ∙ append-nil (components xs)
 
--- a text that has a byte and no slash is one component
+-- a non-empty text without a slash is one component
 pub components_whole : (p : List ℕ) → 0 < length p → HasNoSlash p → components p ≡ classed p ∷ []
 unfolding components
 components_whole [] nonempty h = absurd (omega arith)
@@ -82,10 +82,38 @@ step_text-classed p =
     (λ _. cond_both (bytes_eq p (dot ∷ dot ∷ [])) up (name p) (λ c. step_text c ≡ p)
     (λ e. sym ((bytes_eq-Decides p (dot ∷ dot ∷ [])).0 e)) (λ _. refl))
 
--- ---- what a component is: its own text has it alone
+-- ---- components that spell themselves
 
 pub SpellsItself-up : SpellsItself up
 SpellsItself-up = components_whole (step_text up) (omega arith) (refl, (refl, tt))
+
+pub SpellThemselves-append : (cs ds : List Step) → SpellThemselves cs → SpellThemselves ds → SpellThemselves (cs ++ ds)
+SpellThemselves-append [] ds proper proper' = proper'
+SpellThemselves-append (c ∷ cs) ds proper proper' = (proper.0, SpellThemselves-append cs ds proper.1 proper')
+
+pub SpellThemselves-append_left : (cs ds : List Step) → SpellThemselves (cs ++ ds) → SpellThemselves cs
+SpellThemselves-append_left [] ds proper = tt
+SpellThemselves-append_left (c ∷ cs) ds proper = (proper.0, SpellThemselves-append_left cs ds proper.1)
+
+pub SpellThemselves-drop : (n : ℕ) (cs : List Step) → SpellThemselves cs → SpellThemselves (drop n cs)
+SpellThemselves-drop zero cs proper = proper
+SpellThemselves-drop (suc n) [] proper = tt
+SpellThemselves-drop (suc n) (c ∷ cs) proper = SpellThemselves-drop n cs proper.1
+
+pub SpellThemselves-filter : (p : Step → Bool) (cs : List Step) → SpellThemselves cs → SpellThemselves (filter p cs)
+SpellThemselves-filter p [] proper = tt
+SpellThemselves-filter p (c ∷ cs) proper = ⊎_elim
+    (λ e. rw (cond-true (p c) (c ∷ filter p cs) (filter p cs) e) (proper.0, SpellThemselves-filter p cs proper.1))
+    (λ e. rw (cond-false (p c) (c ∷ filter p cs) (filter p cs) e) (SpellThemselves-filter p cs proper.1))
+    (cases_Bool (p c))
+
+pub SpellThemselves-ups : (n : ℕ) → SpellThemselves (replicate n up)
+SpellThemselves-ups zero = tt
+SpellThemselves-ups (suc n) = (SpellsItself-up, SpellThemselves-ups n)
+
+pub SpellThemselves-names : (names : List (List ℕ)) → AllByRecursion (λ n. SpellsItself (name n)) names → SpellThemselves (map name names)
+SpellThemselves-names [] proper = tt
+SpellThemselves-names (n ∷ ns) proper = (proper.0, SpellThemselves-names ns proper.1)
 
 -- ---- counting bytes
 
@@ -131,9 +159,9 @@ unfolding components pieces
 total_len-components bs =
     total_len-classed (pieces bs) ∙ parts_len-filter (slice_split is_slash bs) ∙ parts_len-slice_split bs
 
--- ---- components of a text are proper
+-- ---- the components of a text spell themselves
 
--- a piece has a byte and no slash
+-- a piece is non-empty and has no slash
 abbrev IsPiece : List ℕ → Type 0
 IsPiece p = (0 < length p) × HasNoSlash p
 
@@ -167,28 +195,22 @@ unfolding components pieces
 SpellThemselves-components bs =
     SpellThemselves-classed (pieces bs) (IsPiece-filter (slice_split is_slash bs) (HasNoSlash-slice_split bs))
 
--- ---- spelling
-
-pub SpellThemselves-append : (cs ds : List Step) → SpellThemselves cs → SpellThemselves ds → SpellThemselves (cs ++ ds)
-SpellThemselves-append [] ds proper proper' = proper'
-SpellThemselves-append (c ∷ cs) ds proper proper' = (proper.0, SpellThemselves-append cs ds proper.1 proper')
-
 -- ---- the last byte
 
--- the end of a text that has a byte is the end of what it ends with
+-- the last byte of a joined text is that of its non-empty second part
 pub end-append : (xs ys : List ℕ) → 0 < length ys
     → get_or (xs ++ ys) (length (xs ++ ys) - 1) 0 ≡ get_or ys (length ys - 1) 0
 end-append xs ys nonempty =
     let index : length (xs ++ ys) - 1 ≡ length xs + (length ys - 1) = omega (arith, length-append xs ys) in
     ap (λ i. get_or (xs ++ ys) i 0) index ∙ get_or-append-add xs ys (length ys - 1) 0
 
--- a slash put after a text ends it
+-- a text with a slash appended ends in it
 pub last-append_slash : (xs : List ℕ) → get_or (xs ++ slash ∷ []) (length (xs ++ slash ∷ []) - 1) 0 ≡ slash
 last-append_slash xs =
     let index : length (xs ++ slash ∷ []) - 1 ≡ length xs = omega (arith, length-append xs (slash ∷ [])) in
     ap (λ i. get_or (xs ++ slash ∷ []) i 0) index ∙ get_or_at xs slash [] 0 (length xs) refl
 
--- ---- non_slash bytes
+-- ---- non-slash bytes
 
 pub solid_len-append : (xs ys : List ℕ) → solid_len (xs ++ ys) ≡ solid_len xs + solid_len ys
 solid_len-append [] ys = omega arith
@@ -204,7 +226,7 @@ solid_len_le (b ∷ bs) =
     cond_both (is_slash b) (solid_len bs) (suc (solid_len bs)) (λ n. n ≤ suc (length bs))
     (λ _. omega (arith, solid_len_le bs)) (λ _. omega (arith, solid_len_le bs))
 
--- a text without a non_slash byte ends in a slash, if it has a byte
+-- a non-empty text of slashes alone ends in a slash
 pub last-not_solid : (bs : List ℕ) → solid_len bs ≡ 0 → 0 < length bs → get_or bs (length bs - 1) 0 ≡ slash
 last-not_solid [] none nonempty = absurd (omega arith)
 last-not_solid (b ∷ []) none nonempty =
@@ -228,14 +250,14 @@ HasNoSlash-from_solid (b ∷ bs) non_slash =
     ))
     (cases_Bool (is_slash b))
 
--- the text of a proper component has no slash
+-- the text of a component that spells itself has no slash
 pub HasNoSlash-proper : (c : Step) → SpellsItself c → HasNoSlash (step_text c)
 HasNoSlash-proper c proper =
     let counted = total_len-components (step_text c) in
     let counts = rw proper at counted in
     HasNoSlash-from_solid (step_text c) (omega (arith, counts))
 
--- the text of a proper component has a byte
+-- the text of a component that spells itself is non-empty
 pub nonempty_proper : (c : Step) → SpellsItself c → 0 < length (step_text c)
 nonempty_proper c proper = nonempty (step_text c) proper
   where
@@ -245,12 +267,12 @@ nonempty_proper c proper = nonempty (step_text c) proper
 
 -- ---- ends of texts
 
--- the text begins with no slash
+-- a non-empty text without a slash doesn't begin with one
 pub HasNoSlash-start : (p rest : List ℕ) → 0 < length p → HasNoSlash p → get_or (p ++ rest) 0 0 ≢ slash
 HasNoSlash-start [] rest nonempty h = absurd (omega arith)
 HasNoSlash-start (b ∷ bs) rest nonempty h = λ e. eqb-false b slash h.0 e
 
--- the text ends in no slash
+-- a text without a slash doesn't end in one
 pub HasNoSlash-end : (p : List ℕ) → HasNoSlash p → get_or p (length p - 1) 0 ≢ slash
 HasNoSlash-end [] h = λ e. absurd (omega (arith, e))
 HasNoSlash-end (b ∷ []) h = λ e. eqb-false b slash h.0 e
@@ -265,27 +287,3 @@ pub length-components_le : (text : List ℕ) → length (components text) ≤ le
 length-components_le text =
     let each = length_le_total_len (components text) (SpellThemselves-components text) in
     omega (arith, each, total_len-components text, solid_len_le text)
-
-pub SpellThemselves-append_left : (cs ds : List Step) → SpellThemselves (cs ++ ds) → SpellThemselves cs
-SpellThemselves-append_left [] ds proper = tt
-SpellThemselves-append_left (c ∷ cs) ds proper = (proper.0, SpellThemselves-append_left cs ds proper.1)
-
-pub SpellThemselves-filter : (p : Step → Bool) (cs : List Step) → SpellThemselves cs → SpellThemselves (filter p cs)
-SpellThemselves-filter p [] proper = tt
-SpellThemselves-filter p (c ∷ cs) proper = ⊎_elim
-    (λ e. rw (cond-true (p c) (c ∷ filter p cs) (filter p cs) e) (proper.0, SpellThemselves-filter p cs proper.1))
-    (λ e. rw (cond-false (p c) (c ∷ filter p cs) (filter p cs) e) (SpellThemselves-filter p cs proper.1))
-    (cases_Bool (p c))
-
-pub SpellThemselves-ups : (n : ℕ) → SpellThemselves (replicate n up)
-SpellThemselves-ups zero = tt
-SpellThemselves-ups (suc n) = (SpellsItself-up, SpellThemselves-ups n)
-
-pub SpellThemselves-names : (names : List (List ℕ)) → AllByRecursion (λ n. SpellsItself (name n)) names → SpellThemselves (map name names)
-SpellThemselves-names [] proper = tt
-SpellThemselves-names (n ∷ ns) proper = (proper.0, SpellThemselves-names ns proper.1)
-
-pub SpellThemselves-drop : (n : ℕ) (cs : List Step) → SpellThemselves cs → SpellThemselves (drop n cs)
-SpellThemselves-drop zero cs proper = proper
-SpellThemselves-drop (suc n) [] proper = tt
-SpellThemselves-drop (suc n) (c ∷ cs) proper = SpellThemselves-drop n cs proper.1

@@ -1,4 +1,4 @@
--- Going up on a platform text.
+-- Going up from a platform path.
 use Rattle.std.proofs.Common.{◌≡◌, ◌≢◌, ◌⊎◌, ℕ, ◌-◌, ◌<◌, ◌≤◌, Bool, true, false, List, [], ◌∷◌, ◌++◌, length, get_or, take, drop, sym, refl, ap, ◌∙◌, subst, inl, inr, append_assoc, append-nil, arith, length-append, take-append-drop, length-drop, take_at, eqb-true, true≢false, Option, Some, None, is_some, zero, suc, ⊎_elim}
 use Rattle.std.proofs.lemmas.Bool.{cases_lt}
 use Rattle.std.proofs.lemmas.List.{append_cancel_left}
@@ -14,9 +14,9 @@ use Rattle.relative_path.proofs.ListsLemmas.{last_view, head_same}
 use Rattle.relative_path.proofs.SlashesLemmas.{components-after, components-before}
 use Rattle.relative_path.proofs.EditingLemmas.{long_other}
 
--- ---- a text cut in two
+-- ---- a text in two parts
 
--- what stands after the front adds components, or makes its last one longer
+-- the rest adds components to those of the front, or makes the last of them longer
 abbrev Continues : List ℕ → List ℕ → Type 0
 Continues front rest =
     ((ds : List Step) × (components (front ++ rest) ≡ components front ++ ds))
@@ -58,7 +58,7 @@ continues front rest =
           whole ∙ ap (λ es. cs ++ (es ++ ds)) longer,
         )
 
--- ---- a shorter front has other components
+-- ---- a shorter prefix has other components
 
 shorter-counted : (rooted : Bool) (front rest : List ℕ) → 0 < length rest
     → get_or (front ++ rest) (length (front ++ rest) - 1) 0 ≢ slash → LastCounts rooted (components (front ++ rest))
@@ -116,11 +116,11 @@ has_root-prefix : (text : List ℕ) (b : ℕ) (bs : List ℕ) → IsPrefix text 
 has_root-prefix [] b bs h = ap has_root h.front
 has_root-prefix (t ∷ ts) b bs h = ap has_root h.front
 
--- only what does not count was dropped from the end of the text, and now its last component counts
+-- only what doesn't count was dropped from the end of the text, and the last component that is left counts
 abbrev pub IsIdleFree : Bool → List ℕ → List ℕ → Type 0
 IsIdleFree rooted text left = LosesIdle rooted text left × LastCounts rooted (components left)
 
--- without its last component that counts a text has all of them but the last
+-- without its last component, which counts, a text has all of its counted components but the last
 counted-front : (rooted : Bool) (cs : List Step) (c : Step) → LastCounts rooted (cs ++ c ∷ [])
     → (counted rooted cs ≡ but_last (counted rooted (cs ++ c ∷ []))) × (counted rooted (cs ++ c ∷ []) ≢ [])
 counted-front rooted cs c last =
@@ -140,7 +140,7 @@ counted-front rooted cs c last =
     ))
     (counted_alone (after rooted cs) c)
 
--- the shortest prefix, where it is not the root alone
+-- the shortest prefix, unless that is the root alone
 shortest-trimmed : (text p : List ℕ) → IsPrefix text p → get_or p (length p - 1) 0 ≢ slash
     → LastCounts (has_root text) (components p) → has_root p ≡ has_root text → (k : ℕ)
     → has_root (take k text) ≡ has_root text → unix_components (take k text) ≡ unix_components p → length p ≤ k
@@ -206,7 +206,7 @@ module _ (text end front parent : List ℕ) (taken : Option Component) (some : i
       root : has_root parent ≡ has_root text
       root = same_root parent prefix some_root
 
-  -- where nothing else is left, the root is
+  -- if nothing else is left, the root is
   pub IsAbove-root : has_root text ≡ true → parent ≡ [] → IsAbove text (slash ∷ [])
   IsAbove-root rooted empty = record {
     at_top = λ none. absurd (fronts.1 none);

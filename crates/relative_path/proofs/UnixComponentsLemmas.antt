@@ -1,4 +1,4 @@
--- The components that count under the Unix rules: their parts, and texts cut after them.
+-- The components that count under the Unix rules, and texts that are cut after them.
 use Rattle.std.proofs.Common.{◌≡◌, ◌≢◌, ◌⊎◌, ℕ, suc, ◌+◌, ◌-◌, ◌<◌, Bool, true, false, not, List, [], ◌∷◌, ◌++◌, length, get_or, drop, sym, refl, ap, ap₂, ◌∙◌, inl, inr, append-nil, arith, length-append, Option, Some, None, true≢false, take_at, ◌≤◌, take, ⊎_elim}
 use Rattle.std.specs.Option.{option_eq}
 use Rattle.std.specs.Ordering.{on}
@@ -47,7 +47,7 @@ take-shared (c ∷ cs) (d ∷ ds) = ⊎_elim
 
 -- ---- the components that count
 
--- whether a `.` after these components does not count
+-- whether a `.` after these components doesn't count
 abbrev pub after : Bool → List Step → Bool
 after rooted [] = rooted
 after rooted (c ∷ cs) = true
@@ -66,22 +66,20 @@ counted_one false c other = refl
 pub but_last-push : (cs : List Step) (c : Step) → but_last (cs ++ c ∷ []) ≡ cs
 but_last-push cs c = take_at cs (c ∷ []) (length (cs ++ c ∷ []) - 1) (omega (arith, length-append cs (c ∷ [])))
 
--- a component alone counts or not
+-- a single component counts or doesn't
 pub counted_alone : (rooted : Bool) (c : Step) → (counted rooted (c ∷ []) ≡ []) ⊎ (counted rooted (c ∷ []) ≡ c ∷ [])
 counted_alone true cur = inl refl
 counted_alone true up = inr refl
 counted_alone true (name n) = inr refl
 counted_alone false c = inr refl
 
--- a component that is no `.` counts
+-- a component other than `.` counts
 pub counted_first : (rooted : Bool) (c : Step) (cs : List Step) → is_cur c ≡ false
     → counted rooted (c ∷ cs) ≡ c ∷ without_cur_dirs cs
 counted_first true cur cs other = absurd (true≢false other)
 counted_first true up cs other = refl
 counted_first true (name n) cs other = refl
 counted_first false c cs other = refl
-
--- ---- the end of a text
 
 pub SpellThemselves-counted : (rooted : Bool) (text : List ℕ) → SpellThemselves (counted rooted (components text))
 SpellThemselves-counted rooted text = those rooted (components text) (SpellThemselves-components text)
@@ -96,7 +94,7 @@ slashed_len-counted true cs = slashed_len-filter (λ c. not (is_cur c)) cs
 slashed_len-counted false [] = omega arith
 slashed_len-counted false (c ∷ cs) = omega (arith, slashed_len-filter (λ d. not (is_cur d)) cs)
 
--- a text has at most one component that counts more than it has bytes
+-- a text has at most one more counted component than bytes
 pub length-counted_le : (rooted : Bool) (text : List ℕ) → length (counted rooted (components text)) ≤ length text + 1
 length-counted_le rooted text =
     omega (
@@ -117,13 +115,15 @@ pub without_cur_dirs-unix : (text : List ℕ) → has_root text ≡ false
 without_cur_dirs-unix text unrooted =
     ap (λ r. without_cur_dirs (counted r (components text))) unrooted ∙ without_cur_dirs-inner (components text)
 
--- only slashes and `.` components that do not count were dropped from the end of the text
+-- ---- the end of a text
+
+-- only slashes, and `.` components that don't count, were dropped from the end of the text
 pub record LosesIdle (rooted : Bool) (text left : List ℕ) : Type 0 where
   pub prefix : IsPrefix text left
   pub end : get_or left (length left - 1) 0 ≢ slash
   pub same : counted rooted (components left) ≡ counted rooted (components text)
 
--- the component taken is a `.`
+-- the component that was taken is `.`
 abbrev pub takes_cur : Option Component → Bool
 takes_cur taken = option_eq (on step_of step_eq) taken (Some CurDir)
 
@@ -131,7 +131,7 @@ nil_from_components : (text front : List ℕ) (cs : List Step) → IsShortestPre
 nil_from_components text front cs cut none =
     nil_from_length front (let short = cut.shortest 0 (components-nil ∙ sym none) in omega arith)
 
--- a `.` after others, or under a root, does not count
+-- a `.` after other components, or under a root, doesn't count
 counted_idle : (rooted : Bool) (cs : List Step) → (rooted ≡ true) ⊎ (cs ≢ [])
     → counted rooted (cs ++ cur ∷ []) ≡ counted rooted cs
 counted_idle true [] idle = refl

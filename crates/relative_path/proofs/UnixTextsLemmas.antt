@@ -1,4 +1,4 @@
--- Texts that are written a component at a time.
+-- Texts that are written one component at a time.
 use Rattle.std.proofs.Common.{◌≡◌, ℕ, ◌≤◌, true, not, List, [], ◌∷◌, ◌++◌, fold, map, length, replicate, sym, refl, ap, ap₂, ◌∙◌, arith}
 use Rattle.std.proofs.lemmas.List.{map-append}
 use Rattle.std.proofs.lemmas.List.Sums.{fold-append}
@@ -11,7 +11,7 @@ use Rattle.relative_path.proofs.WritingLemmas.{map_step_text-ups, length-with_pi
 use Rattle.relative_path.proofs.SpellingLemmas.{length-spell, slashed_len-filter, slashed_len-components}
 use Rattle.relative_path.proofs.UnixComponentsLemmas.{SpellThemselves-counted}
 
--- ---- components added one after another
+-- ---- components that are added in turn
 
 onto-with_pieces : (base : List ℕ) (cs : List Step) → onto base cs ≡ fold with_piece base (map step_text cs)
 onto-with_pieces base [] = refl
@@ -20,7 +20,7 @@ onto-with_pieces base (c ∷ cs) = onto-with_pieces (with_piece base (step_text 
 pub length-onto_le : (base : List ℕ) (cs : List Step) → length base ≤ length (onto base cs)
 length-onto_le base cs = omega (arith, length-with_pieces_le base (map step_text cs), ap length (onto-with_pieces base cs))
 
--- after climbs they are spelled
+-- components that are added to climbs are spelled after them
 pub onto-ups : (n : ℕ) (cs : List Step) → SpellThemselves cs
     → onto (fold with_piece [] (replicate n (step_text up))) cs ≡ spell (replicate n up ++ cs)
 onto-ups n cs proper =
@@ -32,7 +32,7 @@ onto-ups n cs proper =
 
 -- ---- without any `.`
 
--- the components without any `.`, written from the start
+-- the components without any `.`, added to the empty text
 pub onto-without_cur_dirs : (base : List ℕ) (left : List Step) (text : List ℕ) → base ≡ []
     → left ≡ without_cur_dirs (components text) → onto base left ≡ spell (without_cur_dirs (components text))
 onto-without_cur_dirs base left text empty is =

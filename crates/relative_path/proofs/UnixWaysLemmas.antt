@@ -1,4 +1,4 @@
--- Where platform paths lead from one another.
+-- Where relative paths lead between platform paths.
 use Rattle.std.proofs.Common.{◌≡◌, ℕ, List, [], ◌++◌, length, take, drop, replicate, sym, refl, ap, ap₂, ◌∙◌, subst, append_assoc, append-nil, take-append-drop, Option, Some, None, option_and_then, option_map}
 use Rattle.relative_path.specs.Steps.{Step, up, components, spell, SpellThemselves}
 use Rattle.relative_path.specs.Walk.{walk, IsSame}
@@ -24,7 +24,7 @@ IsSame-back from to place leads = record {
 
 -- ---- the law
 
--- what is left of both lists, and where the root's part leads from the top
+-- the way to the path, from what is left of both lists and the place where the rest of the root leads
 pub way_to-from : (path root : List ℕ) (own_path own_root : List Step) (place : List (List ℕ))
     → own_path ≡ drop (shared_len (unix_components path) (unix_components root)) (unix_components path)
     → own_root ≡ drop (shared_len (unix_components path) (unix_components root)) (unix_components root)

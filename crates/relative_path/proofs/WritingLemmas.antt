@@ -1,5 +1,5 @@
--- Climbs as text: some of them at once, or one after another.
-use Rattle.std.proofs.Common.{◌≡◌, ℕ, zero, suc, ◌+◌, ◌-◌, ◌*◌, ◌<◌, ◌≤◌, List, [], ◌∷◌, length, get_or, take, map, fold, replicate, sym, refl, ap, ◌∙◌, arith, ◌++◌, append_assoc, length-append}
+-- Texts that are written a piece at a time: components in turn, and climbs in turn or some at once.
+use Rattle.std.proofs.Common.{◌≡◌, ℕ, zero, suc, ◌+◌, ◌-◌, ◌*◌, ◌<◌, ◌≤◌, List, [], ◌∷◌, length, get_or, take, map, fold, replicate, sym, refl, ap, ◌∙◌, arith, ◌++◌, append_assoc, length-append, min}
 use Rattle.std.specs.List.{slice_range}
 use Rattle.std.specs.Str.{IsCharBoundary}
 use Rattle.std.proofs.lemmas.List.{replicate-append-replicate}
@@ -8,8 +8,6 @@ use Rattle.std.proofs.lemmas.Str.{IsCharBoundary-from_ascii}
 use Rattle.relative_path.specs.Steps.{up, slash, dot, step_text, spell, Step, SpellThemselves, slashed_len}
 use Rattle.relative_path.specs.Writing.{with_piece}
 use Rattle.relative_path.proofs.StepsLemmas.{nonempty_proper, SpellThemselves-ups}
-
--- ---- the table that climbs are cut out of
 
 -- ---- pieces after a text
 
@@ -34,7 +32,7 @@ with_pieces-non_slash b bs c (d ∷ cs) =
     with_pieces-non_slash b (bs ++ slash ∷ step_text c) d cs
     ∙ append_assoc (b ∷ bs) (slash ∷ step_text c) (slash ∷ spell (d ∷ cs))
 
--- the texts of proper components one after another spell them
+-- the texts of components that spell themselves, written in turn, spell them
 pub with_pieces-spell : (cs : List Step) → SpellThemselves cs → fold with_piece [] (map step_text cs) ≡ spell cs
 with_pieces-spell [] proper = refl
 with_pieces-spell (c ∷ []) proper = refl
@@ -44,12 +42,14 @@ with_pieces-spell (c ∷ d ∷ cs) proper = after (step_text c) (nonempty_proper
     after [] none = absurd (omega arith)
     after (b ∷ bs) some = with_pieces-non_slash b bs d cs
 
--- a text of some `..`, with a slash after each
+-- ---- the table that climbs are cut out of
+
+-- this many `..`, with a slash after each
 abbrev pub climbs : ℕ → List ℕ
 climbs zero = []
 climbs (suc n) = dot ∷ dot ∷ slash ∷ climbs n
 
--- its front is spelled
+-- a front of that text spells as many climbs
 pub climbs_front : (n m : ℕ) → n < m → take (3 * (n + 1) - 1) (climbs m) ≡ spell (replicate (n + 1) up)
 climbs_front n zero less = absurd (omega (arith, less))
 climbs_front zero (suc m) less = refl
@@ -62,7 +62,7 @@ climbs_front (suc n) (suc m) less =
     ∙ ap (λ k. dot ∷ dot ∷ slash ∷ spell (replicate k up)) count'
     ∙ sym (ap (λ k. spell (replicate k up)) (count ∙ ap suc count'))
 
--- it is cut at its every byte
+-- each of its indices is a character boundary
 pub climbs_boundary : (m n : ℕ) → n ≤ length (climbs m) → IsCharBoundary (climbs m) n
 climbs_boundary m n fits = IsCharBoundary-from_ascii (climbs m) n (ascii m) fits
   where
@@ -73,7 +73,7 @@ climbs_boundary m n fits = IsCharBoundary-from_ascii (climbs m) n (ascii m) fits
     ascii (suc k) (suc (suc zero)) = omega arith
     ascii (suc k) (suc (suc (suc i))) = ascii k i
 
--- a cut of its first ones
+-- a slice of it spells as many climbs
 pub climbs_cut : (n m : ℕ) (run : List ℕ) → 0 < n → n ≤ m → run ≡ slice_range (climbs m) 0 (3 * n - 1)
     → run ≡ spell (replicate n up)
 climbs_cut n m run some few cut =
@@ -88,11 +88,11 @@ pub map_step_text-ups : (n : ℕ) → map step_text (replicate n up) ≡ replica
 map_step_text-ups zero = refl
 map_step_text-ups (suc n) = ap (λ ps. step_text up ∷ ps) (map_step_text-ups n)
 
--- one after another they are spelled
+-- climbs in turn are spelled
 pub with_pieces-climb : (n : ℕ) → fold with_piece [] (replicate n (step_text up)) ≡ spell (replicate n up)
 with_pieces-climb n = ap (fold with_piece []) (sym (map_step_text-ups n)) ∙ with_pieces-spell (replicate n up) (SpellThemselves-ups n)
 
--- at once, or one after another
+-- climbs at once, or in turn
 with_piece-climb : (text : List ℕ) (n : ℕ) → 0 < n
     → with_piece text (spell (replicate n up)) ≡ fold with_piece text (replicate n (step_text up))
 with_piece-climb text zero some = absurd (omega (arith, some))
@@ -100,14 +100,20 @@ with_piece-climb [] (suc n) some = sym (with_pieces-climb (suc n))
 with_piece-climb (b ∷ bs) (suc n) some =
     sym (with_pieces-non_slash b bs up (replicate n up)) ∙ ap (fold with_piece (b ∷ bs)) (map_step_text-ups (suc n))
 
--- some of those that are left at once, and then the others
-module _ (text run : List ℕ) (left n : ℕ) (some : 0 < n) (few : n ≤ left) (is : run ≡ spell (replicate n up)) where
+-- some of the climbs that are left at once, and then the others
+module _ (text run : List ℕ) (left n most : ℕ) (some : 0 < left) (within : 0 < most) (count : n ≡ min left most)
+    (cut : run ≡ slice_range (climbs most) 0 (3 * n - 1)) where
+  first : fold with_piece text (replicate n (step_text up)) ≡ with_piece text run
+  first =
+      let spelled = climbs_cut n most run (omega (arith, count, some, within)) (omega (arith, count)) cut in
+      sym (ap (with_piece text) spelled ∙ with_piece-climb text n (omega (arith, count, some, within)))
+
   pub with_pieces-some_climbs : fold with_piece (with_piece text run) (replicate (left - n) (step_text up))
       ≡ fold with_piece text (replicate left (step_text up))
   with_pieces-some_climbs =
       let others = replicate (left - n) (step_text up) in
-      let all : n + (left - n) ≡ left = omega (arith, few) in
-      ap (λ x. fold with_piece x others) (ap (with_piece text) is ∙ with_piece-climb text n some)
+      let all : n + (left - n) ≡ left = omega (arith, count) in
+      ap (λ x. fold with_piece x others) (sym first)
       ∙ sym (fold-append with_piece text (replicate n (step_text up)) others)
       ∙ ap (fold with_piece text) (replicate-append-replicate n (left - n) (step_text up))
       ∙ ap (λ k. fold with_piece text (replicate k (step_text up))) all

@@ -11,27 +11,27 @@ step_rank cur = 0
 step_rank up = 1
 step_rank (name n) = 2
 
--- of the same rank and with the same text
+-- components are equal if they have the same rank and the same text
 abbrev pub step_eq : Step → Step → Bool
 step_eq = eq_of_both (on step_rank ◌==◌) (on step_text (pointwise ◌==◌))
 
--- by the rank, and names by their bytes
+-- components are ordered by their rank, and names by their bytes
 abbrev pub step_cmp : Step → Step → Ordering
 step_cmp = then_cmp (on step_rank nat_cmp) (on step_text (slice_cmp nat_cmp))
 
--- as many components, each equal to the other's
+-- lists are equal if they have equally many components, and these are equal in pairs
 abbrev pub steps_eq : List Step → List Step → Bool
 steps_eq = pointwise step_eq
 
--- by the first component that differs, and else the shorter list comes first
+-- lists are ordered by the first component that differs; if none differs, the shorter list comes first
 abbrev pub steps_cmp : List Step → List Step → Ordering
 steps_cmp = slice_cmp step_cmp
 
--- a write of each component's text, and a write of one slash after each
+-- one write for the text of each component, and one for a slash after it
 abbrev pub fed : List Step → List (List ℕ)
 fed [] = []
 fed (c ∷ cs) = step_text c ∷ (slash ∷ []) ∷ fed cs
 
--- what a value feeds a hasher that shows components
+-- what a value that shows components feeds a hasher
 abbrev pub fed_by : {A : Type 0} → (A → List Step) → A → List (List ℕ)
 fed_by shown x = fed (shown x)

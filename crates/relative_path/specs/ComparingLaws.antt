@@ -1,6 +1,6 @@
--- The laws of the equality and the order of components and of lists of them, which the impls of the traits give.
--- A type that shows components takes its own from `by_components`. They stand here with their proofs, since an impl's
--- laws may cite nothing but definitions.
+-- The laws of the equality and the order of components and of lists of components, for the impls of the traits. A type
+-- that shows components gets its own laws from `by_components`. The proofs are here too, since the laws of an impl may
+-- cite only definitions.
 use Rattle.std.proofs.Common.{◌≡◌, Bool, Decides, List, [], ◌∷◌, IsTrue, sym, refl, ap, ◌∙◌, arith}
 use Rattle.std.specs.Cmp.{IsTotalOrder, IsEquivalence, IsPartialEquivalence, IsPartialOrder, on_total, on_equiv, then_total, and_equiv, both_tied, unsigned_ties, nat_cmp_total, nat_eq_equiv, partial_equiv_from_equiv, partial_order_from_agreeing_total}
 use Rattle.std.specs.Cmp.Lexicographic.{nat_list_cmp_total, nat_list_eq_equiv, texts_ties, lists_ties, lists_total, lists_equiv, pointwise_decides}
@@ -52,7 +52,7 @@ steps_comparison = record {
   agree = lists_ties step_cmp step_comparison.agree;
 }
 
--- the components of one rank and one text are one
+-- components of the same rank and the same text are equal
 same_step : (c d : Step) → step_rank c ≡ step_rank d → step_text c ≡ step_text d → c ≡ d
 same_step cur cur ranks texts = refl
 same_step cur up ranks texts = absurd (omega (arith, ranks))
@@ -75,20 +75,20 @@ step_eq-Decides c d = (
 pub steps_eq-Decides : (cs ds : List Step) → Decides (steps_eq cs ds) (cs ≡ ds)
 steps_eq-Decides = pointwise_decides step_eq-Decides
 
--- what shows a component is compared by it
+-- what shows a component is compared by the component
 pub by_component : {A : Type 0} (shown : A → Step) → IsComparison (on shown step_eq) (on shown step_cmp)
 by_component shown = compared_by shown step_comparison
 
--- what shows components is compared by them
+-- what shows components is compared by the components
 pub by_components : {A : Type 0} (shown : A → List Step) → IsComparison (on shown steps_eq) (on shown steps_cmp)
 by_components shown = compared_by shown steps_comparison
 
--- values of any two types that show equal components feed a hasher the same
+-- values of any two types that show equal components feed a hasher the same bytes
 pub fed_alike : {A B : Type 0} (shown : A → List Step) (shown' : B → List Step) (x : A) (y : B)
     → IsTrue (steps_eq (shown x) (shown' y)) → fed_by shown x ≡ fed_by shown' y
 fed_alike shown shown' x y e = ap fed ((steps_eq-Decides (shown x) (shown' y)).0 e)
 
--- equal components feed a hasher the same
+-- equal components feed a hasher the same bytes
 pub component_fed_alike : {A B : Type 0} (shown : A → Step) (shown' : B → Step) (x : A) (y : B)
     → IsTrue (step_eq (shown x) (shown' y)) → fed (shown x ∷ []) ≡ fed (shown' y ∷ [])
 component_fed_alike shown shown' x y e = ap (λ c. fed (c ∷ [])) ((step_eq-Decides (shown x) (shown' y)).0 e)

@@ -7,17 +7,17 @@ use Rattle.relative_path.specs.Slices.{IsCut}
 use Rattle.relative_path.specs.Walk.{walk}
 use Rattle.relative_path.specs.Editing.{kept_len, kept, pushed, without_cur_dirs, IsPopped}
 
--- the name that a component is, if it is one
+-- the name that a component is, if it is a name
 abbrev pub name_of : Step → Option (List ℕ)
 name_of cur = None
 name_of up = None
 name_of (name n) = Some n
 
--- the last component that is no `.`, if there is one
+-- the last component other than `.`, if there is one
 abbrev pub last_other : List Step → Option Step
 last_other cs = slice_get (without_cur_dirs cs) (length (without_cur_dirs cs) - 1)
 
--- the file name of a list of components: the last one that is no `.`, if it is a name
+-- the file name of a list of components: the last component other than `.`, if it is a name
 abbrev pub last_name : List Step → Option (List ℕ)
 last_name cs = option_and_then name_of (last_other cs)
 
@@ -29,15 +29,15 @@ file_name_of text = last_name (components text)
 abbrev pub is_dot : ℕ → Bool
 is_dot b = b == dot
 
--- something stands before the last dot of the name
+-- the name has a byte before its last dot
 abbrev pub has_stem : List ℕ → Bool
 has_stem n = is_not_empty (before_last is_dot n)
 
--- what stands before the last dot, or the whole name if nothing does
+-- the name up to its last dot, or the whole name if it has no dot, or only a leading one
 abbrev pub stem_of : List ℕ → List ℕ
 stem_of n = if has_stem n then before_last is_dot n else n
 
--- what stands after the last dot, if something stands before it
+-- the part of the name after its last dot; none if the name has no dot, or only a leading one
 abbrev pub extension_of : List ℕ → Option (List ℕ)
 extension_of n = if has_stem n then Some (after_last is_dot n) else None
 
@@ -45,28 +45,28 @@ extension_of n = if has_stem n then Some (after_last is_dot n) else None
 abbrev pub IsStemAndExtension : List ℕ → List ℕ → Option (List ℕ) → Type 0
 IsStemAndExtension n stem extension = MatchOption extension (n ≡ stem) (λ e. n ≡ stem ++ dot ∷ e)
 
--- the byte is no dot and no slash
+-- the byte is neither a dot nor a slash
 abbrev pub is_plain_byte : ℕ → Bool
 is_plain_byte b = not (is_dot b) && not (is_slash b)
 
--- the text can be a whole extension: it has a byte, and each byte is no dot and no slash
+-- the text can be a whole extension: it isn't empty, and has no dot and no slash
 abbrev pub is_plain_extension : List ℕ → Bool
 is_plain_extension e = is_not_empty e && list_all is_plain_byte e
 
--- the text can stand after a dot in a name: it has a byte, and no byte is a slash
+-- the text can come after a dot in a name: it isn't empty, and has no slash
 abbrev pub is_extension : List ℕ → Bool
 is_extension e = is_not_empty e && list_all (λ b. not (is_slash b)) e
 
--- the components that a new file name comes after: those that a parent keeps if there is a file name, else all
+-- the components that a new file name comes after: those that a parent keeps if there is a file name, and all otherwise
 abbrev pub base_components : List Step → List Step
 base_components cs = if is_some (last_name cs) then kept cs else cs
 
--- the directories of cs and ds have the same components, and from each base either both lead somewhere or neither does
+-- the directories of cs and ds have the same components, and from each base both lead to a place or neither does
 pub record IsBeside (cs ds : List Step) : Type 0 where
   pub directory : kept ds ≡ kept cs
   pub leads : (base : List (List ℕ)) → IsSome (walk base cs) ↔ IsSome (walk base ds)
 
--- front is what a new file name is pushed onto: what `pop` leaves of a text with a file name, else the text
+-- front is what a new file name is pushed onto: what `pop` leaves if the text has a file name, and the text otherwise
 abbrev pub IsBase : List ℕ → List ℕ → Type 0
 IsBase text front = MatchOption (file_name_of text) (front ≡ text) (λ _. IsPopped text front)
 
@@ -74,13 +74,13 @@ IsBase text front = MatchOption (file_name_of text) (front ≡ text) (λ _. IsPo
 abbrev pub IsNamed : List ℕ → List ℕ → List ℕ → Type 0
 IsNamed text f named = (front : List ℕ) × IsBase text front × (named ≡ pushed front f)
 
--- a dot and the extension, and nothing for an empty one
+-- a dot and the extension; nothing for an empty extension
 abbrev pub dotted : List ℕ → List ℕ
 dotted [] = []
 dotted (b ∷ bs) = dot ∷ b ∷ bs
 
--- extended is the text up to the end of its file name's stem, then a dot and the extension unless that is empty;
--- without a file name it is the text
+-- extended is the text up to the end of the stem of its file name, followed by a dot and the extension unless the
+-- extension is empty; without a file name it is the text
 abbrev pub IsExtended : List ℕ → List ℕ → List ℕ → Type 0
 IsExtended text e extended = MatchOption (file_name_of text) (extended ≡ text)
     (λ n. (head : List ℕ) × IsCut text (kept_len (components text) + 1) (head ++ n)

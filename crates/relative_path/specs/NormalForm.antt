@@ -7,23 +7,23 @@ use Rattle.relative_path.specs.Walk.{IsSame}
 use Rattle.relative_path.specs.Normalizing.{IsNormal}
 use Rattle.relative_path.specs.Spans.{span_text}
 
--- as many `..`, and then the names
+-- this many `..`, and then the names
 abbrev pub ups_then_names : ℕ → List (List ℕ) → List Step
 ups_then_names climb names = replicate climb up ++ map name names
 
--- ds lead where cs lead, and have no more bytes
+-- ds leads where cs leads, and has no more bytes
 pub record Reduces (cs ds : List Step) : Type 0 where
   pub same : IsSame cs ds
   pub no_longer : slashed_len ds ≤ slashed_len cs
 
--- ds are normal, lead where cs lead, and are the components of a text that is no longer than the text of cs
+-- ds is normal, leads where cs leads, and is the components of a text that is no longer than the text of cs
 pub record IsSpellableNormalForm (cs ds : List Step) : Type 0 where
   pub normal : IsNormal ds
   pub same : IsSame cs ds
   pub of_text : components (spell ds) ≡ ds
   pub no_longer : length (spell ds) ≤ length (spell cs)
 
--- the texts that the spans of a form cut
+-- the texts that the spans of a form are cut out of
 abbrev pub form_sources : NormalForm → Sources
 form_sources form = form.sources
 
@@ -39,10 +39,10 @@ form_names form = map (span_text (form_sources form)) form.names.items
 abbrev pub form_steps : NormalForm → List Step
 form_steps form = ups_then_names (form_climb form) (form_names form)
 
--- how many components these are
+-- how many components the form stands for
 abbrev pub form_len : NormalForm → ℕ
 form_len form = form_climb form + vec_len form.names
 
--- how many names the table can have
+-- how many names the table of the form has room for
 abbrev pub form_room : NormalForm → ℕ
 form_room form = vec_capacity form.names

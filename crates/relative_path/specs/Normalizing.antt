@@ -10,7 +10,7 @@ AreNames (cur ∷ cs) = ⊥
 AreNames (up ∷ cs) = ⊥
 AreNames (name n ∷ cs) = AreNames cs
 
--- each component is a `..` or a name, and no `..` comes after a name
+-- each component is `..` or a name, and no `..` comes after a name
 abbrev pub IsNormal : List Step → Type 0
 IsNormal [] = ⊤
 IsNormal (cur ∷ cs) = ⊥
@@ -24,12 +24,12 @@ climb (cur ∷ cs) = zero
 climb (up ∷ cs) = suc (climb cs)
 climb (name n ∷ cs) = zero
 
--- ds is normal and leads where cs leads from every base
+-- ds is normal, and leads where cs leads from every base
 pub record IsNormalForm (cs ds : List Step) : Type 0 where
   pub normal : IsNormal ds
   pub same : IsSame cs ds
 
--- the text is its components joined by single slashes, and they are normal
+-- the text spells its components, and they are normal
 pub record IsNormalText (text : List ℕ) : Type 0 where
   pub spelled : text ≡ spell (components text)
   pub normal : IsNormal (components text)

@@ -1,4 +1,4 @@
--- The lists that lead from one path to another, the shortest of them, and where two paths begin to lead apart.
+-- The lists that lead from one path to another, the shortest of them, and the bases from which two paths lead apart.
 use Rattle.std.specs.Prelude.{◌≡◌, ◌≢◌, ◌<◌, ◌⊎◌, ℕ, List, [], ◌++◌, length}
 use Rattle.relative_path.specs.Steps.{Step, components, spell}
 use Rattle.relative_path.specs.Walk.{walk, IsSame}
@@ -11,7 +11,7 @@ Leads f r t = IsSame (f ++ r) t
 abbrev pub IsReachable : List Step → List Step → Type 0
 IsReachable f t = (r : List Step) × Leads f r t
 
--- r leads from f to t, and every other list that does is longer
+-- r leads from f to t, and every other list that leads from f to t is longer
 pub record IsShortest (f r t : List Step) : Type 0 where
   pub leads : Leads f r t
   pub shortest : (s : List Step) → Leads f s t → (length r < length s) ⊎ (s ≡ r)
@@ -21,13 +21,13 @@ pub record IsShortestText (f t : List Step) (text : List ℕ) : Type 0 where
   pub spelled : text ≡ spell (components text)
   pub shortest : IsShortest f (components text) t
 
--- the text spells the shortest list that leads from f to t; where none leads, it is empty
+-- the text spells the shortest list that leads from f to t; if no list does, the text is empty
 pub record IsWayText (f t : List Step) (text : List ℕ) : Type 0 where
   pub shortest : IsReachable f t → IsShortestText f t text
   pub unreachable : ¬ IsReachable f t → text ≡ []
 
--- from every base of n names they lead to different places, or one of them to none; from every base of fewer names to
--- the same
+-- from every base of n names the two lead to different places, or only one of them to a place; from every base of fewer
+-- names they lead to the same place, or neither leads to a place
 pub record LeadsApart (cs ds : List Step) (n : ℕ) : Type 0 where
   pub apart : (base : List (List ℕ)) → length base ≡ n → walk base cs ≢ walk base ds
   pub together : (base : List (List ℕ)) → length base < n → walk base cs ≡ walk base ds

@@ -2,7 +2,7 @@
 use Rattle.std.specs.Prelude.{◌≡◌, ◌<◌, ℕ, List, length}
 use Rattle.relative_path.specs.Steps.{Step, components}
 
--- a text, and how many bytes it can have without a growth of its memory
+-- a text, and how many bytes it can have before the buffer allocates
 pub record Buffer : Type 0 where
   pub text : List ℕ
   pub room : ℕ
@@ -11,7 +11,7 @@ pub record Buffer : Type 0 where
 abbrev pub buffer_components : Buffer → List Step
 buffer_components buffer = components buffer.text
 
--- one text alone has the property, and it is longer than the room
+-- exactly one text has the property, and it is longer than the room
 pub record ExceedsRoom (P : List ℕ → Type 0) (room : ℕ) : Type 0 where
   pub text : List ℕ
   pub holds : P text

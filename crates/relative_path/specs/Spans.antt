@@ -15,12 +15,11 @@ abbrev pub source_text : Sources → Source → List ℕ
 source_text sources First = sources.first.now
 source_text sources Second = sources.second.now
 
--- what a span cuts out of its source
+-- what the span cuts out of its source
 abbrev pub span_text : Sources → Span → List ℕ
 span_text sources span = slice_range (source_text sources span.source) span.start span.end
 
--- the span cuts a text out of its source: some bytes between two ends of characters, after which a slash stands, or
--- nothing
+-- the span is non-empty, on character boundaries, and followed by a slash or the end of its source
 pub record IsRun (sources : Sources) (span : Span) : Type 0 where
   pub not_empty : span.start < span.end
   pub start : IsCharBoundary (source_text sources span.source) span.start
@@ -34,7 +33,7 @@ pub record Cuts (sources : Sources) (span : Span) (c : Step) : Type 0 where
   pub text : span_text sources span ≡ step_text c
   pub whole : components (step_text c) ≡ c ∷ []
 
--- the component is a name
+-- the span cuts the text of a name out of its source
 abbrev pub CutsName : Sources → Span → Type 0
 CutsName sources span = Cuts sources span (name (span_text sources span))
 
@@ -47,12 +46,12 @@ abbrev pub spans_len : List Span → ℕ
 spans_len [] = 0
 spans_len (span ∷ spans) = span.end - span.start + 1 + spans_len spans
 
--- the same of a run and the spans after it, if there is one
+-- the same of a run and the spans after it; 0 without a run
 abbrev pub rest_len : Option (Span × Bor (List Span)) → ℕ
 rest_len None = 0
 rest_len (Some (run, rest)) = run.end - run.start + 1 + spans_len rest.now
 
--- the first of the names, each next to the one before it, make the run; the rest of the names come after it
+-- the run has the first names, each one byte after the end of the name before it; the rest of the names come after it
 pub record IsFirstRun (sources : Sources) (names : List Span) (run : Span) (rest : List Span) : Type 0 where
   pub is_run : IsRun sources run
   pub cut : All (CutsName sources) rest

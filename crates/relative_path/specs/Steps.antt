@@ -1,4 +1,4 @@
--- A text cut at its slashes: the components of a path, and the text that spells them.
+-- A text that is cut at its slashes: the components of a path, and the text that spells them.
 use Rattle.std.specs.Prelude.{◌≡◌, ℕ, ◌+◌, Bool, true, false, ◌==◌, List, [], ◌∷◌, map, length, if◌then◌else◌}
 use Rattle.std.specs.List.{filter, slice_split, join_with_byte, AllByRecursion}
 use Rattle.std.specs.Str.{bytes_eq}
@@ -15,12 +15,12 @@ dot = 46
 abbrev pub is_slash : ℕ → Bool
 is_slash b = b == slash
 
--- the piece has a byte
+-- the piece has at least one byte
 abbrev pub is_not_empty : List ℕ → Bool
 is_not_empty [] = false
 is_not_empty (b ∷ bs) = true
 
--- the text cut at every slash, without the empty pieces
+-- the text cut at each slash, without the empty pieces
 unfoldable pub pieces : List ℕ → List (List ℕ)
 pieces text = filter is_not_empty (slice_split is_slash text)
 
@@ -36,7 +36,7 @@ step_text cur = dot ∷ []
 step_text up = dot ∷ dot ∷ []
 step_text (name n) = n
 
--- the component that a piece is
+-- the component that a piece stands for
 abbrev pub classed : List ℕ → Step
 classed piece =
     if bytes_eq piece (step_text cur) then cur else if bytes_eq piece (step_text up) then up else name piece
@@ -54,7 +54,7 @@ abbrev pub slashed_len : List Step → ℕ
 slashed_len [] = 0
 slashed_len (c ∷ cs) = length (step_text c) + 1 + slashed_len cs
 
--- the text of the component has this component alone
+-- the text of the component has this one component and no other
 abbrev pub SpellsItself : Step → Type 0
 SpellsItself c = components (step_text c) ≡ c ∷ []
 

@@ -1,6 +1,6 @@
--- Platform paths under the Unix rules, which the documentation of Rust's `std::path` gives for the components of a
--- path: a slash at the start is the root, other slashes only separate, and a `.` counts only at the start of a path
--- without a root.
+-- Platform paths under the Unix rules that the documentation of Rust's `std::path` gives for the components of a path:
+-- a slash at the start is the root, other slashes only separate, and a `.` counts only at the start of a path without a
+-- root.
 use Rattle.std.specs.Prelude.{◌≡◌, ◌≢◌, ℕ, ◌-◌, ◌≤◌, Bool, false, List, [], ◌∷◌, ◌++◌, length, take, drop, replicate, Option, if◌then◌else◌}
 use Rattle.std.specs.List.{common_prefix_len}
 use Rattle.std.specs.Option.{option_map}
@@ -15,12 +15,12 @@ abbrev pub has_root : List ℕ → Bool
 has_root [] = false
 has_root (b ∷ bs) = is_slash b
 
--- the components without each `.` but a first one
+-- the components without any `.` after the first component
 abbrev pub without_inner_cur_dirs : List Step → List Step
 without_inner_cur_dirs [] = []
 without_inner_cur_dirs (c ∷ cs) = c ∷ without_cur_dirs cs
 
--- the components that count: after a root, or at the start of a path without one
+-- the components that count: under a root all but each `.`; without a root also a `.` that comes first
 abbrev pub counted : (rooted : Bool) → List Step → List Step
 counted rooted cs = if rooted then without_cur_dirs cs else without_inner_cur_dirs cs
 
@@ -32,8 +32,8 @@ unix_components text = counted (has_root text) (components text)
 abbrev pub but_last : List Step → List Step
 but_last cs = take (length cs - 1) cs
 
--- p is what going up from the text leaves: the text itself where it has no component,
--- and else the shortest prefix that has the same root and all its components but the last
+-- p is what going up from the text leaves: the text itself if it has no component, and otherwise the shortest prefix
+-- with the same root and all its components but the last
 pub record IsAbove (text p : List ℕ) : Type 0 where
   pub at_top : unix_components text ≡ [] → p ≡ text
   pub prefix : p ≡ take (length p) text
@@ -42,19 +42,20 @@ pub record IsAbove (text p : List ℕ) : Type 0 where
   pub shortest : unix_components text ≢ [] → (k : ℕ) → has_root (take k text) ≡ has_root text
       → unix_components (take k text) ≡ unix_components p → length p ≤ k
 
--- the root with the text of each component added in turn, after a slash unless nothing stands before it
+-- the root, followed by the text of each component; a slash precedes each of them, except at the start of the whole
 abbrev pub onto : List ℕ → List Step → List ℕ
 onto root [] = root
 onto root (c ∷ cs) = onto (with_piece root (step_text c)) cs
 
--- text is where the components lead from the root: `.` stays, `..` goes up, a name is added as `onto` adds it
+-- text is where the components lead from the root: each `.` is skipped, each `..` goes up, and each name is added as
+-- `onto` adds it
 abbrev pub IsLogical : List ℕ → List Step → List ℕ → Type 0
 IsLogical root [] text = text ≡ root
 IsLogical root (cur ∷ cs) text = IsLogical root cs text
 IsLogical root (up ∷ cs) text = (p : List ℕ) × IsAbove root p × IsLogical p cs text
 IsLogical root (name n ∷ cs) text = IsLogical (with_piece root n) cs text
 
--- a `..` for each name of the place where from leads from the top, and then to; none where from climbs above the top
+-- one `..` for each name of the place where from leads from the top, and then to; none if from climbs above the top
 abbrev pub way_back : (from to : List Step) → Option (List Step)
 way_back from to = option_map (λ place. replicate (length place) up ++ to) (walk [] from)
 
@@ -66,7 +67,8 @@ shared_len = common_prefix_len step_eq
 abbrev pub without_shared : List Step → List Step → List Step × List Step
 without_shared cs ds = (drop (shared_len cs ds) cs, drop (shared_len cs ds) ds)
 
--- the way from the root to the path, after the components that both begin with; none where the root climbs above those
+-- the way from the root to the path, after the components that both begin with; none if the rest of the root climbs
+-- above those
 abbrev pub way_to : (path root : List ℕ) → Option (List Step)
 way_to path root =
     let shared = shared_len (unix_components path) (unix_components root) in

@@ -4,6 +4,6 @@ use Rattle.relative_path.specs.declared.unix_components.UnixComponents.{UnixComp
 use Rattle.relative_path.specs.Steps.{Step, components}
 use Rattle.relative_path.specs.Unix.{counted}
 
--- the components that the iterator has still to give
+-- the components that are left in the iterator
 abbrev pub unix_left : UnixComponents → List Step
 unix_left it = counted it.skips_cur_dirs (components it.left.now)

@@ -37,9 +37,11 @@ use std::hash::{Hash, Hasher};
 use std::marker::Model;
 use std::path::Path;
 
-/// A relative path that owns its text, and keeps the allocator that the text's memory comes from.
+/// A relative path that owns its text, in a buffer that can grow. The buffer keeps the allocator
+/// that its memory comes from.
 ///
-/// It is compared, hashed and printed as its view is; the queries are reached by `as_relative_path`.
+/// A buffer is compared, hashed and printed as its view is. [`RelativePathBuf::as_relative_path`]
+/// returns that view, which has the queries.
 ///
 /// ```
 /// let mut buf = RelativePathBuf::new(alloc);
@@ -63,7 +65,7 @@ impl Model for RelativePathBuf {
 }
 
 impl RelativePathBuf {
-    /// The empty path. It takes no memory.
+    /// Returns an empty buffer. Allocates nothing.
     ///
     /// ```
     /// assert_eq!(rt; RelativePathBuf::new(alloc).len(), 0);
@@ -76,9 +78,9 @@ impl RelativePathBuf {
         }
     }
 
-    /// The empty path, with room for just `capacity` bytes.
+    /// Returns an empty buffer with a capacity of exactly `capacity` bytes.
     ///
-    /// It asks for memory once, if there is to be room, and fails only where that is refused.
+    /// Allocates once: the capacity, if it isn't 0. The only error is lack of memory.
     ///
     /// ```
     /// let buf = RelativePathBuf::with_capacity(alloc, 15)?;
@@ -91,9 +93,9 @@ impl RelativePathBuf {
         String::with_capacity(alloc, capacity).map(RelativePathBuf::from)
     }
 
-    /// A copy of the text.
+    /// Copies a text into a new buffer.
     ///
-    /// It asks for memory once, if the text isn't empty, and fails only where that is refused.
+    /// Allocates once: the copy, if it isn't empty. The only error is lack of memory.
     ///
     /// ```
     /// let buf = RelativePathBuf::from_text(alloc, "foo/bar")?;
@@ -105,12 +107,11 @@ impl RelativePathBuf {
         String::from_str(alloc, text).map(RelativePathBuf::from)
     }
 
-    /// The components of a platform path but each `.`, with single slashes between, unless it
-    /// begins with a slash.
+    /// Returns the components of a platform path, without any `.`, joined by single slashes.
     ///
-    /// A path that begins with a slash is refused before any memory is asked for. Else it asks for
-    /// memory once, for as many bytes as the path has, if it has any, and fails only where that is
-    /// refused.
+    /// Fails with `NonRelative`, before it allocates, if the path begins with a slash. Otherwise it
+    /// allocates once: as many bytes as the platform path has, if there are any. Its only other
+    /// error is `OutOfMemory`.
     ///
     /// ```
     /// let buf = RelativePathBuf::from_path(alloc, Path::new("./foo//bar/."))?;
@@ -132,11 +133,12 @@ impl RelativePathBuf {
         Ok(text.into())
     }
 
-    /// The paths that the iterator gives, pushed in order onto the empty path. The iterator has to
-    /// end.
+    /// Pushes the paths that the iterator yields, in order, onto a new empty buffer. The iterator
+    /// has to end.
     ///
-    /// It asks for memory where a push does, at each path that doesn't fit. A refusal gives up what
-    /// was pushed, and takes no further path.
+    /// Allocates as [`RelativePathBuf::push`] does, at each path that doesn't fit. If an allocation
+    /// fails, the buffer is dropped, and the iterator isn't asked for another path. The only error
+    /// is lack of memory.
     ///
     /// ```
     /// let paths = ["a", "/b", "", "c"].map(RelativePath::new);
@@ -159,9 +161,9 @@ impl RelativePathBuf {
         Ok(buf)
     }
 
-    /// A copy of the path.
+    /// Copies the path into a new buffer.
     ///
-    /// It asks for memory once, if the path isn't empty, and fails only where that is refused.
+    /// Allocates once: the copy, if it isn't empty. The only error is lack of memory.
     ///
     /// ```
     /// let buf = RelativePathBuf::from_text(alloc, "foo//bar")?;
@@ -173,7 +175,7 @@ impl RelativePathBuf {
         self.text.clone().map(RelativePathBuf::from)
     }
 
-    /// How many bytes the text has.
+    /// Returns how many bytes the text has.
     ///
     /// ```
     /// assert_eq!(rt; RelativePathBuf::from_text(alloc, "é/b")?.len(), 4);
@@ -184,7 +186,8 @@ impl RelativePathBuf {
         self.text.len()
     }
 
-    /// How many bytes can be added before the buffer asks for memory.
+    /// Returns how many bytes can be added before the buffer allocates: its capacity less its
+    /// length.
     ///
     /// ```
     /// let mut buf = RelativePathBuf::with_capacity(alloc, 3)?;
@@ -198,11 +201,11 @@ impl RelativePathBuf {
         self.text.capacity() - self.text.len()
     }
 
-    /// Adds a path after this one: a slash, unless the text is empty or ends in one, and the path
-    /// without one slash at its start.
+    /// Appends a path: a slash, unless the text is empty or ends in one, and then `path` without
+    /// one slash at its start.
     ///
-    /// It asks for memory once, and only where the result doesn't fit the room there is. A refusal
-    /// leaves the text as it was.
+    /// Allocates once, and only if the result doesn't fit the capacity. The only error is lack of
+    /// memory. After an error the buffer is unchanged.
     ///
     /// ```
     /// let mut buf = RelativePathBuf::from_text(alloc, "foo")?;
@@ -232,7 +235,7 @@ impl RelativePathBuf {
         Ok(())
     }
 
-    // Adds a path after this one, within the room there is.
+    // Appends a path that fits the capacity.
     pub(crate) fn push_reserved(&mut self, path: RelativePath<'_>)
         requires { length (pushed self.old.text (path_text path)) ≤ self.old.room }
         ensures text { self.new.text ≡ pushed self.old.text (path_text path.entry) }
@@ -246,13 +249,13 @@ impl RelativePathBuf {
 
     /// Replaces the file name.
     ///
-    /// A path without a file name gets the new one pushed onto it, so the new name is then *below*
-    /// the path and not beside it: `..` with the name `x` is `../x`. The new name may have several
-    /// components, and `..` among them climb as they do in any path: `a/b` with the name
+    /// If the path has no file name, the new one is pushed onto the path. The result then leads
+    /// *below* the path, not beside it: `..` with the name `x` is `../x`. The new name may have
+    /// several components, and each `..` among them climbs as in any path: `a/b` with the name
     /// `../../../x` is `a/../../../x`, which leads above its base.
     ///
-    /// It asks for memory once, only where the result is longer than the text and its spare room
-    /// together, and before it changes anything: a refusal leaves the text as it was.
+    /// Allocates once, and only if the result doesn't fit the capacity. The only error is lack of
+    /// memory. After an error the buffer is unchanged.
     ///
     /// ```
     /// let mut buf = RelativePathBuf::from_text(alloc, "foo/bar/.")?;
@@ -283,16 +286,16 @@ impl RelativePathBuf {
         Ok(())
     }
 
-    /// Replaces the extension of the file name, or takes it off where `extension` is empty. It
-    /// returns whether the path has a file name; a path without one stays as it is.
+    /// Replaces the extension of the file name; an empty `extension` removes it. Returns whether
+    /// the path has a file name. A path without one is left as it is.
     ///
-    /// An extension that isn't empty and has no slash keeps the path's directory. An empty one
-    /// leaves the stem of the file name as the last component, whatever component that is: `...`
-    /// becomes `..`, which climbs, and `..x` becomes `.`.
+    /// An extension that isn't empty and has no slash keeps the path's directory. An empty
+    /// extension leaves the stem of the file name as the last component, even if the stem is `..`
+    /// or `.`: `...` becomes `..`, which climbs, and `..x` becomes `.`.
     ///
-    /// It asks for memory once, only where the result is longer than the text and its spare room
-    /// together, and before it changes anything: a refusal leaves the text as it was. Neither an
-    /// empty extension nor a path without a file name needs memory.
+    /// Allocates once, and only if the result doesn't fit the capacity. An empty extension, and a
+    /// path without a file name, take no allocation. The only error is lack of memory. After an
+    /// error the buffer is unchanged.
     ///
     /// ```
     /// let mut buf = RelativePathBuf::from_text(alloc, "foo.tar.gz")?;
@@ -333,7 +336,7 @@ impl RelativePathBuf {
         Ok(true)
     }
 
-    // Makes room for a text of `len` bytes.
+    // Grows the capacity to at least `len` bytes.
     fn reserve_to(&mut self, len: usize) -> Result<(), AllocError>
         ensures text { self.new.text ≡ self.old.text }
         ensures ok { OnOk result (len ≤ self.new.room) }
@@ -354,7 +357,7 @@ impl RelativePathBuf {
         self.text.truncate(len);
     }
 
-    // Adds a dot and the extension, if that is not empty.
+    // Appends a dot and the extension, if the extension isn't empty.
     pub(crate) fn push_extension(&mut self, extension: &str)
         requires { length (self.old.text ++ dotted extension.now) ≤ self.old.room }
         ensures text { self.new.text ≡ self.old.text ++ dotted extension.now }
@@ -366,10 +369,10 @@ impl RelativePathBuf {
         }
     }
 
-    /// Cuts the path to its parent and answers true, unless it is empty: then it stays, and the
-    /// answer is false.
+    /// Cuts the path to its parent and returns true. An empty path is left as it is, and the call
+    /// returns false.
     ///
-    /// It takes no memory, and the room stays.
+    /// Allocates nothing, and keeps the capacity.
     ///
     /// ```
     /// let mut buf = RelativePathBuf::from_text(alloc, "foo//bar/.")?;
@@ -392,7 +395,7 @@ impl RelativePathBuf {
         popped
     }
 
-    // Goes one component further from a normal text with room for it.
+    // Adds one component to a normal text and keeps the text normal. The capacity has to suffice.
     pub(crate) fn push_in_normal_form(&mut self, component: Component<'_>)
         requires normal { IsNormalText self.old.text }
         requires alone { components (step_text (step_of component)) ≡ step_of component ∷ [] }
@@ -414,7 +417,7 @@ impl RelativePathBuf {
         }
     }
 
-    // Whether the last component is a name.
+    // Returns whether the last component is a name.
     fn ends_in_name(&self) -> bool
         ensures { IsTrue result
             ↔ ((cs : List Step) × (n : List ℕ) × (components self.now.text ≡ cs ++ name n ∷ [])) }
@@ -423,10 +426,11 @@ impl RelativePathBuf {
         matches!(last, Some(Component::Normal(_)))
     }
 
-    /// Pushes each path that the iterator gives, in order. The iterator has to end.
+    /// Pushes each path that the iterator yields, in order. The iterator has to end.
     ///
-    /// It asks for memory where a push does, at each path that doesn't fit. A refusal leaves what was
-    /// pushed before, and takes no further path: an iterator that is lent by `&mut` still has them.
+    /// Allocates as [`RelativePathBuf::push`] does, at each path that doesn't fit. The only error
+    /// is lack of memory. After an error the buffer keeps the paths that were pushed so far. No
+    /// further path is taken, so an iterator that is passed by `&mut` still has the rest.
     ///
     /// ```
     /// let mut buf = RelativePathBuf::from_text(alloc, "x")?;
@@ -455,7 +459,7 @@ impl RelativePathBuf {
         Ok(())
     }
 
-    /// The path, as a view. It takes no memory.
+    /// Views the buffer as a path. Allocates nothing.
     ///
     /// ```
     /// let buf = RelativePathBuf::from_text(alloc, "foo/bar")?;
@@ -467,7 +471,7 @@ impl RelativePathBuf {
         RelativePath::new(self.text.as_str())
     }
 
-    /// The text, in the memory and with the room that the buffer has. It takes no memory.
+    /// Returns the text as a `String` with the buffer's memory and capacity. Allocates nothing.
     ///
     /// ```
     /// let text = RelativePathBuf::from_text(alloc, "foo//bar")?.into_string();
@@ -481,8 +485,7 @@ impl RelativePathBuf {
     }
 }
 
-/// The buffer with this text, whatever the text is, in the memory and with the room that the
-/// `String` has. It takes no memory.
+/// Makes a buffer of any text, with the memory and the capacity of the `String`. Allocates nothing.
 ///
 /// ```
 /// let text = String::from_str(alloc, "foo//bar")?;
@@ -498,7 +501,7 @@ impl From<String> for RelativePathBuf {
     }
 }
 
-/// The text, as `into_string` gives it.
+/// Returns the text, as `into_string` does.
 ///
 /// ```
 /// let text = String::from(RelativePathBuf::from_text(alloc, "foo//bar")?);

@@ -13,7 +13,7 @@ use std::alloc::AllocError;
 use std::cmp::Ordering;
 use std::hash::{Hash, Hasher};
 
-/// One component of a relative path. It is copied, and no call on it takes memory.
+/// One component of a relative path. It is `Copy`, and no call on it allocates.
 ///
 /// ```
 /// let mut components = RelativePath::new("./foo/..").components();
@@ -32,7 +32,7 @@ pub enum Component<'a> {
 }
 
 impl<'a> Component<'a> {
-    /// The component's text: `.`, `..` or the name.
+    /// Returns the component's text: `.`, `..` or the name.
     ///
     /// ```
     /// assert_eq!(rt; Component::ParentDir.as_str(), "..");
@@ -47,7 +47,7 @@ impl<'a> Component<'a> {
         }
     }
 
-    // The place of `.`, `..` and names in the order.
+    // The rank in the order: `.` comes first, then `..`, then names.
     fn rank(self) -> u8
         ensures { result ≡ step_rank (step_of self.entry) }
     {
@@ -112,16 +112,16 @@ impl Hash for Component<'_> {
     ghost respects_eq = { component_fed_alike step_of step_of };
 
     fn hash<H: Hasher>(&self, state: &mut H) {
-        // Written in one place, so that the hasher's code is inlined where a program hashes nothing else.
+        // One call of `write`, in a loop: LLVM inlines a hasher only if the program calls it in one place.
         for bytes in [self.as_str().as_bytes(), b"/"] {
             state.write(bytes);
         }
     }
 }
 
-/// The iterator over the components of a relative path, from both ends. No call on it takes memory.
+/// An iterator over the components of a relative path, from either end. No call on it allocates.
 ///
-/// Two of them are equal if the components that they have left are.
+/// Two of these iterators are equal if the components left in them are equal.
 ///
 /// ```
 /// let mut components = RelativePath::new("/a/./b/").components();
@@ -180,7 +180,7 @@ impl<'a> Iterator for Components<'a> {
 
     ghost remaining = { item_count components_left };
 
-    /// The first component of the text that is left.
+    /// Takes the first component off the text that is left.
     #[inline(always)]
     fn next(&mut self) -> Option<Component<'a>> {
         let text = without_leading_slashes(self.text);
@@ -197,7 +197,7 @@ impl<'a> Iterator for Components<'a> {
 impl<'a> DoubleEndedIterator for Components<'a> {
     ghost next_back_gives = { λ s taken t. TakesLast (text_left s) taken (text_left t) };
 
-    /// The last component of the text that is left.
+    /// Takes the last component off the text that is left.
     #[inline(always)]
     fn next_back(&mut self) -> Option<Component<'a>> {
         let text = without_trailing_slashes(self.text);
@@ -211,7 +211,8 @@ impl<'a> DoubleEndedIterator for Components<'a> {
     }
 }
 
-/// The iterator over the texts of the components of a relative path, from both ends. No call on it takes memory.
+/// An iterator over the texts of the components of a relative path, from either end. No call on it
+/// allocates.
 ///
 /// ```
 /// let mut texts = RelativePath::new("a/..//b").iter();
@@ -253,7 +254,7 @@ impl<'a> Iterator for Iter<'a> {
 
     ghost remaining = { item_count texts_left };
 
-    /// The text of the first component of what is left.
+    /// Takes the first component off the text that is left, and returns its text.
     fn next(&mut self) -> Option<&'a str> {
         self.components.next().map(Component::as_str)
     }
@@ -262,13 +263,13 @@ impl<'a> Iterator for Iter<'a> {
 impl<'a> DoubleEndedIterator for Iter<'a> {
     ghost next_back_gives = { λ s taken t. TakesLastText (iter_text_left s) taken (iter_text_left t) };
 
-    /// The text of the last component of what is left.
+    /// Takes the last component off the text that is left, and returns its text.
     fn next_back(&mut self) -> Option<&'a str> {
         self.components.next_back().map(Component::as_str)
     }
 }
 
-// The component that a piece of a text is.
+// Returns the component that a piece of a text stands for.
 #[inline(always)]
 fn component_of(piece: &str) -> Component<'_>
     requires { piece.now ≢ [] }
@@ -285,7 +286,7 @@ fn component_of(piece: &str) -> Component<'_>
     }
 }
 
-// The order of two texts by their components.
+// Compares two texts by their components.
 pub(crate) fn compare(text: &str, other: &str) -> Ordering
     ensures { result ≡ steps_cmp (components text.now) (components other.now) }
 {

@@ -5,8 +5,8 @@ ghost use Rattle.relative_path.specs.Steps.{components};
 
 use crate::slashes::{BLOCK, slashes_in};
 
-// Counts the components of a text where they begin. One begins at a first byte that is no slash, and at each byte that
-// is none and stands after one.
+// Counts the components of a text by their starts. A component begins at a non-slash byte that is first or follows a
+// slash.
 pub(crate) fn component_count(text: &str) -> usize
     ensures count { result ≡ length (components text.now) }
     ensures bound { result ≤ length text.now }
@@ -23,7 +23,7 @@ pub(crate) fn component_count(text: &str) -> usize
     begun + usize::from(*first != b'/')
 }
 
-// Counts the components that begin after the first byte, block by block. The last block may begin within the one before it.
+// Counts the components that begin after the first byte, block by block. The last block may overlap the block before.
 fn starts_by_blocks(bytes: &[u8]) -> usize
     requires { BLOCK < length bytes.now }
     ensures count { result ≡ starts_from bytes.now 1 }

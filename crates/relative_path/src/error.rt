@@ -1,4 +1,4 @@
-//! Why a platform path is no relative path, and why no relative path leads from one to another.
+//! The errors of the calls on platform paths: the path isn't relative, or no relative path leads from one to the other.
 ghost use Rattle.std.specs.Prelude.{◌≡◌, Some, ⊤};
 ghost use Rattle.std.specs.Fmt.{styled_text};
 ghost use Rattle.relative_path.specs.Error.{from_path_kind, from_path_words, relative_to_kind, relative_to_words};
@@ -11,8 +11,8 @@ use std::fmt;
 
 /// The kind of a [`FromPathError`].
 ///
-/// A platform path is UTF-8 here and is cut at `/`, so `NonUtf8` and `BadSeparator` are never
-/// answered.
+/// A platform path is UTF-8 here and is cut at `/` only, so no call returns `NonUtf8` or
+/// `BadSeparator`.
 ///
 /// ```
 /// let refused = unix::view("/foo").unwrap_err();
@@ -22,11 +22,11 @@ use std::fmt;
 pub enum FromPathErrorKind {
     /// The path begins with a slash.
     NonRelative,
-    /// A component isn't UTF-8. This is never answered.
+    /// A component isn't UTF-8. No call returns this.
     NonUtf8,
-    /// A component holds a separator of the platform. This is never answered.
+    /// A component contains a separator of the platform. No call returns this.
     BadSeparator,
-    /// Memory was refused.
+    /// An allocation failed.
     OutOfMemory,
 }
 
@@ -44,9 +44,10 @@ impl FromPathErrorKind {
     }
 }
 
-/// Why a platform path is no relative path: what a `from_path` refuses with.
+/// The error of the calls named `from_path`, and of [`crate::unix::view`]: the platform path isn't
+/// relative, or an allocation failed.
 ///
-/// It prints the words for its kind, and two are equal if their kinds are.
+/// It prints the words for its kind. Two errors are equal if their kinds are.
 ///
 /// ```
 /// let refused = unix::view("/foo").unwrap_err();
@@ -58,7 +59,7 @@ pub struct FromPathError {
 }
 
 impl FromPathError {
-    /// What went wrong.
+    /// Returns what went wrong.
     ///
     /// ```
     /// let error = FromPathError::from(FromPathErrorKind::NonRelative);
@@ -101,8 +102,8 @@ impl Error for FromPathError {}
 
 /// The kind of a [`RelativeToError`].
 ///
-/// A platform path is UTF-8 here and has no prefix but the root, so `NonUtf8` and
-/// `IllegalComponent` are never answered.
+/// A platform path is UTF-8 here and has no prefix but the root, so no call returns `NonUtf8` or
+/// `IllegalComponent`.
 ///
 /// ```
 /// let refused = unix::relative_to(alloc, "foo", "/bar").unwrap_err();
@@ -110,16 +111,16 @@ impl Error for FromPathError {}
 /// ```
 #[derive(Clone, Copy, Debug, PartialEq, Eq)]
 pub enum RelativeToErrorKind {
-    /// A component isn't UTF-8. This is never answered.
+    /// A component isn't UTF-8. No call returns this.
     NonUtf8,
     /// One of the paths begins with a slash, and the other doesn't.
     PrefixMismatch,
-    /// The root climbs above what it shares with the path, so the names on the way back aren't
-    /// known.
+    /// The root climbs above the components that both paths begin with, so the names on the way
+    /// back aren't known.
     AmbiguousTraversal,
-    /// A component is neither `.` nor `..` nor a name. This is never answered.
+    /// A component is neither `.` nor `..` nor a name. No call returns this.
     IllegalComponent,
-    /// Memory was refused.
+    /// An allocation failed.
     OutOfMemory,
 }
 
@@ -138,10 +139,10 @@ impl RelativeToErrorKind {
     }
 }
 
-/// Why no relative path leads from one platform path to another: what a `relative_to` refuses
-/// with.
+/// The error of both calls named `relative_to`: no relative path leads from the root to the path,
+/// or an allocation failed.
 ///
-/// It prints the words for its kind, and two are equal if their kinds are.
+/// It prints the words for its kind. Two errors are equal if their kinds are.
 ///
 /// ```
 /// let refused = unix::relative_to(alloc, ".", "a/../..").unwrap_err();
@@ -153,7 +154,7 @@ pub struct RelativeToError {
 }
 
 impl RelativeToError {
-    /// What went wrong.
+    /// Returns what went wrong.
     ///
     /// ```
     /// let error = RelativeToError::from(RelativeToErrorKind::PrefixMismatch);

@@ -1,7 +1,7 @@
-//! Portable relative paths: a text cut at `/` on every platform, which names a place only relative to a base.
+//! Portable relative paths: texts that are cut at `/` on every platform. A path leads to a place only from a base.
 //!
-//! Each module uses those below it, and of its own layer those that stand before it; `path` and `buf`
-//! know each other.
+//! A module uses the modules of the rows below it, and those to the left of it in its row; `path` and `buf` use each
+//! other.
 //!
 //! ```text
 //! what callers see      error  path  buf  unix

@@ -1,4 +1,4 @@
-//! The end of a path: its last component, the file name, and the stem of that.
+//! The end of a path: its last component, the file name, and the stem of the file name.
 ghost use Rattle.std.specs.Prelude.{◌≡◌, ◌↔◌, ◌+◌, [], ◌∷◌, ◌++◌, List, ℕ, IsSome, IfSome, MatchOption};
 ghost use Rattle.std.specs.Option.{option_copied};
 ghost use Rattle.std.specs.Str.{IsUtf8};
@@ -10,18 +10,18 @@ ghost use Rattle.relative_path.specs.Naming.{file_name_of, stem_of, extension_of
 use crate::component::{Component, Components};
 use crate::slashes::without_trailing_slashes;
 
-// A text cut at its last component that is no `.`.
+// A text cut at its last component other than `.`.
 #[derive(Drop)]
 pub(crate) struct LastComponent<'a> {
-    // What stands before that component, without slashes at its end; empty where there is none.
+    // The text before that component, without slashes at its end; empty if there is no such component.
     pub(crate) before: &'a str,
-    // The component, if it is a name.
+    // The component's name, if it is one.
     pub(crate) name: Option<&'a str>,
-    // The text up to the component's end.
+    // The text up to the end of the component.
     pub(crate) up_to_end: &'a str,
 }
 
-// Cuts a text at its last component that is no `.`.
+// Cuts a text at its last component other than `.`.
 pub(crate) fn last_component(text: &str) -> LastComponent<'_>
     ensures before { IsPopped text.now result.before.now }
     ensures name { option_copied result.name ≡ file_name_of text.now }
@@ -47,14 +47,14 @@ pub(crate) fn last_component(text: &str) -> LastComponent<'_>
     }
 }
 
-// The text without its last component that is no `.`, and what stands after what is left.
+// Returns the text before its last component other than `.`, without slashes at its end.
 pub(crate) fn parent_of(text: &str) -> &str
     ensures { IsPopped text.now result.now }
 {
     last_component(text).before
 }
 
-// What a new file name is pushed onto: the text without its file name, if it has one.
+// Returns what a new file name is pushed onto: the text without its file name, or the whole text if it has none.
 pub(crate) fn base_of(text: &str) -> &str
     ensures { IsBase text.now result.now }
 {
@@ -62,7 +62,7 @@ pub(crate) fn base_of(text: &str) -> &str
     if end.name.is_some() { end.before } else { text }
 }
 
-// The text up to the end of the stem of its file name, if it has one.
+// Returns the text up to the end of the stem of its file name; `None` without a file name.
 pub(crate) fn without_extension(text: &str) -> Option<&str>
     ensures found { IsSome result ↔ IsSome (file_name_of text.now) }
     ensures text { IfSome result (λ front. IsExtended text.now [] front.now) }
@@ -75,7 +75,7 @@ pub(crate) fn without_extension(text: &str) -> Option<&str>
     Some(&end.up_to_end[..stem_end])
 }
 
-// The stem and the extension of a file name.
+// Splits a file name into its stem and its extension.
 pub(crate) fn split_name(name: &str) -> (&str, Option<&str>)
     ensures stem { result.0.now ≡ stem_of name.now }
     ensures extension { option_copied result.1 ≡ extension_of name.now }

@@ -1,4 +1,5 @@
-//! Normal forms as a count of climbs and a table of names, each a span of a text, for `normalize` and what stands on it.
+//! Normal forms as a count of climbs and a table of names, each a span of a text: for `normalize`, `relative` and their
+//! kin.
 ghost use Rattle.std.specs.Prelude.{◌≡◌, ◌+◌, ◌-◌, ◌*◌, ◌≤◌, ◌<◌, ◌^◌, ◌++◌, [], ◌∷◌, drop, length, map, slice_index_or, string_bytes, IfOk, IfSome, IsOk, MatchOption};
 ghost use Rattle.std.specs.List.{All, common_prefix_len};
 ghost use Rattle.std.specs.Str.{bytes_eq};
@@ -14,7 +15,7 @@ use crate::spans::{Source, Sources, Span, first_run, spans_len};
 use crate::writing::{add_piece, push_climb};
 use std::alloc::{AllocError, Global};
 
-// A normal list of components: as many `..` as it climbs, and then the names, each a span of a source.
+// A normal list of components: `climb` times `..`, and then the names, each a span of a source.
 #[derive(Drop)]
 pub(crate) struct NormalForm<'a> {
     sources: Sources<'a>,
@@ -26,8 +27,7 @@ pub(crate) struct NormalForm<'a> {
 impl<'a> NormalForm<'a> {
     ghost use Rattle.relative_path.specs.NormalForm.{ups_then_names, form_sources, form_climb, form_names, form_steps, form_len, form_room, Reduces, IsSpellableNormalForm};
 
-    // The normal form of a text. It asks for memory once, for a table with a place for each of its
-    // components, if it has one.
+    // Returns the normal form of a text. Allocates once: a table with an entry for each component, if there are any.
     pub(crate) fn of(alloc: Global, text: &'a str) -> Result<NormalForm<'a>, AllocError>
         ensures normal_form { IfOk result
             (λ form. IsSpellableNormalForm (components text.now) (form_steps form)) }
@@ -43,7 +43,7 @@ impl<'a> NormalForm<'a> {
         Ok(form.follow_all(Source::First))
     }
 
-    // The normal form of a text followed by another one, over one table for the components of both.
+    // Returns the normal form of one text followed by another, with one table for the components of both.
     pub(crate) fn of_both(
         alloc: Global,
         text: &'a str,
@@ -63,21 +63,21 @@ impl<'a> NormalForm<'a> {
         Ok(form.follow_all(Source::First).follow_all(Source::Second))
     }
 
-    // How many `..` the form begins with.
+    // Returns how many `..` the form begins with.
     pub(crate) fn climb(&self) -> usize
         ensures { result ≡ form_climb self.now }
     {
         self.climb
     }
 
-    // How many names the form has.
+    // Returns how many names the form has.
     pub(crate) fn names_len(&self) -> usize
         ensures { result ≡ length (form_names self.now) }
     {
         self.names.len()
     }
 
-    // The name at this index.
+    // Returns the name at this index.
     fn name(&self, index: usize) -> &'a str
         requires { index < length (form_names self.now) }
         ensures { result.now ≡ slice_index_or (form_names self.now) index [] }
@@ -85,7 +85,7 @@ impl<'a> NormalForm<'a> {
         self.sources.cut(self.names[index])
     }
 
-    // How many names both forms begin with.
+    // Returns how many names both forms begin with.
     pub(crate) fn common_len(&self, other: &NormalForm<'_>) -> usize
         ensures { result ≡ common_prefix_len bytes_eq (form_names self.now) (form_names other.now) }
     {
@@ -98,7 +98,7 @@ impl<'a> NormalForm<'a> {
         most
     }
 
-    // The text that spells the form. It asks for memory once, for just this text, if it isn't empty.
+    // Returns the text that spells the form. Allocates once: exactly this text, if it isn't empty.
     pub(crate) fn into_text(self, alloc: Global) -> Result<String, AllocError>
         requires { length (spell (form_steps self)) < 2 ^ 64 }
         ensures text { IfOk result (λ text. string_bytes text ≡ spell (form_steps self.entry)) }
@@ -107,8 +107,8 @@ impl<'a> NormalForm<'a> {
         self.spelled_past(alloc, self.climb, 0)
     }
 
-    // The text that spells `climb` times `..`, and then the names without the first `skipped`. It asks for
-    // memory once, for just this text, if it isn't empty; a length that no `usize` holds is an allocation failure too.
+    // Returns the text that spells `climb` times `..`, and then the names after the first `skipped`. Allocates once:
+    // exactly this text, if it isn't empty. A length that no `usize` holds is an `AllocError` too.
     pub(crate) fn spelled_past(
         &self,
         alloc: Global,
@@ -134,7 +134,7 @@ impl<'a> NormalForm<'a> {
         Ok(text)
     }
 
-    // The spans of the names without the first `skipped`.
+    // Returns the spans of the names after the first `skipped`.
     fn names_past(&self, skipped: usize) -> &[Span]
         requires { skipped ≤ length (form_names self.now) }
         ensures names { map (span_text (form_sources self.now)) result.now
@@ -144,7 +144,7 @@ impl<'a> NormalForm<'a> {
         &self.names[skipped..]
     }
 
-    // The normal form of nothing, with room for `room` names.
+    // Returns the normal form of no components, with a capacity of `room` names.
     fn with_capacity(
         alloc: Global,
         sources: Sources<'a>,
@@ -163,7 +163,7 @@ impl<'a> NormalForm<'a> {
         })
     }
 
-    // Follows one component more, which the span cuts out.
+    // Follows one more component, whose text the span cuts out.
     fn follow(&mut self, component: Component<'_>, span: Span)
         requires cuts { Cuts (form_sources self.old) span (step_of component) }
         requires room { form_len self.old < form_room self.old }
@@ -184,7 +184,7 @@ impl<'a> NormalForm<'a> {
         }
     }
 
-    // Follows the components of a source, one after another.
+    // Follows the components of a source in turn.
     fn follow_all(mut self, source: Source) -> NormalForm<'a>
         requires room { form_len self + length (components (source_text (form_sources self) source))
             ≤ form_room self }
@@ -209,7 +209,8 @@ impl<'a> NormalForm<'a> {
     }
 }
 
-// How many bytes `climb` times `..`, a run and the names after it have, with single slashes between.
+// Counts the bytes of `climb` times `..`, a run and the names after it, joined by single slashes. `None` if no `usize`
+// holds the count.
 fn spelled_len(climb: usize, names: Option<(Span, &[Span])>) -> Option<usize>
     requires ordered { IfSome names (λ found. (found.0.start ≤ found.0.end) × All IsOrdered found.1.now) }
     requires bound { rest_len names ≤ 2 ^ 64 }

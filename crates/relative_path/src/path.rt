@@ -37,8 +37,8 @@ use std::fmt;
 use std::hash::{Hash, Hasher};
 use std::path::{Path, PathBuf};
 
-/// What [`RelativePath::strip_prefix`] answers where the path doesn't start with the other. It says
-/// no more than that: any two are equal.
+/// The error of [`RelativePath::strip_prefix`]: the path doesn't start with the base. It carries
+/// nothing else, so any two are equal.
 ///
 /// ```
 /// let stripped = RelativePath::new("foo/bar").strip_prefix(RelativePath::new("fo"));
@@ -47,9 +47,9 @@ use std::path::{Path, PathBuf};
 #[derive(Debug, Clone, PartialEq, Eq, Drop)]
 pub struct StripPrefixError(());
 
-/// A relative path: a copied view of a text, cut at `/` on every platform.
+/// A borrowed relative path: a `Copy` view of a text, which is cut at `/` on every platform.
 ///
-/// Paths are equal, ordered and hashed by their components, and print as their text.
+/// Paths are compared and hashed by their components, and print as their text.
 ///
 /// ```
 /// assert!(rt; RelativePath::new("a//b/") == RelativePath::new("a/b"));
@@ -61,7 +61,7 @@ pub struct RelativePath<'a> {
 }
 
 impl<'a> RelativePath<'a> {
-    /// The path with this text, whatever the text is. It takes no memory.
+    /// Views a text as a path; any text is one. Allocates nothing.
     ///
     /// ```
     /// assert_eq!(rt; RelativePath::new("foo/bar"), RelativePath::new("foo//bar"));
@@ -72,9 +72,9 @@ impl<'a> RelativePath<'a> {
         RelativePath { text }
     }
 
-    /// The platform path as a relative path, unless it begins with a slash.
+    /// Views a platform path as a relative path with the same text. Allocates nothing.
     ///
-    /// The answer has the platform path's text, and takes no memory.
+    /// Fails with `NonRelative` if the platform path begins with a slash.
     ///
     /// ```
     /// let path = RelativePath::from_path(Path::new("./foo//bar"))?;
@@ -92,7 +92,7 @@ impl<'a> RelativePath<'a> {
         Ok(RelativePath::new(text))
     }
 
-    /// The path's text.
+    /// Returns the path's text.
     ///
     /// ```
     /// assert_eq!(rt; RelativePath::new("a//b").as_str(), "a//b");
@@ -103,7 +103,7 @@ impl<'a> RelativePath<'a> {
         self.text
     }
 
-    /// The path, to be printed. It prints as the path itself does.
+    /// Returns a value that prints as the path does.
     ///
     /// ```
     /// let display = RelativePath::new("foo/bar").display();
@@ -115,10 +115,12 @@ impl<'a> RelativePath<'a> {
         Display { path: self }
     }
 
-    /// This path with `path` pushed onto it, in memory of its own.
+    /// Returns this path followed by `path`, in a new buffer.
     ///
-    /// One slash at the start of `path` is dropped, so nothing replaces this path. It asks for
-    /// memory once, for the whole result if that isn't empty, and fails only where that is refused.
+    /// A slash separates the two, unless this path is empty or ends in a slash. One slash at the
+    /// start of `path` is dropped, so `path` never replaces this path.
+    ///
+    /// Allocates once: the result, if it isn't empty. The only error is lack of memory.
     ///
     /// ```
     /// let joined = RelativePath::new("foo").join(alloc, RelativePath::new("/bar"))?;
@@ -145,7 +147,7 @@ impl<'a> RelativePath<'a> {
         Ok(joined)
     }
 
-    /// The iterator over the path's components, from both ends. It takes no memory.
+    /// Returns an iterator over the path's components, from either end. Allocates nothing.
     ///
     /// ```
     /// let mut components = RelativePath::new("foo/../bar").components();
@@ -159,7 +161,8 @@ impl<'a> RelativePath<'a> {
         Components::new(self.text)
     }
 
-    /// The iterator over the texts of the path's components, from both ends. It takes no memory.
+    /// Returns an iterator over the texts of the path's components, from either end. Allocates
+    /// nothing.
     ///
     /// ```
     /// let mut texts = RelativePath::new("foo//bar").iter();
@@ -173,9 +176,9 @@ impl<'a> RelativePath<'a> {
         Iter::new(self.text)
     }
 
-    /// A copy of the path, in memory of its own.
+    /// Copies the path into a new buffer.
     ///
-    /// It asks for memory once, if the path isn't empty, and fails only where that is refused.
+    /// Allocates once: the copy, if it isn't empty. The only error is lack of memory.
     ///
     /// ```
     /// let buf = RelativePath::new("//a/").to_relative_path_buf(alloc)?;
@@ -187,11 +190,11 @@ impl<'a> RelativePath<'a> {
         RelativePathBuf::from_text(alloc, self.text)
     }
 
-    /// A platform path with the components of this path after it, each as its text, with a slash
-    /// before each unless nothing stands before it.
+    /// Returns `base` followed by the text of each component of this path. A slash precedes each
+    /// component, except at the start of the result.
     ///
-    /// It asks for memory once, for the bytes of both and one more, and fails only where that is
-    /// refused.
+    /// Allocates once: as many bytes as both texts have, and one more. The only error is lack of
+    /// memory.
     ///
     /// ```
     /// let path = RelativePath::new("/bar//..").to_path(alloc, Path::new("foo"))?;
@@ -204,12 +207,12 @@ impl<'a> RelativePath<'a> {
         joined(alloc, base.as_str(), self.text).map(PathBuf::from)
     }
 
-    /// The platform path to which this path leads from another one: `.` stays, `..` goes up as
-    /// [`crate::unix::parent_text`] does, and a name is added after a slash, unless nothing stands
-    /// before it.
+    /// Returns the platform path where this path leads from `base`: each `.` is skipped, each `..`
+    /// goes up as [`crate::unix::parent_text`] does, and each name is added. A slash precedes a
+    /// name, except at the start of the result.
     ///
-    /// It asks for memory once, for the bytes of both and one more, and fails only where that is
-    /// refused.
+    /// Allocates once: as many bytes as both texts have, and one more. The only error is lack of
+    /// memory.
     ///
     /// ```
     /// let path = RelativePath::new("../baz").to_logical_path(alloc, Path::new("foo/bar"))?;
@@ -222,9 +225,10 @@ impl<'a> RelativePath<'a> {
         joined_logically(alloc, base.as_str(), self.text).map(PathBuf::from)
     }
 
-    /// The path without each `.` at its end and one component more. Only the empty path has none.
+    /// Returns the path without its last component other than `.`, and without each `.` after that
+    /// component. Only the empty path has no parent.
     ///
-    /// The answer is a part of this path, never ends in a slash, and takes no memory.
+    /// The parent is a part of this path and never ends in a slash. Allocates nothing.
     ///
     /// ```
     /// let parent = RelativePath::new("foo/./bar//.").parent();
@@ -251,9 +255,9 @@ impl<'a> RelativePath<'a> {
         }
     }
 
-    /// The last component that is no `.`, if it is a name.
+    /// Returns the last component other than `.`, if that component is a name.
     ///
-    /// The answer is a part of this path, and takes no memory.
+    /// The file name is a part of this path. Allocates nothing.
     ///
     /// ```
     /// assert_eq!(rt; RelativePath::new("foo/bar.txt/.").file_name(), Some("bar.txt"));
@@ -269,11 +273,11 @@ impl<'a> RelativePath<'a> {
         last_component(self.text).name
     }
 
-    /// The path that follows `base`, if this path starts with it.
+    /// Returns the part of this path after the components of `base` and the slashes that follow
+    /// them. For a `base` without components that is the whole path, slashes included. Allocates
+    /// nothing.
     ///
-    /// The answer is a part of this path: what is left of it after one call of `next` for each
-    /// component of `base`. By a base without components it is the whole path, slashes included. It
-    /// takes no memory.
+    /// Fails if this path doesn't start with `base`.
     ///
     /// ```
     /// let path = RelativePath::new("//foo/bar/");
@@ -293,9 +297,7 @@ impl<'a> RelativePath<'a> {
             .ok_or(StripPrefixError(()))
     }
 
-    /// Whether the components of this path begin with those of `base`.
-    ///
-    /// It takes no memory.
+    /// Returns whether this path's components begin with those of `base`. Allocates nothing.
     ///
     /// ```
     /// let path = RelativePath::new("etc/passwd");
@@ -309,9 +311,7 @@ impl<'a> RelativePath<'a> {
         text_after(self.text, base.text).is_some()
     }
 
-    /// Whether the components of this path end with those of `child`.
-    ///
-    /// It takes no memory.
+    /// Returns whether this path's components end with those of `child`. Allocates nothing.
     ///
     /// ```
     /// let path = RelativePath::new("etc/passwd");
@@ -325,10 +325,9 @@ impl<'a> RelativePath<'a> {
         ends_with(self.text, child.text)
     }
 
-    /// How many names a base must have for this path to lead anywhere from it. A path whose climb is
-    /// 0 leads nowhere but below its base, or to the base itself.
-    ///
-    /// It is the number of `..` that the path's normal form begins with. It takes no memory.
+    /// Returns how many names a base needs for this path to lead to a place from it: the number of
+    /// `..` at the start of the path's normal form. A path with a climb of 0 leads to its base or
+    /// below. Allocates nothing.
     ///
     /// ```
     /// assert_eq!(rt; RelativePath::new("docs/../img/a.png").climb(), 0);
@@ -355,9 +354,8 @@ impl<'a> RelativePath<'a> {
         climb
     }
 
-    /// Whether the components of this path are `..` first, then names only. Slashes don't count.
-    ///
-    /// It takes no memory.
+    /// Returns whether this path's components are `..` first, then names only. Extra slashes make
+    /// no difference. Allocates nothing.
     ///
     /// ```
     /// assert!(rt; RelativePath::new("../foo//bar").is_normalized());
@@ -378,14 +376,14 @@ impl<'a> RelativePath<'a> {
         true
     }
 
-    /// This path with its file name replaced, in memory of its own.
+    /// Returns a copy of this path with its file name replaced.
     ///
-    /// A path without a file name gets the new one pushed onto it, so the new name is then *below*
-    /// the path and not beside it: `..` with the name `x` is `../x`. The new name may have several
-    /// components, and `..` among them climb as they do in any path: `a/b` with the name
+    /// If the path has no file name, the new one is pushed onto the path. The result then leads
+    /// *below* the path, not beside it: `..` with the name `x` is `../x`. The new name may have
+    /// several components, and each `..` among them climbs as in any path: `a/b` with the name
     /// `../../../x` is `a/../../../x`, which leads above its base.
     ///
-    /// It allocates once, the whole result if that isn't empty. The only error is lack of memory.
+    /// Allocates once: the result, if it isn't empty. The only error is lack of memory.
     ///
     /// ```
     /// let named = RelativePath::new("tmp/foo.txt").with_file_name(alloc, "bar.txt")?;
@@ -409,10 +407,10 @@ impl<'a> RelativePath<'a> {
         RelativePath::new(base_of(self.text)).join(alloc, RelativePath::new(file_name))
     }
 
-    /// The file name up to its last dot. It is the whole file name if that has no dot, or nothing
-    /// before its last one; `None` without a file name.
+    /// Returns the file name up to its last dot, or the whole file name if it has no dot, or only a
+    /// leading one. `None` if the path has no file name.
     ///
-    /// The answer is a part of this path, and takes no memory.
+    /// The stem is a part of this path. Allocates nothing.
     ///
     /// ```
     /// assert_eq!(rt; RelativePath::new("foo.tar.gz").file_stem(), Some("foo.tar"));
@@ -428,10 +426,10 @@ impl<'a> RelativePath<'a> {
         Some(stem)
     }
 
-    /// What stands after the last dot of the file name, if there is one and something stands before
-    /// that dot.
+    /// Returns the part of the file name after its last dot. `None` if the file name has no dot, or
+    /// only a leading one, or if the path has no file name.
     ///
-    /// The answer is a part of this path, and takes no memory.
+    /// The extension is a part of this path. Allocates nothing.
     ///
     /// ```
     /// assert_eq!(rt; RelativePath::new("foo.tar.gz").extension(), Some("gz"));
@@ -444,14 +442,14 @@ impl<'a> RelativePath<'a> {
         split_name(self.file_name()?).1
     }
 
-    /// This path with the extension of its file name replaced, in memory of its own. An empty
-    /// extension takes it off. A path without a file name stays as it is.
+    /// Returns a copy of this path with the extension of its file name replaced. An empty
+    /// `extension` removes it. A path without a file name is copied as it is.
     ///
-    /// An extension that isn't empty and has no slash keeps the path's directory. An empty one
-    /// leaves the stem of the file name as the last component, whatever component that is: `...`
-    /// becomes `..`, which climbs, and `..x` becomes `.`.
+    /// An extension that isn't empty and has no slash keeps the path's directory. An empty
+    /// extension leaves the stem of the file name as the last component, even if the stem is `..`
+    /// or `.`: `...` becomes `..`, which climbs, and `..x` becomes `.`.
     ///
-    /// It allocates once, the whole result if that isn't empty. The only error is lack of memory.
+    /// Allocates once: the result, if it isn't empty. The only error is lack of memory.
     ///
     /// ```
     /// let extended = RelativePath::new("foo.rs").with_extension(alloc, "txt")?;
@@ -492,12 +490,12 @@ impl<'a> RelativePath<'a> {
         Ok(extended)
     }
 
-    /// The only normal path that leads where this path, and then `path`, lead: the answer of
-    /// `normalize` for both joined.
+    /// Returns the only normal path that leads where this path and then `path` lead. `normalize`
+    /// returns the same for the two joined.
     ///
-    /// It asks for memory at most twice: for a table with a span for each component of both paths, if
-    /// there is one, and for the answer's text at its exact length, if that isn't empty. It fails
-    /// only where one of the two is refused.
+    /// Allocates at most twice: a table with a span for each component of both paths, if they have
+    /// any, and the result at its exact length, if it isn't empty. The only error is lack of
+    /// memory.
     ///
     /// ```
     /// let foo = RelativePath::new("x/y");
@@ -525,12 +523,11 @@ impl<'a> RelativePath<'a> {
         Ok(form.into_text(alloc)?.into())
     }
 
-    /// The only normal path that leads where this one leads: `..` first, then names, with single
-    /// slashes between.
+    /// Returns the only normal path that leads where this path leads: `..` first, then names,
+    /// joined by single slashes.
     ///
-    /// It asks for memory at most twice: for a table with a span for each of its components, if there
-    /// is one, and for the answer's text at its exact length, if that isn't empty. It fails only
-    /// where one of the two is refused.
+    /// Allocates at most twice: a table with a span for each component, if the path has any, and
+    /// the result at its exact length, if it isn't empty. The only error is lack of memory.
     ///
     /// ```
     /// let normal = RelativePath::new("../foo/./bar/../baz.txt").normalize(alloc)?;
@@ -549,8 +546,8 @@ impl<'a> RelativePath<'a> {
         Ok(normal.into_text(alloc)?.into())
     }
 
-    /// Writes the text of `normalize` into an empty buffer with room for this path. It takes no
-    /// memory.
+    /// Writes the text that `normalize` returns into an empty buffer, whose capacity is at least
+    /// the length of this path. Allocates nothing.
     ///
     /// ```
     /// let path = RelativePath::new("a/.././b/../c/d");
@@ -570,16 +567,16 @@ impl<'a> RelativePath<'a> {
         }
     }
 
-    /// The shortest path that leads from where this path leads to where `to` leads, whatever base
-    /// both start from. From or to a normal text it is also the shortest from or to each path that
-    /// has that normal text.
+    /// Returns the shortest path from where this path leads to where `to` leads, whatever base both
+    /// start from. Normalising either path first doesn't change the result.
     ///
-    /// The answer is empty where both lead to the same, and also where no path leads from here to
-    /// there, as from `..` to `a`: [`RelativePath::try_relative`] tells these apart.
+    /// The result is empty if both paths lead to the same place. It is also empty if no path leads
+    /// from this one to `to`, as from `..` to `a`: [`RelativePath::try_relative`] tells the two
+    /// cases apart.
     ///
-    /// It asks for memory at most three times: for a table of each path that has a component, with a
-    /// span for each, and for the answer's text, if that isn't empty. It fails only where one is
-    /// refused or no memory could hold the text.
+    /// Allocates at most three times: for each path that has components, a table with a span for
+    /// each of them; and the result, if it isn't empty. Fails only if an allocation fails, or if
+    /// the result is too long for memory.
     ///
     /// ```
     /// let from = RelativePath::new("a/b/c/d");
@@ -614,12 +611,12 @@ impl<'a> RelativePath<'a> {
         }
     }
 
-    /// The path that [`RelativePath::relative`] answers, or `None` where no path leads from where
-    /// this path leads to where `to` leads.
+    /// Returns what [`RelativePath::relative`] returns, or `None` if no path leads from where this
+    /// path leads to where `to` leads.
     ///
-    /// It asks for memory at most three times: for a table of each path that has a component, with a
-    /// span for each, and for the answer's text, if some path leads and it isn't empty. It fails only
-    /// where one is refused or no memory could hold the text.
+    /// Allocates at most three times: for each path that has components, a table with a span for
+    /// each of them; and the result, if there is one and it isn't empty. Fails only if an
+    /// allocation fails, or if the result is too long for memory.
     ///
     /// ```
     /// let path = RelativePath::new("a");
@@ -656,11 +653,11 @@ impl<'a> RelativePath<'a> {
         Ok(Some(text.into()))
     }
 
-    /// The fewest names a base can have from which this path and `path` lead to different places,
-    /// or only one of them leads to a place; `None` where both lead to the same from every base.
+    /// Returns the length of the shortest base from which this path and `path` lead apart: to
+    /// different places, or only one of them to a place. `None` if they lead alike from every base.
     ///
-    /// It asks for memory at most twice: for a table of each path that has a component, with a span
-    /// for each. It fails only where one is refused.
+    /// Allocates at most twice: for each path that has components, a table with a span for each of
+    /// them. The only error is lack of memory.
     ///
     /// ```
     /// let path = RelativePath::new("../a");
@@ -686,7 +683,7 @@ impl<'a> RelativePath<'a> {
 }
 
 impl<'a> Component<'a> {
-    /// The component alone, as a path.
+    /// Views the component alone as a path.
     ///
     /// ```
     /// assert_eq!(rt; Component::Normal("foo").as_relative_path(), RelativePath::new("foo"));
@@ -699,7 +696,8 @@ impl<'a> Component<'a> {
 }
 
 impl<'a> Components<'a> {
-    /// The text that is left, as a path. Before any call it is the whole text.
+    /// Views the text that is left as a path. Before the first call of `next` or `next_back` that
+    /// is the whole text.
     ///
     /// ```
     /// let mut components = RelativePath::new("/a//b/").components();
@@ -796,7 +794,7 @@ impl fmt::Display for RelativePath<'_> {
     }
 }
 
-/// What [`RelativePath::display`] answers: it prints as the path does.
+/// A path to be printed, as [`RelativePath::display`] returns it. It prints as the path does.
 ///
 /// ```
 /// let display = RelativePath::new("foo").display();

@@ -1,11 +1,11 @@
-//! What a path has beyond the components of another, and whether it ends with them.
+//! The rest of a path after the components of another, and whether a path ends with those of another.
 ghost use Rattle.std.specs.Prelude.{◌≡◌, ◌↔◌, ◌++◌, IfSome, IsSome, IsTrue, length};
 ghost use Rattle.relative_path.specs.Prefixing.{StartsWith, EndsWith, IsDropped};
 ghost use Rattle.relative_path.specs.Steps.{components};
 
 use crate::component::Components;
 
-// What follows the components of `base`, if the text starts with them.
+// Returns the rest of the text after the components of `base`, if the text starts with them.
 pub(crate) fn text_after<'a>(text: &'a str, base: &str) -> Option<&'a str>
     ensures found { IsSome result
         ↔ StartsWith (components text.now) (components base.now) }
@@ -23,7 +23,7 @@ pub(crate) fn text_after<'a>(text: &'a str, base: &str) -> Option<&'a str>
     Some(left.as_str())
 }
 
-// Whether the components of the text end with those of `child`.
+// Returns whether the components of the text end with those of `child`.
 pub(crate) fn ends_with(text: &str, child: &str) -> bool
     ensures { IsTrue result ↔ EndsWith (components text.now) (components child.now) }
 {

@@ -1,4 +1,4 @@
-//! The way from one normal form to another, and where two lead apart.
+//! The way from one normal form to another, and from which bases two of them lead apart.
 ghost use Rattle.std.specs.Prelude.{◌≡◌, ◌≤◌, ◌<◌, ◌^◌, ◌↔◌, length, drop, IsTrue, IfSome, IsNone, MatchOption};
 ghost use Rattle.relative_path.specs.NormalForm.{ups_then_names, form_names, form_steps, form_len};
 ghost use Rattle.relative_path.specs.Relating.{IsReachable, IsShortest, LeadsApart};
@@ -6,7 +6,7 @@ ghost use Rattle.relative_path.specs.Walk.{IsSame};
 
 use crate::normal_form::NormalForm;
 
-// The way from one normal form to another: `climb` times `..`, and the target's names without the first `skipped`.
+// The way from one normal form to another: `climb` times `..`, and then the target's names after the first `skipped`.
 #[derive(Clone, Copy)]
 pub(crate) struct Way {
     pub(crate) climb: usize,
@@ -14,7 +14,7 @@ pub(crate) struct Way {
 }
 
 impl Way {
-    // The shortest way from one normal form to another, if there is one.
+    // Returns the shortest way from one normal form to another, if some path leads there.
     pub(crate) fn between(from: &NormalForm<'_>, to: &NormalForm<'_>) -> Option<Way>
         requires from { form_len from.now < 2 ^ 63 }
         requires to { form_len to.now < 2 ^ 63 }
@@ -32,7 +32,8 @@ impl Way {
     }
 }
 
-// The fewest names of a base from which two normal forms lead to different places, if there is one.
+// Returns the length of the shortest base from which two normal forms lead apart. `None` if they lead alike from every
+// base.
 pub(crate) fn shortest_separating_base(
     form: &NormalForm<'_>,
     other: &NormalForm<'_>,
@@ -47,7 +48,7 @@ pub(crate) fn shortest_separating_base(
     }
 }
 
-// Whether two normal forms have the same names.
+// Returns whether two normal forms have the same names.
 fn have_same_names(form: &NormalForm<'_>, other: &NormalForm<'_>) -> bool
     ensures { IsTrue result ↔ (form_names form.now ≡ form_names other.now) }
 {

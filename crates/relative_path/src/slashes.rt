@@ -7,15 +7,16 @@ ghost use Rattle.relative_path.specs.Steps.{slash, is_slash, components};
 
 use std::simd::prelude::*;
 
-// How many bytes are compared side by side, and how many in a text too short for that.
+// How many bytes are compared at once.
 pub(crate) const BLOCK: usize = 16;
 
+// How many bytes are compared at once in a text shorter than a block.
 const HALF: usize = 8;
 
-// A run of slashes, dropped at once.
+// A run of slashes, which is dropped at once.
 const SLASHES: &str = "////////////////";
 
-// Answers the text without the slashes at its start.
+// Returns the text without the slashes at its start.
 #[inline(always)]
 pub(crate) fn without_leading_slashes(text: &str) -> &str
     ensures suffix { result.now ≡ drop (length text.now - length result.now) text.now }
@@ -43,7 +44,7 @@ fn without_leading_slashes_slow(text: &str) -> &str
     rest.trim_start_matches('/')
 }
 
-// Answers the text without the slashes at its end.
+// Returns the text without the slashes at its end.
 #[inline(always)]
 pub(crate) fn without_trailing_slashes(text: &str) -> &str
     ensures prefix { result.now ≡ take (length result.now) text.now }
@@ -71,7 +72,7 @@ fn without_trailing_slashes_slow(text: &str) -> &str
     front.trim_end_matches('/')
 }
 
-// Answers the bytes before the first slash, and those after it.
+// Returns the bytes before the first slash, and the bytes after it.
 #[inline(always)]
 #[tactic(auto, using(crate::proofs::SlashesLemmas::position_le, crate::proofs::SlashesLemmas::IsCharBoundary_first, crate::proofs::SlashesLemmas::IsCharBoundary_after_first))]
 pub(crate) fn split_first(text: &str) -> (&str, &str)
@@ -113,7 +114,7 @@ fn first_piece_len(text: &str) -> usize
     len
 }
 
-// Counts them where the first block has no slash.
+// Counts the bytes before the first slash, if the first block has none.
 #[inline(never)]
 #[tactic(auto, using(crate::proofs::SlashesLemmas::position_le))]
 fn far_first_piece_len(bytes: &[u8]) -> usize
@@ -132,7 +133,7 @@ fn far_first_piece_len(bytes: &[u8]) -> usize
     first_in_last::<BLOCK>(bytes)
 }
 
-// Counts them where no slash stands before the last N bytes.
+// Counts the bytes before the first slash, if none comes before the last N bytes.
 #[inline(always)]
 #[tactic(auto, using(crate::proofs::SlashesLemmas::position_le))]
 fn first_in_last<const N: usize>(bytes: &[u8]) -> usize
@@ -148,7 +149,7 @@ fn first_in_last<const N: usize>(bytes: &[u8]) -> usize
     }
 }
 
-// Counts the bytes of a block of N before its first slash, if it has one.
+// Counts the bytes before the first slash in a block of N bytes; `None` if the block has no slash.
 #[inline(always)]
 fn first_in<const N: usize>(bytes: &[u8], start: usize) -> Option<usize>
     requires lanes { N ≤ 64 }
@@ -165,7 +166,7 @@ fn first_in<const N: usize>(bytes: &[u8], start: usize) -> Option<usize>
     }
 }
 
-// Answers the bytes before the last slash, and those after it.
+// Returns the bytes before the last slash, and the bytes after it.
 #[inline(always)]
 #[tactic(auto, using(crate::proofs::SlashesLemmas::IsCharBoundary_before_last, crate::proofs::SlashesLemmas::IsCharBoundary_last))]
 pub(crate) fn split_last(text: &str) -> (&str, &str)
@@ -208,7 +209,8 @@ fn last_piece_start(text: &str) -> usize
     start
 }
 
-// Finds it where the last block has no slash. The first block may end within the one after it.
+// Finds where the bytes after the last slash begin, if the last block has no slash. The first block may overlap the
+// second.
 #[inline(never)]
 fn far_last_piece_start(bytes: &[u8]) -> usize
     requires block { BLOCK ≤ length bytes.now }
@@ -227,7 +229,7 @@ fn far_last_piece_start(bytes: &[u8]) -> usize
     last_in::<BLOCK>(bytes, 0)
 }
 
-// Finds where the bytes of a block of N after its last slash begin: 0 if it has none.
+// Finds where the bytes after the last slash of a block of N bytes begin: 0 if the block has no slash.
 #[inline(always)]
 fn last_in<const N: usize>(bytes: &[u8], start: usize) -> usize
     requires lanes { N ≤ 64 }
@@ -239,7 +241,7 @@ fn last_in<const N: usize>(bytes: &[u8], start: usize) -> usize
     64 - slashes_in::<N>(bytes, start).leading_zeros() as usize
 }
 
-// Answers a bit for each byte of a block of N, set where it is a slash.
+// Returns a bit for each byte of a block of N bytes, set if the byte is a slash.
 #[inline(always)]
 pub(crate) fn slashes_in<const N: usize>(bytes: &[u8], start: usize) -> u64
     requires lanes { N ≤ 64 }

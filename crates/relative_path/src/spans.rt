@@ -1,16 +1,16 @@
-//! Spans of a text, or of one of two. The table that holds them is `normal_form.rt`'s.
+//! Spans of a text, or of one of two texts. `normal_form.rt` keeps a table of them.
 ghost use Rattle.std.specs.Prelude.{◌≡◌, ◌+◌, ◌<◌, ◌^◌, ◌↔◌, [], IsTrue, MatchOption};
 ghost use Rattle.std.specs.List.{All};
 ghost use Rattle.relative_path.specs.Spans.{source_text, span_text, spans_len, CutsName, IsFirstRun, IsOrdered, IsRun};
 
-// Which of two texts.
+// Which of the two texts.
 #[derive(Clone, Copy, PartialEq, Eq)]
 pub(crate) enum Source {
     First,
     Second,
 }
 
-// The texts that spans cut.
+// The texts that spans are cut out of.
 #[derive(Clone, Copy)]
 pub(crate) struct Sources<'a> {
     pub(crate) first: &'a str,
@@ -18,7 +18,7 @@ pub(crate) struct Sources<'a> {
 }
 
 impl<'a> Sources<'a> {
-    // The text of a source.
+    // Returns the text of a source.
     pub(crate) fn text(self, source: Source) -> &'a str
         ensures { result.now ≡ source_text self.entry source }
     {
@@ -28,7 +28,7 @@ impl<'a> Sources<'a> {
         }
     }
 
-    // What a span cuts out of its source.
+    // Returns what a span cuts out of its source.
     pub(crate) fn cut(self, span: Span) -> &'a str
         requires { IsRun self span }
         ensures { result.now ≡ span_text self.entry span }
@@ -37,7 +37,7 @@ impl<'a> Sources<'a> {
     }
 }
 
-// A stretch of one of the texts, between two ends of characters.
+// A part of one of the texts, on character boundaries.
 #[derive(Clone, Copy)]
 pub(crate) struct Span {
     pub(crate) source: Source,
@@ -46,7 +46,7 @@ pub(crate) struct Span {
 }
 
 impl Span {
-    // Whether the other span begins one byte after this one's end, in the same source.
+    // Returns whether the other span is in the same source and begins one byte after the end of this span.
     #[inline]
     pub(crate) fn is_followed_by(self, other: Span) -> bool
         ensures { IsTrue result ↔ ((other.source ≡ self.source) × (other.start ≡ self.end + 1)) }
@@ -55,7 +55,8 @@ impl Span {
     }
 }
 
-// The run of the first names as far as each stands next to the one before it, and the names after it.
+// Joins the first names into one run, as long as each begins one byte after the end of the name before it. Returns the
+// run and the rest of the names; `None` if there are no names.
 pub(crate) fn first_run(names: &[Span]) -> Option<(Span, &[Span])>
     ensures { (sources : Sources) → All (CutsName sources) names.now → MatchOption result (names.now ≡ [])
         (λ found. IsFirstRun sources names.now found.0 found.1.now) }
@@ -72,7 +73,7 @@ pub(crate) fn first_run(names: &[Span]) -> Option<(Span, &[Span])>
     Some((run, left))
 }
 
-// How many bytes the spans have, with a slash after each.
+// Counts the bytes of the spans, with a slash after each.
 pub(crate) fn spans_len(spans: &[Span]) -> usize
     requires ordered { All IsOrdered spans.now }
     requires bound { spans_len spans.now < 2 ^ 64 }

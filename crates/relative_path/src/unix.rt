@@ -1,7 +1,7 @@
 //! Platform paths as texts, under the Unix rules for their components.
 //!
-//! A slash at the start is the root, other slashes only separate, and a `.` counts only at the
-//! start of a path without a root. Nothing here asks the file system.
+//! A slash at the start is the root, and other slashes only separate. A `.` counts only at the start
+//! of a path without a root. No call here asks the file system.
 ghost use Rattle.std.specs.Prelude.{◌≡◌, ◌≢◌, ◌↔◌, ◌++◌, List, ℕ, IfOk, IfErr, IsErr, IsErrAnd, IsTrue, Some, None, false, if◌then◌else◌, string_bytes};
 ghost use Rattle.std.specs.Path.{path_bytes, path_buf_bytes};
 ghost use Rattle.relative_path.specs.Editing.{without_cur_dirs};
@@ -22,9 +22,9 @@ use crate::unix_texts::{climbed_text, joined, joined_logically};
 use std::alloc::{AllocError, Global};
 use std::path::{Path, PathBuf};
 
-/// The platform path as a relative path, unless it begins with a slash.
+/// Views a platform path as a relative path with the same text. Allocates nothing.
 ///
-/// The answer is the text itself, and takes no memory.
+/// Fails with `NonRelative` if the platform path begins with a slash.
 ///
 /// ```
 /// assert_eq!(rt; unix::view("./foo//bar")?.as_str(), "./foo//bar");
@@ -37,12 +37,11 @@ pub fn view(text: &str) -> Result<RelativePath<'_>, FromPathError>
     RelativePath::from_path(Path::new(text))
 }
 
-/// The components of a platform path but each `.`, with single slashes between, unless it begins
-/// with a slash.
+/// Returns the components of a platform path, without any `.`, joined by single slashes.
 ///
-/// A text that begins with a slash is refused before any memory is asked for. Else it asks for
-/// memory once, for as many bytes as the text has, if it has any, and fails only where that is
-/// refused.
+/// Fails with `NonRelative`, before it allocates, if the text begins with a slash. Otherwise it
+/// allocates once: as many bytes as the text has, if there are any. Its only other error is
+/// `OutOfMemory`.
 ///
 /// ```
 /// let path = unix::from_path(alloc, "./foo//bar/.")?;
@@ -57,11 +56,11 @@ pub fn from_path(alloc: Global, text: &str) -> Result<RelativePathBuf, FromPathE
     RelativePathBuf::from_path(alloc, Path::new(text))
 }
 
-/// The platform path with the components of a relative path after it, each as its text, with a
-/// slash before each unless nothing stands before it.
+/// Returns `base` followed by the text of each component of `path`. A slash precedes each
+/// component, except at the start of the result.
 ///
-/// It asks for memory once, for the bytes of both and one more, and fails only where that is
-/// refused.
+/// Allocates once: as many bytes as both texts have, and one more. The only error is lack of
+/// memory.
 ///
 /// ```
 /// let path = unix::to_path(alloc, RelativePath::new("../bar//baz"), "/foo")?;
@@ -73,11 +72,12 @@ pub fn to_path(alloc: Global, path: RelativePath<'_>, base: &str) -> Result<Stri
     joined(alloc, base, path.as_str())
 }
 
-/// The platform path to which a relative path leads from another one: `.` stays, `..` goes up as
-/// [`parent_text`] does, and a name is added after a slash, unless nothing stands before it.
+/// Returns the platform path where `path` leads from `base`: each `.` is skipped, each `..` goes up
+/// as [`parent_text`] does, and each name is added. A slash precedes a name, except at the start of
+/// the result.
 ///
-/// It asks for memory once, for the bytes of both and one more, and fails only where that is
-/// refused.
+/// Allocates once: as many bytes as both texts have, and one more. The only error is lack of
+/// memory.
 ///
 /// ```
 /// let path = unix::to_logical_path(alloc, RelativePath::new("../bar//baz"), "/foo")?;
@@ -94,13 +94,14 @@ pub fn to_logical_path(
     joined_logically(alloc, base, path.as_str())
 }
 
-/// The relative path from one platform path, the root, to another: without what both begin with, one
-/// `..` for each directory that the rest of the root goes down, followed by the rest of the path.
+/// Returns the relative path from `root` to `path`. The components that both begin with are
+/// dropped. The result is then one `..` for each directory that the rest of `root` goes down,
+/// followed by the rest of `path`.
 ///
-/// It is refused where only one of the texts begins with a slash, and else where what is left of
-/// the root climbs above what both begin with. These refusals come before any memory is asked for.
-/// Else it asks for memory once, for exactly the answer if that isn't empty, and fails only where
-/// that is refused.
+/// Fails with `PrefixMismatch` if only one of the texts begins with a slash, and with
+/// `AmbiguousTraversal` if the rest of `root` climbs above what both begin with. Both errors come
+/// before it allocates. Otherwise it allocates once: the result at its exact length, if it isn't
+/// empty. Its only other error is `OutOfMemory`.
 ///
 /// ```
 /// let path = unix::relative_to(alloc, "/foo/qux", "/foo/bar/./baz")?;
@@ -135,7 +136,7 @@ pub fn relative_to(
 
 /// The call on platform paths that the standard library lacks.
 ///
-/// It is closed: it is implemented for [`Path`] and [`PathBuf`] here, and meant for no other type.
+/// [`Path`] and [`PathBuf`] implement this trait, and no other type is meant to.
 ///
 /// ```
 /// let baz = Path::new("/foo/bar/baz");
@@ -145,8 +146,8 @@ pub fn relative_to(
 pub trait PathExt {
     ghost text: { Self → List ℕ };
 
-    /// The relative path from another platform path, the root, to this one: what [`relative_to`]
-    /// answers of their texts.
+    /// Returns the relative path from `root` to this platform path: what [`relative_to`] returns
+    /// for their texts.
     fn relative_to(&self, alloc: Global, root: Path<'_>) -> Result<RelativePathBuf, RelativeToError>
         ensures prefix_mismatch { IsErrAnd result
             (λ error. relative_to_kind error ≡ relative_to_kinds.PrefixMismatch)

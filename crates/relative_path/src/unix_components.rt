@@ -11,17 +11,17 @@ ghost use Rattle.relative_path.specs.Walk.{walk};
 use crate::component::{Component, Components};
 use crate::slashes::without_trailing_slashes;
 
-// The iterator over the components of a platform path that count, from the front.
+// An iterator over the components of a platform path that count, from the front.
 #[derive(Clone, Copy)]
 pub(crate) struct UnixComponents<'a> {
     // What is left of the path.
     left: &'a str,
-    // Whether a `.` counts no more: after a root, and after the first component.
+    // Whether each `.` is skipped: after a root, and after the first component.
     skips_cur_dirs: bool,
 }
 
 impl<'a> UnixComponents<'a> {
-    // The iterator over a whole path, after its root.
+    // Returns the iterator over a whole path, after its root.
     pub(crate) fn new(text: &'a str) -> UnixComponents<'a>
         ensures { unix_left result ≡ unix_components text.now }
     {
@@ -31,7 +31,7 @@ impl<'a> UnixComponents<'a> {
         }
     }
 
-    // The iterator over the components that are no `.`.
+    // Returns the iterator over the components other than `.`.
     pub(crate) fn without_cur_dirs(text: &'a str) -> UnixComponents<'a>
         ensures { unix_left result ≡ without_cur_dirs (components text.now) }
     {
@@ -64,7 +64,7 @@ impl<'a> Iterator for UnixComponents<'a> {
     }
 }
 
-// What is left of two paths after the components that both begin with.
+// Returns the rests of two paths after the components that both begin with.
 pub(crate) fn without_shared<'a, 'b>(
     path: &'a str,
     root: &'b str,
@@ -84,8 +84,7 @@ pub(crate) fn without_shared<'a, 'b>(
     }
 }
 
-// How many names lie between the top and where the components lead from there; none where they
-// climb above it.
+// Returns how many names the place has to which the components lead from the top. `None` if they climb above the top.
 pub(crate) fn depth(left: UnixComponents<'_>) -> Option<usize>
     ensures { MatchOption result (walk [] (unix_left left.entry) ≡ None)
         (λ depth. (place : List (List ℕ)) × (walk [] (unix_left left.entry) ≡ Some place)
@@ -102,14 +101,14 @@ pub(crate) fn depth(left: UnixComponents<'_>) -> Option<usize>
     Some(depth)
 }
 
-// Whether the text begins with a slash.
+// Returns whether the text begins with a slash.
 pub(crate) fn has_root(text: &str) -> bool
     ensures { result ≡ has_root text.now }
 {
     text.starts_with('/')
 }
 
-// The text without the slashes at its end, and without each `.` there that doesn't count.
+// Returns the text without the slashes at its end, and without each `.` there that doesn't count.
 pub(crate) fn trim_uncounted_end(text: &str, rooted: bool) -> &str
     ensures prefix { result.now ≡ take (length result.now) text.now }
     ensures end { slice_index result.now (length result.now - 1) ≢ slash }

@@ -1,4 +1,4 @@
-//! Texts of platform paths. Each new one is written into room made for it at once.
+//! Texts of platform paths. Each new text is written into a capacity that is allocated once.
 ghost use Rattle.std.specs.Prelude.{◌≡◌, ◌≤◌, ◌+◌, ◌^◌, ◌++◌, length, replicate, IfOk, MatchOption, string_bytes};
 ghost use Rattle.std.specs.String.{string_capacity};
 ghost use Rattle.relative_path.specs.Steps.{up, components, spell};
@@ -10,10 +10,9 @@ use crate::unix_components::{UnixComponents, has_root, trim_uncounted_end};
 use crate::writing::{add_piece, copy_with_room, push_climb};
 use std::alloc::{AllocError, Global};
 
-/// The text that going up from a platform path leaves: the shortest part of its front that has the
-/// same root and all its components but the last. A text without a component stays as it is.
-///
-/// The answer takes no memory.
+/// Returns what going up from a platform path leaves: the shortest prefix of the text that has the
+/// same root and all its components but the last. A text without a component is returned whole.
+/// Allocates nothing.
 ///
 /// ```
 /// assert_eq!(rt; unix::parent_text("//foo/./bar"), "//foo");
@@ -34,7 +33,7 @@ pub fn parent_text(text: &str) -> &str
     }
 }
 
-// The text with the components of a path after it, as `to_path` answers it. It asks for memory once.
+// Returns what `to_path` returns. Allocates once.
 pub(crate) fn joined(alloc: Global, base: &str, path: &str) -> Result<String, AllocError>
     ensures { IfOk result (λ text. string_bytes text ≡ onto base.now (components path.now)) }
 {
@@ -45,7 +44,7 @@ pub(crate) fn joined(alloc: Global, base: &str, path: &str) -> Result<String, Al
     Ok(text)
 }
 
-// The text to which the components of a path lead from it, as `to_logical_path` answers it. It asks for memory once.
+// Returns what `to_logical_path` returns. Allocates once.
 pub(crate) fn joined_logically(alloc: Global, base: &str, path: &str) -> Result<String, AllocError>
     ensures { IfOk result (λ text. IsLogical base.now (components path.now) (string_bytes text)) }
 {
@@ -63,8 +62,8 @@ pub(crate) fn joined_logically(alloc: Global, base: &str, path: &str) -> Result<
     Ok(text)
 }
 
-// How many bytes `climb` times `..` and the components after them have, with single slashes between;
-// none where no text can have as many.
+// Counts the bytes of `climb` times `..` and the components after them, joined by single slashes. `None` if no text can
+// be that long.
 pub(crate) fn climbed_len(climb: usize, components: UnixComponents<'_>) -> Option<usize>
     ensures { MatchOption result
         (2 ^ 63 ≤ length (spell (replicate climb up ++ unix_left components.entry)))
@@ -77,7 +76,7 @@ pub(crate) fn climbed_len(climb: usize, components: UnixComponents<'_>) -> Optio
     Some(len.saturating_sub(1))
 }
 
-// The text of `climb` times `..` and the components after them. It asks for memory once, for just this text.
+// Returns the text of `climb` times `..` and the components after them. Allocates once: exactly this text.
 pub(crate) fn climbed_text(
     alloc: Global,
     climb: usize,
@@ -93,7 +92,7 @@ pub(crate) fn climbed_text(
     Ok(text)
 }
 
-// Adds the components to a text with room for them.
+// Appends the components to a text whose capacity holds them.
 pub(crate) fn push_components(text: &mut String, components: UnixComponents<'_>)
     requires { length (onto (string_bytes text.old) (unix_left components)) ≤ string_capacity text.old }
     ensures { string_bytes text.new ≡ onto (string_bytes text.old) (unix_left components.entry) }

@@ -1,4 +1,5 @@
-//! Texts written into room made for them: a copy, a piece after a slash, and climbs, up to twenty-four at a time.
+//! Texts that are written within their capacity: a copy, a piece after a slash, and climbs, up to twenty-four at a
+//! time.
 ghost use Rattle.std.specs.Prelude.{◌≡◌, ◌≤◌, IfOk, fold, length, replicate, string_bytes};
 ghost use Rattle.std.specs.String.{string_capacity};
 ghost use Rattle.relative_path.specs.Steps.{up, step_text};
@@ -6,7 +7,7 @@ ghost use Rattle.relative_path.specs.Writing.{with_piece};
 
 use std::alloc::{AllocError, Global};
 
-// A copy of the text, with room for `room` bytes. It asks for memory once, if there is to be room.
+// Copies the text into a `String` with a capacity of at least `room` bytes. Allocates once, if `room` isn't 0.
 pub(crate) fn copy_with_room(alloc: Global, text: &str, room: usize) -> Result<String, AllocError>
     requires { length text.now ≤ room }
     ensures text { IfOk result (λ copy. string_bytes copy ≡ text.now) }
@@ -17,7 +18,7 @@ pub(crate) fn copy_with_room(alloc: Global, text: &str, room: usize) -> Result<S
     Ok(copy)
 }
 
-// Adds a piece to a text with room for it: after a slash, or alone to the empty text.
+// Appends a piece to a text whose capacity holds it: after a slash, or alone if the text is empty.
 pub(crate) fn add_piece(text: &mut String, piece: &str)
     requires { length (with_piece (string_bytes text.old) piece.now) ≤ string_capacity text.old }
     ensures text { string_bytes text.new ≡ with_piece (string_bytes text.old) piece.now }
@@ -29,13 +30,13 @@ pub(crate) fn add_piece(text: &mut String, piece: &str)
     text.push_str(piece).unwrap();
 }
 
-// The most climbs that are written at once.
+// The largest number of climbs that are written at once.
 const MOST: usize = 24;
 
-// As many `..` as that, with a slash after each.
+// `MOST` times `..`, with a slash after each.
 const CLIMBS: &str = "../../../../../../../../../../../../../../../../../../../../../../../../";
 
-// Adds `climb` times `..`.
+// Appends `climb` times `..`.
 #[inline]
 pub(crate) fn push_climb(text: &mut String, climb: usize)
     requires { length (fold with_piece (string_bytes text.old) (replicate climb (step_text up)))

@@ -1,7 +1,7 @@
-pub mod ForCallers
 mod PlacesLemmas
 mod PlaceIndexLemmas
 mod MovesLemmas
-mod MoveTableLemmas
 mod PairsLemmas
+mod MoveTableLemmas
 mod ReferenceLemmas
+pub mod ForCallers

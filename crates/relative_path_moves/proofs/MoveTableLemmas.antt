@@ -13,8 +13,7 @@ use Rattle.relative_path_moves.specs.PlaceIndex.{IsFirstAt, IsNoneAt}
 use Rattle.relative_path_moves.specs.Moves.{Move, move_at, MovesFrom, AreApart, IsUnmoved, IsTarget, AtNewPath, ForTargetOfLink, ClimbsAbove, BelowTop}
 use Rattle.relative_path_moves.specs.MoveError.{Refuses}
 use Rattle.relative_path_moves.specs.MoveTable.{olds_of, LeadToTarget, IsWay, IsShortestBuffer, IsLink}
-use Rattle.relative_path_moves.proofs.ForCallers.{IsTarget-only}
-use Rattle.relative_path_moves.proofs.MovesLemmas.{old_at}
+use Rattle.relative_path_moves.proofs.MovesLemmas.{old_at, IsTarget-only}
 
 -- the file at the old path of a move moves
 MovesFrom-found : (moves : List Move) (place : List Step) (j : ℕ) → IsFirstAt (olds_of moves) place j

@@ -8,7 +8,7 @@ use Rattle.relative_path.specs.Steps.{Step, up, components}
 use Rattle.relative_path.specs.Walk.{walk}
 use Rattle.relative_path.specs.Editing.{IsPopped}
 use Rattle.relative_path.specs.Relating.{LeadsApart}
-use Rattle.relative_path.specs.RelativePath.{path_text, path_components}
+use Rattle.relative_path.specs.RelativePath.{path_text}
 use Rattle.relative_path.specs.declared.path.RelativePath.{RelativePath}
 use Rattle.relative_path.proofs.ForCallers.{components-up}
 use Rattle.relative_path.proofs.OnLiterals.{relative_path_on_literals}

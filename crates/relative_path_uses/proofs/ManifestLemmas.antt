@@ -1,6 +1,6 @@
 -- The files of a manifest's entries, one after another, and the first entry that isn't accepted.
 use Rattle.std.proofs.Common.{◌≡◌, ◌≢◌, ◌<◌, ◌+◌, ℕ, List, [], ◌∷◌, ◌++◌, map, length, take, get_or, Some, false, codes, option_map, option_and_then, refl, ap, ◌∙◌}
-use Rattle.std.proofs.lemmas.List.{get_or-map, length-map, take_more}
+use Rattle.std.proofs.lemmas.List.{get_or-map, length-map, take_more, map_push}
 use Rattle.std.proofs.lemmas.Slice.Zip.{all_zipped_more}
 use Rattle.serde_json.specs.Data.{Data, null}
 use Rattle.serde_json.specs.Find.{get, as_str, as_array}
@@ -41,10 +41,6 @@ IsFileOf-place base entry path place file string spells some portable normal bel
 pub item_list-items_of : (ds : List Data) → item_list (items_of ds) ≡ ds
 item_list-items_of [] = refl
 item_list-items_of (d ∷ ds) = ap (λ es. d ∷ es) (item_list-items_of ds)
-
-map_push : {A B : Type 0} (f : A → B) (xs : List A) (x : A) → map f (xs ++ x ∷ []) ≡ map f xs ++ f x ∷ []
-map_push f [] x = refl
-map_push f (y ∷ ys) x = ap (λ zs. f y ∷ zs) (map_push f ys x)
 
 -- the files so far, and the file of the next entry
 pub AreFiles-next : (base : List Step) (values : List Value) (none : Value) (files : List Buffer) (file : Buffer)

@@ -3,11 +3,11 @@ use Rattle.std.proofs.Common.{◌≡◌, ℕ, false, List, [], ◌∷◌, map, �
 use Rattle.std.proofs.lemmas.List.Elements.{All-from_recursion}
 use Rattle.std.proofs.lemmas.List.Folds.{list_any_none}
 use Rattle.std.specs.List.{All, AllByRecursion, list_any}
+use Rattle.std.proofs.lemmas.Bool.{or_parts}
 use Rattle.relative_path.specs.Steps.{Step, name, is_slash, components, SpellThemselves}
 use Rattle.relative_path.proofs.ForCallers.{SpellThemselves-components, name-proper, no_slash-proper}
 use Rattle.relative_path_uses.specs.FromTop.{SpellsPlace}
 use Rattle.relative_path_uses.specs.Names.{is_unportable, is_unportable_step, IsPlainName}
-use Rattle.relative_path_uses.proofs.TargetsLemmas.{or_false}
 
 -- Windows reads a component that is a name otherwise exactly if it reads the name otherwise
 pub unportable-names : (place : List (List ℕ)) → list_any is_unportable_step (map name place) ≡ list_any is_unportable place
@@ -19,7 +19,7 @@ plain_names : (place : List (List ℕ)) → SpellThemselves (map name place) →
     → AllByRecursion IsPlainName place
 plain_names [] proper none = tt
 plain_names (n ∷ place) (first, rest) none =
-    let (portable, others) = or_false (is_unportable n) (list_any is_unportable place) none in
+    let (portable, others) = or_parts (is_unportable n) (list_any is_unportable place) none in
     let (some, not_here, not_above) = name-proper n first in (
       record {
         not_empty = some;

@@ -1,6 +1,6 @@
 -- The targets of a page, moved one after another.
-use Rattle.std.proofs.Common.{◌≡◌, ℕ, Bool, false, List, [], ◌∷◌, ◌++◌, length, Option, Some, None, is_some, refl, sym, ap, ◌∙◌, arith, subst, ◌||◌, inr, append_assoc, append-nil}
-use Rattle.std.proofs.lemmas.Bool.{cond_both}
+use Rattle.std.proofs.Common.{◌≡◌, ℕ, Bool, false, List, [], ◌∷◌, ◌++◌, Option, Some, None, is_some, refl, sym, ap, ◌∙◌, arith, subst, ◌||◌, inr, append_assoc, append-nil}
+use Rattle.std.proofs.lemmas.Bool.{cond_both, or_parts}
 use Rattle.std.specs.List.{AllZip, list_any, between}
 use Rattle.std.specs.Option.{IsNone}
 use Rattle.relative_path.specs.Steps.{Step, slash, components}
@@ -12,7 +12,7 @@ use Rattle.relative_path_uses.specs.declared.rewriter.Unchanged.{Unchanged}
 use Rattle.relative_path_uses.specs.UrlReference.{IsReference}
 use Rattle.relative_path_uses.specs.Targets.{ends_path, path_of, tail_of, is_not_relative}
 use Rattle.relative_path_uses.specs.Rewriter.{StillLeads, IsWayNow, with_slash, IsNewPath, needs_escape, needs_escapes, Part, BecomesPart, Becomes, with_parts, unchanged_of, reported, IsRewritten}
-use Rattle.relative_path_uses.proofs.TargetsLemmas.{or_false, path_of-moved, is_not_relative-reference, is_not_relative-slash}
+use Rattle.relative_path_uses.proofs.TargetsLemmas.{path_of-moved, is_not_relative-reference, is_not_relative-slash}
 
 -- ---- one target
 
@@ -51,7 +51,7 @@ IsNone-some (Some y) x is none = absurd (grind (arith, none))
 fits : (angled : Bool) (text : List ℕ) → needs_escapes angled text ≡ false → list_any ends_path text ≡ false
 fits angled [] fit = refl
 fits angled (b ∷ bs) fit =
-    let (first, rest) = or_false (needs_escape angled b) (needs_escapes angled bs) fit in
+    let (first, rest) = or_parts (needs_escape angled b) (needs_escapes angled bs) fit in
     let goes_on : ends_path b ≡ false = grind (arith, first) in
     ap (λ ends. ends || list_any ends_path bs) goes_on ∙ fits angled bs rest
 
@@ -132,7 +132,3 @@ IsRewritten-last moves file page targets at text whole unchanged so_far is = rec
   text_is = is ∙ sym (so_far.text_is []);
   unchanged_is = sym (append-nil unchanged) ∙ sym (so_far.unchanged_is []);
 }
-
-pub no_targets : (targets : List Target) → length targets ≡ 0 → targets ≡ []
-no_targets [] none = refl
-no_targets (target ∷ targets) none = absurd (omega (arith, none))

@@ -2,7 +2,7 @@
 use Rattle.std.proofs.Common.{◌≡◌, ℕ, ◌<◌, ◌≤◌, ◌+◌, Bool, true, false, ◌||◌, List, [], ◌∷◌, ◌++◌, length, map, get_or, take, drop, not, suc, cond, Some, refl, sym, ap, ◌∙◌, subst, arith, append_assoc, append-nil}
 use Rattle.std.proofs.Math.Seq.{drop-cons}
 use Rattle.std.proofs.Math.Numerals.{suc-eq-add-one}
-use Rattle.std.proofs.lemmas.Bool.{cond_both}
+use Rattle.std.proofs.lemmas.Bool.{cond_both, or_parts}
 use Rattle.std.proofs.lemmas.List.Sums.{passes_at_first}
 use Rattle.std.proofs.lemmas.Str.{IsCharBoundary-before_ascii}
 use Rattle.std.specs.List.{position, position_or_len, list_any, before_first, between}
@@ -34,11 +34,6 @@ boundary_before text k is =
 
 -- ---- a path read back
 
--- a byte that passes neither test passes no test
-pub or_false : (a b : Bool) → (a || b) ≡ false → (a ≡ false) × (b ≡ false)
-or_false false b is = (refl, is)
-or_false true b is = absurd (grind (arith, is))
-
 -- the elements before the first that passes a test, by the first element
 pub before_first-next : (p : ℕ → Bool) (b : ℕ) (bs : List ℕ)
     → before_first p (b ∷ bs) ≡ cond (p b) [] (b ∷ before_first p bs)
@@ -65,8 +60,8 @@ pub path_of-moved : (path target : List ℕ) → list_any ends_path path ≡ fal
 path_of-moved [] target none = path_of-tail target
 path_of-moved (b ∷ bs) target none =
     before_first-next ends_path b (bs ++ tail_of target)
-    ∙ ap (λ ends. cond ends [] (b ∷ path_of (bs ++ tail_of target))) (or_false _ _ none).0
-    ∙ ap (λ path. b ∷ path) (path_of-moved bs target (or_false _ _ none).1)
+    ∙ ap (λ ends. cond ends [] (b ∷ path_of (bs ++ tail_of target))) (or_parts _ _ none).0
+    ∙ ap (λ path. b ∷ path) (path_of-moved bs target (or_parts _ _ none).1)
 
 -- ---- a path that is relative to the page's directory
 

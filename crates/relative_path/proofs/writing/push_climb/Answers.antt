@@ -1,7 +1,7 @@
-use Rattle.std.proofs.Common.{string_bytes, ◌≡◌, ◌<◌, ◌≤◌, ◌∙◌, ap, sym, ◌-◌, fold, length, replicate, arith}
+use Rattle.std.proofs.Common.{string_bytes, ◌≡◌, ◌∙◌, ap, sym, ◌-◌, fold, length, replicate, lit<, arith}
 use Rattle.relative_path.specs.Writing.{with_piece}
 use Rattle.relative_path.specs.Steps.{up, step_text}
-use Rattle.relative_path.proofs.WritingLemmas.{climbs_boundary, climbs_cut, with_pieces-some_climbs, some_climbs_fit}
+use Rattle.relative_path.proofs.WritingLemmas.{climbs_boundary, with_pieces-some_climbs, some_climbs_fit}
 use Rattle.relative_path.proofs.writing.push_climb.Goals as goal
 
 pub range-requires-clause-end_boundary : goal.range-requires-clause-end_boundary
@@ -11,31 +11,19 @@ range-requires-clause-end_boundary c =
 
 pub add_piece-requires : goal.add_piece-requires
 add_piece-requires c =
-    let count = c.min-count.ensures in
-    let left = c.loop-left-test.true in
-    let some : 0 < c.min-count.result = omega (arith, count, left) in
-    let few : c.min-count.result ≤ c.loop-left.left = omega (arith, count) in
-    let run = c.range.result.now in
-    let is = climbs_cut c.min-count.result 24 run some (omega (arith, count)) c.range.ensures.value in
-    let fits = some_climbs_fit (string_bytes c.loop-left.text) run c.loop-left.left c.min-count.result some few is in
-    let whole = ap length c.loop-left.invariant.text in
-    omega (arith, c.requires, fits, whole, c.loop-left.invariant.room)
+    let fits =
+    some_climbs_fit (string_bytes c.loop-left.text) c.range.result.now c.loop-left.left c.min-count.result 24
+    c.loop-left-test.true (lit< tt) c.min-count.ensures c.range.ensures.value in
+    omega (arith, c.requires, fits, ap length c.loop-left.invariant.text, c.loop-left.invariant.room)
 
 pub loop-left-preserved : goal.loop-left-preserved
 loop-left-preserved c =
-    let count = c.min-count.ensures in
-    let left = c.loop-left-test.true in
-    let some : 0 < c.min-count.result = omega (arith, count, left) in
-    let few : c.min-count.result ≤ c.loop-left.left = omega (arith, count) in
-    let run = c.range.result.now in
-    let is = climbs_cut c.min-count.result 24 run some (omega (arith, count)) c.range.ensures.value in
     let others = replicate (c.loop-left.left - c.min-count.result) (step_text up) in
-    let before = c.loop-left.invariant.room in
     record {
       text = ap (λ text. fold with_piece text others) c.add_piece.ensures.text
-          ∙ with_pieces-some_climbs (string_bytes c.loop-left.text) run c.loop-left.left c.min-count.result some few is
-          ∙ c.loop-left.invariant.text;
-      room = omega (arith, before, c.add_piece.ensures.room);
+          ∙ with_pieces-some_climbs (string_bytes c.loop-left.text) c.range.result.now c.loop-left.left c.min-count.result 24
+          c.loop-left-test.true (lit< tt) c.min-count.ensures c.range.ensures.value ∙ c.loop-left.invariant.text;
+      room = omega (arith, c.loop-left.invariant.room, c.add_piece.ensures.room);
     }
 
 pub returns-clause-text : goal.returns-clause-text

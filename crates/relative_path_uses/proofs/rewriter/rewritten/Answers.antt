@@ -1,9 +1,10 @@
 -- Each turn moves the next target. After the last target the rest of the page follows.
 use Rattle.std.proofs.Common.{◌++◌, ◌∙◌, ap, sym, string_bytes}
 use Rattle.std.proofs.lemmas.Str.{IsCharBoundary-start}
+use Rattle.std.proofs.lemmas.List.{nil_from_length}
 use Rattle.relative_path.specs.RelativePath.{path_components}
 use Rattle.relative_path_uses.specs.Rewriter.{reported}
-use Rattle.relative_path_uses.proofs.RewriterLemmas.{Progress-start, Progress-next, IsRewritten-last, no_targets}
+use Rattle.relative_path_uses.proofs.RewriterLemmas.{Progress-start, Progress-next, IsRewritten-last}
 use Rattle.relative_path_uses.proofs.rewriter.rewritten.Goals as goal
 
 pub loop-target-init : goal.loop-target-init
@@ -37,7 +38,7 @@ loop-target-preserved c =
 
 pub returns : goal.returns
 returns c =
-    let none = no_targets c.loop-target.rest.now c.in_default.ensures.cases in
+    let none = nil_from_length c.loop-target.rest.now c.in_default.ensures.cases in
     record {
       rewritten =
           IsRewritten-last c.args.table.now (path_components c.args.from) c.args.page.now c.args.targets.now

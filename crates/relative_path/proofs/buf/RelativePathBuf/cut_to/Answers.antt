@@ -1,4 +1,4 @@
--- A text whose front is a text is cut at the end of a character.
+-- The end of a prefix that is UTF-8 is a character boundary.
 use Rattle.std.proofs.Common.{◌≤◌, string_bytes, ap, subst, take, length, sym, arith}
 use Rattle.std.specs.Str.{IsUtf8}
 use Rattle.std.proofs.lemmas.Str.{IsUtf8-string_bytes, IsCharBoundary-from_take}

@@ -1,4 +1,4 @@
--- The text is cut to what stands before its last component.
+-- The text is cut to what comes before its last component.
 use Rattle.std.proofs.Common.{◌∙◌, ap, subst, sym}
 use Rattle.std.specs.Str.{IsUtf8}
 use Rattle.relative_path.specs.Editing.{IsPopped}

@@ -1,4 +1,4 @@
--- A name or a `..` that stays is pushed, and a `..` after a name pops it.
+-- A name, and a `..` that stays, are pushed; a `..` after a name pops that name.
 use Rattle.std.proofs.Common.{refl, sym, arith, true≢false}
 use Rattle.relative_path.specs.Components.{step_of}
 use Rattle.relative_path.specs.Steps.{components, SpellsItself}

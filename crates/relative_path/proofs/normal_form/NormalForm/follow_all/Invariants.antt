@@ -1,4 +1,4 @@
--- What is left is the end of the text, begins with no slash, and follows the form that is there by now.
+-- The text that is left is a suffix, doesn't begin with a slash, and comes after what the form has followed.
 use Rattle.std.proofs.Common.{◌≡◌, ◌≢◌, ◌+◌, ◌-◌, ◌≤◌, ◌++◌, drop, length, slice_index}
 use Rattle.relative_path.specs.Components.{text_left, components_left}
 use Rattle.relative_path.specs.NormalForm.{form_steps, form_len, form_room, Reduces}

@@ -100,7 +100,7 @@ returns-clause-components c =
     let proper = SpellThemselves-ups_then_names c.args.climb _ (SpellThemselves-names_past c.args.self.now c.args.skipped) in
     ap components (returns-clause-text c) ∙ components-spell _ proper
 
--- a text of nothing has no byte
+-- the text of no components is empty
 pub returns-in_err-len-clause-succeeds : goal.returns-in_err-len-clause-succeeds
 returns-in_err-len-clause-succeeds c = λ none.
     let form = c.args.self.now in

@@ -1,4 +1,4 @@
--- What is written and what is left make the whole text, which fits the room.
+-- What is written and what is left to write make the whole text, which fits the capacity.
 use Rattle.std.proofs.Common.{◌≡◌, ◌≤◌, drop, length, string_bytes}
 use Rattle.std.specs.String.{string_capacity}
 use Rattle.relative_path.specs.NormalForm.{ups_then_names, form_names}

@@ -1,4 +1,4 @@
--- The climb so far and the names to leave, with what is left, come to the climb of the whole path.
+-- The climb so far, the names that a `..` can leave, and the components that are left give the climb of the whole path.
 use Rattle.std.proofs.Common.{◌≡◌, ◌+◌, ◌≤◌, length}
 use Rattle.relative_path.specs.Components.{components_left}
 use Rattle.relative_path.specs.RelativePath.{path_text, path_components}

@@ -17,7 +17,7 @@ loop-component-init c =
       room = omega arith;
     }
 
--- the invariant with the first component written out, and that component is proper
+-- the invariant with the first component written out, which spells itself
 taken : (source : List Step) (limit : ℕ) (text rest : List ℕ) (c : Step) (left : List Step)
     → Normalizes source limit text (components rest) → components rest ≡ c ∷ left
     → Normalizes source limit text (c ∷ left) × SpellsItself c

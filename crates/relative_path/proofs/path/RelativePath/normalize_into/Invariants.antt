@@ -1,4 +1,4 @@
--- What is written is normal, with what is left it leads where the path leads, and both fit the room.
+-- What is written is normal; with the components that are left it leads where the path leads, and fits the capacity.
 use Rattle.std.proofs.Common.{◌≤◌, length}
 use Rattle.relative_path.specs.Components.{components_left}
 use Rattle.relative_path.specs.RelativePath.{path_text, path_components}

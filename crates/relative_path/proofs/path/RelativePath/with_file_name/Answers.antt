@@ -1,4 +1,4 @@
--- The new name's components come after those that the path keeps.
+-- The components of the new name come after those that the path keeps.
 use Rattle.std.proofs.lemmas.Result.{IfOk-weaker}
 use Rattle.relative_path.specs.RelativePath.{path_text}
 use Rattle.relative_path.proofs.NamingEditsLemmas.{file_name-IsNamed, IsBeside-IsNamed}
