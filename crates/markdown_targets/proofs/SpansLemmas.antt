@@ -1,5 +1,5 @@
 -- Spans in order, one after another.
-use Rattle.std.proofs.Common.{◌≡◌, ℕ, ◌≤◌, List, [], ◌∷◌, ◌++◌, map, sym, subst, ◌∙◌, append_assoc, append-nil}
+use Rattle.std.proofs.Common.{ℕ, ◌≤◌, List, [], ◌∷◌, ◌++◌, sym, subst, append_assoc, append-nil}
 use Rattle.markdown_targets.specs.declared.span.Span.{Span}
 use Rattle.markdown_targets.specs.Spans.{IsSpanOf, AreInOrder}
 
