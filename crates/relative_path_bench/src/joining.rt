@@ -14,8 +14,8 @@ use std::alloc::{AllocError, Global};
 /// Returns `path` joined with `other`.
 ///
 /// The components of the result are those of `path` followed by those of `other`. So it leads where
-/// `other` leads from the place where `path` leads. Allocates once, the result. The only error is a
-/// failed allocation.
+/// `other` leads from the place where `path` leads. Allocates once, the result. The only error is lack
+/// of memory.
 ///
 /// ```
 /// let joined = join_law(alloc, RelativePath::new("a/"), RelativePath::new("//b"))?;
@@ -39,7 +39,7 @@ pub fn join_law(
 
 /// Returns two buffers: `from_paths` of the paths, and an empty buffer onto which each path was pushed in turn.
 ///
-/// Both buffers have the same text. Allocates where a push does. The only error is a failed allocation.
+/// Both buffers have the same text. Allocates where a push does. The only error is lack of memory.
 ///
 /// ```
 /// let paths = ["a", "/b", "", "c"].map(RelativePath::new);
@@ -66,8 +66,8 @@ pub fn from_paths_law(
 
 /// Returns `join_normalized` of `path` and `other`, and the normal form of their join.
 ///
-/// Both results have the same text. Allocates for both and for the join. The only error is a failed
-/// allocation.
+/// Both results have the same text. Allocates for both and for the join. The only error is lack of
+/// memory.
 ///
 /// ```
 /// let path = RelativePath::new("x/y");
@@ -95,8 +95,8 @@ pub fn join_normalized_law(
 /// Returns three paths joined by `join_normalized`: once with `a` and `b` joined first, and once with
 /// `b` and `c` joined first.
 ///
-/// Both results have the same text. Allocates for both and for the first joins. The only error is a
-/// failed allocation.
+/// Both results have the same text. Allocates for both and for the first joins. The only error is lack
+/// of memory.
 ///
 /// ```
 /// let [a, b, c] = ["a", "../..", "b"].map(RelativePath::new);
@@ -126,7 +126,7 @@ pub fn associative(
 /// Returns the normal form of the path, `join_normalized` of the path with the empty path, and
 /// `join_normalized` of the empty path with the path.
 ///
-/// All three results have the same text. Allocates for each. The only error is a failed allocation.
+/// All three results have the same text. Allocates for each. The only error is lack of memory.
 ///
 /// ```
 /// let (normal, empty_after, empty_before) = unit(alloc, RelativePath::new("a//b/."))?;

@@ -13,7 +13,7 @@ use std::alloc::{AllocError, Global};
 /// Returns the file name, its stem and its extension. `None` exactly if the path has no file name.
 ///
 /// The file name is the stem, or the stem, a dot and the extension if there is an extension. The
-/// results are parts of the path. Doesn't allocate.
+/// results are parts of the path. Allocates nothing.
 ///
 /// ```
 /// let parts = stem_law(RelativePath::new("a/foo.tar.gz"));
@@ -36,8 +36,8 @@ pub fn stem_law(path: RelativePath<'_>) -> Option<(&str, &str, Option<&str>)>
 /// Returns a copy of the path with this extension in place of the path's own. `None` exactly if the
 /// path has no file name. The extension has at least one byte, and has no dot and no slash.
 ///
-/// The extension of the copy is this extension. Allocates for the copy. The only error is a failed
-/// allocation.
+/// The extension of the copy is this extension. Allocates for the copy. The only error is lack of
+/// memory.
 ///
 /// ```
 /// let set = extension_law(alloc, RelativePath::new("foo.tar.gz"), "xz")?;
@@ -67,7 +67,7 @@ pub fn extension_law(
 /// Returns the parent and the file name. `None` exactly if the path has no file name.
 ///
 /// The components of the parent, followed by the file name, are those of the path without each `.` at
-/// its end. The results are parts of the path. Doesn't allocate.
+/// its end. The results are parts of the path. Allocates nothing.
 ///
 /// ```
 /// let pair = parent_law(RelativePath::new("foo/./bar/."));

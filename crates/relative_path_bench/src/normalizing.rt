@@ -11,7 +11,7 @@ use std::alloc::{AllocError, Global};
 /// Returns the normal form of the path, and the normal form of that.
 ///
 /// Both results have the same text, which is no longer than the path's. Allocates for both. The only
-/// error is a failed allocation.
+/// error is lack of memory.
 ///
 /// ```
 /// let (once, twice) = normalize_twice(alloc, RelativePath::new("a/./b"))?;
@@ -39,7 +39,7 @@ pub fn normalize_twice(
 /// Returns whether the path is normalised, and the normal form of the path.
 ///
 /// The path is normalised exactly if it has the components of its normal form. Allocates for the
-/// normal form. The only error is a failed allocation.
+/// normal form. The only error is lack of memory.
 ///
 /// ```
 /// let (is_normal, normal) = normalized_law(alloc, RelativePath::new("foo//bar"))?;
@@ -65,8 +65,8 @@ pub fn normalized_law(
 /// Returns how many names a base must have for the path to lead anywhere from it, and the normal form
 /// of the path.
 ///
-/// The normal form begins with as many `..`. Allocates for the normal form. The only error is a
-/// failed allocation.
+/// The normal form begins with as many `..`. Allocates for the normal form. The only error is lack
+/// of memory.
 ///
 /// ```
 /// let (climb, normal) = climb_law(alloc, RelativePath::new("a/../../b"))?;

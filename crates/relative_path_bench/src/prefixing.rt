@@ -11,8 +11,8 @@ use std::alloc::{AllocError, Global};
 /// Returns what follows `base` in the path, and `base` joined with that. `None` exactly if the path
 /// doesn't start with `base`.
 ///
-/// The join equals the path, component by component. Allocates for the join. The only error is a
-/// failed allocation.
+/// The join equals the path, component by component. Allocates for the join. The only error is lack
+/// of memory.
 ///
 /// ```
 /// let path = RelativePath::new("//foo/bar/");

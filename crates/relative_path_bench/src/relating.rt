@@ -13,7 +13,7 @@ use std::alloc::{AllocError, Global};
 /// leads from `from` to `to`, the first result is the normal form of `from`.
 ///
 /// The results have the same text exactly if some path leads from `from` to `to`. Allocates for both
-/// and for the shortest path. The only error is a failed allocation.
+/// and for the shortest path. The only error is lack of memory.
 ///
 /// ```
 /// let from = RelativePath::new("a/b");
@@ -45,7 +45,7 @@ pub fn leads_back(
 ///
 /// The two texts are the same exactly if, from every base, both paths climb above the top or both end
 /// in the same place. Exactly then the third result is `None`. Allocates for each result. The only
-/// error is a failed allocation.
+/// error is lack of memory.
 ///
 /// ```
 /// let path = RelativePath::new("a//b");
@@ -77,7 +77,7 @@ pub fn same_law(
 ///
 /// A path from `a` to `b`, followed by one from `b` to `c`, leads from `a` to `c`. So if both exist, the
 /// shortest path from `a` to `c` has no more components than both together. Allocates for the three
-/// results. The only error is a failed allocation.
+/// results. The only error is lack of memory.
 ///
 /// ```
 /// let [a, b, c] = ["a/b", "a", "c"].map(RelativePath::new);
@@ -116,8 +116,8 @@ pub fn triangle(
 /// Returns the shortest path from `from` to `to`, and the normal form of `from` followed by it. `None`
 /// exactly if no path leads from `from` to `to`.
 ///
-/// The second result has the normal text of `to`. Allocates for both. The only error is a failed
-/// allocation.
+/// The second result has the normal text of `to`. Allocates for both. The only error is lack of
+/// memory.
 ///
 /// ```
 /// let from = RelativePath::new("a/b");

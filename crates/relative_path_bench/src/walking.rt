@@ -27,7 +27,7 @@ pub struct Taken<'a> {
 /// Takes a component from each of these ends in turn.
 ///
 /// Whatever the order of the ends, the calls return each component once, and after that `None` for
-/// good. Allocates the list of what they return. The only error is a failed allocation.
+/// good. Allocates the list of what they return. The only error is lack of memory.
 ///
 /// ```
 /// let ends = [End::Front, End::Back];

@@ -27,7 +27,7 @@ pub struct PlaceIndex {
 }
 
 impl PlaceIndex {
-    /// Makes an empty index. Doesn't allocate.
+    /// Makes an empty index. Allocates nothing.
     ///
     /// ```
     /// let index = PlaceIndex::new(alloc);
@@ -91,7 +91,7 @@ impl PlaceIndex {
     }
 
     /// Returns what [`PlaceIndex::get`] does, for a path that is normal already: one that `normalize` or
-    /// `join_normalized` returned. Doesn't allocate.
+    /// `join_normalized` returned. Allocates nothing.
     ///
     /// ```
     /// let mut index = PlaceIndex::new(alloc);

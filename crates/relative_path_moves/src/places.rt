@@ -26,7 +26,7 @@ pub fn has_place(alloc: Global, path: RelativePath<'_>) -> Result<bool, AllocErr
 /// Returns the directory of a file, which is where the file's references start. It is the parent of the
 /// path, or the path itself if that is empty.
 ///
-/// The result is a part of the path. Doesn't allocate.
+/// The result is a part of the path. Allocates nothing.
 ///
 /// ```
 /// let file = RelativePath::new("docs/guide/start.md");

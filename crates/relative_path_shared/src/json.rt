@@ -54,7 +54,7 @@ impl From<AllocError> for FromValueError {
 
 /// Returns the path's text as a JSON string.
 ///
-/// Allocates once, the text, unless it is empty. The only error is a failed allocation.
+/// Allocates once, the text, unless it is empty. The only error is lack of memory.
 ///
 /// ```
 /// let value = json::to_value(alloc, RelativePath::new("a//b"))?;
@@ -102,7 +102,7 @@ pub fn boxed_from_value(alloc: Global, value: &Value) -> Result<BoxedRelativePat
 
 /// Returns the text of a JSON string as a view. Fails only if the value isn't a string.
 ///
-/// Doesn't allocate.
+/// Allocates nothing.
 ///
 /// ```
 /// let value = Value::from_str(alloc, "\"a/b\"")?;

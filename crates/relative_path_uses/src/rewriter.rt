@@ -70,7 +70,7 @@ impl From<AllocError> for PathError {
 /// decodes: `%20` is three bytes of a name.
 ///
 /// Allocates the text, at first as many bytes as the page has, the list of unchanged links, and what
-/// [`MoveTable::moved_in`] does for each target. The only error is a failed allocation.
+/// [`MoveTable::moved_in`] does for each target. The only error is lack of memory.
 ///
 /// ```
 /// let moves = [("a.md", "docs/a.md"), ("b.md", "docs/more/b.md")]

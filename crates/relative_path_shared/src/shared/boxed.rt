@@ -38,7 +38,7 @@ impl Model for BoxedRelativePath {
 impl BoxedRelativePath {
     /// Returns a boxed copy of the text.
     ///
-    /// Allocates once, the text, unless it is empty. The only error is a failed allocation.
+    /// Allocates once, the text, unless it is empty. The only error is lack of memory.
     ///
     /// ```
     /// let boxed = BoxedRelativePath::from_text(alloc, "foo/bar")?;
@@ -53,7 +53,7 @@ impl BoxedRelativePath {
 
     /// Returns the buffer's text in a box.
     ///
-    /// The box takes the buffer's memory over. Doesn't allocate, and never fails.
+    /// The box takes the buffer's memory over. Allocates nothing, and never fails.
     ///
     /// ```
     /// let buf = RelativePathBuf::from_text(alloc, "foo/bar")?;
@@ -74,7 +74,7 @@ impl BoxedRelativePath {
 
     /// Returns a copy of the path.
     ///
-    /// Allocates once, the text, unless it is empty. The only error is a failed allocation.
+    /// Allocates once, the text, unless it is empty. The only error is lack of memory.
     ///
     /// ```
     /// let boxed = BoxedRelativePath::from_text(alloc, "foo//bar")?;
@@ -86,7 +86,7 @@ impl BoxedRelativePath {
         BoxedRelativePath::from_text(alloc, self.text.as_str())
     }
 
-    /// Returns a view of the path. Doesn't allocate.
+    /// Returns a view of the path. Allocates nothing.
     ///
     /// ```
     /// let boxed = BoxedRelativePath::from_text(alloc, "foo/bar")?;
@@ -165,7 +165,7 @@ pub trait BufExt {
 
     /// Returns the buffer's text in a box.
     ///
-    /// The box takes the buffer's memory over. Doesn't allocate, and never fails.
+    /// The box takes the buffer's memory over. Allocates nothing, and never fails.
     ///
     /// ```
     /// let buf = RelativePathBuf::from_text(alloc, "foo/bar")?;

@@ -31,7 +31,7 @@ pub enum CowRelativePath<'a> {
 }
 
 impl CowRelativePath<'_> {
-    /// Returns a view of the path. Doesn't allocate.
+    /// Returns a view of the path. Allocates nothing.
     ///
     /// ```
     /// let path = CowRelativePath::from(RelativePath::new("foo/bar"));

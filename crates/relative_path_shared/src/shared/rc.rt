@@ -39,8 +39,8 @@ impl Model for RcRelativePath {
 impl RcRelativePath {
     /// Returns a copy of the path's text that can be shared.
     ///
-    /// Allocates the text, unless it is empty, and the count of owners. The only error is a failed
-    /// allocation.
+    /// Allocates the text, unless it is empty, and the count of owners. The only error is lack of
+    /// memory.
     ///
     /// ```
     /// let path = RcRelativePath::from_path_text(alloc, RelativePath::new("foo/bar"))?;
@@ -75,7 +75,7 @@ impl RcRelativePath {
 
     /// Returns one more owner of the same text.
     ///
-    /// Doesn't allocate. Fails only if the count of owners is at its maximum.
+    /// Allocates nothing. Fails only if the count of owners is at its maximum.
     ///
     /// ```
     /// let path = RcRelativePath::from_path_text(alloc, RelativePath::new("foo/bar"))?;
@@ -88,7 +88,7 @@ impl RcRelativePath {
         Ok(RcRelativePath { text })
     }
 
-    /// Returns a view of the path. Doesn't allocate.
+    /// Returns a view of the path. Allocates nothing.
     ///
     /// ```
     /// let path = RcRelativePath::from_path_text(alloc, RelativePath::new("foo/bar"))?;
