@@ -1,14 +1,15 @@
-/* Preloaded by tools/refusals: refuses requests for memory, and tells of each that it counts.
+/* tools/refusals preloads this library. It makes requests for memory fail, and writes each that it counts.
  *
- * REFUSE is N, for request number N alone, or N.., for that and all after it. REFUSE_MARKED is
- * set for a test: then the requests between its marks are counted, else those of the whole program.
+ * REFUSE is N, for request number N alone, or N.., for request number N and all after it. REFUSE_MARKED
+ * is set for a test: then the library counts the requests between the test's marks, and otherwise those
+ * of the whole program.
  *
- * To the file descriptor REFUSE_TELLS it writes a character and the number of bytes for each
- * request: `.24` if 24 bytes were granted, `x24` if they were refused. For the mark after a call,
- * and at the end of a whole program, it writes `!` if the call was refused memory and else `=`, and
- * how many blocks more are held than at the beginning: `=1` of a call that answers a text.
+ * For each request it writes a character and the number of bytes to the file descriptor REFUSE_TELLS:
+ * `.24` if 24 bytes were granted, `x24` if the request failed. For the mark after a call, and at the end
+ * of a whole program, it writes `!` if the call reported a failed allocation, and otherwise `=`; then
+ * how many more blocks are held than at the beginning: `=1` for a call that returns a text.
  *
- * It includes no header, so that the toolchain's compiler builds it on a machine without any. */
+ * It includes no header, so that the toolchain's compiler builds it on a machine without headers. */
 
 typedef unsigned long size;
 
@@ -21,12 +22,12 @@ extern long write(int, const void *, size);
 /* The sizes of the marks, as the tests have them. */
 enum { BEGIN = 1000003, END_REFUSED = 1000033, END_ANSWERED = 1000037 };
 
-static int to;                /* where it tells */
-static unsigned long refused; /* the number of the first request that is refused */
-static int and_on;            /* whether those after it are refused too */
+static int to;                /* the file descriptor */
+static unsigned long refused; /* the number of the first request that fails */
+static int and_on;            /* whether those after it fail too */
 static int counts;            /* whether requests are counted now */
 static unsigned long seen;    /* how many were counted */
-static long held;             /* how many blocks more are held than at the beginning */
+static long held;             /* how many more blocks are held than at the beginning */
 
 static void tell(char what, long number) {
   char text[24], *at = text + sizeof text;

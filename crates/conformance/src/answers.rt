@@ -1,4 +1,4 @@
-//! What each call answers.
+//! The answer to each line.
 
 use crate::call::Call;
 use crate::refusal::Refusal;
@@ -6,10 +6,10 @@ use relative_path::{Component, PathExt, RelativePath, RelativePathBuf};
 use std::alloc::{AllocError, Global};
 use std::path::Path;
 
-/// Makes the call that a line names, and gives the fields of its answer, with tabs between.
+/// Makes the call that a line names, and returns the fields of the answer, joined by tabs.
 ///
-/// The calls stand in five groups, each a `match` that hands on to the next, since one `match` of
-/// all thirty-four took a quarter of the crate's proof.
+/// The calls are in five groups. Each is a `match` that passes other names on to the next group, since one
+/// `match` of all thirty-four took a quarter of the crate's proof.
 pub fn answer(alloc: Global, line: &str) -> Result<String, Refusal> {
     let call = Call::parse(alloc, line)?;
     match call.command {

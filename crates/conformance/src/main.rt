@@ -1,6 +1,7 @@
-//! Answers lines that each name a call of `relative_path`, so that its answers can be compared with stored ones.
+//! Reads lines that each name a call of `relative_path`, and writes the call's result for each, so that the results can be
+//! compared with stored ones.
 //!
-//! `tools/conformance` says what the lines are, and how each is answered.
+//! `tools/conformance` says what the lines are, and what is written for each.
 #![tactic(auto)]
 
 use std::io::{self, BufWriter, Write};

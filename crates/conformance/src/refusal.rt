@@ -1,10 +1,10 @@
-//! Why a line is not answered.
+//! Why a line has no result.
 
 use relative_path::{FromPathError, RelativeToError, StripPrefixError};
 use std::alloc::{AllocError, AllocFailed};
 use std::fmt;
 
-/// Why a line is not answered.
+/// Why a line has no result.
 #[derive(Drop)]
 pub enum Refusal {
     UnknownCommand,

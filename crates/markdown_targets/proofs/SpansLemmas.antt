@@ -1,5 +1,5 @@
--- Spans in order, one after the other.
-use Rattle.std.proofs.Common.{◌≡◌, ℕ, ◌≤◌, List, [], ◌∷◌, ◌++◌, map, sym, subst, ◌∙◌, append_assoc, append-nil}
+-- Spans in order, one after another.
+use Rattle.std.proofs.Common.{ℕ, ◌≤◌, List, [], ◌∷◌, ◌++◌, sym, subst, append_assoc, append-nil}
 use Rattle.markdown_targets.specs.declared.span.Span.{Span}
 use Rattle.markdown_targets.specs.Spans.{IsSpanOf, AreInOrder}
 
@@ -12,7 +12,7 @@ pub AreInOrder-whole : (page : List ℕ) (spans : List Span) (at : ℕ) → AreS
     → AreInOrder page 0 spans
 AreInOrder-whole page spans at so_far = subst (AreInOrder page 0) (append-nil spans) (so_far.with [] tt)
 
--- with one more span
+-- the same with one more span
 pub AreSoFar-next : (page : List ℕ) (spans : List Span) (at : ℕ) (span : Span) → AreSoFar page spans at
     → at ≤ span.start → IsSpanOf page span → AreSoFar page (spans ++ span ∷ []) span.end
 AreSoFar-next page spans at span so_far after is = record {

@@ -3,7 +3,7 @@ use Rattle.std.specs.Prelude.{ℕ, ◌≤◌, List, [], ◌∷◌, length, ⊤}
 use Rattle.std.specs.Str.{IsCharBoundary}
 use Rattle.markdown_targets.specs.declared.span.Span.{Span}
 
--- the span lies within the page, between two ends of characters
+-- the span is within the page, and both its ends are ends of characters
 pub record IsSpanOf (page : List ℕ) (span : Span) : Type 0 where
   pub order : span.start ≤ span.end
   pub within : span.end ≤ length page

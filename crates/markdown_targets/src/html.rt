@@ -2,7 +2,7 @@
 ghost use Rattle.std.specs.Prelude.{◌≤◌, ◌<◌, length, IfSome};
 ghost use Rattle.markdown_targets.specs.Steps.{Skips, Advances};
 
-use crate::bytes::find_end;
+use crate::bytes::{find_end, run_end};
 use crate::tags::{StartTag, closing_tag_end};
 
 // A piece of HTML: its end, and the tag if it is a start tag.
@@ -98,5 +98,18 @@ impl Endings {
             [b'<', b'?', ..] => self.instruction.find(text, start + 2),
             _ => None,
         }
+    }
+}
+
+// The offset after what a browser reads at an angle where CommonMark has no HTML: a comment goes to the end of its
+// block, and an instruction or the like, which is a comment to a browser, to the next `>`.
+pub(crate) fn unclosed_end(text: &[u8], start: usize) -> usize
+    requires { start < length text.now }
+    ensures { Advances text.now start result }
+{
+    match &text[start + 1..] {
+        [b'!', b'-', b'-', ..] => text.len(),
+        [b'!' | b'?', ..] => run_end(text, start + 1, |byte| byte != b'>'),
+        _ => start + 1,
     }
 }

@@ -151,9 +151,10 @@ fn begins_block(tag: &[u8]) -> bool {
     (is_apart || rest.starts_with(b"/>")) && is_one_of(&BLOCK_NAMES, name)
 }
 
-// Whether a text is a whole tag, and spaces.
+// Whether a text is a whole tag, and spaces. `<pre/>` and its like are none.
 fn is_lone_tag(text: &[u8]) -> bool {
     let end = match StartTag::read(text, 0) {
+        Some(tag) if RAW_NAMES.iter().any(|name| tag.is(name)) => None,
         Some(tag) => Some(tag.after),
         None => closing_tag_end(text, 0),
     };

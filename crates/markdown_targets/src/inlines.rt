@@ -7,7 +7,7 @@ use crate::brackets::{Bracket, Brackets, Opener};
 use crate::bytes::{run_end, step_over};
 use crate::code_spans::BacktickRuns;
 use crate::definitions::{Definition, add_names};
-use crate::html::Endings;
+use crate::html::{Endings, unclosed_end};
 use crate::links::inline_link;
 use crate::names::{Label, Names};
 use crate::span::Span;
@@ -166,7 +166,7 @@ impl Reader {
     }
 
     // Reads the next tag from an offset on, and returns the offset after it, or after its element if the
-    // content of that is text. A comment that nothing ends goes to the end of its block.
+    // content of that is text.
     fn read_tag(&mut self, text: &[u8], from: usize) -> Result<usize, AllocError>
         requires { from < length text.now }
         ensures { IfOk result (λ end. Advances text.now from end) }
@@ -176,11 +176,7 @@ impl Reader {
             return Ok(start);
         }
         let Some(html) = self.endings.read(text, start) else {
-            return Ok(if text[start..].starts_with(b"<!--") {
-                text.len()
-            } else {
-                start + 1
-            });
+            return Ok(unclosed_end(text, start));
         };
         let Some(tag) = html.tag else {
             return Ok(html.after);

@@ -14,7 +14,8 @@
 #![tactic(auto)]
 
 ghost use Rattle.std.specs.Prelude.{map, IfOk};
-ghost use Rattle.markdown_targets.specs.Spans.{AreInOrder};
+ghost use Rattle.std.specs.List.{All};
+ghost use Rattle.markdown_targets.specs.Spans.{IsSpanOf, AreInOrder};
 
 pub use self::span::Span;
 pub use self::target::{LinkTarget, LinkTargets, PassedOver, Quote, TargetKind, WhyPassedOver};
@@ -74,9 +75,12 @@ use std::alloc::{AllocError, Global};
 pub fn link_targets(alloc: Global, page: &str) -> Result<LinkTargets, AllocError>
     ensures in_order { IfOk result (λ found.
         AreInOrder page.now 0 (map (λ target. target.span) found.targets.items)) }
+    ensures passed_over { IfOk result (λ found.
+        All (λ passed. IsSpanOf page.now passed.span) found.passed_over.items) }
 {
     let text = read_blocks(alloc, page)?;
-    let found = read_inlines(alloc, &text)?;
+    let mut found = read_inlines(alloc, &text)?;
+    found.passed_over.retain(|passed| passed.span.is_of(page));
     let targets = in_order(alloc, page, &found.targets)?;
     Ok(LinkTargets { targets, ..found })
 }

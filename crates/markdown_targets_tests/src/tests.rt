@@ -12,7 +12,6 @@ mod inlines;
 mod large;
 mod left_out;
 mod limits;
-mod links;
 
 // Fails in the words of this case where another value was found than is expected. A call of it costs
 // a proof a fourth of what `assert_eq!` with a message does.

@@ -4,7 +4,7 @@ use Rattle.relative_path.specs.Steps.{Step, pieces, components}
 use Rattle.relative_path.specs.Walk.{walk, LeadsInTurn}
 use Rattle.relative_path.specs.Normalizing.{IsNormalText, IsNormalTextOf}
 
--- the place where steps lead from a place that may be none
+-- the place where steps lead from a place, if there is a place
 abbrev walk_from : List Step → Option (List (List ℕ)) → Option (List (List ℕ))
 walk_from cs = option_and_then (λ place. walk place cs)
 
@@ -38,7 +38,7 @@ unfolding components pieces
 same_empty_after text other normal of =
     sym (of.only text normal (record { everywhere = λ base. ap (walk base) (append-nil (components text)) }))
 
--- nor does it before one
+-- the empty path before a normal text changes nothing
 pub same_empty_before : (text other : List ℕ) → IsNormalText text
     → IsNormalTextOf (components [] ++ components text) other → other ≡ text
 unfolding components pieces

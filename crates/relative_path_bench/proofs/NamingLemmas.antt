@@ -17,7 +17,7 @@ nonempty_text text k c found = λ empty.
     let none = ap (λ x. slice_get (components x) k) (sym empty) ∙ found in
     absurd (cc)
 
--- where there are `.`s alone, the first one is a `.`
+-- if there are only `.`, the first component is a `.`
 cur_first : (cs : List Step) (d : Step) → length cs ≡ suffix_len is_cur cs → 0 < length cs
     → is_cur (get_or cs 0 d) ≡ true
 cur_first cs d all some =
@@ -26,7 +26,7 @@ cur_first cs d all some =
     let there = get_or-reverse cs (length cs - 1) d (omega arith) ∙ ap (λ i. get_or cs i d) index in
     ap is_cur (sym there) ∙ prefix_len_passes is_cur (reverse cs) (length cs - 1) d (omega (arith, all, some))
 
--- what a parent keeps, and the name after it, is all but the last `.`s
+-- the components that a parent keeps, and then the name, are all but the `.` at the end
 pub without_last_curs-kept : (cs front : List Step) (n : List ℕ) → front ≡ take (kept_len cs) cs
     → slice_get cs (kept_len cs) ≡ Some (name n) → front ++ name n ∷ [] ≡ without_last_curs cs
 without_last_curs-kept cs front n kept placed =

@@ -1,4 +1,4 @@
--- Lists that lead to the same, and the one normal text of each.
+-- Lists that lead to the same place, and their one normal text.
 use Rattle.std.proofs.Common.{◌≡◌, ◌↔◌, ◌⊎◌, ℕ, ◌+◌, ◌≤◌, List, [], ◌++◌, length, Option, Some, None, inl, inr, refl, sym, ap, ◌∙◌, subst, append-nil, arith, length-append}
 use Rattle.relative_path.specs.Steps.{Step, pieces, components}
 use Rattle.relative_path.specs.Walk.{walk, IsSame}
@@ -41,7 +41,7 @@ same_texts cs ds text other first second = (
       sym (first.only other second.normal_text leads),
 )
 
--- a normal text of the list followed by the empty path is one of the list
+-- a normal text of the list followed by the empty path is a normal text of the list
 pub IsNormalTextOf-empty : (cs : List Step) (way text : List ℕ) → way ≡ []
     → IsNormalTextOf (cs ++ components way) text
     → IsNormalTextOf cs text

@@ -17,7 +17,7 @@ TakesInTurn-push text (d ∷ es) [] middle e t left none takes = absurd none
 TakesInTurn-push text (d ∷ es) (u ∷ ts) middle e t left (next, first, others) takes =
     (next, first, TakesInTurn-push next es ts middle e t left others takes)
 
--- each component is taken once, or is left
+-- each component is taken once, or remains
 pub once-TakesInTurn : (text : List ℕ) (es : List End) (ts : List (Option Component)) (left : List ℕ)
     → TakesInTurn text es ts left → components text ≡ (firsts es ts ++ components left) ++ lasts es ts
 once-TakesInTurn text [] [] left same = ap components (sym same) ∙ sym (append-nil (components left))
@@ -41,7 +41,7 @@ length-TakesAt Front text t next (_, rest) = ap length rest.other_components ∙
 length-TakesAt Back text t next (_, front) =
     ap length front.same_components ∙ length-take-le (length (components text) - 1) (components text) (omega arith)
 
--- a call gives a component exactly where there is one
+-- a call returns a component exactly if there is one
 some-TakesAt : (e : End) (text : List ℕ) (t : Option Component) (next : List ℕ) → TakesAt e text t next
     → IsSome t ↔ (0 < length (components text))
 some-TakesAt Front text None next (none, _) =
@@ -52,7 +52,7 @@ some-TakesAt Back text None next (none, _) =
 some-TakesAt Back text (Some c) next (taken, _) =
     (λ _. let e = ap length taken ∙ length-append (components next) (step_of c ∷ []) in omega (arith, e), λ _. refl)
 
--- call number k gives a component exactly where there are more than k
+-- call number k returns a component exactly if there are more than k components
 pub none_for_good-TakesInTurn : (text : List ℕ) (es : List End) (ts : List (Option Component)) (left : List ℕ)
     → TakesInTurn text es ts left → (k : ℕ) → k < length es
     → IsSome (get_or ts k None) ↔ (k < length (components text))

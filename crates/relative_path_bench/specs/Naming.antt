@@ -1,4 +1,4 @@
--- What a parent and a file name make up.
+-- What a parent and a file name are together.
 use Rattle.std.specs.Prelude.{◌-◌, List, length, take}
 use Rattle.std.specs.List.{suffix_len}
 use Rattle.relative_path.specs.Steps.{Step}

@@ -1,4 +1,4 @@
--- When two paths lead to the same, in the words of someone who follows them.
+-- When two paths lead to the same place, as two cases.
 use Rattle.std.specs.Prelude.{◌≡◌, ◌⊎◌, ℕ, List, Some, None}
 use Rattle.relative_path.specs.Steps.{Step}
 use Rattle.relative_path.specs.Walk.{walk}
@@ -11,6 +11,6 @@ EndAt base cs ds place = (walk base cs ≡ Some place) × (walk base ds ≡ Some
 abbrev pub ClimbAway : List (List ℕ) → List Step → List Step → Type 0
 ClimbAway base cs ds = (walk base cs ≡ None) × (walk base ds ≡ None)
 
--- from every base, both climb above the top or both end in the same place: `IsSame`, told by its two cases
+-- from every base, both climb above the top or both end in the same place: `IsSame`, as two cases
 abbrev pub EndAlike : List Step → List Step → Type 0
 EndAlike cs ds = (base : List (List ℕ)) → ClimbAway base cs ds ⊎ ((place : List (List ℕ)) × EndAt base cs ds place)

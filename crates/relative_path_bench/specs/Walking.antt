@@ -1,4 +1,4 @@
--- What calls of `next` and `next_back` give, made in any order.
+-- What calls of `next` and `next_back` return, in any order.
 use Rattle.std.specs.Prelude.{◌≡◌, ℕ, ◌<◌, ◌↔◌, List, [], ◌∷◌, ◌++◌, length, Option, Some, None, IsSome, slice_index_or}
 use Rattle.relative_path.specs.declared.component.Component.{Component}
 use Rattle.relative_path.specs.Steps.{Step, components}
@@ -6,7 +6,7 @@ use Rattle.relative_path.specs.Components.{step_of, TakesFirst, TakesLast}
 use Rattle.relative_path_bench.specs.declared.walking.End.{End}
 use Rattle.relative_path_bench.specs.declared.walking.End.TheVariants.{Front, Back}
 
--- one call at this end of the text gave what was taken, and left this text
+-- one call at this end of the text returned what was taken, and left this text
 abbrev pub TakesAt : End → List ℕ → Option Component → List ℕ → Type 0
 TakesAt Front text taken left = TakesFirst text taken left
 TakesAt Back text taken left = TakesLast text taken left
@@ -30,7 +30,8 @@ lasts (Back ∷ es) (Some c ∷ ts) = lasts es ts ++ step_of c ∷ []
 lasts (e ∷ es) (t ∷ ts) = lasts es ts
 lasts es ts = []
 
--- each call is as it should be, each component is taken once or left, and the calls give `None` once none is left
+-- each call returned what `next` or `next_back` returns there, each component is taken once or remains, and the calls
+-- returned `None` once no component remained
 pub record IsTakenInTurn (text : List ℕ) (ends : List End) (taken : List (Option Component)) (left : List ℕ) : Type 0 where
   pub calls : TakesInTurn text ends taken left
   pub once : components text ≡ (firsts ends taken ++ components left) ++ lasts ends taken

@@ -1,4 +1,4 @@
-//! Joins: of two paths and of many, as they are and in normal form.
+//! Joins of two paths and of many, with and without normalising.
 ghost use Rattle.std.specs.Prelude.{◌≡◌, ◌++◌, [], List, ℕ, map, IfOk};
 ghost use Rattle.relative_path.specs.Editing.{pushed};
 ghost use Rattle.relative_path.specs.Pushing.{pushed_all};
@@ -11,10 +11,11 @@ ghost use Rattle.relative_path_bench.specs.Joining.{IsJoinedFromTheLeft, IsJoine
 use relative_path::{RelativePath, RelativePathBuf};
 use std::alloc::{AllocError, Global};
 
-/// `path` joined with `other`.
+/// Returns `path` joined with `other`.
 ///
-/// Its components are those of `path` followed by those of `other`, so it leads where `other` leads
-/// from where `path` leads. It asks for memory for its answer, and fails only where that is refused.
+/// The components of the result are those of `path` followed by those of `other`. So it leads where
+/// `other` leads from the place where `path` leads. Allocates once, the result. The only error is lack
+/// of memory.
 ///
 /// ```
 /// let joined = join_law(alloc, RelativePath::new("a/"), RelativePath::new("//b"))?;
@@ -36,10 +37,9 @@ pub fn join_law(
     path.join(alloc, other)
 }
 
-/// The paths pushed onto an empty buffer, by `from_paths` and by a push of each in turn.
+/// Returns two buffers: `from_paths` of the paths, and an empty buffer onto which each path was pushed in turn.
 ///
-/// Both have the same text. It asks for memory where a push does, and fails only where that is
-/// refused.
+/// Both buffers have the same text. Allocates where a push does. The only error is lack of memory.
 ///
 /// ```
 /// let paths = ["a", "/b", "", "c"].map(RelativePath::new);
@@ -64,10 +64,10 @@ pub fn from_paths_law(
     Ok((at_once, one_by_one))
 }
 
-/// `path` and `other` joined in normal form, and the normal form of their join.
+/// Returns `join_normalized` of `path` and `other`, and the normal form of their join.
 ///
-/// Both have the same text. It asks for memory for these and for the join, and fails only where
-/// that is refused.
+/// Both results have the same text. Allocates for both and for the join. The only error is lack of
+/// memory.
 ///
 /// ```
 /// let path = RelativePath::new("x/y");
@@ -92,11 +92,11 @@ pub fn join_normalized_law(
     Ok((joined, normal))
 }
 
-/// Three paths joined in normal form: once with `a` and `b` joined first, and once with `b` and `c`
-/// joined first.
+/// Returns three paths joined by `join_normalized`: once with `a` and `b` joined first, and once with
+/// `b` and `c` joined first.
 ///
-/// Both have the same text. It asks for memory for these and for the two joins on the way, and
-/// fails only where that is refused.
+/// Both results have the same text. Allocates for both and for the first joins. The only error is lack
+/// of memory.
 ///
 /// ```
 /// let [a, b, c] = ["a", "../..", "b"].map(RelativePath::new);
@@ -123,10 +123,10 @@ pub fn associative(
     Ok((from_the_left, from_the_right))
 }
 
-/// The path in normal form, the empty path joined after that in normal form, and before it.
+/// Returns the normal form of the path, `join_normalized` of the path with the empty path, and
+/// `join_normalized` of the empty path with the path.
 ///
-/// All three have the same text. It asks for memory for these, and fails only where that is
-/// refused.
+/// All three results have the same text. Allocates for each. The only error is lack of memory.
 ///
 /// ```
 /// let (normal, empty_after, empty_before) = unit(alloc, RelativePath::new("a//b/."))?;

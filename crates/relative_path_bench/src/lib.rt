@@ -1,4 +1,5 @@
-//! The laws of relative paths as functions: each makes the calls that its law speaks of, and its contract states the law.
+//! The laws of relative paths, as functions. Each function makes the calls of which its law speaks, and its contract states
+//! the law.
 #![tactic(auto)]
 
 pub use self::joining::{associative, from_paths_law, join_law, join_normalized_law, unit};

@@ -10,10 +10,10 @@ ghost use Rattle.relative_path_bench.specs.Naming.{without_last_curs};
 use relative_path::{RelativePath, RelativePathBuf};
 use std::alloc::{AllocError, Global};
 
-/// The file name, its stem and its extension; `None` exactly if the path has no file name.
+/// Returns the file name, its stem and its extension. `None` exactly if the path has no file name.
 ///
-/// The name is the stem, or the stem, a dot and the extension if there is one. The answers are
-/// parts of the path, and take no memory.
+/// The file name is the stem, or the stem, a dot and the extension if there is an extension. The
+/// results are parts of the path. Allocates nothing.
 ///
 /// ```
 /// let parts = stem_law(RelativePath::new("a/foo.tar.gz"));
@@ -33,11 +33,11 @@ pub fn stem_law(path: RelativePath<'_>) -> Option<(&str, &str, Option<&str>)>
     Some((file_name, stem, path.extension()))
 }
 
-/// A copy of the path with this extension in place of its own; `None` exactly if the path has no
-/// file name. The extension has at least one byte, and no dot or slash.
+/// Returns a copy of the path with this extension in place of the path's own. `None` exactly if the
+/// path has no file name. The extension has at least one byte, and has no dot and no slash.
 ///
-/// The copy has that extension. It asks for memory for the copy, and fails only where that is
-/// refused.
+/// The extension of the copy is this extension. Allocates for the copy. The only error is lack of
+/// memory.
 ///
 /// ```
 /// let set = extension_law(alloc, RelativePath::new("foo.tar.gz"), "xz")?;
@@ -64,10 +64,10 @@ pub fn extension_law(
     }
 }
 
-/// The parent and the file name; `None` exactly if the path has no file name.
+/// Returns the parent and the file name. `None` exactly if the path has no file name.
 ///
-/// The parent's components, followed by the file name, are the path's without each `.` at its end.
-/// The answers are parts of the path, and take no memory.
+/// The components of the parent, followed by the file name, are those of the path without each `.` at
+/// its end. The results are parts of the path. Allocates nothing.
 ///
 /// ```
 /// let pair = parent_law(RelativePath::new("foo/./bar/."));

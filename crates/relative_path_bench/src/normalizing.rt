@@ -8,10 +8,10 @@ ghost use Rattle.relative_path.specs.Walk.{IsSame};
 use relative_path::{RelativePath, RelativePathBuf};
 use std::alloc::{AllocError, Global};
 
-/// The path in normal form, and the normal form of that.
+/// Returns the normal form of the path, and the normal form of that.
 ///
-/// Both have the same text, which is not longer than the path's. It asks for memory for both, and
-/// fails only where that is refused.
+/// Both results have the same text, which is no longer than the path's. Allocates for both. The only
+/// error is lack of memory.
 ///
 /// ```
 /// let (once, twice) = normalize_twice(alloc, RelativePath::new("a/./b"))?;
@@ -36,10 +36,10 @@ pub fn normalize_twice(
     Ok((once, twice))
 }
 
-/// Whether the path's components are normal, and the path in normal form.
+/// Returns whether the path is normalised, and the normal form of the path.
 ///
-/// They are exactly if both have equal components. It asks for memory for the normal form, and
-/// fails only where that is refused.
+/// The path is normalised exactly if it has the components of its normal form. Allocates for the
+/// normal form. The only error is lack of memory.
 ///
 /// ```
 /// let (is_normal, normal) = normalized_law(alloc, RelativePath::new("foo//bar"))?;
@@ -62,11 +62,11 @@ pub fn normalized_law(
     Ok((is_normal, normal))
 }
 
-/// How many names a base must have for the path to lead anywhere from it, and the path in normal
-/// form.
+/// Returns how many names a base must have for the path to lead anywhere from it, and the normal form
+/// of the path.
 ///
-/// The normal form begins with as many `..`. It asks for memory for the normal form, and fails only
-/// where that is refused.
+/// The normal form begins with as many `..`. Allocates for the normal form. The only error is lack
+/// of memory.
 ///
 /// ```
 /// let (climb, normal) = climb_law(alloc, RelativePath::new("a/../../b"))?;

@@ -9,11 +9,11 @@ ghost use Rattle.relative_path.specs.declared.error.RelativeToErrorKind.TheVaria
 use relative_path::{RelativePathBuf, RelativeToError, unix};
 use std::alloc::Global;
 
-/// The path from one platform path, the root, to another.
+/// Returns the relative path from one platform path, the root, to another.
 ///
-/// The root followed by the answer leads where the other path leads, from every base. It is refused
-/// where only one of the texts begins with a slash, and where the root climbs above what both begin
-/// with. Else it asks for memory for the answer, and fails only where that is refused.
+/// The root followed by the result leads where the other path leads, from every base. The call fails
+/// if only one of the texts begins with a slash, and if the root climbs above what both begin with.
+/// Otherwise it allocates for the result, and fails only if that allocation fails.
 ///
 /// ```
 /// let way = relative_to_law(alloc, "foo/bar", "./x")?;

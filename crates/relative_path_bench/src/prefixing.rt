@@ -8,11 +8,11 @@ ghost use Rattle.relative_path.specs.Steps.{components};
 use relative_path::{RelativePath, RelativePathBuf};
 use std::alloc::{AllocError, Global};
 
-/// What follows `base` in the path, and `base` joined with that; `None` exactly if the path doesn't
-/// start with `base`.
+/// Returns what follows `base` in the path, and `base` joined with that. `None` exactly if the path
+/// doesn't start with `base`.
 ///
-/// The join equals the path, component by component. It asks for memory for the join alone, and
-/// fails only where that is refused.
+/// The join equals the path, component by component. Allocates for the join. The only error is lack
+/// of memory.
 ///
 /// ```
 /// let path = RelativePath::new("//foo/bar/");

@@ -1,4 +1,4 @@
-//! The way from one path to another, and paths that lead to the same.
+//! The shortest path from one path to another, and paths that lead to the same place.
 ghost use Rattle.std.specs.Prelude.{◌≡◌, ◌≤◌, ◌↔◌, ◌+◌, ◌++◌, ℕ, List, length, IfOk, IfSome, IsNone, Some};
 ghost use Rattle.relative_path.specs.Normalizing.{IsNormalTextOf};
 ghost use Rattle.relative_path.specs.Relating.{Leads, IsReachable, IsShortestText, IsWayText, LeadsApart};
@@ -9,11 +9,11 @@ ghost use Rattle.relative_path_bench.specs.Relating.{EndAlike};
 use relative_path::{RelativePath, RelativePathBuf};
 use std::alloc::{AllocError, Global};
 
-/// `from` followed by the shortest way to `to`, and `to`, both in normal form. Where no path leads
-/// from `from` to `to`, the way is empty, and the first is `from` in normal form.
+/// Returns two normal forms: of `from` followed by the shortest path to `to`, and of `to`. If no path
+/// leads from `from` to `to`, the first result is the normal form of `from`.
 ///
-/// They have the same text exactly if some path leads from `from` to `to`. It asks for memory for
-/// its two answers and for the way, and fails only where that is refused.
+/// The results have the same text exactly if some path leads from `from` to `to`. Allocates for both
+/// and for the shortest path. The only error is lack of memory.
 ///
 /// ```
 /// let from = RelativePath::new("a/b");
@@ -40,12 +40,12 @@ pub fn leads_back(
     Ok((back, to.normalize(alloc)?))
 }
 
-/// Both paths in normal form, and where they lead apart.
+/// Returns the normal forms of both paths, and the length of the shortest base from which the paths
+/// differ.
 ///
-/// The two texts are the same exactly if from every base both paths climb above the top or both
-/// end in the same place. Exactly then the third answer is `None`. Else it is the least number of
-/// names of a base from which they don't. It asks for memory for these, and fails only where that
-/// is refused.
+/// The two texts are the same exactly if, from every base, both paths climb above the top or both end
+/// in the same place. Exactly then the third result is `None`. Allocates for each result. The only
+/// error is lack of memory.
 ///
 /// ```
 /// let path = RelativePath::new("a//b");
@@ -72,12 +72,12 @@ pub fn same_law(
     Ok((normal, other_normal, path.leads_apart(alloc, other)?))
 }
 
-/// The shortest ways from `a` to `c`, from `a` to `b`, and from `b` to `c`, each empty where no path
-/// leads.
+/// Returns the shortest paths from `a` to `c`, from `a` to `b`, and from `b` to `c`. Each is empty if no
+/// path leads there.
 ///
-/// What leads from `a` to `b`, and then from `b` to `c`, leads from `a` to `c`; so where both lead,
-/// the way from `a` to `c` has no more components than the other two together. It asks for memory
-/// for the three, and fails only where that is refused.
+/// A path from `a` to `b`, followed by one from `b` to `c`, leads from `a` to `c`. So if both exist, the
+/// shortest path from `a` to `c` has no more components than both together. Allocates for the three
+/// results. The only error is lack of memory.
 ///
 /// ```
 /// let [a, b, c] = ["a/b", "a", "c"].map(RelativePath::new);
@@ -113,11 +113,11 @@ pub fn triangle(
     Ok((a_c, a_b, b.relative(alloc, c)?))
 }
 
-/// The shortest way from `from` to `to`, and `from` followed by it in normal form; `None` exactly if
-/// no path leads from `from` to `to`.
+/// Returns the shortest path from `from` to `to`, and the normal form of `from` followed by it. `None`
+/// exactly if no path leads from `from` to `to`.
 ///
-/// The second text is the normal text of `to`. It asks for memory for both, and fails
-/// only where that is refused.
+/// The second result has the normal text of `to`. Allocates for both. The only error is lack of
+/// memory.
 ///
 /// ```
 /// let from = RelativePath::new("a/b");

@@ -15,19 +15,19 @@ pub enum End {
     Back,
 }
 
-/// What an iterator gave, and what it left: the answer of [`take_in_turn`].
+/// What an iterator returned and which text it left: the result of [`take_in_turn`].
 #[derive(Drop)]
 pub struct Taken<'a> {
-    /// What each call gave.
+    /// What each call returned.
     pub components: Vec<Option<Component<'a>>>,
-    /// The text that is left.
+    /// The rest of the path.
     pub left: RelativePath<'a>,
 }
 
 /// Takes a component from each of these ends in turn.
 ///
-/// Whatever the order, each component is given once, and then `None` for good. It asks for memory
-/// for what the calls give, and fails only where that is refused.
+/// Whatever the order of the ends, the calls return each component once, and after that `None` for
+/// good. Allocates the list of what they return. The only error is lack of memory.
 ///
 /// ```
 /// let ends = [End::Front, End::Back];

@@ -1,4 +1,4 @@
--- What a caller's proof may cite of the moves: a place has one target after moves that are apart.
+-- Theorems on moves that a caller's proof may cite: if no two moves have the same old path, a place has one target.
 use Rattle.std.proofs.Common.{◌≡◌, List}
 use Rattle.relative_path.specs.Steps.{Step}
 use Rattle.relative_path_moves.specs.Moves.{Move, AreApart, IsTarget}

@@ -1,4 +1,4 @@
--- The one target of a reference, and the way to it or what is refused of it.
+-- The one target of a reference, and the shortest path to it or the error.
 use Rattle.std.proofs.Common.{◌≡◌, ◌≢◌, ◌↔◌, ℕ, ◌<◌, List, length, Option, Some, None, IsNone, IfSome, Result, Ok, Err, IfOk, inl, inr, [], ◌++◌, refl, sym, ap, ◌∙◌, arith}
 use Rattle.std.proofs.lemmas.List.{length-map}
 use Rattle.relative_path.specs.Steps.{Step}
@@ -15,24 +15,24 @@ use Rattle.relative_path_moves.specs.MoveError.{Refuses}
 use Rattle.relative_path_moves.specs.MoveTable.{olds_of, LeadToTarget, IsWay, IsShortestBuffer, IsLink}
 use Rattle.relative_path_moves.proofs.MovesLemmas.{old_at, IsTarget-only}
 
--- the file at an old path moves
+-- the file at the old path of a move moves
 MovesFrom-found : (moves : List Move) (place : List Step) (j : ℕ) → IsFirstAt (olds_of moves) place j
     → MovesFrom moves place j
 MovesFrom-found moves place j first =
     let within : j < length moves = omega (arith, first.within, length-map moves (λ move. move.old)) in
     record { within = within; same = rw (old_at moves j within) at first.same }
 
--- so it isn't unmoved
+-- the file at the old path of a move isn't unmoved
 pub IsUnmoved-found : (moves : List Move) (place : List Step) (j : ℕ) → IsFirstAt (olds_of moves) place j
     → ¬ IsUnmoved moves place
 IsUnmoved-found moves place j first unmoved = unmoved j (MovesFrom-found moves place j first)
 
--- its place is then the new path
+-- the target of the old path of a move is its new path
 pub IsTarget-found : (moves : List Move) (place : List Step) (j : ℕ) → IsFirstAt (olds_of moves) place j
     → IsTarget moves place (move_at moves j).new
 IsTarget-found moves place j first = inl (j, MovesFrom-found moves place j first, refl)
 
--- a target that what leads there is led to
+-- the target of a place is also the target of what leads to the same place
 LeadToTarget-is : (moves : List Move) (place target cs : List Step) → AreApart moves → IsTarget moves place target
     → IsSame target cs → LeadToTarget moves place cs
 LeadToTarget-is moves place target cs apart is same = record {
@@ -42,14 +42,14 @@ LeadToTarget-is moves place target cs apart is same = record {
   same = same;
 }
 
--- a place that is an old path's is where a file moved from
+-- if the index has a number for a place, the file there moves by the move of this number
 pub LeadToTarget-found : (moves : List Move) (place cs : List Step) (j : ℕ) → AreApart moves
     → IsFirstAt (olds_of moves) place j → cs ≡ (move_at moves j).new → LeadToTarget moves place cs
 LeadToTarget-found moves place cs j apart first new =
     LeadToTarget-is moves place (move_at moves j).new cs apart (IsTarget-found moves place j first)
     (record { everywhere = λ base. ap (walk base) (sym new) })
 
--- from a place that is no old path's no file moved
+-- if the index has no number for a place, the file there is unmoved
 pub IsTarget-kept : (moves : List Move) (place : List Step) → IsNoneAt (olds_of moves) place → IsTarget moves place place
 IsTarget-kept moves place none = inr (stays, refl) where
   stays : IsUnmoved moves place
@@ -62,23 +62,23 @@ pub LeadToTarget-kept : (moves : List Move) (place cs : List Step) → AreApart 
 LeadToTarget-kept moves place cs apart none same =
     LeadToTarget-is moves place place cs apart (IsTarget-kept moves place none) same
 
--- nothing above the top leads where the target has a place
+-- if a list has a place from the top, so has every list that leads to the same
 place_kept : (target cs : List Step) → IsSame target cs → place_of cs ≢ None → place_of target ≢ None
 place_kept target cs same some none = some (sym (same.everywhere []) ∙ none)
 
 module _ (moves : List Move) (place from cs : List Step) (lead : LeadToTarget moves place cs)
   where
-    -- what holds of all that leads where the components do holds of the target
+    -- what holds of every list that leads where the components lead holds of the target
     pub AtNewPath-all : (P : List Step → Type 0) → ((target : List Step) → IsSame target cs → P target)
         → AtNewPath moves place P
     AtNewPath-all P holds = (lead.target, lead.is, holds lead.target lead.same)
 
-    -- what holds of nothing that leads where the components do doesn't hold of the target
+    -- what holds of no list that leads where the components lead doesn't hold of the target
     pub AtNewPath-none : (P : List Step → Type 0) → ((target : List Step) → IsSame target cs → ¬ P target)
         → ¬ AtNewPath moves place P
     AtNewPath-none P none (other, is, holds) = none lead.target lead.same (rw (lead.only other is) at holds)
 
-    -- a list of components leads to the target exactly if it leads to them
+    -- a list leads to the target exactly if it leads to the components
     pub AtNewPath-leads : (r : List Step) → AtNewPath moves place (Leads from r) ↔ Leads from r cs
     AtNewPath-leads r = (
       λ (target, is, leads). IsSame-trans (rw (lead.only target is) at leads) lead.same,
@@ -89,7 +89,7 @@ module _ (moves : List Move) (place from cs : List Step) (lead : LeadToTarget mo
     climbs : place_of cs ≡ None → AtNewPath moves place ClimbsAbove
     climbs none = AtNewPath-all ClimbsAbove (λ target same. same.everywhere [] ∙ none)
 
-    -- then nothing is told of the way to it
+    -- a target above the top isn't a target below it
     not_below : place_of cs ≡ None → (P : List Step → Type 0) → ¬ AtNewPath moves place (BelowTop P)
     not_below none P = AtNewPath-none (BelowTop P) (λ target same holds. holds.0 (same.everywhere [] ∙ none))
 
@@ -112,7 +112,7 @@ module _ (moves : List Move) (place from cs : List Step) (lead : LeadToTarget mo
     not_beyond reach = AtNewPath-none (BelowTop IsBeyond)
         (λ target same holds. holds.1 (IsReachable-same (IsSame-refl from) (IsSame-sym same) reach))
 
-    -- the shortest way to the components is the shortest to the target
+    -- the shortest path to the components is the shortest path to the target
     pub AtNewPath-shortest : (text : List ℕ) → place_of cs ≢ None → IsShortestText from cs text
         → AtNewPath moves place (BelowTop (λ target. IsShortestText from target text))
     AtNewPath-shortest text some way = AtNewPath-all (BelowTop (λ target. IsShortestText from target text))
@@ -150,7 +150,7 @@ pub IsTarget-is : (moves : List Move) (file now target : List Step) → AreApart
 IsTarget-is moves file now target apart is =
     (IsTarget-only moves file now target apart is, λ e. rw e is)
 
--- of a link holds what holds of its target and the directory where the page is now
+-- a property of a link is one of its target and the page's new directory
 pub ForTargetOfLink-now : (moves : List Move) (page reference now : List Step) (P : List Step → List Step → Type 0)
     → ((target : List Step) → IsTarget moves page target ↔ (target ≡ now))
     → ForTargetOfLink moves page reference P ↔ AtNewPath moves (directory page ++ reference) (P (directory now))
@@ -164,13 +164,13 @@ pub reach-way : (directory cs : List Step) (way : Buffer) → IsShortestBuffer d
     → IsReachable directory cs
 reach-way directory cs way is = (_, is.shortest.leads)
 
--- a reference that leads, or the shortest list
+-- either the reference leads there, or the shortest list does
 pub reach-link : (directory reference cs : List Step) (way : Option Buffer) → IsLink directory reference cs way
     → IsReachable directory cs
 reach-link directory reference cs None same = (reference, same)
 reach-link directory reference cs (Some way) (other, is) = (_, is.shortest.leads)
 
--- what is answered of a reference in a page that is now at this path, its target being where the components lead
+-- the result for a reference in a page that is now at this path, if its target is where the components lead
 module _ (moves : List Move) (page reference now cs : List Step)
     (is : (target : List Step) → IsTarget moves page target ↔ (target ≡ now))
     (lead : LeadToTarget moves (directory page ++ reference) cs)

@@ -1,4 +1,4 @@
--- The one target of a place, the moves that pairs of paths are, and the first move without a file name.
+-- The one target of a place, moves as pairs of paths, and the first move without a file name.
 use Rattle.std.proofs.Common.{◌≡◌, ◌≢◌, ℕ, ◌<◌, ◌+◌, ◌⊎◌, List, [], ◌∷◌, ◌++◌, length, take, get_or, not, is_some, Bool, true, false, Bor, true≢false, Option, Some, None, inl, inr, sym, ap, ◌∙◌, arith}
 use Rattle.std.proofs.lemmas.Bool.{cases_lt, cases_order}
 use Rattle.std.proofs.lemmas.List.{get_or-map, length-map, take_more}
@@ -15,7 +15,7 @@ use Rattle.relative_path_moves.specs.MoveTable.{olds_of}
 
 -- ---- one target of a place
 
--- of moves that are apart, one at most has a place as its old path
+-- if no two moves have the same old path, at most one move has a place as its old path
 one_move : (moves : List Move) (place : List Step) (j k : ℕ) → AreApart moves → MovesFrom moves place j
     → MovesFrom moves place k → j ≡ k
 one_move moves place j k apart first second = elim (cases_order j k) [
@@ -26,7 +26,7 @@ one_move moves place j k apart first second = elim (cases_order j k) [
       (record { before = more; within = first.within; same = IsSame-trans (IsSame-sym second.same) first.same }))
 ]
 
--- so a place has one target
+-- then a place has one target
 pub IsTarget-only : (moves : List Move) (place one other : List Step) → AreApart moves → IsTarget moves place one
     → IsTarget moves place other → other ≡ one
 IsTarget-only moves place one other apart (inl (j, from, e)) (inl (k, from_2, f)) =
@@ -63,7 +63,7 @@ take_more-olds_of paths none k l =
     (old_at (moves_of paths) k (rw (length-moves_of paths) l)
     ∙ ap (λ move. move.old) (move_at-moves_of paths k none l))
 
--- what is known of the old paths before the next and that, as of those up to it
+-- what is known of the old paths before a move and of that move's old path is known of the old paths up to it
 pub olds_of-next : (P : List (List Step) → List Step → Type 0) (paths : List (RelativePath × RelativePath))
     (none : RelativePath × RelativePath) (k : ℕ) → k < length paths
     → P (take k (olds_of (moves_of paths)) ++ path_components (get_or paths k none).0 ∷ [])
@@ -71,19 +71,19 @@ pub olds_of-next : (P : List (List Step) → List Step → Type 0) (paths : List
     → P (take (k + 1) (olds_of (moves_of paths))) (move_at (moves_of paths) k).old
 olds_of-next P paths none k l holds = rw (take_more-olds_of paths none k l, move_at-moves_of paths k none l) holds
 
--- a path that answers no file name has none
+-- if `file_name` returns `None`, the path has no file name
 pub nameless : (found : Option (Bor (List ℕ))) (lacks : Bool) (name : Option (List ℕ)) → option_copied found ≡ name
     → is_some found ≡ not lacks → lacks ≡ true → name ≡ None
 nameless None lacks name e is lacking = sym e
 nameless (Some n) lacks name e is lacking = absurd (true≢false (is ∙ ap not lacking))
 
--- and one that answers a file name has that
+-- if `file_name` returns a name, the path has that file name
 pub named : (found : Option (Bor (List ℕ))) (lacks : Bool) (name : Option (List ℕ)) → option_copied found ≡ name
     → is_some found ≡ not lacks → lacks ≡ false → name ≢ None
 named None lacks name e is has = λ none. absurd (true≢false (sym (ap not has) ∙ sym is))
 named (Some n) lacks name e is has = λ none. none-some n.now (sym none ∙ sym e)
 
--- one more move that has its file names
+-- if a move has its file names and so have all before it, all up to it have
 pub named-next : (paths : List (RelativePath × RelativePath)) (none : RelativePath × RelativePath) (k : ℕ)
     → k < length paths → ((j : ℕ) → j < k → ¬ LacksFileName (move_at (moves_of paths) j))
     → file_name_of (path_text (get_or paths k none).0) ≢ None → file_name_of (path_text (get_or paths k none).1) ≢ None

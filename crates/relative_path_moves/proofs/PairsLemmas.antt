@@ -1,4 +1,4 @@
--- The first two moves with the same old path, one move after the other.
+-- The first two moves with the same old path, found one move after another.
 use Rattle.std.proofs.Common.{◌≡◌, ℕ, ◌<◌, ◌≤◌, ◌+◌, ◌⊎◌, List, length, take, Option, Some, None, MatchOption, IfSome, inl, inr, [], ◌∙◌, arith}
 use Rattle.std.proofs.lemmas.Bool.{cases_lt}
 use Rattle.std.proofs.lemmas.List.{get_or-take}

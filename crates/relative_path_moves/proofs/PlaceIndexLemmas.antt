@@ -1,4 +1,4 @@
--- An index with one path more.
+-- An index after an insertion.
 use Rattle.std.proofs.Common.{◌≡◌, ℕ, ◌<◌, ◌+◌, true, false, List, [], ◌∷◌, ◌++◌, length, Option, Some, None, IfSome, unwrap_or, Bool, cond, inl, inr, refl, sym, ap, ◌∙◌, arith, true≢false}
 use Rattle.std.proofs.lemmas.Bool.{cases_lt}
 use Rattle.std.proofs.lemmas.List.{get_or_append_left, get_or_push, length_push}
@@ -13,13 +13,13 @@ use Rattle.relative_path.proofs.ForCallers.{IsSame-refl, IsSame-sym, IsSame-tran
 use Rattle.relative_path_moves.specs.declared.place_index.PlaceIndex.{PlaceIndex}
 use Rattle.relative_path_moves.specs.PlaceIndex.{IsFirstAt, IsNoneAt, IsFoundAt, Indexes}
 
--- what leads to the same has the same normal text
+-- lists that lead to the same have the same normal text
 normal_text_same : (cs ds : List Step) (one other : List ℕ) → IsSame cs ds → IsNormalTextOf cs one
     → IsNormalTextOf ds other → other ≡ one
 normal_text_same cs ds one other same h k =
     h.only other k.normal_text (IsSame-trans same k.same)
 
--- a path that was found is found among one more
+-- a path that was found is found after one more is inserted
 IsFirstAt-kept : (paths : List (List Step)) (path cs : List Step) (k : ℕ) → IsFirstAt paths cs k
     → IsFirstAt (paths ++ path ∷ []) cs k
 IsFirstAt-kept paths path cs k is = record {
@@ -29,7 +29,7 @@ IsFirstAt-kept paths path cs k is = record {
       is.first j before (rw (get_or_append_left paths (path ∷ []) [] j (omega (arith, is.within, before))) at same);
 }
 
--- where none was found, none is found among one more that leads elsewhere
+-- if no path was found, no path is found after one more is inserted that leads elsewhere
 IsNoneAt-kept : (paths : List (List Step)) (path cs : List Step) → (¬ IsSame cs path) → IsNoneAt paths cs
     → IsNoneAt (paths ++ path ∷ []) cs
 IsNoneAt-kept paths path cs elsewhere none = λ k within same. elim (cases_lt k (length paths)) [
@@ -39,7 +39,7 @@ IsNoneAt-kept paths path cs elsewhere none = λ k within same. elim (cases_lt k 
       elsewhere (rw (get_or_push paths path [] k next) at same)
 ]
 
--- where none was found, one more that leads there is the first
+-- if no path was found, an inserted path that leads there is the first
 IsFirstAt-next : (paths : List (List Step)) (path cs : List Step) → IsSame cs path → IsNoneAt paths cs
     → IsFirstAt (paths ++ path ∷ []) cs (length paths)
 IsFirstAt-next paths path cs same none = record {
@@ -48,24 +48,24 @@ IsFirstAt-next paths path cs same none = record {
   first = λ j before leads. none j before (rw (get_or_append_left paths (path ∷ []) [] j before) at leads);
 }
 
--- what was found for where one more leads, or else its own number, is the first
+-- the number that was found for an inserted path, or otherwise its own number, is that of the first path
 IsFirstAt-or : (paths : List (List Step)) (path cs : List Step) (found : Option ℕ) → IsSame cs path
     → IsFoundAt paths cs found → IsFirstAt (paths ++ path ∷ []) cs (unwrap_or found (length paths))
 IsFirstAt-or paths path cs None same none = IsFirstAt-next paths path cs same none
 IsFirstAt-or paths path cs (Some k) same is = IsFirstAt-kept paths path cs k is
 
--- what was found for where one more doesn't lead
+-- what is found for a place where the inserted path doesn't lead
 IsFoundAt-kept : (paths : List (List Step)) (path cs : List Step) (found : Option ℕ) → (¬ IsSame cs path)
     → IsFoundAt paths cs found → IsFoundAt (paths ++ path ∷ []) cs found
 IsFoundAt-kept paths path cs None elsewhere none = IsNoneAt-kept paths path cs elsewhere none
 IsFoundAt-kept paths path cs (Some k) elsewhere is = IsFirstAt-kept paths path cs k is
 
--- for the normal text of one more path the index has what it had, or else this number
+-- under the normal text of an inserted path the index has the number that it had, or otherwise the new number
 abbrev pub IsInserted : PlaceIndex → PlaceIndex → List ℕ → ℕ → Type 0
 IsInserted old new text number = (other : List ℕ) → get_by_text new.by_text other
     ≡ update bytes_eq (get_by_text old.by_text) text (Some (unwrap_or (get_by_text old.by_text text) number)) other
 
--- the index of one more path
+-- the index after an insertion
 pub Indexes-insert : (paths : List (List Step)) (path : List Step) (old new : PlaceIndex) (text : List ℕ) (number : ℕ)
     → IsNormalTextOf path text → IsInserted old new text number → Indexes paths old → length paths ≡ number
     → Indexes (paths ++ path ∷ []) new
@@ -107,7 +107,7 @@ Indexes-insert paths path old new text number normal inserted index next =
             (λ same. true≢false (sym (differs (normal_text_same cs path other text same has normal))))
             (index.found cs other has))
 
--- the number of the first path at the place of one more
+-- the number of the first path that leads where the inserted path leads
 pub IsFirstAt-insert : (paths : List (List Step)) (path : List Step) (old : PlaceIndex) (text : List ℕ)
     (number first : ℕ) → IsNormalTextOf path text → first ≡ unwrap_or (get_by_text old.by_text text) number
     → Indexes paths old → length paths ≡ number → IsFirstAt (paths ++ path ∷ []) path first
@@ -115,7 +115,7 @@ IsFirstAt-insert paths path old text number first normal is index next =
     rw (is, sym next)
     (IsFirstAt-or paths path path _ (IsSame-refl path) (index.found path text normal))
 
--- a number that the index has is one of its paths'
+-- a number in the index is that of one of its paths
 pub within-found : (index : PlaceIndex) (text : List ℕ) (found : Option ℕ) → found ≡ get_by_text index.by_text text
     → IfSome found (λ k. (paths : List (List Step)) → Indexes paths index → k < length paths)
 within-found index text None is = tt

@@ -1,4 +1,4 @@
--- The directory by a path's parent, and whether a path has a place from the top.
+-- The directory is the parent of a path. Whether a path has a place from the top.
 use Rattle.std.proofs.Common.{◌≡◌, ◌≢◌, ℕ, List, [], ◌∷◌, length, codes, zero, suc, ◌↔◌, IsTrue, IsSome, IfSome, Option, Some, None, unwrap_or, refl, sym, ap, ◌∙◌, arith, true≢false}
 use Rattle.std.proofs.lemmas.Bool.{ne_eqb}
 use Rattle.std.proofs.lemmas.Option.{none-some}
@@ -19,7 +19,7 @@ IsPopped-empty : IsPopped [] []
 unfolding relative_path_on_literals
 IsPopped-empty = record { prefix = refl; same_components = refl; shortest = λ k _. omega arith }
 
--- the parent is the directory; without a parent the text is empty
+-- the parent is the directory; if there is no parent, the text is empty
 pub IsPopped-parent : (file : RelativePath) (parent : Option RelativePath) → IsSome parent ↔ (path_text file ≢ [])
     → IfSome parent (λ parent. IsPopped (path_text file) (path_text parent))
     → IsPopped (path_text file) (path_text (unwrap_or parent file))

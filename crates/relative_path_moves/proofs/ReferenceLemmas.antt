@@ -1,4 +1,4 @@
--- What a call says of its moves and a reference, by what the table of the moves says.
+-- The contract of `moved`, derived from the contracts of the table.
 use Rattle.std.proofs.Common.{◌≡◌, ◌≢◌, ◌⊎◌, ◌↔◌, ℕ, Result, Ok, Err, IsErrAnd, IsErrOf, List, inl, inr, refl, ap}
 use Rattle.relative_path_moves.specs.declared.move_error.MoveError.{MoveError}
 use Rattle.relative_path_moves.specs.declared.move_error.MoveError.TheVariants.{NoFileName, SameOld, AboveRoot, NoPath, OutOfMemory}
@@ -9,14 +9,14 @@ use Rattle.relative_path_moves.specs.declared.move_error.ReferenceError.TheVaria
 use Rattle.relative_path_moves.specs.Moves.{Move, AreNamed, AreApart, IsFirstNameless, IsFirstPair}
 use Rattle.relative_path_moves.specs.MoveError.{Refuses, of_moves, of_reference}
 
--- the error of a result that is a refusal
+-- the error of a result that is an error
 pub is_err_of : {T E : Type 0} (r : Result T E) (e : E) → IsErrAnd r (λ f. f ≡ e) → r ≡ Err e
 is_err_of (Ok x) e is = absurd is
 is_err_of (Err f) e is = ap Err is
 
--- ---- the moves are refused
+-- ---- making the table fails
 
--- the move without a file name is the same
+-- the error for a file name names the same move
 pub no_file_name-moves : {S T : Type 0} (moves : List Move) (e : MoveTableError) (k : ℕ)
     → IsErrOf {T = S} (Err e) (moves_error.NoFileName k) ↔ IsFirstNameless moves k
     → IsErrOf {T = T} (Err (of_moves e)) (NoFileName k) ↔ IsFirstNameless moves k
@@ -26,7 +26,7 @@ no_file_name-moves moves (moves_error.SameOld i j) k lacks =
 no_file_name-moves moves moves_error.OutOfMemory k lacks =
     (λ is. absurd (cc is), λ first. absurd (cc (lacks.1 first)))
 
--- the moves with one old path are the same
+-- the error for two old paths names the same moves
 pub same_old-moves : {S T : Type 0} (e : MoveTableError) (j k : ℕ) (case : Type 0)
     → Refuses {T = S} (Err e) (moves_error.SameOld j k) moves_error.OutOfMemory case
     → Refuses {T = T} (Err (of_moves e)) (SameOld j k) OutOfMemory case
@@ -44,7 +44,7 @@ same_old-moves {S = S} {T = T} e j k case refuses =
       forth e (inl is) = inl (cc is)
       forth e (inr is) = inr (cc is)
 
--- no reference is refused, and none is led to
+-- no error of the reference is returned, and no result either
 pub Refuses-moves : {S T : Type 0} (moves : List Move) (e : MoveTableError) (refusal : MoveError) (P : Type 0)
     → of_moves e ≢ refusal
     → ((k : ℕ) → IsErrOf {T = S} (Err e) (moves_error.NoFileName k) ↔ IsFirstNameless moves k)
@@ -64,9 +64,9 @@ Refuses-moves {S = S} {T = T} moves e refusal P other lacks pair =
           absurd (apart j k ((pair j k).only refl).1.pair)
       tell moves_error.OutOfMemory lacks pair holds = refl
 
--- ---- the reference is refused, where the moves have their names and are apart
+-- ---- the table is made, and the reference fails
 
--- what the table refuses so is refused so
+-- `moved` returns an error if the table does
 pub Refuses-reference : {S T : Type 0} (moves : List Move) (e f : ReferenceError) (P : Type 0)
     → AreNamed moves → AreApart moves → Refuses {T = S} (Err e) f reference_error.OutOfMemory P
     → Refuses {T = T} (Err (of_reference e)) (of_reference f) OutOfMemory (AreNamed moves × AreApart moves × P)
@@ -88,7 +88,7 @@ Refuses-reference {S = S} {T = T} moves e f P all_named apart refuses = record {
   back reference_error.OutOfMemory reference_error.NoPath is = absurd (cc is)
   back reference_error.OutOfMemory reference_error.OutOfMemory is = refl
 
--- what the table doesn't refuse isn't refused
+-- `moved` returns no error if the table returns none
 pub Refuses-ok : {T : Type 0} (moves : List Move) (way : T) (f : ReferenceError) (P : Type 0)
     → Refuses (Ok way) f reference_error.OutOfMemory P
     → Refuses (Ok way) (of_reference f) OutOfMemory (AreNamed moves × AreApart moves × P)
@@ -100,13 +100,13 @@ Refuses-ok moves way f P refuses = record {
   ];
 }
 
--- no move lacks a name
+-- no error for a file name is returned
 pub no_file_name-ok : {T : Type 0} (moves : List Move) (way : T) (k : ℕ) → AreNamed moves
     → IsErrOf (Ok way) (NoFileName k) ↔ IsFirstNameless moves k
 no_file_name-ok moves way k all_named =
     (λ is. absurd (cc is), λ first. absurd (all_named k first.within first.lacks))
 
--- the moves aren't refused as a reference is
+-- no error of the moves is returned
 pub not_above : (e : MoveTableError) → of_moves e ≢ AboveRoot
 not_above (moves_error.NoFileName k) is = cc is
 not_above (moves_error.SameOld j k) is = cc is

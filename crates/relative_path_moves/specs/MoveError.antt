@@ -1,4 +1,4 @@
--- Why a reference has no answer: in which case a call refuses, and what is printed of it.
+-- Errors of moves and of references: in which case a call fails with an error, and what the error prints.
 use Rattle.std.specs.Prelude.{◌⊎◌, ℕ, List, ◌++◌, codes, decimal, Result, IsErrOf}
 use Rattle.relative_path_moves.specs.declared.move_error.MoveError.{MoveError}
 use Rattle.relative_path_moves.specs.declared.move_error.MoveError.TheVariants.{NoFileName, SameOld, AboveRoot, NoPath, OutOfMemory}
@@ -7,24 +7,24 @@ use Rattle.relative_path_moves.specs.declared.move_error.MoveTableError.TheVaria
 use Rattle.relative_path_moves.specs.declared.move_error.ReferenceError.{ReferenceError}
 use Rattle.relative_path_moves.specs.declared.move_error.ReferenceError.TheVariants as reference
 
--- the result is this refusal only in this case; and in this case it is, unless it is the refusal of memory
+-- the result is this error only in this case; and in this case it is this error or the one for a failed allocation
 pub record Refuses {T E : Type 0} (result : Result T E) (refusal memory : E) (case : Type 0) : Type 0 where
   pub only : IsErrOf result refusal → case
   pub always : case → IsErrOf result refusal ⊎ IsErrOf result memory
 
--- a refusal of the moves, as one of a reference and its moves
+-- an error of the moves, as an error of `moved`
 abbrev pub of_moves : MoveTableError → MoveError
 of_moves (moves.NoFileName k) = NoFileName k
 of_moves (moves.SameOld j k) = SameOld j k
 of_moves moves.OutOfMemory = OutOfMemory
 
--- a refusal of the reference, as one of a reference and its moves
+-- an error of the reference, as an error of `moved`
 abbrev pub of_reference : ReferenceError → MoveError
 of_reference reference.AboveRoot = AboveRoot
 of_reference reference.NoPath = NoPath
 of_reference reference.OutOfMemory = OutOfMemory
 
--- what is printed of a refusal
+-- what an error prints
 abbrev pub refusal_text : MoveError → List ℕ
 refusal_text (NoFileName k) = codes "move " ++ decimal k ++ codes " lacks a file name"
 refusal_text (SameOld j k) =

@@ -1,4 +1,4 @@
--- What a table of moves holds, and the way that it gives to a target.
+-- What a table of moves holds, and the path that it gives to a target.
 use Rattle.std.specs.Prelude.{◌≡◌, ◌≢◌, List, ◌++◌, map, Result, Ok, Err, Option, Some, None, ⊤}
 use Rattle.relative_path.specs.Steps.{Step}
 use Rattle.relative_path.specs.Walk.{IsSame}
@@ -15,7 +15,7 @@ use Rattle.relative_path_moves.specs.Moves.{Move, AreNamed, AreApart, IsTarget}
 abbrev pub olds_of : List Move → List (List Step)
 olds_of = map (λ move. move.old)
 
--- the moves have file names and are apart, and the index has their old paths
+-- the moves have file names, no two have the same old path, and the index has the old paths
 pub record IsSound (moves : List Move) (by_old : PlaceIndex) : Type 0 where
   pub named : AreNamed moves
   pub apart : AreApart moves
@@ -28,8 +28,8 @@ pub record LeadToTarget (moves : List Move) (place cs : List Step) : Type 0 wher
   pub only : (other : List Step) → IsTarget moves place other → other ≡ target
   pub same : IsSame target cs
 
--- P holds of the answer, a way from the directory to the components, or the refusal says why there is none; an
--- allocation failure tells nothing
+-- P holds of the path from the directory to the components, or the error says why there is no path; a failed
+-- allocation says nothing
 abbrev pub IsWay : {T : Type 0} → List Step → List Step → (T → Type 0) → Result T ReferenceError → Type 0
 IsWay directory cs P (Ok way) = (place_of cs ≢ None) × P way
 IsWay directory cs P (Err AboveRoot) = place_of cs ≡ None
@@ -40,7 +40,7 @@ IsWay directory cs P (Err OutOfMemory) = ⊤
 abbrev pub IsShortestBuffer : List Step → List Step → Buffer → Type 0
 IsShortestBuffer directory cs way = IsShortestText directory cs way.text
 
--- nothing, where the reference leads to the components from the directory; and else the shortest way to them
+-- `None` if the reference leads from the directory to the components, and otherwise the shortest path to them
 abbrev pub IsLink : List Step → List Step → List Step → Option Buffer → Type 0
 IsLink directory reference cs None = IsSame (directory ++ reference) cs
 IsLink directory reference cs (Some way) = (¬ IsSame (directory ++ reference) cs) × IsShortestBuffer directory cs way

@@ -1,4 +1,4 @@
--- Files that moved, and where a reference of one of them has to lead.
+-- Moves of files, and where a reference in one of the files has to lead.
 use Rattle.std.specs.Prelude.{◌≡◌, ◌≢◌, ◌⊎◌, ◌<◌, ◌≤◌, ℕ, List, [], ◌++◌, map, length, None, slice_index_or}
 use Rattle.relative_path.specs.Steps.{Step}
 use Rattle.relative_path.specs.Walk.{IsSame}
@@ -13,7 +13,7 @@ pub record Move : Type 0 where
   pub old : List Step
   pub new : List Step
 
--- the moves that pairs of an old and a new path are
+-- the moves that these pairs of an old and a new path are
 abbrev pub moves_of : List (RelativePath × RelativePath) → List Move
 moves_of = map (λ paths. record { old = path_components paths.0; new = path_components paths.1 })
 
@@ -35,7 +35,7 @@ pub record IsFirstNameless (moves : List Move) (k : ℕ) : Type 0 where
 abbrev pub AreNamed : List Move → Type 0
 AreNamed moves = (k : ℕ) → k < length moves → ¬ LacksFileName (move_at moves k)
 
--- j is less than k, and the old paths of these moves lead to the same from every base
+-- j is less than k, and the old paths of the two moves lead to the same place from every base
 pub record HaveSameOld (moves : List Move) (j k : ℕ) : Type 0 where
   pub before : j < k
   pub within : k < length moves
@@ -50,7 +50,7 @@ pub record IsFirstPair (moves : List Move) (j k : ℕ) : Type 0 where
 abbrev pub AreApart : List Move → Type 0
 AreApart moves = (j k : ℕ) → ¬ HaveSameOld moves j k
 
--- the place meant by a reference in the file of move number i, before the file moved
+-- where a reference in the file of move number i led before the moves
 abbrev pub meant : List Move → ℕ → List Step → List Step
 meant moves i reference = directory (move_at moves i).old ++ reference
 
@@ -63,7 +63,7 @@ pub record MovesFrom (moves : List Move) (place : List Step) (j : ℕ) : Type 0 
 abbrev pub IsUnmoved : List Move → List Step → Type 0
 IsUnmoved moves place = (j : ℕ) → ¬ MovesFrom moves place j
 
--- where the file at a place is after the moves: the new path, if it moved, and else the place itself
+-- where the file at a place is after the moves: its new path if the file moved, and otherwise the place itself
 abbrev pub IsTarget : List Move → List Step → List Step → Type 0
 IsTarget moves place target =
     ((j : ℕ) × MovesFrom moves place j × (target ≡ (move_at moves j).new))
@@ -89,10 +89,10 @@ ClimbsAbove target = place_of target ≡ None
 abbrev pub BelowTop : (List Step → Type 0) → List Step → Type 0
 BelowTop P target = (place_of target ≢ None) × P target
 
--- no list leads to the target from the directory where the file of move i is now
+-- no list leads from the new directory of the file of move i to the target
 abbrev pub IsBeyond : List Move → ℕ → List Step → Type 0
 IsBeyond moves i target = ¬ IsReachable (directory (move_at moves i).new) target
 
--- the text spells the shortest list that leads to the target from the directory where the file of move i is now
+-- the text spells the shortest list that leads from the new directory of the file of move i to the target
 abbrev pub IsMovedText : List Move → ℕ → List ℕ → List Step → Type 0
 IsMovedText moves i text target = IsShortestText (directory (move_at moves i).new) target text

@@ -4,7 +4,7 @@ use Rattle.relative_path.specs.Steps.{Step}
 use Rattle.relative_path.specs.Walk.{walk}
 use Rattle.relative_path.specs.Editing.{kept_len}
 
--- where the components lead from the top, if they lead to a place
+-- the place where the components lead from the top, or `None` if they climb above it
 abbrev pub place_of : List Step → Option (List (List ℕ))
 place_of cs = walk [] cs
 

@@ -1,11 +1,11 @@
--- What the moves and a reference are where a text or a refusal is the answer.
+-- In which case a text or an error is the result of `moved`.
 use Rattle.std.specs.Prelude.{ℕ, List, Result, Ok, Err}
 use Rattle.relative_path.specs.Steps.{Step}
 use Rattle.relative_path_moves.specs.declared.move_error.MoveError.{MoveError}
 use Rattle.relative_path_moves.specs.declared.move_error.MoveError.TheVariants.{NoFileName, SameOld, AboveRoot, NoPath, OutOfMemory}
 use Rattle.relative_path_moves.specs.Moves.{Move, AreNamed, AreApart, IsFirstNameless, IsFirstPair, ForTarget, ClimbsAbove, BelowTop, IsBeyond, IsMovedText}
 
--- what the moves and the reference are where this is the answer, a text or a refusal; an allocation failure answers nothing
+-- the case in which this text or this error is the result; a failed allocation is no result
 abbrev pub IsAnswered : List Move → ℕ → List Step → Result (List ℕ) MoveError → Type 0
 IsAnswered moves i reference (Ok text) =
     AreNamed moves × AreApart moves × ForTarget moves i reference (BelowTop (IsMovedText moves i text))

@@ -1,11 +1,11 @@
-//! Files that moved, and what their references have to become.
+//! What references become when files move.
 //!
 //! ```text
-//! reference                   one reference, with a table for it alone
+//! reference                   one reference, with a table made for it alone
 //!     │
 //! move_table                  many references, with one table
 //!     │
-//! move_error   place_index    what is refused of moves and references; paths by the places they lead to
+//! move_error   place_index    errors of moves and of references; paths by the places they lead to
 //!                  │
 //!               places        a file's directory; whether a path has a place from the top
 //! ```

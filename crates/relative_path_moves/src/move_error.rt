@@ -1,4 +1,4 @@
-//! Why moves are refused, and why a reference has no answer.
+//! Errors of moves and of references.
 ghost use Rattle.std.specs.Prelude.{◌≡◌, Some};
 ghost use Rattle.relative_path_moves.specs.MoveError.{of_moves, of_reference, refusal_text};
 
@@ -6,14 +6,12 @@ use std::alloc::AllocError;
 use std::error::Error;
 use std::fmt;
 
-/// Why moves are refused, whatever the reference. Moves are told by their numbers, counted from 0.
-///
-/// A refusal prints its words.
+/// Why no table can be made of some moves. Moves are numbered from 0.
 ///
 /// ```
-/// let refusal = MoveTableError::SameOld(0, 3);
+/// let error = MoveTableError::SameOld(0, 3);
 /// assert_eq!(rt;
-///     refusal.to_string(alloc)?.as_str(),
+///     error.to_string(alloc)?.as_str(),
 ///     "moves 0 and 3 have the same old path"
 /// );
 /// ```
@@ -21,9 +19,9 @@ use std::fmt;
 pub enum MoveTableError {
     /// The first move whose old or new path has no file name.
     NoFileName(usize),
-    /// The lexicographically first two moves whose old paths lead to the same from every base.
+    /// The lexicographically first two moves whose old paths lead to the same place from every base.
     SameOld(usize, usize),
-    /// Memory was refused, after each move was seen to have its file names.
+    /// An allocation failed. By then both paths of each move were seen to have a file name.
     OutOfMemory,
 }
 
@@ -47,21 +45,19 @@ impl From<AllocError> for MoveTableError {
     }
 }
 
-/// Why a reference has no answer after moves that are not refused.
-///
-/// A refusal prints its words.
+/// Why a reference has no new path after the moves of a table.
 ///
 /// ```
-/// let refusal = ReferenceError::NoPath;
-/// assert_eq!(rt; refusal.to_string(alloc)?.as_str(), "no path");
+/// let error = ReferenceError::NoPath;
+/// assert_eq!(rt; error.to_string(alloc)?.as_str(), "no path");
 /// ```
 #[derive(Clone, Copy, Debug, PartialEq, Eq)]
 pub enum ReferenceError {
-    /// The target has no place from the root.
+    /// After the moves the target is above the root.
     AboveRoot,
     /// No path leads from the file's new directory to the target.
     NoPath,
-    /// Memory was refused.
+    /// An allocation failed.
     OutOfMemory,
 }
 
@@ -85,26 +81,24 @@ impl From<AllocError> for ReferenceError {
     }
 }
 
-/// Why a reference and its moves have no answer: a [`MoveTableError`] or a [`ReferenceError`]. Moves are
-/// told by their numbers, counted from 0.
-///
-/// A refusal prints its words.
+/// Why [`moved`](crate::moved) fails: for the reason of a [`MoveTableError`] or of a [`ReferenceError`].
+/// Moves are numbered from 0.
 ///
 /// ```
-/// let refusal = MoveError::NoFileName(3);
-/// assert_eq!(rt; refusal.to_string(alloc)?.as_str(), "move 3 lacks a file name");
+/// let error = MoveError::NoFileName(3);
+/// assert_eq!(rt; error.to_string(alloc)?.as_str(), "move 3 lacks a file name");
 /// ```
 #[derive(Clone, Copy, Debug, PartialEq, Eq)]
 pub enum MoveError {
     /// The first move whose old or new path has no file name.
     NoFileName(usize),
-    /// The lexicographically first two moves whose old paths lead to the same from every base.
+    /// The lexicographically first two moves whose old paths lead to the same place from every base.
     SameOld(usize, usize),
-    /// The target has no place from the root.
+    /// After the moves the target is above the root.
     AboveRoot,
     /// No path leads from the file's new directory to the target.
     NoPath,
-    /// Memory was refused, after each move was seen to have its file names.
+    /// An allocation failed. By then both paths of each move were seen to have a file name.
     OutOfMemory,
 }
 

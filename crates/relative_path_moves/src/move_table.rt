@@ -1,4 +1,4 @@
-//! Moves by their old paths: what is refused of them, and where what is at a place moves to.
+//! A table of moves, searched by the old paths: what a reference becomes after the moves.
 ghost use Rattle.std.specs.Prelude.{◌≡◌, ◌<◌, ◌≤◌, ◌↔◌, ℕ, List, length, Some, IfOk, IfSome, IsNone, OnOk, IsErrOf, MatchOption};
 ghost use Rattle.relative_path.specs.Steps.{Step};
 ghost use Rattle.relative_path.specs.Normalizing.{IsNormalTextOf};
@@ -32,14 +32,17 @@ use relative_path::{RelativePath, RelativePathBuf};
 use std::alloc::{AllocError, Global};
 use std::marker::Model;
 
-/// Moves of files, made once and asked for many references.
+/// A table of moves, made once for many references.
 ///
-/// A move is a file's old and its new path, both read from one root. Each has its file names, and no
-/// two have the same old path. Two may have the same new path, or one where another file stays: a
-/// caller that writes files has to look for that.
+/// A move is the old and the new path of a file, both relative to one root. In a table both paths of
+/// each move have a file name, and no two moves have the same old path. Two moves may have the same new
+/// path, and a new path may be that of a file that stays: a caller that writes files checks for that.
 ///
-/// To make a table takes a normal form and a search by halves for each move. To ask it takes some
-/// normal forms and one such search, however many moves there are.
+/// A reference is a *path* here: it has no scheme, no query and no fragment, and a percent sign is a
+/// byte of a name.
+///
+/// Making the table normalises each old path and inserts it into a B-tree. A lookup normalises a few
+/// paths and searches the tree once, however many moves there are.
 ///
 /// ```
 /// let page = (RelativePath::new("docs/a.md"), RelativePath::new("docs/sub/b.md"));
@@ -64,16 +67,17 @@ impl<'a> Model for MoveTable<'a> {
 }
 
 impl<'a> MoveTable<'a> {
-    /// The table of these moves, or what is refused of them.
+    /// Makes the table of these moves. Fails if a path has no file name, or if two old paths lead to
+    /// the same place.
     ///
-    /// Without a file name a move is refused before any memory is asked for. Each old path takes
-    /// memory for its normal form, and for a place in the table.
+    /// The call looks for file names before it allocates. It then allocates for each old path: the
+    /// normal form, and an entry of the table.
     ///
     /// ```
     /// let moves = [("a", "b"), ("c/../a", "d")]
     ///     .map(|(old, new)| (RelativePath::new(old), RelativePath::new(new)));
-    /// let refused = MoveTable::new(alloc, &moves);
-    /// assert!(rt; refused.is_err_and(|error| error == MoveTableError::SameOld(0, 1)));
+    /// let table = MoveTable::new(alloc, &moves);
+    /// assert!(rt; table.is_err_and(|error| error == MoveTableError::SameOld(0, 1)));
     /// ```
     pub fn new(
         alloc: Global,
@@ -97,7 +101,7 @@ impl<'a> MoveTable<'a> {
         }
     }
 
-    /// How many moves the table has.
+    /// The number of moves in the table.
     ///
     /// ```
     /// let moves = [(RelativePath::new("a"), RelativePath::new("b"))];
@@ -109,13 +113,14 @@ impl<'a> MoveTable<'a> {
         self.moves.len()
     }
 
-    /// What the reference becomes in the file of move number `i`, after all the moves.
+    /// Returns what a reference in the file of move number `i` becomes after all the moves.
     ///
-    /// It is the shortest path from that file's new directory to the reference's target: where it led
-    /// before, or where that file is now, if it moved too.
+    /// The result is the shortest path from the file's new directory to the target of the reference. The
+    /// target is the place where the reference led before the moves; if that is the old path of a move,
+    /// the target is its new path.
     ///
-    /// It asks for memory as `join_normalized` and `try_relative` do, and fails with `OutOfMemory` only
-    /// where that is refused.
+    /// The call allocates what `join_normalized`, `leads_apart` and `try_relative` do. It fails with
+    /// `OutOfMemory` only if one of these allocations fails.
     ///
     /// ```
     /// let moves = [("a.md", "x/a.md"), ("b.md", "y/b.md")]
@@ -123,8 +128,8 @@ impl<'a> MoveTable<'a> {
     /// let table = MoveTable::new(alloc, &moves)?;
     /// let way = table.moved(alloc, 0, RelativePath::new("b.md"))?;
     /// assert_eq!(rt; way.as_relative_path().as_str(), "../y/b.md");
-    /// let refused = table.moved(alloc, 0, RelativePath::new("../b.md"));
-    /// assert_eq!(rt; refused.err(), Some(ReferenceError::AboveRoot));
+    /// let above = table.moved(alloc, 0, RelativePath::new("../b.md"));
+    /// assert_eq!(rt; above.err(), Some(ReferenceError::AboveRoot));
     /// ```
     pub fn moved(
         &self,
@@ -146,15 +151,16 @@ impl<'a> MoveTable<'a> {
         way_or_refusal(alloc, directory(new), self.target(&meant))
     }
 
-    /// What the reference becomes in the page that was at this path before the moves, whether or not
-    /// the page moved itself. It is `None` where the reference as it is written still leads from the
-    /// page's new directory to its target, and else the path that [`MoveTable::moved`] answers.
+    /// Returns what a reference becomes in the page that was at this path before the moves. The page
+    /// itself may move or stay.
     ///
-    /// So a caller that writes a page touches only what the moves broke. In a page that stays these
-    /// are the references to files that moved.
+    /// Returns `None` if the reference, as it is written, still leads from the page's new directory to
+    /// its target. Otherwise the result is the path that [`MoveTable::moved`] describes. So a caller that
+    /// rewrites a page changes only the references that the moves broke. In a page that stays, these are
+    /// the references to files that moved.
     ///
-    /// It asks for memory for the page's normal form, for the reference joined to its directory, and
-    /// then as [`MoveTable::moved`] does.
+    /// The call allocates the page's normal form, the reference joined to the page's directory, and what
+    /// [`MoveTable::moved`] does.
     ///
     /// ```
     /// let moves = [(RelativePath::new("img/x.png"), RelativePath::new("art/y.png"))];
@@ -189,10 +195,10 @@ impl<'a> MoveTable<'a> {
         link_to(alloc, directory(now), reference, self.target(&meant))
     }
 
-    /// The path of a file after the moves: the new path of the move whose old path leads where this
-    /// one does, and else the path as it is.
+    /// Returns the path of a file after the moves. If the path leads where the old path of a move leads,
+    /// the result is the new path of that move. Otherwise the result is the path itself, unchanged.
     ///
-    /// It takes memory for the path's normal form, and fails only where that is refused.
+    /// Allocates the path's normal form, and fails only if that allocation fails.
     ///
     /// ```
     /// let moves = [(RelativePath::new("a.md"), RelativePath::new("x/a.md"))];
@@ -228,7 +234,7 @@ impl<'a> MoveTable<'a> {
         moves[i]
     }
 
-    // Where what is at a place, told by its normal text, is after the moves.
+    // The path, after the moves, of the file at a place. The place is given as a normal path.
     fn target<'b>(&'b self, place: &'b RelativePathBuf) -> RelativePath<'b>
         ensures { (cs : List Step) → IsNormalTextOf cs place.now.text
             → LeadToTarget self.now cs (path_components result) }
@@ -253,7 +259,7 @@ fn first_nameless(moves: &[(RelativePath<'_>, RelativePath<'_>)]) -> Option<usiz
     None
 }
 
-// The old paths by their places, and the first two moves with the same one.
+// The index of the old paths, and the first two moves whose old paths lead to the same place.
 fn by_old_path(
     alloc: Global,
     moves: &[(RelativePath<'_>, RelativePath<'_>)],
@@ -271,8 +277,8 @@ fn by_old_path(
     Ok((by_old, pair))
 }
 
-// The first of this pair, and of the moves `first` and `k` if they are two; `k` is greater than the
-// numbers of the pair.
+// The lexicographically first of two pairs of moves: `pair`, and `first` with `k` if they differ. `k` is
+// greater than both numbers of `pair`.
 fn first_pair(pair: Option<(usize, usize)>, first: usize, k: usize) -> Option<(usize, usize)>
     ensures one { k ≤ first → result ≡ pair }
     ensures earlier { IfSome pair (λ earlier. earlier.0 ≤ first → result ≡ pair) }
@@ -286,7 +292,7 @@ fn first_pair(pair: Option<(usize, usize)>, first: usize, k: usize) -> Option<(u
     }
 }
 
-// The way from a directory to a target, unless that climbs above the root.
+// The shortest path from a directory to a target. Fails if the target climbs above the root.
 fn way_or_refusal(
     alloc: Global,
     directory: RelativePath<'_>,
@@ -303,8 +309,8 @@ fn way_or_refusal(
         .ok_or(ReferenceError::NoPath)
 }
 
-// The way from a directory to a target, unless a reference leads there or the target climbs above the
-// root.
+// The shortest path from a directory to a target, or `None` if the reference leads there. Fails if the
+// target climbs above the root.
 fn link_to(
     alloc: Global,
     directory: RelativePath<'_>,

@@ -9,10 +9,11 @@ use relative_path::RelativePath;
 use std::alloc::{AllocError, Global};
 use std::collections::BTreeMap;
 
-/// The numbers of paths, each found by any path that leads to the same from every base.
+/// An index from paths to numbers. Equivalent paths, which lead to the same place from every base, find
+/// the same number.
 ///
-/// Paths are told by their numbers, counted from 0 in the order in which they are put in. Where
-/// several lead to the same, the first of them is found.
+/// The paths are numbered from 0 in the order in which they are inserted. If several are equivalent, a
+/// search finds the first of them.
 ///
 /// ```
 /// let mut index = PlaceIndex::new(alloc);
@@ -26,7 +27,7 @@ pub struct PlaceIndex {
 }
 
 impl PlaceIndex {
-    /// The index of no paths. It takes no memory.
+    /// Makes an empty index. Allocates nothing.
     ///
     /// ```
     /// let index = PlaceIndex::new(alloc);
@@ -40,12 +41,11 @@ impl PlaceIndex {
         }
     }
 
-    /// Puts in the path with the next number, and answers the number of the first path that leads
-    /// to the same from every base: `number`, where none did so far.
+    /// Inserts a path. `number` has to be how many paths were inserted before. Returns the number of the
+    /// first path that is equivalent to this one: an earlier one, or `number` if there is no earlier one.
     ///
-    /// It takes memory for the path's normal form, and for a place in the index where the path is
-    /// the first. It fails only where that is refused, and then the index has the
-    /// paths that it had.
+    /// Allocates the path's normal form, and an entry if no earlier path is equivalent. Fails only if an
+    /// allocation fails; the index then has the paths that it had.
     ///
     /// ```
     /// let mut index = PlaceIndex::new(alloc);
@@ -72,10 +72,10 @@ impl PlaceIndex {
         Ok(*self.by_text.entry(text)?.or_insert(number))
     }
 
-    /// The number of the first path that leads from every base to where this one leads.
+    /// Returns the number of the first path that is equivalent to this one.
     ///
-    /// It takes memory for the path's normal form, and fails only where that is refused. Beside that
-    /// it costs a search by halves.
+    /// Allocates the path's normal form, and fails only if that allocation fails. Then it searches a
+    /// B-tree once.
     ///
     /// ```
     /// let mut index = PlaceIndex::new(alloc);
@@ -90,8 +90,8 @@ impl PlaceIndex {
         Ok(self.get_normal(normal.as_relative_path()))
     }
 
-    /// The same of a path that is normal already, as `normalize` and `join_normalized` answer it. It
-    /// takes no memory.
+    /// Returns what [`PlaceIndex::get`] does, for a path that is normal already: one that `normalize` or
+    /// `join_normalized` returned. Allocates nothing.
     ///
     /// ```
     /// let mut index = PlaceIndex::new(alloc);

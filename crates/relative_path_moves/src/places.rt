@@ -1,4 +1,4 @@
-//! The place that a path leads to from the top, and the directory of a file.
+//! Whether a path leads to a place from the top, and the directory of a file.
 ghost use Rattle.std.specs.Prelude.{◌≡◌, ◌↔◌, IfOk, IsSome, IsTrue};
 ghost use Rattle.relative_path.specs.Editing.{IsPopped};
 ghost use Rattle.relative_path.specs.RelativePath.{path_text, path_components};
@@ -7,10 +7,10 @@ ghost use Rattle.relative_path_moves.specs.Places.{directory, place_of};
 use relative_path::RelativePath;
 use std::alloc::{AllocError, Global};
 
-/// Whether a path leads to a place from the top, as no path does that climbs above where it starts.
+/// Returns whether a path leads to a place from the top. A path that climbs above its start doesn't.
 ///
-/// A path with a place leads from every base to that place below the base. It asks for memory at most
-/// twice, for a table each, and fails only where one is refused.
+/// A path with a place from the top stays below every base: it leads to that place below the base.
+/// Allocates at most twice, a table each time, and fails only if an allocation fails.
 ///
 /// ```
 /// assert!(rt; has_place(alloc, RelativePath::new("a/../b"))?);
@@ -23,10 +23,10 @@ pub fn has_place(alloc: Global, path: RelativePath<'_>) -> Result<bool, AllocErr
     Ok(apart == Some(0))
 }
 
-/// The directory of a file, from which its references lead: the parent, or the path itself where it
-/// is empty.
+/// Returns the directory of a file, which is where the file's references start. It is the parent of the
+/// path, or the path itself if that is empty.
 ///
-/// The answer is a part of the path, and takes no memory.
+/// The result is a part of the path. Allocates nothing.
 ///
 /// ```
 /// let file = RelativePath::new("docs/guide/start.md");

@@ -20,21 +20,22 @@ use crate::move_table::MoveTable;
 use relative_path::{RelativePath, RelativePathBuf};
 use std::alloc::Global;
 
-/// What a reference becomes in a file that moved, after all the moves.
+/// Returns what a reference in a file that moved becomes after all the moves.
 ///
-/// A move is a file's old and its new path, both read from one root; the reference stands in the
-/// file of move number `i`. It is answered by the shortest path from that file's new directory to
-/// the reference's target: where it led before, or where that file is now, if it moved too.
+/// A reference is a *path* here: it has no scheme, no query and no fragment, and a percent sign is a byte
+/// of a name. A move is the old and the new path of a file, both relative to one root. The reference is in
+/// the file of move number `i`. The result is the shortest path from that file's new directory to the
+/// target of the reference. The target is the place where the reference led before the moves; if that is
+/// the old path of a move, the target is its new path.
 ///
-/// Two moves may have the same new path, or one where another file stays: a caller that writes files
-/// has to look for that.
+/// Two moves may have the same new path, and a new path may be that of a file that stays: a caller that
+/// writes files checks for that.
 ///
-/// The moves are refused before the reference is looked at, and without a file name before any
-/// memory is asked for. Each old path takes memory for its normal form, and a place in a table.
+/// The call checks the moves before the reference, and looks for file names before it allocates. It then
+/// allocates for each old path: the normal form, and an entry of a table.
 ///
-/// The table is made for this one reference, in time that grows with the number of moves times its
-/// logarithm. Many references of the same moves are answered by a [`MoveTable`] made once, each in
-/// time that grows with the logarithm alone.
+/// The table serves this one reference. Making it takes time `n log n` in the number of moves. For many
+/// references make one [`MoveTable`]; each lookup then takes time `log n`.
 ///
 /// ```
 /// let page = (RelativePath::new("docs/a.md"), RelativePath::new("docs/sub/b.md"));

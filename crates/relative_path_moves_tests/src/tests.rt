@@ -1,4 +1,5 @@
 //! Tests of what no contract says.
+mod calling;
 mod large;
 mod many_moves;
 mod one_move;
@@ -29,8 +30,8 @@ fn same<T: PartialEq + Debug>(case: &str, found: &T, expected: &T) -> Result<(),
     }
 }
 
-// Words for a case, moves, a reference of the first file that moves, and what it becomes, or a
-// refusal's words after a mark. Moves are one text, which costs a proof less than a table in a table.
+// Words for a case, moves, a reference of the first file that moves, and what it becomes, or an
+// error's words after `! `. Moves are one text, which costs a proof less than a table in a table.
 type Case = (&'static str, &'static str, &'static str, &'static str);
 
 // Fails where a reference becomes another text than is expected in one of these cases.
@@ -67,7 +68,7 @@ fn becomes(
     same(case, &(reference, answer.as_str()), &(reference, expected))
 }
 
-// What a reference of file number `i` becomes, or a refusal's words after a mark.
+// What a reference of file number `i` becomes, or an error's words after `! `.
 fn told(
     alloc: Global,
     moves: &[(RelativePath<'_>, RelativePath<'_>)],
@@ -83,7 +84,7 @@ fn told(
     }
 }
 
-// What a reference of a page becomes, if it doesn't stay as it is, or a refusal's words after a mark.
+// What a reference of a page becomes, if it doesn't stay as it is, or an error's words after `! `.
 fn told_in(
     alloc: Global,
     moves: &[(RelativePath<'_>, RelativePath<'_>)],

@@ -14,7 +14,7 @@ use std::alloc::{AllocError, Global};
 use std::error::Error;
 use std::fmt;
 
-/// Why a value gives no path.
+/// Why no path can be made of a JSON value.
 ///
 /// ```
 /// let error = json::view_value(&Value::Null).unwrap_err();
@@ -25,7 +25,7 @@ use std::fmt;
 pub enum FromValueError {
     /// The value isn't a string.
     NotAString,
-    /// Memory for the text was refused.
+    /// The allocation of the text failed.
     OutOfMemory,
 }
 
@@ -52,9 +52,9 @@ impl From<AllocError> for FromValueError {
     }
 }
 
-/// The path's text as a JSON string.
+/// Returns the path's text as a JSON string.
 ///
-/// It asks for memory once, if the text isn't empty, and fails only where that is refused.
+/// Allocates once, the text, unless it is empty. The only error is lack of memory.
 ///
 /// ```
 /// let value = json::to_value(alloc, RelativePath::new("a//b"))?;
@@ -66,10 +66,9 @@ pub fn to_value(alloc: Global, path: RelativePath<'_>) -> Result<Value, AllocErr
     Value::try_from_str(alloc, path.as_str())
 }
 
-/// The text of a value that is a string, as a path in memory of its own.
+/// Returns the text of a JSON string as a buffer. Fails if the value isn't a string.
 ///
-/// It asks for memory once, and only for a string that isn't empty: any other value is refused
-/// before.
+/// Allocates once, the text, unless it is empty. If the value isn't a string, it doesn't allocate.
 ///
 /// ```
 /// let value = Value::from_str(alloc, "\"a/b\"")?;
@@ -84,10 +83,9 @@ pub fn from_value(alloc: Global, value: &Value) -> Result<RelativePathBuf, FromV
     Ok(path.to_relative_path_buf(alloc)?)
 }
 
-/// The text of a value that is a string, as a boxed path.
+/// Returns the text of a JSON string as a boxed path. Fails if the value isn't a string.
 ///
-/// It asks for memory once, and only for a string that isn't empty: any other value is refused
-/// before.
+/// Allocates once, the text, unless it is empty. If the value isn't a string, it doesn't allocate.
 ///
 /// ```
 /// let value = Value::from_str(alloc, "\"a/b\"")?;
@@ -102,9 +100,9 @@ pub fn boxed_from_value(alloc: Global, value: &Value) -> Result<BoxedRelativePat
     Ok(BoxedRelativePath::from_text(alloc, text)?)
 }
 
-/// The text of a value that is a string, as a view of it.
+/// Returns the text of a JSON string as a view. Fails only if the value isn't a string.
 ///
-/// It takes no memory, and refuses nothing but a value that isn't a string.
+/// Allocates nothing.
 ///
 /// ```
 /// let value = Value::from_str(alloc, "\"a/b\"")?;

@@ -1,4 +1,4 @@
-//! Paths that own or share their text in other ways than a buffer does.
+//! Paths that own or share their text otherwise than a buffer does.
 pub use self::boxed::{BoxedRelativePath, BufExt};
 pub use self::cow::CowRelativePath;
 pub use self::rc::RcRelativePath;

@@ -3,6 +3,7 @@ use relative_path::RelativePath;
 use std::fmt::Debug;
 use std::test::Fail;
 
+mod calling;
 mod comparing;
 mod json;
 mod refusals;

@@ -7,7 +7,7 @@ use Rattle.relative_path.proofs.OnLiterals.{relative_path_on_literals}
 use Rattle.relative_path_moves.specs.Places.{place_of}
 use Rattle.relative_path_uses.specs.FromTop.{SpellsPlace}
 
--- a normal text of what leads to a place spells it
+-- the normal text of a list that leads to a place spells the place
 pub SpellsPlace-normal : (cs : List Step) (text : List ℕ) → IsNormalTextOf cs text → IsSome (place_of cs)
     → SpellsPlace cs text
 SpellsPlace-normal cs text normal some = spells (place_of cs) refl some where
@@ -27,6 +27,6 @@ SpellsPlace-empty cs [] none spells = tell spells.place spells.names spells.name
   tell [] e named = named
   tell (n ∷ place) e named = absurd (omega (arith, ap length e))
 
--- another text spells a place with a name
+-- a text that isn't empty spells a place with a name
 pub SpellsPlace-some : (cs : List Step) (text : List ℕ) (spells : SpellsPlace cs text) → text ≢ [] → spells.place ≢ []
 SpellsPlace-some cs text spells some none = some (spells.spelled ∙ ap (λ place. spell (map name place)) none)

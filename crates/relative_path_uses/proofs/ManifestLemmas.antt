@@ -1,4 +1,4 @@
--- The files of a manifest's entries, one after the other, and the first that is refused.
+-- The files of a manifest's entries, one after another, and the first entry that isn't accepted.
 use Rattle.std.proofs.Common.{◌≡◌, ◌≢◌, ◌<◌, ◌+◌, ℕ, List, [], ◌∷◌, ◌++◌, map, length, take, get_or, Some, false, codes, option_map, option_and_then, refl, ap, ◌∙◌}
 use Rattle.std.proofs.lemmas.List.{get_or-map, length-map, take_more, map_push}
 use Rattle.std.proofs.lemmas.Slice.Zip.{all_zipped_more}
@@ -37,12 +37,12 @@ IsFileOf-place base entry path place file string spells some portable normal bel
   below = below spells.place spells.named;
 }
 
--- the items of a list made of data are these
+-- the items of a list of JSON values
 pub item_list-items_of : (ds : List Data) → item_list (items_of ds) ≡ ds
 item_list-items_of [] = refl
 item_list-items_of (d ∷ ds) = ap (λ es. d ∷ es) (item_list-items_of ds)
 
--- the files with that of the next entry
+-- the files so far, and the file of the next entry
 pub AreFiles-next : (base : List Step) (values : List Value) (none : Value) (files : List Buffer) (file : Buffer)
     (k : ℕ) → k < length values → AreFiles (map file_text files) base (take k (map view values))
     → IsFileOf base (view (get_or values k none)) file.text
@@ -53,13 +53,13 @@ AreFiles-next base values none files file k l are is =
     rw (take_more (map view values) k null within, map_push file_text files file)
     (all_zipped_more (IsFileOf base) (take k (map view values)) (map file_text files) _ file.text are (rw entry is))
 
--- what holds of the entries of a manifest with this directory
+-- what holds of a manifest, by its directory and its entries
 pub OfManifest-of : (manifest : Data) (base : List ℕ) (entries : List Data) (P : List Step → List Data → Type 0)
     → base_member manifest ≡ Some base → entries_of manifest ≡ Some entries → P (components base) entries
     → OfManifest manifest P
 OfManifest-of manifest base entries P based listed holds = (base, entries, based, listed, holds)
 
--- the manifest whose entries are refused
+-- a manifest with an entry that isn't accepted
 pub IsRefusedManifest-entries : (manifest : Data) (base : List ℕ) (entries : List Data) (refusal : ManifestError)
     → base_member manifest ≡ Some base → entries_of manifest ≡ Some entries
     → IsRefusedFor refusal (components base) entries → IsRefusedManifest manifest refusal
@@ -72,7 +72,7 @@ IsRefusedManifest-entries manifest base entries (Foreign k) based listed is = (b
 IsRefusedManifest-entries manifest base entries ForeignBase based listed is = absurd is
 IsRefusedManifest-entries manifest base entries OutOfMemory based listed is = tt
 
--- the list of entries that are these values
+-- the entries of a manifest are these values
 pub entries_of-values : (manifest : Data) (values : List Value)
     → option_and_then as_array (get (codes "files") manifest) ≡ Some (items_view values)
     → entries_of manifest ≡ Some (map view values)

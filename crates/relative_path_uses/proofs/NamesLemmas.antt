@@ -1,4 +1,4 @@
--- The names of a place are plain, where no platform reads one otherwise.
+-- The names of a place are plain if Windows reads none of them otherwise.
 use Rattle.std.proofs.Common.{◌≡◌, ℕ, false, List, [], ◌∷◌, map, ◌||◌, refl, sym, ap, ◌∙◌}
 use Rattle.std.proofs.lemmas.List.Elements.{All-from_recursion}
 use Rattle.std.proofs.lemmas.List.Folds.{list_any_none}
@@ -9,12 +9,12 @@ use Rattle.relative_path.proofs.ForCallers.{SpellThemselves-components, name-pro
 use Rattle.relative_path_uses.specs.FromTop.{SpellsPlace}
 use Rattle.relative_path_uses.specs.Names.{is_unportable, is_unportable_step, IsPlainName}
 
--- a component that is a name is read otherwise exactly if the name is
+-- Windows reads a component that is a name otherwise exactly if it reads the name otherwise
 pub unportable-names : (place : List (List ℕ)) → list_any is_unportable_step (map name place) ≡ list_any is_unportable place
 unportable-names [] = refl
 unportable-names (n ∷ place) = ap (λ others. is_unportable n || others) (unportable-names place)
 
--- names that are components and that no platform reads otherwise
+-- names are plain if they are components and Windows reads none of them otherwise
 plain_names : (place : List (List ℕ)) → SpellThemselves (map name place) → list_any is_unportable place ≡ false
     → AllByRecursion IsPlainName place
 plain_names [] proper none = tt
@@ -31,7 +31,7 @@ plain_names (n ∷ place) (first, rest) none =
       plain_names place rest others,
     )
 
--- the names of a place are plain, where no platform reads a component of its text otherwise
+-- the names of a place are plain if Windows reads no component of its text otherwise
 pub All-IsPlainName : (cs : List Step) (text : List ℕ) (spells : SpellsPlace cs text)
     → list_any is_unportable_step (components text) ≡ false → All IsPlainName spells.place
 All-IsPlainName cs text spells none =
@@ -39,7 +39,7 @@ All-IsPlainName cs text spells none =
     (plain_names spells.place (rw spells.names at (SpellThemselves-components text))
     (sym (unportable-names spells.place) ∙ sym (ap (list_any is_unportable_step) spells.names) ∙ none))
 
--- a place has a name that is read otherwise, where its text has such a component
+-- a place has a name that Windows reads otherwise if its text has such a component
 pub any-unportable : (cs : List Step) (text : List ℕ) (spells : SpellsPlace cs text)
     → list_any is_unportable_step (components text) ≡ list_any is_unportable spells.place
 any-unportable cs text spells = ap (list_any is_unportable_step) spells.names ∙ unportable-names spells.place

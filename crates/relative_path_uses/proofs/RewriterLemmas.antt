@@ -1,4 +1,4 @@
--- The targets of a page moved one after the other.
+-- The targets of a page, moved one after another.
 use Rattle.std.proofs.Common.{◌≡◌, ℕ, Bool, false, List, [], ◌∷◌, ◌++◌, Option, Some, None, is_some, refl, sym, ap, ◌∙◌, arith, subst, ◌||◌, inr, append_assoc, append-nil}
 use Rattle.std.proofs.lemmas.Bool.{cond_both, or_parts}
 use Rattle.std.specs.List.{AllZip, list_any, between}
@@ -16,14 +16,14 @@ use Rattle.relative_path_uses.proofs.TargetsLemmas.{path_of-moved, is_not_relati
 
 -- ---- one target
 
--- with a slash at its end it is the same path
+-- a slash at the end of a path changes no component
 same_with_slash : (path way reference : List ℕ) → IsSame (components way) (components reference)
     → IsSame (components way) (components (with_slash path reference))
 same_with_slash path way reference same =
     cond_both _ (reference ++ slash ∷ []) reference (λ text. IsSame (components way) (components text))
     (λ _. subst (IsSame (components way)) (sym (components-trailing_slash reference)) same) (λ _. same)
 
--- what is written in place of a path
+-- what is written in place of a path is a new path
 pub IsNewPath-way : (moves : List Move) (file : List Step) (path way reference new : List ℕ)
     → ¬ StillLeads moves file path → IsWayNow moves file path way → IsReference way reference
     → new ≡ with_slash path reference → IsNewPath moves file path new
@@ -47,7 +47,7 @@ pub IsNone-some : {T : Type 0} (found : Option T) (x : T) → found ≡ Some x �
 IsNone-some None x is none = absurd (grind (arith, ap is_some is))
 IsNone-some (Some y) x is none = absurd (grind (arith, none))
 
--- a byte that fits ends no path
+-- a byte that needs no escape doesn't end a path
 fits : (angled : Bool) (text : List ℕ) → needs_escapes angled text ≡ false → list_any ends_path text ≡ false
 fits angled [] fit = refl
 fits angled (b ∷ bs) fit =
@@ -55,7 +55,7 @@ fits angled (b ∷ bs) fit =
     let goes_on : ends_path b ≡ false = grind (arith, first) in
     ap (λ ends. ends || list_any ends_path bs) goes_on ∙ fits angled bs rest
 
--- a target whose path is written anew
+-- a target whose path is replaced
 pub BecomesPart-moved : (moves : List Move) (file : List Step) (angled : Bool) (target path new tail : List ℕ)
     → path ≡ path_of target → tail ≡ tail_of target → IsNewPath moves file path new → needs_escapes angled new ≡ false
     → BecomesPart moves file angled target (record { text = new ++ tail; unchanged = None })
@@ -69,8 +69,8 @@ BecomesPart-moved moves file angled target path new tail is_path is_tail is fit 
 
 -- ---- all targets
 
--- some targets have their parts, the text has these and what stands between them, and the rest of the targets
--- and of the page is to come
+-- the first targets have become their parts, the text has these parts and what is between them, and the rest of the
+-- targets and of the page follows
 pub record Progress (moves : List Move) (file : List Step) (page : List ℕ) (targets : List Target) (at : ℕ)
     (rest : List Target) (text : List ℕ) (unchanged : List (ℕ × Unchanged)) : Type 0 where
   pub parts : List Part
@@ -88,11 +88,11 @@ Progress-start moves file page targets text unchanged no_text none = record {
   unchanged_is = λ more. ap (λ unchanged. unchanged ++ unchanged_of targets more) (sym none);
 }
 
--- four texts in a row
+-- four texts, one after another
 joined_four : {X : Type 0} (a b c d : List X) → a ++ (b ++ c ++ d) ≡ a ++ b ++ c ++ d
 joined_four a b c d = sym (append_assoc a (b ++ c) d) ∙ ap (λ front. front ++ d) (sym (append_assoc a b c))
 
--- with the part of the next target
+-- the same with the next target
 pub Progress-next : (moves : List Move) (file : List Step) (page : List ℕ) (targets : List Target) (at : ℕ)
     (target : Target) (rest : List Target) (text next : List ℕ) (unchanged later : List (ℕ × Unchanged)) (part : Part)
     → Progress moves file page targets at (target ∷ rest) text unchanged → Becomes moves file page target part
@@ -122,7 +122,7 @@ Progress-next moves file page targets at target rest text next unchanged later p
       let last = sym (append_assoc unchanged (reported target.start part.unchanged) (unchanged_of rest more)) in
       rw now_unchanged (first ∙ (then ∙ last))
 
--- after the last target the rest of the page stays
+-- after the last target the rest of the page follows
 pub IsRewritten-last : (moves : List Move) (file : List Step) (page : List ℕ) (targets : List Target) (at : ℕ)
     (text whole : List ℕ) (unchanged : List (ℕ × Unchanged)) → Progress moves file page targets at [] text unchanged
     → whole ≡ text ++ with_parts page at [] [] → IsRewritten moves file page targets whole unchanged

@@ -1,4 +1,4 @@
--- The text of a place is the one that stands after a root.
+-- The text of a place, pushed onto a root.
 use Rattle.std.proofs.Common.{◌≡◌, ◌≢◌, ◌↔◌, ℕ, false, List, [], ◌∷◌, ◌++◌, map, IsTrue, refl, sym, ap, ◌∙◌}
 use Rattle.std.specs.List.{list_any}
 use Rattle.relative_path.specs.Steps.{Step, name, components, spell, SpellThemselves}
@@ -9,7 +9,7 @@ use Rattle.relative_path_uses.specs.Names.{is_unportable_step}
 use Rattle.relative_path_uses.specs.Router.{IsRefusedRequest, below, added, IsServed}
 use Rattle.relative_path_uses.proofs.NamesLemmas.{unportable-names, All-IsPlainName}
 
--- the text of names that are components is pushed as it is
+-- a text of names is pushed as it is
 added-spell : (root : List ℕ) (place : List (List ℕ)) → SpellThemselves (map name place)
     → added root (spell (map name place)) ≡ below root place
 added-spell root [] proper = refl
@@ -25,7 +25,7 @@ added-spell root (n ∷ place) proper =
       starts_empty (b ∷ bs) [] e = absurd (cc)
       starts_empty (b ∷ bs) (m ∷ place) e = absurd (cc)
 
--- the root with the names of the place after it, where no platform reads one otherwise
+-- the root and the names of the place, if Windows reads none of them otherwise
 pub IsServed-added : (root : List ℕ) (request : List Step) (text file : List ℕ) → SpellsPlace request text
     → list_any is_unportable_step (components text) ≡ false → file ≡ added root text → IsServed root request file
 IsServed-added root request text file spells none is =
@@ -37,7 +37,7 @@ IsServed-added root request text file spells none is =
       text = is ∙ ap (added root) spells.spelled ∙ added-spell root spells.place proper;
     }
 
--- a request with a place is refused exactly if some platform reads a component of the place's text otherwise
+-- the result for a request with a place is `None` exactly if Windows reads a component of the place's text otherwise
 pub IsRefusedRequest-text : (request : List Step) (text : List ℕ) → SpellsPlace request text
     → IsRefusedRequest request ↔ IsTrue (list_any is_unportable_step (components text))
 IsRefusedRequest-text request text spells = (

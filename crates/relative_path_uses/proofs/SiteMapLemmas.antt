@@ -1,4 +1,4 @@
--- Links and references between pages that are spelt in other ways, and pages without file names.
+-- Links and references between pages, however the pages are spelled, and pages without file names.
 use Rattle.std.proofs.Common.{◌≡◌, ◌≢◌, inl, inr, ℕ, ◌<◌, ◌+◌, List, [], ◌∷◌, ◌++◌, length, take, map, append_assoc, length-append, get_or, Bool, true, false, not, ◌↔◌, Option, Some, None, is_some, IsSome, IsNone, IfSome, option_map, Bor, below_more, true≢false, codes, if◌then◌else◌, refl, sym, ap, ap₂, ◌∙◌, arith}
 use Rattle.std.proofs.lemmas.List.{append_cancel_left, get_or-map, length-map, take_more, length-take-le}
 use Rattle.std.proofs.lemmas.Option.{none-some, same_Some}
@@ -21,7 +21,7 @@ use Rattle.relative_path_uses.proofs.UrlPathLemmas.{SpellsItself-cur, SpellThems
 use Rattle.std.proofs.lemmas.Bool.{cond_both}
 use Rattle.relative_path_uses.specs.SiteMap.{above_page, IsShortestNamed, IsFirstNamelessPage, IsPageLink, IsHref}
 
--- the way from a directory to a page is the link
+-- the shortest path from a directory to a page is the link
 pub IsPageLink-way : (from to directory target : List Step) (found : Option Buffer) → directory ≡ above_page from
     → target ≡ to → (IsNone found ↔ (¬ IsReachable directory target))
     → IfSome found (λ way. IsShortestText directory target way.text)
@@ -29,7 +29,7 @@ pub IsPageLink-way : (from to directory target : List Step) (found : Option Buff
 IsPageLink-way from to directory target None at is none shortest = rw (at, is) at (none.0 refl)
 IsPageLink-way from to directory target (Some way) at is none shortest = rw (at, is) at shortest
 
--- the link between two pages is the same whatever their spelling
+-- the link between two pages is the same for every spelling of the pages
 pub IsPageLink-same : (from page to other : List Step) (found : Option (List ℕ)) → IsPageLink from to found
     → IsSame from page → IsSame to other → IsPageLink page other found
 IsPageLink-same from page to other None none same_from same_to = λ reach.
@@ -37,7 +37,7 @@ IsPageLink-same from page to other None none same_from same_to = λ reach.
 IsPageLink-same from page to other (Some link) is same_from same_to =
     IsShortestText-same (IsSame-append_right (up ∷ []) same_from) same_to is
 
--- and so is the reference
+-- the reference between two pages is the same for every spelling of the pages
 IsShortestNamed-same : (from page to other : List Step) (link : List ℕ) → IsSame from page → IsSame to other
     → IsShortestNamed (above_page from) to link → IsShortestNamed (above_page page) other link
 IsShortestNamed-same from page to other link same_from same_to is =
@@ -70,7 +70,7 @@ some_name cs named = tell (last_name cs) refl where
   tell None none = absurd (named none)
   tell (Some n) is = (n, is)
 
--- what such a page answers as its file name is there
+-- `file_name` of such a page is some name
 pub IsSome-answered : (found : Option (Bor (List ℕ))) (cs : List Step) → option_copied found ≡ last_name cs
     → last_name cs ≢ None → IsSome found
 IsSome-answered None cs is named = absurd (named (sym is))
@@ -84,14 +84,14 @@ module _ (from to : List Step) (m n : List ℕ) (from_named : last_name from ≡
   from_directory : (r : List Step) → IsSame (above_page from ++ r) (directory from ++ r)
   from_directory r = IsSame-append_right r (IsSame-above from m from_named)
 
-  -- a list that leads to the other page's directory leads on by the name to the page
+  -- a list that leads to the other page's directory, and then the page's name, lead to the page
   Leads-name : (r : List Step) → Leads (directory from) r (directory to) → Leads (above_page from) (r ++ name n ∷ []) to
   Leads-name r leads =
       rw (← append_assoc (above_page from) r (name n ∷ []))
       (IsSame-trans (IsSame-append_right (name n ∷ []) (IsSame-trans (from_directory r) leads))
       (IsSame-sym (IsSame-last_name to n to_named)))
 
-  -- a list that leads to the other page leads by one step up to its directory
+  -- a list that leads to the other page, and then one step up, lead to its directory
   Leads-up : (r : List Step) → Leads (above_page from) r to → IsSame ((directory from ++ r) ++ up ∷ []) (directory to)
   Leads-up r leads =
       IsSame-trans (IsSame-append_right (up ∷ []) (IsSame-trans (IsSame-sym (from_directory r)) leads))
@@ -100,14 +100,14 @@ module _ (from to : List Step) (m n : List ℕ) (from_named : last_name from ≡
   pub none_between : (¬ IsReachable (directory from) (directory to)) → ¬ IsReachable (above_page from) to
   none_between none (r, leads) = none (r ++ up ∷ [], rw (append_assoc (directory from) r (up ∷ [])) at (Leads-up r leads))
 
-  -- without its name such a list leads to the directory
+  -- a list that ends in a name and leads to the page leads to its directory without that name
   Leads-front : (front : List Step) (k : List ℕ) → Leads (above_page from) (front ++ name k ∷ []) to
       → Leads (directory from) front (directory to)
   Leads-front front k leads =
       IsSame-trans (IsSame-sym (IsSame-name_up (directory from ++ front) k))
       (rw (← append_assoc (directory from) front (name k ∷ [])) at (Leads-up (front ++ name k ∷ []) leads))
 
-  -- and the name is the page's
+  -- the name at the end of such a list is the page's file name
   same_name : (front : List Step) (k : List ℕ) → Leads (above_page from) (front ++ name k ∷ []) to
       → Leads (directory from) front (directory to) → k ≡ n
   same_name front k leads way =
@@ -123,7 +123,7 @@ module _ (from to : List Step) (m n : List ℕ) (from_named : last_name from ≡
       let last = append_cancel_left place (k ∷ []) (n ∷ []) (same_Some _ _ (sym one ∙ other)) in
       cc
 
-  -- the way between the directories, and then the name, is the shortest list that ends in a name
+  -- the shortest path between the directories, and then the name, are the shortest list that ends in a name
   pub IsShortestNamed-between : (way link : List ℕ) → IsShortestText (directory from) (directory to) way
       → SpellsItself (name n) → link ≡ pushed way n → IsShortestNamed (above_page from) to link
   IsShortestNamed-between way link is proper pushes =
@@ -151,7 +151,7 @@ module _ (from to : List Step) (m n : List ℕ) (from_named : last_name from ≡
             ];
       }
 
--- what the way between two directories is
+-- what `try_relative` returns for two directories
 pub none_of_way : (f t f' t' : List Step) (found : Option Buffer) → found ≡ None → f ≡ f' → t ≡ t'
     → (IsNone found ↔ (¬ IsReachable f t)) → ¬ IsReachable f' t'
 none_of_way f t f' t' found none from to is = rw (from, to) at (is.0 (rw none refl))
@@ -205,7 +205,7 @@ Resolves-between from to m link reference named proper is refers base target fro
           ap (λ base. resolved (url_path base) reference) whole
           ∙ resolved-reference place target m link reference front n names is.spelled ends leads refers.text
 
--- the next page answers a file name, so it has one
+-- if `file_name` of the next page is some name, the page has a file name
 pub named-next : (pages : List RelativePath) (none : RelativePath) (k : ℕ) (found : Option (Bor (List ℕ)))
     (lacks : Bool) → k < length pages
     → ((j : ℕ) → j < k → last_name (path_at (map path_components pages) j) ≢ None)
@@ -217,7 +217,7 @@ named-next pages none k (Some n) lacks within before is some has =
     (λ nameless. none-some n.now
     (sym nameless ∙ ap last_name (get_or-map path_components pages k none [] within) ∙ sym is))
 
--- the first page that answers no file name
+-- the first page for which `file_name` is `None`
 pub IsFirstNamelessPage-here : (pages : List RelativePath) (none : RelativePath) (k : ℕ) (found : Option (Bor (List ℕ)))
     (lacks : Bool) → k < length pages
     → ((j : ℕ) → j < k → last_name (path_at (map path_components pages) j) ≢ None)
@@ -230,7 +230,7 @@ IsFirstNamelessPage-here pages none k None lacks within before is some has = rec
   first = before;
 }
 
--- the index of the pages with the next one
+-- the index after the next page is inserted
 pub Indexes-next : (pages : List RelativePath) (none : RelativePath) (k : ℕ) (old new : PlaceIndex) → k < length pages
     → ((paths : List (List Step)) → Indexes paths old → length paths ≡ k
     → Indexes (paths ++ path_components (get_or pages k none) ∷ []) new)

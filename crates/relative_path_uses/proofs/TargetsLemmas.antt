@@ -17,7 +17,7 @@ use Rattle.markdown_targets.specs.declared.target.LinkTarget.{LinkTarget}
 use Rattle.markdown_targets.specs.Spans.{AreInOrder}
 use Rattle.relative_path_uses.specs.declared.target.Target.{Target}
 
--- the first place at which a byte passes
+-- the first offset at which a byte passes a test
 position_some : (p : ℕ → Bool) (text : List ℕ) (k : ℕ) → position p text ≡ Some k
     → (k ≡ position_or_len p text) × (k < length text)
 position_some p text k is = grind arith
@@ -25,7 +25,7 @@ position_some p text k is = grind arith
 ends_path-ascii : (b : ℕ) → ends_path b ≡ true → b < 128
 ends_path-ascii b is = grind arith
 
--- before the end of the path a character ends
+-- the end of the path is an end of a character
 pub boundary_before : (text : List ℕ) (k : ℕ) → position ends_path text ≡ Some k → IsCharBoundary text k
 boundary_before text k is =
     let (first, inside) = position_some ends_path text k is in
@@ -34,7 +34,7 @@ boundary_before text k is =
 
 -- ---- a path read back
 
--- what stands before the first element that passes, by the first element
+-- the elements before the first that passes a test, by the first element
 pub before_first-next : (p : ℕ → Bool) (b : ℕ) (bs : List ℕ)
     → before_first p (b ∷ bs) ≡ cond (p b) [] (b ∷ before_first p bs)
 before_first-next p b bs = of (p b) where
@@ -46,7 +46,7 @@ before_first-next p b bs = of (p b) where
   of true = refl
   of false = ap (λ k. take k (b ∷ bs)) more
 
--- after the path comes what ends it
+-- the tail is empty or begins with a byte that ends a path
 path_of-tail : (target : List ℕ) → path_of (tail_of target) ≡ []
 path_of-tail [] = refl
 path_of-tail (b ∷ bs) =
@@ -55,7 +55,7 @@ path_of-tail (b ∷ bs) =
     (λ ends. before_first-next ends_path b bs ∙ ap (λ ends. cond ends [] (b ∷ path_of bs)) ends)
     (λ _. path_of-tail bs))
 
--- a path that nothing ends stands before the tail
+-- a path without a byte that ends a path is read back before the tail
 pub path_of-moved : (path target : List ℕ) → list_any ends_path path ≡ false → path_of (path ++ tail_of target) ≡ path
 path_of-moved [] target none = path_of-tail target
 path_of-moved (b ∷ bs) target none =
@@ -63,13 +63,13 @@ path_of-moved (b ∷ bs) target none =
     ∙ ap (λ ends. cond ends [] (b ∷ path_of (bs ++ tail_of target))) (or_parts _ _ none).0
     ∙ ap (λ path. b ∷ path) (path_of-moved bs target (or_parts _ _ none).1)
 
--- ---- a path from the page's directory
+-- ---- a path that is relative to the page's directory
 
--- what spells components has no root
+-- a text that spells components doesn't begin with a slash
 has_root-spelled : (text : List ℕ) → text ≡ spell (components text) → has_root text ≡ false
 has_root-spelled text is = ap has_root is ∙ has_root-spell (components text) (SpellThemselves-components text)
 
--- the reference of such a text is a path from the page's directory
+-- the reference of such a text is relative to the page's directory
 pub is_not_relative-reference : (way reference : List ℕ) → way ≡ spell (components way) → IsReference way reference
     → is_not_relative reference ≡ false
 is_not_relative-reference way reference spelled is =
@@ -86,7 +86,7 @@ has_scheme-slash text = ap (list_any _) (same text) where
       before_first-next is_slash b (bs ++ slash ∷ []) ∙ ap (λ rest. cond (is_slash b) [] (b ∷ rest)) (same bs)
       ∙ sym (before_first-next is_slash b bs)
 
--- and so it is with a slash after it
+-- the same with a slash at its end
 pub is_not_relative-slash : (text : List ℕ) → is_not_relative text ≡ false → is_not_relative (text ++ slash ∷ []) ≡ false
 is_not_relative-slash [] relative = absurd (grind (arith, relative))
 is_not_relative-slash (b ∷ bs) relative = ap (λ scheme. scheme || is_slash b) (has_scheme-slash (b ∷ bs)) ∙ relative
@@ -110,13 +110,13 @@ HasSoFar-next page targets at target so_far after is = record {
       (so_far.with (target ∷ more) (after, is, rest));
 }
 
--- spans in order from a byte on are so from an earlier one on
+-- spans in order from a byte on are in order from an earlier byte on
 AreInOrder-from : (page : List ℕ) (from at : ℕ) (spans : List Span) → from ≤ at → AreInOrder page at spans
     → AreInOrder page from spans
 AreInOrder-from page from at [] earlier are = tt
 AreInOrder-from page from at (span ∷ spans) earlier (after, is, rest) = (omega (arith, earlier, after), is, rest)
 
--- the page has the targets so far, and the spans that are left come after them
+-- the page has the targets so far, and the remaining spans come after them
 pub record PicksSoFar (page : List ℕ) (targets : List Target) (spans : List Span) : Type 0 where
   pub at : ℕ
   pub so_far : HasSoFar page targets at
@@ -125,12 +125,12 @@ pub record PicksSoFar (page : List ℕ) (targets : List Target) (spans : List Sp
 pub PicksSoFar-start : (page : List ℕ) (spans : List Span) → AreInOrder page 0 spans → PicksSoFar page [] spans
 PicksSoFar-start page spans are = record { at = 0; so_far = record { with = λ more rest. rest }; left = are }
 
--- where nothing is left
+-- no span remains
 pub PicksSoFar-end : (page : List ℕ) (targets : List Target) (spans : List Span) → PicksSoFar page targets spans
     → HasTargets page 0 targets
 PicksSoFar-end page targets spans picks = HasTargets-whole page targets picks.at picks.so_far
 
--- where a span is passed over
+-- the next span is left out
 pub PicksSoFar-skip : (page : List ℕ) (targets : List Target) (span : Span) (spans : List Span)
     → PicksSoFar page targets (span ∷ spans) → PicksSoFar page targets spans
 PicksSoFar-skip page targets span spans picks =
@@ -141,7 +141,7 @@ PicksSoFar-skip page targets span spans picks =
       left = AreInOrder-from page picks.at span.end spans (omega (arith, after, is.order)) rest;
     }
 
--- where its path is relative
+-- the next span is a target
 pub PicksSoFar-take : (page : List ℕ) (targets : List Target) (span : Span) (spans : List Span)
     → PicksSoFar page targets (span ∷ spans) → is_not_relative (path_of (between span.start span.end page)) ≡ false
     → PicksSoFar page (targets ++ record { start = span.start; end = span.end } ∷ []) spans
@@ -155,7 +155,7 @@ PicksSoFar-take page targets span spans picks relative =
       left = rest;
     }
 
--- the spans of the links from one on
+-- the spans of the links from an index on
 abbrev pub spans_from : List LinkTarget → ℕ → List Span
 spans_from links k = map (λ link. link.span) (drop k links)
 

@@ -13,7 +13,7 @@ without_last-cons : (n : List ℕ) (ns : List (List ℕ)) → without_last (n �
 without_last-cons n ns =
     let count : length (n ∷ ns) - 1 ≡ length ns = omega arith in ap (λ k. take k (n ∷ ns)) count
 
--- the component that ends the list is a name: dot segments go as the walk goes
+-- if the list ends in a name, dot segments are removed as a walk removes them
 pub without_dots-walk : (cs : List Step) (n : List ℕ) (base target : List (List ℕ))
     → walk base (cs ++ name n ∷ []) ≡ Some target → without_dots base (cs ++ name n ∷ []) ≡ target
 without_dots-walk [] n base target leads = cc
@@ -37,7 +37,7 @@ without_dots-names (n ∷ ns) before cs =
     without_dots-names ns (before ++ n ∷ []) cs
     ∙ ap (λ ns. without_dots ns cs) (append_assoc before (n ∷ []) ns)
 
--- the texts of components are classed as these
+-- the text of a component is classed as that component
 pub classed-step_texts : (cs : List Step) → SpellThemselves cs → map classed (map step_text cs) ≡ cs
 classed-step_texts [] proper = refl
 classed-step_texts (c ∷ cs) (first, rest) =
@@ -48,7 +48,7 @@ classed-names [] proper = refl
 classed-names (n ∷ ns) (first, rest) =
     ap₂ (λ c cs. c ∷ cs) (classed-proper (name n) first) (classed-names ns rest)
 
--- the slashes of a text that spells components cut it into theirs
+-- slashes cut a text that spells components into the components' texts
 pub slice_split-spell : (c : Step) (cs : List Step) → SpellThemselves (c ∷ cs)
     → slice_split is_slash (spell (c ∷ cs)) ≡ map step_text (c ∷ cs)
 slice_split-spell c [] (first, rest) = slice_split_none is_slash (step_text c) (no_slash-proper c first)
@@ -56,7 +56,7 @@ slice_split-spell c (d ∷ cs) (first, rest) =
     slice_split_at is_slash (step_text c) slash (spell (d ∷ cs)) (no_slash-proper c first) refl
     ∙ ap (λ ps. step_text c ∷ ps) (slice_split-spell d cs rest)
 
--- and those of a URL path into the empty text before it and its segments
+-- slashes cut a URL path into an empty text and its segments
 slice_split-url_path : (ns : List (List ℕ)) → SpellThemselves (map name ns)
     → slice_split is_slash (url_path ns) ≡ [] ∷ ns
 slice_split-url_path [] proper = refl
@@ -76,7 +76,7 @@ without_last-push ns n =
     let count : length (ns ++ n ∷ []) - 1 ≡ length ns = omega (arith, length-append ns (n ∷ [])) in
     ap (λ k. take k (ns ++ n ∷ [])) count ∙ take_at ns (n ∷ []) (length ns) refl
 
--- a walk from proper names by proper components leads to proper names
+-- if names and components spell themselves, so do the names of the place where the walk leads
 SpellThemselves-push : (ns : List (List ℕ)) (n : List ℕ) → SpellThemselves (map name ns) → SpellsItself (name n)
     → SpellThemselves (map name (ns ++ n ∷ []))
 SpellThemselves-push [] n proper last = (last, tt)
@@ -105,7 +105,7 @@ slice_split-ends (c ∷ cs) front n ends proper = slice_split-spell c cs proper
 slice_split-ends [] [] n ends proper = absurd (cc)
 slice_split-ends [] (f ∷ front) n ends proper = absurd (cc)
 
--- after `./` it has one more
+-- after `./` a list has one more component
 pub spell-dotted : (cs front : List Step) (n : List ℕ) → cs ≡ front ++ name n ∷ []
     → codes "./" ++ spell cs ≡ spell (cur ∷ cs)
 spell-dotted (c ∷ cs) front n ends = refl
@@ -120,8 +120,8 @@ SpellThemselves-front : (ns : List (List ℕ)) (n : List ℕ) → SpellThemselve
 SpellThemselves-front [] n proper = tt
 SpellThemselves-front (m ∷ ns) n (first, rest) = (first, SpellThemselves-front ns n rest)
 
--- from the URL path of a file in a directory, a text that spells components with a name at their end resolves to where
--- they lead from that directory
+-- from the URL path of a file in a directory, a text whose components end in a name resolves to the place where the
+-- components lead from that directory
 pub resolved-walk : (directory target : List (List ℕ)) (file n : List ℕ) (cs front : List Step)
     → SpellThemselves (map name (directory ++ file ∷ [])) → SpellThemselves cs → cs ≡ front ++ name n ∷ []
     → walk directory cs ≡ Some target

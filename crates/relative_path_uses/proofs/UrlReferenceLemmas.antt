@@ -5,7 +5,7 @@ use Rattle.relative_path.specs.Walk.{IsSame}
 use Rattle.relative_path.proofs.OnLiterals.{relative_path_on_literals}
 use Rattle.relative_path_uses.specs.UrlReference.{is_misread, IsReference}
 
--- after `./` a link has one component more, a `.`
+-- after `./` a link has one more component, a `.`
 same_dotted : (link : List ℕ) → IsSame (components link) (components (codes "./" ++ link))
 unfolding relative_path_on_literals
 same_dotted link = record { everywhere = λ base. refl }

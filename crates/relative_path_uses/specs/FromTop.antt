@@ -3,7 +3,7 @@ use Rattle.std.specs.Prelude.{◌≡◌, ℕ, List, map, Some}
 use Rattle.relative_path.specs.Steps.{Step, name, components, spell}
 use Rattle.relative_path_moves.specs.Places.{place_of}
 
--- the text is the names of the place where the components lead from the top, with single slashes between
+-- the text is the names of the place where the components lead from the top, joined by single slashes
 pub record SpellsPlace (cs : List Step) (text : List ℕ) : Type 0 where
   pub place : List (List ℕ)
   pub named : place_of cs ≡ Some place

@@ -1,4 +1,4 @@
--- A manifest in JSON, the files that it names, and why it is refused.
+-- A manifest in JSON, the files that it names, and why a manifest isn't accepted.
 use Rattle.std.specs.Prelude.{◌≡◌, ◌≢◌, ◌<◌, ℕ, List, [], ◌∷◌, ◌++◌, length, take, codes, decimal, Option, Some, None, slice_index_or, option_and_then, IsTrue, ⊤}
 use Rattle.std.specs.List.{All, AllZip, list_any}
 use Rattle.std.specs.Option.{option_map}
@@ -38,7 +38,7 @@ pub record IsFileOf (base : List Step) (entry : Data) (file : List ℕ) : Type 0
   pub normal : IsNormalTextOf (base ++ components path) file
   pub below : LeadsBelow base place (components file)
 
--- the entry is no string
+-- the entry isn't a string
 abbrev pub IsNoString : Data → Type 0
 IsNoString entry = as_str entry ≡ None
 
@@ -50,12 +50,12 @@ Climbs entry = (path : List ℕ) × (as_str entry ≡ Some path) × (place_of (c
 abbrev pub LeadsToStart : Data → Type 0
 LeadsToStart entry = (path : List ℕ) × (as_str entry ≡ Some path) × (place_of (components path) ≡ Some [])
 
--- the entry is a path with a name in its place that some platform reads otherwise
+-- the entry is a path whose place has a name that Windows reads otherwise
 abbrev pub IsForeign : Data → Type 0
 IsForeign entry = (path : List ℕ) × (place : List (List ℕ)) × (as_str entry ≡ Some path)
     × (place_of (components path) ≡ Some place) × IsTrue (list_any is_unportable place)
 
--- a component of the base is a name that some platform reads otherwise
+-- a component of the base is a name that Windows reads otherwise
 abbrev pub IsForeignBase : List Step → List Data → Type 0
 IsForeignBase base entries = IsTrue (list_any is_unportable_step base)
 
@@ -74,7 +74,7 @@ OfManifest manifest P = (base : List ℕ) × (entries : List Data)
 abbrev pub AreFiles : List (List ℕ) → List Step → List Data → Type 0
 AreFiles files base entries = AllZip (IsFileOf base) entries files
 
--- what the entries are where they are refused so; an allocation failure says nothing of them
+-- in which case the entries have this error; a failed allocation says nothing of the entries
 abbrev pub IsRefusedFor : ManifestError → List Step → List Data → Type 0
 IsRefusedFor NoBase base entries = ⊥
 IsRefusedFor NoFiles base entries = ⊥
@@ -85,7 +85,7 @@ IsRefusedFor (Foreign k) base entries = IsFirstRefused IsForeign base entries k
 IsRefusedFor ForeignBase base entries = ⊥
 IsRefusedFor OutOfMemory base entries = ⊤
 
--- what the manifest is where it is refused so
+-- in which case a manifest has this error
 abbrev pub IsRefusedManifest : Data → ManifestError → Type 0
 IsRefusedManifest manifest NoBase = base_member manifest ≡ None
 IsRefusedManifest manifest NoFiles = (base_member manifest ≢ None) × (entries_of manifest ≡ None)
@@ -96,7 +96,7 @@ IsRefusedManifest manifest (Foreign k) = OfManifest manifest (IsRefusedFor (Fore
 IsRefusedManifest manifest ForeignBase = OfManifest manifest IsForeignBase
 IsRefusedManifest manifest OutOfMemory = ⊤
 
--- what the entry with this number is where it is refused so
+-- in which case the entry with this number has this error
 abbrev pub IsEntryRefused : Data → ℕ → ManifestError → Type 0
 IsEntryRefused entry k NoBase = ⊥
 IsEntryRefused entry k NoFiles = ⊥
@@ -111,7 +111,7 @@ IsEntryRefused entry k OutOfMemory = ⊤
 abbrev pub file_text : Buffer → List ℕ
 file_text file = file.text
 
--- what is printed of a refusal
+-- what an error prints
 abbrev pub manifest_error_text : ManifestError → List ℕ
 manifest_error_text NoBase = codes "no base directory"
 manifest_error_text NoFiles = codes "no list of files"

@@ -1,4 +1,4 @@
--- Names that Unix and Windows read as the same one name. The devices are those of Microsoft's documents.
+-- Names that Windows reads otherwise than Unix. The devices are those that Microsoft's documents list.
 use Rattle.std.specs.Prelude.{◌≡◌, ◌≢◌, ℕ, ◌-◌, Bool, ◌==◌, ◌&&◌, ◌||◌, nat_lt, false, List, [], ◌∷◌, length, drop, codes, encode_utf8_all, get_or}
 use Rattle.std.specs.List.{list_any, list_all, before_first}
 use Rattle.std.specs.Str.{str_eq_ignore_ascii_case}
@@ -10,11 +10,11 @@ use Rattle.relative_path_uses.specs.UrlReference.{is_colon}
 abbrev pub backslash : ℕ
 backslash = 92
 
--- the byte is below 32, a backslash, at which some platforms cut a path, or a colon, which ends a drive's letter
+-- the byte is below 32, a backslash, where Windows cuts a path, or a colon, which ends a drive's letter
 abbrev pub is_foreign : ℕ → Bool
 is_foreign b = nat_lt b 32 || b == backslash || is_colon b
 
--- the name holds such a byte
+-- the name has such a byte
 abbrev pub holds_foreign : List ℕ → Bool
 holds_foreign text = list_any is_foreign text
 
@@ -26,7 +26,7 @@ is_space b = b == 32
 abbrev pub is_open : ℕ → Bool
 is_open b = is_dot b || is_space b
 
--- the devices of Windows that have no number
+-- the devices of Windows without a number
 abbrev pub devices : List (List ℕ)
 devices = codes "CON" ∷ codes "PRN" ∷ codes "AUX" ∷ codes "NUL" ∷ codes "CONIN$" ∷ codes "CONOUT$" ∷ []
 
@@ -52,18 +52,18 @@ is_one_of names text = list_any (λ one. str_eq_ignore_ascii_case one text) name
 abbrev pub is_device : List ℕ → Bool
 is_device text = is_one_of devices text || is_one_of serial_ports text || is_one_of parallel_ports text
 
--- the name is a device's, alone or before a dot, with nothing but spaces between
+-- the name is that of a device, alone or before a dot, perhaps with spaces between
 abbrev pub names_device : List ℕ → Bool
 names_device text =
     let stem = before_first is_dot text in
     let word = before_first is_space stem in
     is_device word && list_all is_space (drop (length word) stem)
 
--- the name ends in a dot or a space, which some platforms drop
+-- the name ends in a dot or a space, which Windows drops
 abbrev pub ends_in_dot_or_space : List ℕ → Bool
 ends_in_dot_or_space text = is_open (get_or text (length text - 1) 0)
 
--- Windows reads the name otherwise: as more names, as a shorter one, or as a device
+-- Windows reads the name otherwise: as several names, as a shorter name, or as a device
 abbrev pub is_unportable : List ℕ → Bool
 is_unportable text = holds_foreign text || ends_in_dot_or_space text || names_device text
 
@@ -73,7 +73,7 @@ is_unportable_step cur = false
 is_unportable_step up = false
 is_unportable_step (name text) = is_unportable text
 
--- the text is one name on Unix and on Windows: not empty, not `.` or `..`, without a slash, and read alike
+-- the text is one name on Unix, and Windows doesn't read it otherwise
 pub record IsPlainName (text : List ℕ) : Type 0 where
   pub not_empty : text ≢ []
   pub not_here : text ≢ codes "."

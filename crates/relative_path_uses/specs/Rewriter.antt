@@ -13,11 +13,11 @@ use Rattle.relative_path_uses.specs.declared.rewriter.Unchanged.TheVariants.{Abo
 use Rattle.relative_path_uses.specs.declared.rewriter.PathError.{PathError}
 use Rattle.relative_path_uses.specs.declared.rewriter.PathError.TheVariants as refused
 
--- the path leads, as it is written, from where the file is now to where it led before, or to where that is now
+-- the path, as it is written, leads from the file's new directory to the file that it led to before, wherever that is now
 abbrev pub StillLeads : List Move → List Step → List ℕ → Type 0
 StillLeads moves file path = ForTargetOfLink moves file (components path) (λ directory. Leads directory (components path))
 
--- the way is the shortest path from where the file is now to there
+-- the way is the shortest path from the file's new directory to there
 abbrev pub IsWayNow : List Move → List Step → List ℕ → List ℕ → Type 0
 IsWayNow moves file path way =
     ForTargetOfLink moves file (components path) (λ directory. BelowTop (λ target. IsShortestText directory target way))
@@ -31,8 +31,8 @@ abbrev pub with_slash : List ℕ → List ℕ → List ℕ
 with_slash path reference =
     if ends_in_slash path && not (ends_in_slash reference) then reference ++ slash ∷ [] else reference
 
--- what has to be written in place of a path that leads there no more: the way as a reference, which is read as a path,
--- leads where the way does, and ends in a slash if the path does
+-- what to write in place of a path that no longer leads there: the way as a reference, which is read as a path, leads
+-- where the way leads, and ends in a slash if the path does
 pub record IsNewPath (moves : List Move) (file : List Step) (path new : List ℕ) : Type 0 where
   pub way : List ℕ
   pub reference : List ℕ
@@ -43,7 +43,7 @@ pub record IsNewPath (moves : List Move) (file : List Step) (path new : List ℕ
   pub same : IsSame (components way) (components new)
   pub relative : is_not_relative new ≡ false
 
--- in a target the byte is read as something else than a name's: a control byte, `#`, `?`, `<`, `>`, a backslash, a
+-- a link reads the byte as something else than a byte of a name: a control byte, `#`, `?`, `<`, `>`, a backslash, a
 -- backtick, `&` or `|`
 abbrev pub is_special : ℕ → Bool
 is_special b =
@@ -66,7 +66,7 @@ StaysUnchanged moves file angled path NoPath =
 StaysUnchanged moves file angled path Unwritable =
     (new : List ℕ) × IsNewPath moves file path new × (needs_escapes angled new ≡ true)
 
--- why a path has no new one; an allocation failure says nothing of it
+-- why a path has no new path; a failed allocation says nothing of the path
 abbrev pub IsRefusedPath : List Move → List Step → Bool → List ℕ → PathError → Type 0
 IsRefusedPath moves file angled path (refused.Unchanged why) = StaysUnchanged moves file angled path why
 IsRefusedPath moves file angled path refused.OutOfMemory = ⊤

@@ -6,7 +6,7 @@ use Rattle.relative_path.specs.Editing.{with_separator, pushed}
 use Rattle.relative_path_moves.specs.Places.{place_of}
 use Rattle.relative_path_uses.specs.Names.{is_unportable, IsPlainName}
 
--- the request climbs above the top, or some platform reads a name of its place otherwise
+-- the request climbs above the top, or its place has a name that Windows reads otherwise
 abbrev pub IsRefusedRequest : List Step → Type 0
 IsRefusedRequest request = MatchOption (place_of request) ⊤ (λ place. IsTrue (list_any is_unportable place))
 
@@ -20,7 +20,7 @@ abbrev pub added : List ℕ → List ℕ → List ℕ
 added root [] = root
 added root (b ∷ bs) = pushed root (b ∷ bs)
 
--- the file is the root as it is, with the names of the request's place after it, and these names are plain
+-- the file is the root as it is, and then the names of the request's place, which are plain
 pub record IsServed (root : List ℕ) (request : List Step) (file : List ℕ) : Type 0 where
   pub place : List (List ℕ)
   pub named : place_of request ≡ Some place

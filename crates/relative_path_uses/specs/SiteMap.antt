@@ -22,7 +22,7 @@ pub record IsFirstNamelessPage (pages : List (List Step)) (k : ℕ) : Type 0 whe
 abbrev pub above_page : List Step → List Step
 above_page page = page ++ up ∷ []
 
--- found is the shortest link from the directory of a page to another page, or nothing, where no list leads there
+-- found is the shortest link from the directory of a page to another page, or `None` if no list leads there
 abbrev pub IsPageLink : List Step → List Step → Option (List ℕ) → Type 0
 IsPageLink from to found = MatchOption found (¬ IsReachable (above_page from) to) (IsShortestText (above_page from) to)
 
@@ -38,12 +38,12 @@ pub record IsShortestNamed (f t : List Step) (text : List ℕ) : Type 0 where
   pub shortest : (s : List Step) → Leads f s t → EndsInName s
       → (length (components text) < length s) ⊎ (s ≡ components text)
 
--- found is the shortest link that ends in a name, as a reference, or nothing, where no list leads there
+-- found is the shortest link that ends in a name, as a reference, or `None` if no list leads there
 abbrev pub IsHref : List Step → List Step → Option (List ℕ) → Type 0
 IsHref from to found = MatchOption found (¬ IsReachable (above_page from) to)
     (λ href. (link : List ℕ) × IsShortestNamed (above_page from) to link × IsReference link href)
 
--- what is printed of a refusal
+-- what an error prints
 abbrev pub site_map_error_text : SiteMapError → List ℕ
 site_map_error_text (NoFileName k) = codes "page " ++ decimal k ++ codes " lacks a file name"
 site_map_error_text OutOfMemory = codes "out of memory"

@@ -12,7 +12,7 @@ colon = 58
 abbrev pub is_colon : ℕ → Bool
 is_colon b = b == colon
 
--- a colon stands before the first slash
+-- there is a colon before the first slash
 abbrev pub has_scheme : List ℕ → Bool
 has_scheme text = list_any is_colon (before_first is_slash text)
 
@@ -21,7 +21,7 @@ has_scheme text = list_any is_colon (before_first is_slash text)
 abbrev pub is_misread : List ℕ → Bool
 is_misread text = not (is_not_empty text) || has_scheme text
 
--- the reference is the link, after `./` where that would be misread; it leads to the same, and is read as a path
+-- the reference is the link, after `./` if the link would be misread; it leads to the same place, and is read as a path
 pub record IsReference (link reference : List ℕ) : Type 0 where
   pub text : reference ≡ (if is_misread link then codes "./" ++ link else link)
   pub same : IsSame (components link) (components reference)

@@ -8,14 +8,14 @@ use crate::target::{Target, is_relative};
 use markdown_targets::{LinkTarget, Span, TargetKind, link_targets};
 use std::alloc::{AllocError, Global};
 
-/// The targets of a page's links whose paths are relative to its directory, in the order of the page.
+/// Returns the targets of a page's links whose paths are relative to its directory, in the order of the
+/// page.
 ///
-/// They are the targets that [`link_targets`] finds in links, images and definitions, without those that
-/// have a scheme, a leading slash or no path (`#top`, `?q`). Attributes of HTML aren't among them. A page
-/// with a `<base href>` has none. That these are the targets, and that none is missing, is tested, and not
-/// proved.
+/// These are the targets that [`link_targets`] finds in links, images and definitions. Targets with a
+/// scheme, a leading slash or no path (`#top`, `?q`) are left out, and so are attributes of HTML. A page
+/// with a `<base href>` has no such targets. Tests show which targets are found; no clause does.
 ///
-/// It allocates what [`link_targets`] does, and a list of the targets. Time is linear in the page.
+/// Allocates what [`link_targets`] does, and a list of the targets. Time is linear in the page.
 ///
 /// ```
 /// let page = "[a](b.md#top) [c](#d) [e](https://f.org) `[g](h)`";
@@ -32,7 +32,7 @@ pub fn targets(alloc: Global, page: &str) -> Result<Vec<Target>, AllocError>
     relative_targets(alloc, page, &found.targets)
 }
 
-// The targets of Markdown among those of a page whose paths are relative to its directory.
+// The targets of Markdown whose paths are relative to the page's directory.
 fn relative_targets(
     alloc: Global,
     page: &str,
@@ -51,7 +51,7 @@ fn relative_targets(
     Ok(targets)
 }
 
-// Whether a target is one of Markdown with a path that is relative to the page's directory.
+// Whether a target belongs to Markdown, and its path is relative to the page's directory.
 fn is_of_page(page: &str, link: LinkTarget) -> bool
     requires { IsSpanOf page.now link.span }
     ensures { IsTrue result
@@ -60,7 +60,7 @@ fn is_of_page(page: &str, link: LinkTarget) -> bool
     is_markdown(link.kind) && is_relative(&page[link.span.start..link.span.end])
 }
 
-// Whether a target stands in Markdown, and not in HTML.
+// Whether a target belongs to Markdown, and not to an attribute of HTML.
 fn is_markdown(kind: TargetKind) -> bool {
     match kind {
         TargetKind::Inline | TargetKind::Definition => true,

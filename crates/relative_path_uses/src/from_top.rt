@@ -7,8 +7,8 @@ ghost use Rattle.relative_path_uses.specs.FromTop.{SpellsPlace};
 use relative_path::{RelativePath, RelativePathBuf};
 use std::alloc::{AllocError, Global};
 
-// The place that a path leads to from the top, as its names with single slashes between; `None`
-// where it climbs above the top. It asks for memory once, unless the path climbs or is empty.
+// The place where a path leads from the top, as a path of its names. `None` if the path climbs above the
+// top. Allocates once, unless the path climbs or is empty.
 pub(crate) fn place_from_top(
     alloc: Global,
     path: RelativePath<'_>,

@@ -1,6 +1,6 @@
-//! Users of relative paths, each proved from the public contracts of the crates below.
+//! Users of relative paths, each proved from the public contracts of the crates that it uses.
 //!
-//! Each module uses those below it, and of its own layer those that stand before it.
+//! A module uses modules of the layer below, and those to its left in its own layer.
 //!
 //! ```text
 //! what callers see      manifest  router  site_map  target  finder  rewriter

@@ -1,4 +1,4 @@
-//! A manifest in JSON: a directory, and files that are read from there.
+//! A manifest in JSON: a directory, and files below it.
 ghost use Rattle.std.specs.Prelude.{◌≡◌, ◌≢◌, ◌↔◌, map, IfErr, IfOk, IsErrOf, None, Some};
 ghost use Rattle.relative_path.specs.RelativePath.{path_components};
 ghost use Rattle.serde_json.specs.View.{view};
@@ -13,9 +13,7 @@ use std::alloc::{AllocError, AllocFailed, Global};
 use std::error::Error;
 use std::fmt;
 
-/// Why a manifest is refused. Its files are told by their numbers, counted from 0.
-///
-/// A refusal prints its words.
+/// Why a manifest isn't accepted. Its files are numbered from 0.
 ///
 /// ```
 /// let error = ManifestError::ClimbsAbove(3);
@@ -23,21 +21,21 @@ use std::fmt;
 /// ```
 #[derive(Clone, Copy, Debug, PartialEq, Eq)]
 pub enum ManifestError {
-    /// The member `base`, which names the directory, is missing, or no string.
+    /// The member `base`, which names the directory, is missing or isn't a string.
     NoBase,
-    /// There is a directory, but the member `files` is missing, or no list.
+    /// There is a directory, but the member `files` is missing or isn't a list.
     NoFiles,
-    /// The first file to be refused is no string.
+    /// This file, the first that isn't accepted, isn't a string.
     NotAString(usize),
-    /// The first file to be refused climbs above the directory.
+    /// This file, the first that isn't accepted, climbs above the directory.
     ClimbsAbove(usize),
-    /// The first file to be refused leads to the directory itself, which is no file.
+    /// This file, the first that isn't accepted, leads to the directory itself, which isn't a file.
     LeadsToBase(usize),
-    /// The first file to be refused has a name that some platform reads otherwise.
+    /// This file, the first that isn't accepted, has a name that Windows reads otherwise.
     Foreign(usize),
-    /// There are a directory and a list, but the directory has such a name.
+    /// There are a directory and a list, but a name in `base` is one that Windows reads otherwise.
     ForeignBase,
-    /// Memory was refused.
+    /// An allocation failed.
     OutOfMemory,
 }
 
@@ -82,20 +80,21 @@ impl<T: Drop> From<AllocFailed<T>> for ManifestError {
     }
 }
 
-/// The files of a manifest, each as the normal path of its directory, the member `base`, and the file.
+/// Returns the files of a manifest. Each is the normal path of the manifest's directory, its member
+/// `base`, and an entry of its member `files`.
 ///
-/// The first file that is no string, climbs above the directory, leads to the directory itself or has
-/// a name that some platform reads otherwise refuses the manifest. So each file is below the
-/// directory, and its names are those that [`crate::served`] serves. A file that leaves the directory
-/// and comes back climbs above it too.
+/// The call fails at the first entry that isn't a string, climbs above the directory, leads to the
+/// directory itself, or has a name that Windows reads otherwise. So each file is below the directory, and
+/// has only names that [`crate::served`] serves. An entry that leaves the directory and comes back climbs
+/// above it too.
 ///
-/// The directory, as it is written, may hold no such name either. Where the directory leads is
-/// the caller's own business: each file begins with the climb of such a directory. Slashes at
-/// the start count nothing: `/etc` is `etc`, and `/a` is `a`. Two entries may name one file, and one
-/// may be a directory. What other members the manifest has doesn't count.
+/// `base` itself may not have a name that Windows reads otherwise. But `base` may climb, and then each file
+/// begins with `..`: a caller that doesn't trust the manifest checks the climb of `base`. Leading slashes
+/// mean nothing: `/etc` is `etc`. Two entries may name the same file, and a file may be a directory on the
+/// disk. The call ignores other members.
 ///
-/// It asks for memory at most three times for each file, and for the list as it grows. For a file that
-/// climbs it asks for none.
+/// Allocates at most three times for each entry, and the list as it grows. For an entry that climbs it
+/// doesn't allocate.
 ///
 /// ```
 /// let manifest = json!(in alloc; {"base": "assets", "files": ["img/x.png", "./css/../js/a.js"]})?;

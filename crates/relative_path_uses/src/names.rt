@@ -1,4 +1,4 @@
-//! Names that Unix and Windows read as the same one name.
+//! Names that Windows reads otherwise than Unix.
 ghost use Rattle.std.specs.Prelude.{◌≡◌, ◌<◌, ◌==◌, drop};
 ghost use Rattle.std.specs.List.{before_first, list_all, list_any};
 ghost use Rattle.std.specs.Str.{str_eq_ignore_ascii_case};
@@ -8,7 +8,7 @@ ghost use Rattle.relative_path_uses.specs.Names.{ends_in_dot_or_space, holds_for
 
 use relative_path::{Component, RelativePath};
 
-// The devices of Windows that have no number, and its ports, by Microsoft's documents.
+// The devices of Windows without a number, and its ports, as Microsoft's documents list them.
 const DEVICES: [&str; 6] = ["CON", "PRN", "AUX", "NUL", "CONIN$", "CONOUT$"];
 
 const SERIAL_PORTS: [&str; 13] = [
@@ -35,7 +35,7 @@ fn is_device(text: &str) -> bool
     is_one_of(&DEVICES, text) || is_one_of(&SERIAL_PORTS, text) || is_one_of(&PARALLEL_PORTS, text)
 }
 
-// Whether a name is a device's, alone or before a dot, with nothing but spaces between.
+// Whether a name is that of a device, alone or before a dot, perhaps with spaces between.
 fn names_device(name: &str) -> bool
     ensures { result ≡ names_device name.now }
 {
@@ -44,21 +44,21 @@ fn names_device(name: &str) -> bool
     is_device(word) && is_blank_after(stem, word.len())
 }
 
-// Whether a name holds a byte that some platforms read otherwise.
+// Whether a name has a byte that Windows reads otherwise.
 fn holds_foreign(name: &str) -> bool
     ensures { result ≡ holds_foreign name.now }
 {
     name.bytes().any(|b| b < 32 || b == b'\\' || b == b':')
 }
 
-// Whether a name ends in a dot or a space, which some platforms drop.
+// Whether a name ends in a dot or a space, which Windows drops.
 fn ends_in_dot_or_space(name: &str) -> bool
     ensures { result ≡ ends_in_dot_or_space name.now }
 {
     name.bytes().last().is_some_and(|b| b == b'.' || b == b' ')
 }
 
-// What a text has before the first such mark, or all of it.
+// The text before the first `mark`, or all of it.
 fn before(text: &str, mark: char) -> &str
     requires { mark < 128 }
     ensures { result.now ≡ before_first (λ b. b == mark) text.now }
@@ -66,14 +66,14 @@ fn before(text: &str, mark: char) -> &str
     text.split_once(mark).map_or(text, |(before, _)| before)
 }
 
-// Whether a text has nothing but spaces after so many bytes.
+// Whether a text has only spaces after its first `count` bytes.
 fn is_blank_after(text: &str, count: usize) -> bool
     ensures { result ≡ list_all is_space (drop count text.now) }
 {
     text.bytes().skip(count).all(|b| b == b' ')
 }
 
-// Whether some platform reads a name otherwise: as more names, as a shorter one, or as a device.
+// Whether Windows reads a name otherwise: as several names, as a shorter name, or as a device.
 fn is_unportable(name: &str) -> bool
     ensures { result ≡ is_unportable name.now }
 {

@@ -1,4 +1,4 @@
-//! A rewriter of links: a page in Markdown, whose file and others moved.
+//! Rewrites the links of a page in Markdown after files moved.
 ghost use Rattle.std.specs.Prelude.{◌≡◌, ◌++◌, List, ℕ, false, IfOk, IfErr, MatchOption, string_bytes};
 ghost use Rattle.relative_path.specs.RelativePath.{path_components};
 ghost use Rattle.relative_path_uses.specs.Targets.{HasTargets};
@@ -27,23 +27,23 @@ use std::alloc::{AllocError, Global};
 pub enum Unchanged {
     /// It leads above the root.
     AboveRoot,
-    /// No path leads from the page's new directory to where it leads.
+    /// No path leads from the page's new directory to its target.
     NoPath,
-    /// The new path can't be written there: it has a byte that is read otherwise in a link.
+    /// The new path has a byte that a link reads otherwise, so it can't be written there.
     Unwritable,
 }
 
-/// A page after the moves, as [`rewritten`] answers it.
+/// A page after the moves, as [`rewritten`] returns it.
 #[derive(Drop)]
 pub struct RewrittenPage {
     /// Its text.
     pub text: String,
-    /// The links that stay unchanged although they lead elsewhere now: at which byte of the page before the moves the target
-    /// stands, and why.
+    /// The links that stay unchanged although they no longer lead to their target: the offset of the
+    /// target in the page before the moves, and the reason.
     pub unchanged: Vec<(usize, Unchanged)>,
 }
 
-// Why a path has no new one.
+// Why a path has no new path.
 enum PathError {
     Unchanged(Unchanged),
     OutOfMemory,
@@ -59,17 +59,18 @@ impl From<AllocError> for PathError {
     }
 }
 
-/// A page in Markdown after the moves of a table: each of its targets leads from the page's new
-/// directory to where it led before, or to where that file is now. All else stays byte for byte.
+/// Rewrites a page in Markdown after the moves of a table. Each of its targets then leads from the page's
+/// new directory to the file that it led to before, wherever that file is now. All other bytes stay.
 ///
-/// The targets are those that [`targets`] finds, or others that stand in order in the page. The path
-/// `from` is the page's before the moves, whether or not it moves itself. A target that still leads
-/// there stays. Of one that doesn't, the path becomes the shortest one, its slash at the end, its query
-/// and its fragment stay, and read back it is that path. A target that has no path there, or none that
-/// can be written in a link, stays and is reported in `unchanged`. Nothing is encoded or decoded.
+/// The targets are those that [`targets`](crate::targets) finds, or others that are in order in the page.
+/// `from` is the path of the page before the moves; the page itself may move or stay. A target that still
+/// leads to its file stays as it is. Otherwise its path becomes the shortest path to the file, and a
+/// trailing slash, the query and the fragment stay. If there is no such path, or if a link would read the
+/// path otherwise, the target stays as it is and is reported in `unchanged`. The call neither encodes nor
+/// decodes: `%20` is three bytes of a name.
 ///
-/// It takes memory for the text, at first as much as the page has, for the unchanged links, and for what
-/// [`MoveTable::moved_in`] needs for each target. Only want of memory refuses a page.
+/// Allocates the text, at first as many bytes as the page has, the list of unchanged links, and what
+/// [`MoveTable::moved_in`] does for each target. The only error is lack of memory.
 ///
 /// ```
 /// let moves = [("a.md", "docs/a.md"), ("b.md", "docs/more/b.md")]
@@ -154,7 +155,7 @@ fn push_target(
     }
 }
 
-// What has to be written in place of a path, if that leads there no more.
+// What to write in place of a path. `None` if the path still leads to its target.
 fn new_path(
     alloc: Global,
     path: &str,
@@ -192,14 +193,14 @@ fn with_slash(path: &str, mut reference: String) -> Result<String, AllocError>
     Ok(reference)
 }
 
-// Whether a path can't be written in a link.
+// Whether a path has a byte that a link reads otherwise.
 fn needs_escapes(angled: bool, path: &str) -> bool
     ensures { result ≡ needs_escapes angled path.now }
 {
     path.bytes().any(|b| needs_escape(angled, b))
 }
 
-// Whether a byte of a path is read otherwise in a link.
+// Whether a link reads a byte of a path otherwise.
 fn needs_escape(angled: bool, b: u8) -> bool
     ensures { result ≡ needs_escape angled b }
 {

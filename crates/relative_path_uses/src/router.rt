@@ -1,4 +1,4 @@
-//! A router of static files: the file that a request names below a root.
+//! A router of static files: from the path of a request to a file below a root.
 ghost use Rattle.std.specs.Prelude.{◌≡◌, ◌↔◌, IfOk, IfSome, IsNone, string_bytes};
 ghost use Rattle.relative_path.specs.Steps.{components};
 ghost use Rattle.relative_path.specs.RelativePath.{path_text};
@@ -9,27 +9,28 @@ use crate::names::has_unportable_name;
 use relative_path::RelativePath;
 use std::alloc::{AllocError, Global};
 
-/// The platform path of the file below `root` that a request's path names: the root as it is, and
-/// the names of the place where the request leads from the top, single slashes between.
+/// Returns the platform path of the file that a request's path names below `root`: the root as it is, and
+/// then the names of the place where the request leads from the top, with single slashes between.
 ///
-/// `None` where the request climbs above the top, even if it comes back, and where some platform
-/// reads a name of its place otherwise. Such a name holds a byte below 32, a backslash or a colon, or
-/// ends in a dot or a space, or is one of Windows' devices. These are `CON`, `PRN`, `AUX`, `NUL`,
-/// `CONIN$`, `CONOUT$`, and `COM` or `LPT` with a digit or with `¹`, `²` or `³`; in any case, alone or
-/// before a dot, spaces between or not. Slashes at the start of a request, double ones and one at its
-/// end count nothing, so `//x/` is `x`: a caller that tells a directory by its slash asks the request.
-/// The answer to a request that leads to the top is the root itself.
+/// Returns `None` if the request climbs above the top, even if it comes back. Also returns `None` if the
+/// place has a name that Windows reads otherwise. That is a name with a byte below 32, a backslash or a
+/// colon, a name that ends in a dot or a space, or the name of a device. The devices are `CON`, `PRN`,
+/// `AUX`, `NUL`, `CONIN$`, `CONOUT$`, and `COM` or `LPT` with a digit or with `¹`, `²` or `³`, in upper or
+/// lower case, alone or before a dot, perhaps with spaces between.
 ///
-/// The root may be absolute or not, and nothing of it is checked or changed. A root that ends in a
-/// slash gets no second one, and after the empty root the first name stands alone.
+/// Slashes at the start of a request, doubled slashes and a slash at the end mean nothing: `//x/` is `x`.
+/// So a caller for which a slash at the end means a directory looks at the request itself. For a request
+/// that leads to the top, the result is the root.
 ///
-/// Before the call, cut off the query at its `?`, decode percent signs, once, and refuse what is no
-/// UTF-8 then. Never decode the answer: `%2e%2e` is a name here. What a text can't tell is left to the
-/// caller: where links in the file system lead, whether it tells upper from lower case, and whether a
-/// name that begins with a dot is to be served.
+/// The root may be absolute or relative. The call neither checks nor changes it. After a root that ends in
+/// a slash it adds no second slash, and after the empty root the result begins with the first name.
 ///
-/// A request that climbs is refused before any memory is asked for. Else it asks twice: for the place,
-/// unless the request is empty, and for the answer. Where a name is refused, it asks once.
+/// Before the call, cut off the query at its `?`, decode percent signs once, and reject what isn't UTF-8.
+/// Never decode the result: `%2e%2e` is a name here. The call can't see the disk. So the caller decides
+/// about symbolic links, about upper and lower case, and about names that begin with a dot.
+///
+/// Allocates twice: the place, unless the request is empty, and the result. For a request that climbs it
+/// doesn't allocate, and for one with a name that Windows reads otherwise it allocates once.
 ///
 /// ```
 /// let file = served(alloc, "/srv/www", "/css/./../a.css")?;
@@ -53,7 +54,7 @@ pub fn served(alloc: Global, root: &str, request: &str) -> Result<Option<String>
     Ok(Some(file_in_root(alloc, root, place)?))
 }
 
-// The root, and a path after it, unless that is empty.
+// The root, and after it the path, unless the path is empty.
 fn file_in_root(alloc: Global, root: &str, path: RelativePath<'_>) -> Result<String, AllocError>
     ensures { IfOk result (λ file. string_bytes file ≡ added root.now (path_text path.entry)) }
 {

@@ -1,4 +1,4 @@
-//! A site map: its pages by any spelling of their paths, and the links from each to each.
+//! A site map: finds pages by any spelling of their paths, and links from one page to another.
 ghost use Rattle.std.specs.Prelude.{◌≡◌, ◌≢◌, ◌<◌, ◌↔◌, ℕ, List, length, map, IfOk, IfSome, OnOk, IsErrOf, MatchOption, None, Some, string_bytes};
 ghost use Rattle.std.specs.Option.{option_map};
 ghost use Rattle.relative_path.specs.Steps.{Step};
@@ -17,9 +17,7 @@ use std::error::Error;
 use std::fmt;
 use std::marker::Model;
 
-/// Why pages are no site. Pages are told by their numbers, counted from 0.
-///
-/// A refusal prints its words.
+/// Why no site map can be made of some pages. Pages are numbered from 0.
 ///
 /// ```
 /// let error = SiteMapError::NoFileName(3);
@@ -29,7 +27,7 @@ use std::marker::Model;
 pub enum SiteMapError {
     /// The first page whose path has no file name.
     NoFileName(usize),
-    /// Memory was refused, after each page was seen to have its file name.
+    /// An allocation failed. By then each page was seen to have a file name.
     OutOfMemory,
 }
 
@@ -58,7 +56,7 @@ impl From<AllocError> for SiteMapError {
     }
 }
 
-/// The pages of a site, each told by its number, counted from 0. Each has a file name.
+/// The pages of a site, numbered from 0. Each has a file name.
 ///
 /// ```
 /// let pages = ["index.html", "guide/start.html"].map(RelativePath::new);
@@ -81,11 +79,11 @@ impl<'a> Model for SiteMap<'a> {
 }
 
 impl<'a> SiteMap<'a> {
-    /// The map of these pages, or the first of them without a file name. Where several lead to the
-    /// same, the first of them is found.
+    /// Makes the map of these pages. Fails if a page has no file name. If several pages lead to the same
+    /// place, a search finds the first of them.
     ///
-    /// A page without a file name is refused before any memory is asked for. Then each page costs a
-    /// normal form and a search by halves, and takes memory for both.
+    /// The call looks for file names before it allocates. It then allocates for each page: the normal
+    /// form, and an entry of the map.
     ///
     /// ```
     /// let pages = ["a.html", "./a.html", "b/.."].map(RelativePath::new);
@@ -109,7 +107,7 @@ impl<'a> SiteMap<'a> {
         Ok(SiteMap { pages, by_place })
     }
 
-    /// How many pages the site has.
+    /// Returns how many pages the site has.
     ///
     /// ```
     /// let pages = ["index.html", "guide/start.html"].map(RelativePath::new);
@@ -121,9 +119,9 @@ impl<'a> SiteMap<'a> {
         self.pages.len()
     }
 
-    /// The first page that leads from every base to where the path leads.
+    /// Returns the number of the first page that leads, from every base, to where the path leads.
     ///
-    /// It costs a normal form of the path, for which it takes memory, and a search by halves.
+    /// Allocates the path's normal form, and searches a B-tree once.
     ///
     /// ```
     /// let pages = ["index.html", "guide/start.html"].map(RelativePath::new);
@@ -139,11 +137,10 @@ impl<'a> SiteMap<'a> {
         self.by_place.get(alloc, path)
     }
 
-    /// The shortest link from the directory of a page's place to another page's place, or `None`
-    /// where no link leads there. So it is the same for each spelling of the two pages.
+    /// Returns the shortest link from the directory of a page to another page, or `None` if no link leads
+    /// there. The result is the same for every spelling of the two pages.
     ///
-    /// An empty link is the directory itself, where the other page is then said to be. It asks for
-    /// memory at most four times.
+    /// The link is empty if the other page has the path of that directory. Allocates at most four times.
     ///
     /// ```
     /// let pages = ["index.html", "guide/./a/../start.html"].map(RelativePath::new);
@@ -172,18 +169,19 @@ impl<'a> SiteMap<'a> {
         Ok(link)
     }
 
-    /// The reference from a page to another, which resolves from the one's URL path to exactly the
-    /// other's (RFC 3986, section 5.2), or `None` where no link leads there. A page's URL path is the
-    /// names of its place from the top, a slash before each; a page that climbs above the top has none.
+    /// Returns the reference to write in one page to link to another, or `None` if no link leads there.
+    /// The reference resolves from the URL path of the first page to exactly the URL path of the second
+    /// (RFC 3986, section 5.2). The URL path of a page is the names of its place from the top, with a slash
+    /// before each. A page that climbs above the top has no URL path.
     ///
-    /// It is the shortest link that ends in the page's file name. So it is that of [`SiteMap::link`],
-    /// but where that one ends in no name: an empty reference would be the page itself, and one that
-    /// ends in `..` gets a slash at its end. It starts with `./` where a colon in its first name would
-    /// end a scheme.
+    /// The result is the shortest link that ends in the second page's file name. It equals the result of
+    /// [`SiteMap::link`], except where that link doesn't end in a name: an empty reference would lead to
+    /// the first page itself, and a reference that ends in `..` would get a slash at its end. The result
+    /// begins with `./` if a colon in its first name would otherwise end a scheme.
     ///
-    /// Nothing is encoded. A caller writes a name that holds `%`, `?`, `#`, a space or what is not
-    /// ASCII with percent signs, a segment at a time: `href.split('/').map(percent_encoded)`, joined by
-    /// slashes. It asks for memory at most five times.
+    /// The call doesn't encode. If a name has `%`, `?`, `#`, a space or bytes past ASCII, the caller
+    /// encodes each segment: `href.split('/').map(percent_encoded)`, joined by slashes. Allocates at most
+    /// five times.
     ///
     /// ```
     /// let pages = ["docs/install", "docs", "docs/a:b.html"].map(RelativePath::new);

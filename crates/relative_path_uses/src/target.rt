@@ -1,12 +1,12 @@
-//! Targets of links: where they stand in a page, and what of each is its path.
+//! Targets of links: their spans in a page, and which part of each is its path.
 ghost use Rattle.std.specs.Prelude.{◌≡◌, ◌-◌, ◌==◌, ◌↔◌, false, length, get_or, IsTrue};
 ghost use Rattle.std.specs.List.{position};
 ghost use Rattle.relative_path_uses.specs.Targets.{ends_path, path_of, tail_of, is_not_relative, target_text, HasTarget, is_angled};
 
 use crate::url_reference::is_misread;
 
-/// Where the target of a link stands in a page: from byte `start` to before byte `end`. The angle
-/// brackets that may stand around it and the title after it aren't part of it.
+/// The span of a link's target in a page: the bytes from `start` on, before `end`. Angle brackets around the
+/// target and the title after it aren't part of it.
 ///
 /// ```
 /// let page = "[a](b.md#top \"A title\")";
@@ -15,14 +15,14 @@ use crate::url_reference::is_misread;
 /// ```
 #[derive(Clone, Copy, Debug, PartialEq, Eq)]
 pub struct Target {
-    /// Its first byte.
+    /// The offset of its first byte.
     pub start: usize,
-    /// The byte after its last one.
+    /// The offset after its last byte.
     pub end: usize,
 }
 
 impl Target {
-    // Its text in a page that has it.
+    // The target's text, in a page that has the target.
     pub(crate) fn text(self, page: &str) -> &str
         requires { HasTarget page.now self }
         ensures { result.now ≡ target_text page.now self }
@@ -30,7 +30,7 @@ impl Target {
         &page[self.start..self.end]
     }
 
-    // Whether it stands between `<` and `>`.
+    // Whether the target is between `<` and `>`.
     pub(crate) fn is_angled(self, page: &str) -> bool
         requires { HasTarget page.now self }
         ensures { result ≡ is_angled page.now self }
@@ -53,7 +53,7 @@ fn begins_with_bracket(text: &str) -> bool
     text.bytes().next().is_some_and(|b| b == b'>')
 }
 
-// The path of a target, and what stands after it.
+// The path of a target, and the text after the path.
 pub(crate) fn split_path(target: &str) -> (&str, &str)
     ensures path { result.0.now ≡ path_of target.now }
     ensures tail { result.1.now ≡ tail_of target.now }
@@ -64,7 +64,7 @@ pub(crate) fn split_path(target: &str) -> (&str, &str)
     }
 }
 
-// Where the path of a target ends, if something stands after it.
+// Where the path of a target ends, if there is text after the path.
 fn path_end(target: &str) -> Option<usize>
     ensures { result ≡ position ends_path target.now }
 {
@@ -78,7 +78,7 @@ pub(crate) fn is_relative(target: &str) -> bool
     !is_not_relative(split_path(target).0)
 }
 
-// Whether a path isn't one from the page's directory.
+// Whether a path isn't relative to the page's directory.
 fn is_not_relative(path: &str) -> bool
     ensures { result ≡ is_not_relative path.now }
 {

@@ -1,4 +1,4 @@
-//! `relpath`: answers commands on relative paths, a line for a line.
+//! `relpath`: reads commands on relative paths, one a line, and writes one line for each.
 //!
 //! ```console
 //! $ printf 'normalize\ta/../b\n' | relpath

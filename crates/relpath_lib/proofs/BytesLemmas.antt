@@ -1,4 +1,4 @@
--- Where a byte stands first, by blocks of bytes.
+-- The first index of a byte, searched block by block.
 use Rattle.std.proofs.Common.{◌-◌, ◌≡◌, ◌≢◌, ℕ, ◌+◌, ◌%◌, ◌<◌, ◌≤◌, ◌==◌, Bool, true, false, not, List, length, map, subst, ◌^◌, w64, take, drop, get_or, replicate, cond, eqb, refl, sym, ap, ◌∙◌, arith, ◌⊎◌, inl, inr, w8}
 use Rattle.std.proofs.lemmas.Bool.{eq-eqb, ne_eqb, cases_lt, both_ways}
 use Rattle.std.proofs.lemmas.Bool.Decides.{eqb_tells}
@@ -10,12 +10,12 @@ use Rattle.std.specs.List.{position_or_len}
 use lib.Count.{count_trailing_zeros}
 use lib.Lanes.{zip2, mask_l, top}
 
--- a bit for each byte of a block, set where it is the one that is looked for
+-- a bit for each byte of a block, set if it is the byte that is searched
 abbrev pub bits_set : List ℕ → ℕ → ℕ → ℕ
 bits_set block n byte =
     mask_l (map (top 7) (zip2 (λ a b. cond (eqb a b) 255 0) block (replicate n byte))) % 18446744073709551616
 
--- no bit is set where the byte isn't in the block
+-- no bit is set if the byte isn't in the block
 pub position-none : (block : List ℕ) (n byte : ℕ) → length block ≡ n → n ≤ 64
     → bits_set block n byte ≡ 0 → n ≡ position_or_len (λ b. b == byte) block
 position-none block n byte long small none =
@@ -28,7 +28,7 @@ positive m some = elim (cases_lt 0 m) [
   | inr none ↦ absurd (some (omega arith))
 ]
 
--- and else the lowest bit is the first place
+-- if a bit is set, the lowest is the first index of the byte
 pub position-some : (block : List ℕ) (byte : ℕ) → length block ≡ 16 → bits_set block 16 byte ≢ 0
     → (count_trailing_zeros 64 (bits_set block 16 byte) < 16)
     × (count_trailing_zeros 64 (bits_set block 16 byte) ≡ position_or_len (λ b. b == byte) block)
@@ -52,7 +52,7 @@ position-some block byte long some =
       ap (count_trailing_zeros 64) mask ∙ trailing_mask_l is_one 64 block (omega arith) set,
     )
 
--- the first place in a block, before which the byte isn't, is the first of all
+-- the first index in a block is the first index of all, if the byte isn't before the block
 pub position-here : (p : ℕ → Bool) (bytes : List ℕ) (at n r : ℕ) → at ≤ position_or_len p bytes → at + n ≤ length bytes
     → r ≡ position_or_len p (take n (drop at bytes)) → r < n → at + r ≡ position_or_len p bytes
 position-here p bytes at n r before room is within =
@@ -67,7 +67,7 @@ position-here p bytes at n r before room is within =
     stops : at + r < length bytes → not (p (get_or bytes (at + r) 0)) ≡ false
     stops l = ap not (run_in_chunk_stops p bytes at n r 0 room is within)
 
--- the first place is after a block without the byte
+-- the first index is after a block without the byte
 pub position-after : (p : ℕ → Bool) (bytes : List ℕ) (at n r : ℕ) → at ≤ position_or_len p bytes
     → at + n ≤ length bytes → r ≡ position_or_len p (take n (drop at bytes)) → n ≤ r
     → at + n ≤ position_or_len p bytes
@@ -79,7 +79,7 @@ position-after p bytes at n r before room is whole =
       | inr after ↦ omega arith
     ]
 
--- a place before which the byte isn't is within the bytes, or after the last
+-- the first index is within the bytes, or their length
 pub position_le : (bytes : List ℕ) (at byte : ℕ) → at ≤ position_or_len (λ b. b == byte) bytes → at ≤ length bytes
 position_le bytes at byte before =
     let bound = prefix_len-le-length (λ b. not (b == byte)) bytes in omega arith
@@ -87,7 +87,7 @@ position_le bytes at byte before =
 different : (x y : ℕ) → not (x == y) ≡ true → x ≢ y
 different x y other e = both_ways _ (ap not (eq-eqb x y e)) other
 
--- the byte isn't before its first place
+-- the byte isn't before its first index
 pub position-lacks : (bytes : List ℕ) (byte i : ℕ) → i < position_or_len (λ b. b == byte) bytes
     → get_or bytes i 0 ≢ byte
 position-lacks bytes byte i before =
@@ -99,14 +99,14 @@ same x y found = told (eqb_tells x y) where
   told (inl (is, e)) = e
   told (inr (isnt, other)) = absurd (both_ways _ found (ap not isnt))
 
--- the byte is at its first place
+-- the byte is at its first index
 pub position-holds : (bytes : List ℕ) (byte at : ℕ) → at ≡ position_or_len (λ b. b == byte) bytes → at < length bytes
     → get_or bytes at 0 ≡ byte
 position-holds bytes byte at is inside =
     same _ byte (ap (λ n. not (get_or bytes n 0 == byte)) is
     ∙ prefix_len_stops (λ b. not (b == byte)) bytes 0 (omega (arith, is, inside)))
 
--- the first place is after a block in which each byte is another
+-- the first index is after a block in which every byte is another
 pub position-passed : (bytes : List ℕ) (at n byte : ℕ) → at ≤ position_or_len (λ b. b == byte) bytes
     → at + n ≤ length bytes → ((k : ℕ) → k < n → get_or bytes (at + k) 0 ≢ byte)
     → at + n ≤ position_or_len (λ b. b == byte) bytes
@@ -120,7 +120,7 @@ position-passed bytes at n byte before room others =
       | inr after ↦ after
     ]
 
--- a place that isn't the end is within the bytes
+-- an index that isn't the length is within the bytes
 pub position-inside : (bytes : List ℕ) (byte at : ℕ) → at ≡ position_or_len (λ b. b == byte) bytes
     → at ≢ length bytes → at < length bytes
 position-inside bytes byte at is short =
@@ -130,13 +130,13 @@ position-inside bytes byte at is short =
       | inr end ↦ absurd (short (omega (arith, bound, is, end)))
     ]
 
--- the byte isn't there at all
+-- the bytes don't have the byte
 pub position-end : (bytes : List ℕ) (at byte : ℕ) → at ≤ position_or_len (λ b. b == byte) bytes
     → length bytes ≤ at → at ≡ position_or_len (λ b. b == byte) bytes
 position-end bytes at byte before end =
     let bound = prefix_len-le-length (λ b. not (b == byte)) bytes in omega arith
 
--- a place where the byte is, or the end, before which it isn't
+-- an index where the byte is, or the length, is the first index if the byte isn't before it
 pub position-of : (bytes : List ℕ) (byte at : ℕ) → at ≤ length bytes
     → ((k : ℕ) → k < at → get_or bytes k 0 ≢ byte) → (at < length bytes → get_or bytes at 0 ≡ byte)
     → at ≡ position_or_len (λ b. b == byte) bytes

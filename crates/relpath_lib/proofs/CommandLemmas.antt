@@ -1,4 +1,4 @@
--- The answer to a line is the answer to the fields of it that are shown.
+-- The answer to a line depends only on the fields that are read.
 use Rattle.std.proofs.Common.{◌≡◌, ◌≢◌, ◌⊎◌, ℕ, ◌<◌, ◌==◌, true, false, List, [], ◌∷◌, ◌++◌, length, map, take, drop, get_or, codes, Bor, Bool, Some, None, Result, Ok, Err, OnOk, IsErrOf, ◌↔◌, inl, inr, refl, sym, ◌∙◌, arith, lit<, zero, suc, Option, MatchOption, MatchBool}
 use Rattle.std.proofs.lemmas.Bool.{eq-eqb, ne_eqb}
 use Rattle.std.proofs.lemmas.Bool.Decides.{eqb_tells}
@@ -49,7 +49,7 @@ arity_of_lt TryRelative = lit< tt
 arity_of_lt RelativeTo = lit< tt
 arity_of_lt Move = lit< tt
 
--- the answer of a command that is one, or is none, to these arguments
+-- the answer to these arguments, for a command that exists or doesn't
 abbrev AnswersNamed : Option Command → List (List ℕ) → List ℕ → Type 0
 AnswersNamed named arguments answer =
     MatchOption named (answer ≡ words_answer (codes "unknown command"))
@@ -79,7 +79,7 @@ AnswersFields-take fields answer a =
     AnswersCommand-take (field fields 0) (drop 1 fields) answer
     (rw (sym (drop-take 1 4 fields), sym (get_or-take MAX_FIELDS fields 0 [] (lit< tt))) a)
 
--- what answers the command and the arguments that are shown answers the line
+-- the answer to the command and the arguments that are read is the answer to the line
 pub Adds-take : {E : Type 0} (line : List ℕ) (shown : List (Bor (List ℕ))) (none : Bor (List ℕ))
     (r : Result (Unit {0}) E) (old new : List ℕ)
     → map (λ field. field.now) shown ≡ take MAX_FIELDS (fields_of line) → 0 < length shown
@@ -90,7 +90,7 @@ Adds-take line (command ∷ arguments) none (Err x) old new e some adds = tt
 Adds-take line (command ∷ arguments) none (Ok u) old new e some (added, a, grew) =
     (added, AnswersFields-take (fields_of line) added (rw (sym e) a), grew)
 
--- the answer to two texts, by what is known where there is one
+-- the answer to two arguments, from what is known if the call succeeds
 pub Adds-two : {E : Type 0} (P : List ℕ → List ℕ → List ℕ → Type 0) (r : Result (Unit {0}) E) (known : Type 0)
     (old new first second a b answer : List ℕ) → a ≡ first → b ≡ second → (known → P a b answer)
     → OnOk r (known × (new ≡ old ++ answer)) → OnOk r (Adds (P first second) old new)
@@ -98,7 +98,7 @@ Adds-two P (Err x) known old new first second a b answer e f holds added = tt
 Adds-two P (Ok u) known old new first second a b answer e f holds (is, added) =
     (answer, rw (sym e, sym f) (holds is), added)
 
--- the answer to three texts, by what is known where there is one
+-- the answer to three arguments, from what is known if the call succeeds
 pub Adds-three : {E : Type 0} (P : List ℕ → List ℕ → List ℕ → List ℕ → Type 0) (r : Result (Unit {0}) E)
     (known : Type 0) (old new first second third a b c answer : List ℕ) → a ≡ first → b ≡ second → c ≡ third
     → (known → P a b c answer) → OnOk r (known × (new ≡ old ++ answer))
@@ -107,7 +107,7 @@ Adds-three P (Err x) known old new first second third a b c answer e f g holds a
 Adds-three P (Ok u) known old new first second third a b c answer e f g holds (is, added) =
     (answer, rw (sym e, sym f, sym g) (holds is), added)
 
--- nothing is known but the answer
+-- a fact about the result of a call, without its case
 pub OnOk-known : {E : Type 0} (X : Type 0) (r : Result (Unit {0}) E) → OnOk r X → OnOk r (Unit {0} × X)
 OnOk-known X (Err x) h = tt
 OnOk-known X (Ok u) h = (tt, h)
@@ -125,14 +125,14 @@ Adds-miscounted name found command arguments (Ok u) old new is known other added
     (λ e. other (omega (arith, mapped, e))) in
     (words_answer (codes "wrong number of fields"), rw (sym is ∙ known, differs) refl, added)
 
--- what one of the arguments is
+-- one of the arguments
 pub field-map : (arguments : List (Bor (List ℕ))) (n : ℕ) (none : Bor (List ℕ)) → n < length arguments
     → field (map (λ argument. argument.now) arguments) n ≡ (get_or arguments n none).now
 field-map [] n none inside = absurd (omega arith)
 field-map (x ∷ xs) zero none inside = refl
 field-map (x ∷ xs) (suc n) none inside = field-map xs n none (omega arith)
 
--- a refusal that is no allocation failure is the answer
+-- an error other than a failed allocation is the answer
 pub IsAnswered-refused : {T : Type 0} (moves : List FileMove) (i : ℕ) (reference : List Step) (e : MoveError)
     → e ≢ OutOfMemory
     → ((k : ℕ) → IsErrOf {T = T} (Err e) (NoFileName k) ↔ IsFirstNameless moves k)

@@ -22,20 +22,20 @@ pub slice_split-last : (byte : ℕ) (text : List ℕ) → Lacks byte text
     → slice_split (λ b. b == byte) text ≡ text ∷ []
 slice_split-last byte text none = slice_split_none (λ b. b == byte) text (all_differ byte text none)
 
--- what stands before the first such byte is the first piece
+-- the text before the first such byte is the first piece
 pub slice_split-next : (byte : ℕ) (text piece rest : List ℕ) → text ≡ piece ++ byte ∷ rest → Lacks byte piece
     → slice_split (λ b. b == byte) text ≡ piece ∷ slice_split (λ b. b == byte) rest
 slice_split-next byte text piece rest e none =
     ap (slice_split (λ b. b == byte)) e
     ∙ slice_split_at (λ b. b == byte) piece byte rest (all_differ byte piece none) (eq-eqb byte byte refl)
 
--- a text in which the byte has no place is its only piece
+-- a text that doesn't have the byte is its only piece
 pub slice_split-none : (byte : ℕ) (text : List ℕ) (at : ℕ) → at ≡ position_or_len (λ b. b == byte) text
     → at ≡ length text → slice_split (λ b. b == byte) text ≡ text ∷ []
 slice_split-none byte text at is end =
     slice_split-last byte text (record { lacks = λ i l. position-lacks text byte i (omega (arith, is, end, l)) })
 
--- what stands before the first place of the byte is the first piece
+-- the text before the first index of the byte is the first piece
 pub slice_split-first : (byte : ℕ) (text : List ℕ) (at : ℕ) → at ≡ position_or_len (λ b. b == byte) text
     → at < length text
     → slice_split (λ b. b == byte) text ≡ take at text ∷ slice_split (λ b. b == byte) (drop (at + 1) text)
@@ -70,7 +70,7 @@ lines_of-next text line rest next =
     let some = length-slice_split is_line_feed rest in
     ap without_empty_last next ∙ without_empty_last-cons line (slice_split is_line_feed rest) (omega (arith, some))
 
--- one more field is moved into the room
+-- one more field is written into the array
 pub fields-more : (fields : List (List ℕ)) (room : List (Bor (List ℕ))) (count : ℕ) (field : Bor (List ℕ))
     (left rest : List (List ℕ)) → count < length room
     → fields ≡ map (λ field. field.now) (take count room) ++ left → left ≡ field.now ∷ rest
@@ -78,7 +78,7 @@ pub fields-more : (fields : List (List ℕ)) (room : List (Bor (List ℕ))) (cou
 fields-more fields room count field left rest l e next =
     rw (e, next, take_more_set room count field l, map-append, append_assoc) refl
 
--- where nothing is left, fields were moved
+-- if no text remains, fields were written
 pub fields-some : (line : List ℕ) (shown : List (Bor (List ℕ))) (left : Option (Bor (List ℕ)))
     → fields_of line ≡ map (λ field. field.now) shown ++ fields_left left → left ≡ None → 0 < length shown
 fields-some line shown left e none =

@@ -1,4 +1,4 @@
--- Each input has one output at most, for each command has one answer at most.
+-- Each input has at most one output, since each command has at most one answer.
 use Rattle.std.proofs.Common.{◌≡◌, Option, Some, None, MatchOption, ℕ, ◌<◌, ◌≤◌, Result, Ok, Err, Bool, true, false, List, [], ◌∷◌, ◌++◌, ◌⊎◌, length, drop, codes, MatchBool, ◌==◌, inl, inr, refl, sym, ap, ◌∙◌, arith, true≢false}
 use Rattle.std.specs.Str.{bytes_eq}
 use Rattle.std.proofs.lemmas.Slice.Eq.{bytes_eq-Decides}
@@ -39,7 +39,7 @@ GivesPath-IsOfOne P p one other (text, holds, e) (text_2, holds_2, f) =
 IsNormalTextOf-IsOfOne : (cs : List Step) → IsOfOne (IsNormalTextOf cs)
 IsNormalTextOf-IsOfOne cs one other h k = h.only other k.normal_text k.same
 
--- the shortest list is one, and a text that spells its components is told by them
+-- there is one shortest list, and one text that spells it
 IsShortestText-IsOfOne : (f t : List Step) → IsOfOne (IsShortestText f t)
 IsShortestText-IsOfOne f t one other h k =
     k.spelled ∙ ap spell (same (h.shortest.shortest (components other) k.shortest.leads)
@@ -69,7 +69,7 @@ TellsWay-IsOfOne f t one other (inr (none, e)) (inl (text, way, f_2)) =
     absurd (none (components text, way.shortest.leads))
 TellsWay-IsOfOne f t one other (inr (none, e)) (inr (none_2, f_2)) = f_2 ∙ sym e
 
--- two targets with a property are one, for moves that are apart
+-- if no two moves have the same old path, two targets of a reference are the same
 ForTarget-both : (moves : List FileMove) (i : ℕ) (reference : List Step) (P Q : List Step → Type 0) → AreApart moves
     → ForTarget moves i reference P → ForTarget moves i reference Q → (target : List Step) × P target × Q target
 ForTarget-both moves i reference P Q apart (target, is, p) (other, other_is, q) =
@@ -94,7 +94,7 @@ IsFirstPair-only moves j k a b first second = tell (first.first a b second.pair)
 unnamed : (moves : List FileMove) (k : ℕ) → AreNamed moves → IsFirstNameless moves k → ⊥
 unnamed moves k all_named first = all_named k first.within first.lacks
 
--- the moves and a reference have one outcome
+-- the moves and a reference have one result
 IsAnswered-only : (moves : List FileMove) (i : ℕ) (reference : List Step) (one other : Result (List ℕ) MoveError)
     → IsAnswered moves i reference one → IsAnswered moves i reference other → other ≡ one
 IsAnswered-only moves i reference (Err (NoFileName j)) (Err (NoFileName k)) h n =

@@ -8,13 +8,13 @@ use Rattle.relpath_lib.specs.Output.{IsOutput}
 pub IsOutput-none : (input : List ℕ) → lines_of input ≡ [] → IsOutput input []
 IsOutput-none input e = rw e refl
 
--- an answer to the first line with a line feed, and then an output of what stands after it
+-- an answer to the first line, a line feed, and then an output of the rest
 IsOutput-first : (input line rest answer output : List ℕ)
     → lines_of input ≡ line ∷ lines_of rest → Answers line answer → IsOutput rest output
     → IsOutput input (answer ++ line_feed ∷ output)
 IsOutput-first input line rest answer output e a o = rw e (answer, output, a, o, refl)
 
--- after what is answered so far, the answer to the next line with a line feed
+-- after the output so far, the answer to the next line and a line feed
 pub IsOutput-next : (input left line rest before middle after : List ℕ)
     → lines_of left ≡ line ∷ lines_of rest → Adds (Answers line) before middle → after ≡ middle ++ line_feed ∷ []
     → ((output : List ℕ) → IsOutput left output → IsOutput input (before ++ output))

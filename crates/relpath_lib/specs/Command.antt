@@ -16,24 +16,24 @@ use Rattle.relpath_lib.specs.declared.command.Command.{Command}
 use Rattle.relpath_lib.specs.declared.command.Command.TheVariants.{Normalize, Join, Relative, TryRelative, RelativeTo, Move}
 use Rattle.relpath_lib.specs.Lines.{fields_of}
 
--- the answer that gives a path
+-- the answer with a path
 abbrev pub path_answer : List ℕ → List ℕ
 path_answer text = codes "= " ++ text
 
--- the answer that refuses in words
+-- the answer with words
 abbrev pub words_answer : List ℕ → List ℕ
 words_answer words = codes "! " ++ words
 
--- the answer gives a path whose text is P
+-- the answer has a path, and P holds of its text
 abbrev pub GivesPath : (List ℕ → Type 0) → List ℕ → Type 0
 GivesPath P answer = (text : List ℕ) × P text × (answer ≡ path_answer text)
 
--- the answer gives the path that spells the shortest list from f to t, or says that none leads
+-- the answer has the path that spells the shortest list from f to t, or says that no path leads there
 abbrev pub TellsWay : List Step → List Step → List ℕ → Type 0
 TellsWay f t answer =
     GivesPath (IsShortestText f t) answer ⊎ (¬ IsReachable f t) × (answer ≡ words_answer (codes "no path"))
 
--- field number n, counted from 0; empty where there is none
+-- field number n, counted from 0, or the empty text if the line has fewer
 abbrev pub field : List (List ℕ) → ℕ → List ℕ
 field fields n = slice_index_or fields n []
 
@@ -45,15 +45,15 @@ AnswersNormalize path = GivesPath (IsNormalTextOf (components path))
 abbrev pub AnswersJoin : List ℕ → List ℕ → List ℕ → Type 0
 AnswersJoin path more answer = answer ≡ path_answer (pushed path more)
 
--- `relative`, path, path: the shortest path that leads from the first to the second; the empty one where none leads
+-- `relative`, path, path: the shortest path that leads from the first to the second, or the empty path if no path leads there
 abbrev pub AnswersRelative : List ℕ → List ℕ → List ℕ → Type 0
 AnswersRelative from to = GivesPath (IsWayText (components from) (components to))
 
--- `try_relative`, path, path: the shortest path that leads from the first to the second, or that none leads
+-- `try_relative`, path, path: the shortest path that leads from the first to the second, or words if no path leads there
 abbrev pub AnswersTryRelative : List ℕ → List ℕ → List ℕ → Type 0
 AnswersTryRelative from to = TellsWay (components from) (components to)
 
--- `relative_to`, path, root: the relative path from the root to the path, both platform paths, or why none is known
+-- `relative_to`, path, root: the relative path from the root to the path, both platform paths, or why there is no such path
 abbrev pub AnswersRelativeTo : List ℕ → List ℕ → List ℕ → Type 0
 AnswersRelativeTo path root answer =
     ((has_root path ≢ has_root root) × (answer ≡ words_answer (relative_to_words PrefixMismatch)))
@@ -61,7 +61,7 @@ AnswersRelativeTo path root answer =
     × MatchOption (way_to path root) (answer ≡ words_answer (relative_to_words AmbiguousTraversal))
     (λ way. answer ≡ path_answer (spell way))
 
--- the answer gives the path, or refuses in the refusal's words
+-- the answer has the path, or the words of the error
 abbrev pub moved_answer : Result (List ℕ) MoveError → List ℕ
 moved_answer (Ok text) = path_answer text
 moved_answer (Err refusal) = words_answer (refusal_text refusal)
@@ -70,7 +70,7 @@ moved_answer (Err refusal) = words_answer (refusal_text refusal)
 abbrev pub one_move : List Step → List Step → List FileMove
 one_move old new = record { old = old; new = new } ∷ []
 
--- the answer tells what the reference becomes in the file that moved from one path to another, or why nothing
+-- the answer has what the reference becomes in the file that moved from one path to another, or says why it can't be moved
 abbrev pub TellsMoved : List Step → List Step → List Step → List ℕ → Type 0
 TellsMoved old new reference answer =
     (outcome : Result (List ℕ) MoveError) × IsAnswered (one_move old new) 0 reference outcome
@@ -124,6 +124,6 @@ AnswersFields fields = AnswersCommand (field fields 0) (drop 1 fields)
 abbrev pub Answers : List ℕ → List ℕ → Type 0
 Answers line = AnswersFields (fields_of line)
 
--- the text grew by one for which P holds
+-- a text for which P holds was added to the old text
 abbrev pub Adds : (List ℕ → Type 0) → List ℕ → List ℕ → Type 0
 Adds P old new = (added : List ℕ) × P added × (new ≡ old ++ added)

@@ -1,14 +1,14 @@
--- What is printed of how `run` ended, and the status that the program ends with.
+-- What the program prints of how `run` ended, and its exit status.
 use Rattle.std.specs.Prelude.{ℕ, List, [], ◌++◌, codes, Result, Ok, Err}
 use Rattle.relpath_lib.specs.declared.fault.Fault.{Fault}
 use Rattle.relpath_lib.specs.Fault.{fault_name}
 
--- what is printed of how `run` ended: nothing, or a line with the fault's name
+-- what the program prints of how `run` ended: nothing, or a line with the fault's name
 abbrev pub report_of : Result (Unit {0}) Fault → List ℕ
 report_of (Ok _) = []
 report_of (Err fault) = codes "relpath: " ++ fault_name fault ++ codes "\n"
 
--- the status that the program ends with
+-- the program's exit status
 abbrev pub status_of : Result (Unit {0}) Fault → ℕ
 status_of (Ok _) = 0
 status_of (Err fault) = 1

@@ -1,4 +1,4 @@
--- What `run` gave its writer.
+-- What `run` wrote.
 use Rattle.std.specs.Prelude.{◌≡◌, ℕ, ◌≤◌, List, [], length, Option, Result, Ok, Err, OnOk}
 use Rattle.relpath_lib.specs.declared.fault.Fault.{Fault}
 use Rattle.relpath_lib.specs.declared.fault.Fault.TheVariants.{Read, InputTooLong, NotText, OutOfMemory, Write}
@@ -6,7 +6,7 @@ use Rattle.relpath_lib.specs.declared.meter.Meter.{Meter}
 use Rattle.relpath_lib.specs.Meter.{calls_of, Appended}
 use Rattle.relpath_lib.specs.Output.{IsOutput}
 
--- what `run` had to write where it ended so: the output of its input, or nothing where it ended before
+-- what `run` had to write if it ended so: the output of its input, or nothing if it failed before
 abbrev pub HasToWrite : Result (Unit {0}) Fault → List ℕ → List ℕ → Type 0
 HasToWrite (Ok _) input output = IsOutput input output
 HasToWrite (Err Write) input output = IsOutput input output

@@ -4,16 +4,17 @@ ghost use Rattle.std.specs.List.{position_or_len};
 
 use std::simd::prelude::*;
 
-// How many bytes are compared at once.
+// How many bytes a block has, which are compared at once.
 const BLOCK: usize = 16;
 
-// How many bytes are looked at before far blocks are passed, and in each of these.
+// How many bytes a far block has. The search passes over far blocks after as many bytes.
 const FAR: usize = 64;
 
-/// Where a byte stands first; the number of the bytes, if it is none of them.
+/// Returns the index of the first `byte` in `bytes`, or the length of `bytes` if it isn't there.
 ///
-/// A block is looked at after the other, since most lines and fields end in the first few; after
-/// these, far blocks without the byte are passed. The last block may begin within the one before it.
+/// The search looks at blocks of 16 bytes, one after another, since most lines and fields end in the first
+/// few. After these it passes over far blocks of 64 bytes that don't have the byte. The last block may begin
+/// within the one before it.
 #[inline(always)]
 pub fn find_byte(bytes: &[u8], byte: u8) -> usize
     ensures { result ≡ position_or_len (λ b. b == byte) bytes.now }
@@ -38,7 +39,7 @@ pub fn find_byte(bytes: &[u8], byte: u8) -> usize
     }
 }
 
-// Where a byte stands first, or how many bytes there are.
+// The index of the first `byte`, or the length.
 #[inline(always)]
 fn find_in_few(bytes: &[u8], byte: u8) -> usize
     ensures within { result ≤ length bytes.now }
@@ -48,7 +49,7 @@ fn find_in_few(bytes: &[u8], byte: u8) -> usize
     bytes.iter().position(|b| *b == byte).unwrap_or(bytes.len())
 }
 
-// Where a byte stands first in a block, if it is there.
+// The index of the first `byte` within a block, if the block has it.
 #[inline(always)]
 fn find_in_block(bytes: &[u8], start: usize, byte: u8) -> Option<usize>
     requires { start + BLOCK ≤ length bytes.now }
@@ -66,8 +67,8 @@ fn find_in_block(bytes: &[u8], start: usize, byte: u8) -> Option<usize>
     }
 }
 
-// A place before which the byte isn't: that of the first far block that has it, or that is cut off by
-// the end.
+// The start of the first far block that has the byte, or of the first that the end cuts off. The byte isn't
+// before it.
 #[inline(never)]
 fn pass_far(bytes: &[u8], from: usize, byte: u8) -> usize
     requires { from ≤ position_or_len (λ b. b == byte) bytes.now }
@@ -81,7 +82,7 @@ fn pass_far(bytes: &[u8], from: usize, byte: u8) -> usize
     at
 }
 
-// Whether a far block has the byte. With no early end, it looks at many bytes at once.
+// Whether a far block has the byte. The loop has no early end, so it compiles to vector instructions.
 fn has_byte(bytes: &[u8], at: usize, byte: u8) -> bool
     requires { at + FAR ≤ length bytes.now }
     ensures { (k : ℕ) → k < FAR → slice_index_or bytes.now (at + k) 0 ≡ byte → IsTrue result }

@@ -1,4 +1,4 @@
-//! The commands, and the answer that each gives.
+//! The commands, and the answer to each.
 ghost use Rattle.std.specs.Prelude.{◌≡◌, ◌≢◌, ◌++◌, length, map, string_bytes, IfSome, OnOk};
 ghost use Rattle.relpath_lib.specs.Command.{
   Answers,
@@ -53,7 +53,7 @@ impl Command {
         }
     }
 
-    // How many arguments it takes.
+    // How many arguments the command takes.
     fn arity(self) -> usize
         ensures { result ≡ arity_of self }
     {
@@ -68,7 +68,7 @@ impl Command {
     }
 }
 
-/// Adds the answer to a line, whose first field is the command.
+/// Adds the answer to a line to the output. The first field of the line is the command.
 pub fn answer_line(alloc: Global, line: &str, output: &mut String) -> Result<(), AllocError>
     ensures { OnOk result (Adds (Answers line.now) (string_bytes output.old) (string_bytes output.new)) }
 {
@@ -77,7 +77,7 @@ pub fn answer_line(alloc: Global, line: &str, output: &mut String) -> Result<(),
     answer_command(alloc, fields[0], &fields[1..], output)
 }
 
-// Adds the answer to a command, by its name, and its arguments.
+// Adds the answer to a command, given by its name, with these arguments.
 fn answer_command(
     alloc: Global,
     name: &str,
@@ -96,7 +96,7 @@ fn answer_command(
     answer_arguments(alloc, command, arguments, output)
 }
 
-// Adds the answer to a command and as many arguments as it takes: out of line, so no other line pays for it.
+// Adds the answer to a command with as many arguments as it takes. Out of line, so that no other line pays for it.
 #[inline(never)]
 fn answer_arguments(
     alloc: Global,
@@ -197,11 +197,11 @@ fn answer_move(
     let moves = [(RelativePath::new(old), RelativePath::new(new))];
     match moved(alloc, &moves, 0, RelativePath::new(reference)) {
         Ok(way) => add_path(output, &way),
-        Err(refusal) => add_refusal(refusal, output),
+        Err(error) => add_move_error(error, output),
     }
 }
 
-// Adds the answer that tells why no relative path is known, unless memory was refused.
+// Adds the answer that says why there is no relative path. Fails if the error is a failed allocation.
 fn add_error(error: RelativeToError, output: &mut String) -> Result<(), AllocError>
     ensures { OnOk result ((relative_to_kind error ≢ RelativeToErrorKind.OutOfMemory)
         × (string_bytes output.new
@@ -213,18 +213,18 @@ fn add_error(error: RelativeToError, output: &mut String) -> Result<(), AllocErr
     }
 }
 
-// Adds the answer that refuses a reference, unless memory was refused.
-fn add_refusal(refusal: MoveError, output: &mut String) -> Result<(), AllocError>
-    ensures { OnOk result ((refusal ≢ MoveError.OutOfMemory)
-        × (string_bytes output.new ≡ string_bytes output.old ++ words_answer (refusal_text refusal))) }
+// Adds the answer that says why a reference has no new path. Fails if the error is a failed allocation.
+fn add_move_error(error: MoveError, output: &mut String) -> Result<(), AllocError>
+    ensures { OnOk result ((error ≢ MoveError.OutOfMemory)
+        × (string_bytes output.new ≡ string_bytes output.old ++ words_answer (refusal_text error))) }
 {
-    match refusal {
+    match error {
         MoveError::OutOfMemory => Err(AllocError),
-        _ => add_printed(output, &refusal),
+        _ => add_printed(output, &error),
     }
 }
 
-// Adds the answer that refuses in what a value prints.
+// Adds the answer `! ` and what a value prints.
 fn add_printed<T: fmt::Display>(output: &mut String, words: &T) -> Result<(), AllocError>
     ensures { OnOk result (IfSome (T.output words.now) (λ words.
         string_bytes output.new ≡ string_bytes output.old ++ words_answer words)) }
@@ -232,7 +232,7 @@ fn add_printed<T: fmt::Display>(output: &mut String, words: &T) -> Result<(), Al
     write!(output, "! {words}")
 }
 
-// Adds the answer that gives a path.
+// Adds the answer `= ` and a path.
 fn add_path(output: &mut String, path: &RelativePathBuf) -> Result<(), AllocError>
     ensures { OnOk result
         (string_bytes output.new ≡ string_bytes output.old ++ path_answer path.now.text) }
@@ -241,7 +241,7 @@ fn add_path(output: &mut String, path: &RelativePathBuf) -> Result<(), AllocErro
     output.push_str(path.as_relative_path().as_str())
 }
 
-// Adds the answer that refuses in words.
+// Adds the answer `! ` and words.
 fn add_words(output: &mut String, words: &str) -> Result<(), AllocError>
     ensures { OnOk result
         (string_bytes output.new ≡ string_bytes output.old ++ words_answer words.now) }

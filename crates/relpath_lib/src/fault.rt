@@ -1,4 +1,4 @@
-//! Why `run` ends without an answer.
+//! Why `run` fails.
 ghost use Rattle.std.specs.Prelude.{◌≡◌, Some};
 ghost use Rattle.std.specs.Fmt.{styled_text};
 
@@ -6,31 +6,29 @@ use std::alloc::AllocError;
 use std::error::Error;
 use std::fmt;
 
-/// Why `run` ends without an answer.
-///
-/// A fault prints its name.
+/// Why [`run`](crate::run::run) fails. A fault prints its name.
 ///
 /// ```
 /// assert_eq!(rt; Fault::NotText.to_string(alloc)?.as_str(), "NotText");
 /// ```
 #[derive(Clone, Copy, Debug, PartialEq, Eq)]
 pub enum Fault {
-    /// A read answered an error.
+    /// A read returned an error.
     Read,
-    /// More bytes came than the input may have.
+    /// The input has more bytes than the limit.
     InputTooLong,
     /// The input isn't UTF-8.
     NotText,
-    /// Memory was refused before anything was written.
+    /// An allocation failed. Nothing was written by then.
     OutOfMemory,
-    /// A write or the flush answered an error, or a write took nothing.
+    /// A write or the flush returned an error, or a write took no byte.
     Write,
 }
 
 impl Fault {
     ghost use Rattle.relpath_lib.specs.Fault.{fault_name};
 
-    /// The fault's name.
+    /// Returns the name of the fault.
     pub fn name(self) -> &'static str
         ensures { result.now ≡ fault_name self }
     {

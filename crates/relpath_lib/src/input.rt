@@ -18,14 +18,14 @@ use crate::meter::Meter;
 use std::alloc::Global;
 use std::io::Read;
 
-/// How many bytes an input may have.
+/// How many bytes an input may have at most.
 pub const MAX_INPUT: usize = 65_536;
 
-// How many bytes the first read has room for, and how many are made zero at once.
+// How many bytes the first read has room for, and how many bytes are set to zero at once.
 const STEP: usize = 1_024;
 
-/// Reads until a read gives no byte, or until more bytes came than an input may have. Memory is
-/// asked for once, before the first read.
+/// Reads until a read returns no byte, or until more bytes came than an input may have. Allocates once,
+/// before the first read.
 pub fn read_input<R: Read>(alloc: Global, reader: &mut Meter<R>) -> Result<Vec<u8>, Fault>
     requires { IsFresh reader.old }
     ensures input { IfOk result (λ input. Consumed R.remaining reader.old reader.new input.items) }
@@ -50,8 +50,7 @@ pub fn read_input<R: Read>(alloc: Global, reader: &mut Meter<R>) -> Result<Vec<u
     Err(Fault::InputTooLong)
 }
 
-// Zeros after the bytes up to this length, in steps: a short input needs few, and for a step
-// they are cheap.
+// Adds zeros up to this length, in steps. A short input needs few zeros, and one step costs little.
 fn widen(input: &mut Vec<u8>, len: usize)
     requires { len ≤ vec_capacity input.old }
     ensures kept { take (vec_len input.old) input.new.items ≡ input.old.items }
@@ -64,7 +63,7 @@ fn widen(input: &mut Vec<u8>, len: usize)
     }
 }
 
-// Reads once, after the filled bytes, and answers how many bytes came.
+// Reads once into the bytes after the filled ones. Returns how many bytes came.
 fn read_more<R: Read>(
     reader: &mut Meter<R>,
     input: &mut [u8],

@@ -1,6 +1,6 @@
-//! What the program `relpath` does: it answers commands on relative paths, a line for a line.
+//! What the program `relpath` does: it reads commands on relative paths, one a line, and writes one line for each.
 //!
-//! Each module uses those below it, and of its own layer those that stand before it.
+//! A module uses modules of the layers below, and those to its left in its own layer.
 //!
 //! ```text
 //! the whole run       run  report

@@ -5,10 +5,10 @@ ghost use Rattle.relpath_lib.specs.Lines.{lines_of, fields_of, fields_left};
 
 use crate::bytes::find_byte;
 
-/// How many fields of a line are told apart: one more than a command and its arguments can be.
+/// How many fields of a line are read at most: one more than a command with its arguments has.
 pub const MAX_FIELDS: usize = 5;
 
-/// The first line of a text, and what stands after it.
+/// Returns the first line of a text, and the text after it.
 pub fn first_line(text: &str) -> Option<(&str, &str)>
     ensures none { IfNone result (lines_of text.now ≡ []) }
     ensures first { IfSome result (λ parts.
@@ -21,7 +21,7 @@ pub fn first_line(text: &str) -> Option<(&str, &str)>
     Some(cut_at(text, b'\n').unwrap_or((text, "")))
 }
 
-/// The first fields of a line, at least one, in the room that is handed in.
+/// Writes the first fields of a line into `room`, and returns them. There is at least one.
 pub fn split_fields<'a, 'b>(line: &'a str, room: &'b mut [&'a str; MAX_FIELDS]) -> &'b [&'a str]
     ensures fields { map (λ field. field.now) result.now ≡ take MAX_FIELDS (fields_of line.now) }
     ensures some { 0 < length result.now }
@@ -39,7 +39,7 @@ pub fn split_fields<'a, 'b>(line: &'a str, room: &'b mut [&'a str; MAX_FIELDS]) 
     &room[..count]
 }
 
-// The first field of a text, and what stands after its tab.
+// The first field of a text, and the text after its tab.
 fn first_field(text: &str) -> (&str, Option<&str>)
     ensures { fields_of text.now ≡ result.0.now ∷ fields_left result.1 }
 {
@@ -49,7 +49,7 @@ fn first_field(text: &str) -> (&str, Option<&str>)
     }
 }
 
-// What stands before the first of an ASCII byte, and what stands after it.
+// The text before the first `byte`, which is ASCII, and the text after it.
 #[inline(always)]
 fn cut_at(text: &str, byte: u8) -> Option<(&str, &str)>
     requires { byte < 128 }

@@ -1,11 +1,11 @@
-//! Counts of the calls made of a reader or a writer.
+//! Counts of the calls of a reader or a writer.
 ghost use Rattle.std.specs.Prelude.{◌≡◌, ◌<◌, is_err};
 ghost use Rattle.std.specs.Io.{ReadsAtMost, WritesAtMost};
 ghost use Rattle.std.specs.Io.KnownBytes.{ReadConsumes, WriteAppends};
 
 use std::io::{Read, Result, Write};
 
-/// A reader or a writer, with counts of the calls that it passed on, and of those that failed.
+/// A reader or a writer. Counts the calls that it passes on, and those of them that fail.
 ///
 /// ```
 /// let mut reader = Meter::new(b"a/b".as_slice());
@@ -33,7 +33,7 @@ impl<T> Meter<T> {
       CountsFailure,
     };
 
-    /// Holds `inner`, with no call counted.
+    /// Wraps `inner`. All counts are 0.
     pub fn new(inner: T) -> Meter<T>
         ensures inner { inner_of result ≡ inner }
         ensures fresh { IsFresh result }
@@ -46,29 +46,29 @@ impl<T> Meter<T> {
         }
     }
 
-    /// How many reads or writes were made.
+    /// Returns how many reads or writes were made.
     pub fn calls(&self) -> u64
         ensures { result ≡ calls_of self.now }
     {
         self.calls
     }
 
-    /// How many flushes were made.
+    /// Returns how many flushes were made.
     pub fn flushes(&self) -> u64
         ensures { result ≡ flushes_of self.now }
     {
         self.flushes
     }
 
-    /// How many calls failed: those that answered an error, and the writes that took nothing of at
-    /// least one byte.
+    /// Returns how many calls failed. A call failed if it returned an error, or if it was a write of at
+    /// least one byte that took no byte.
     pub fn failures(&self) -> u64
         ensures { result ≡ failures_of self.now }
     {
         self.failures
     }
 
-    /// The reader or the writer.
+    /// Returns the reader or the writer.
     pub fn into_inner(self) -> T
         ensures { result ≡ inner_of self }
     {
@@ -114,7 +114,7 @@ impl<T> Meter<T> {
 impl<R: Read> Meter<R> {
     ghost use Rattle.relpath_lib.specs.Meter.{calls_of, failures_of, CountsCall, bytes_of};
 
-    /// Passes a read on.
+    /// Passes a read on to the reader.
     pub fn read(&mut self, buf: &mut [u8]) -> Result<usize>
         requires calls { calls_of self.old < u64.MAX }
         requires failures { failures_of self.old < u64.MAX }
@@ -141,7 +141,7 @@ impl<W: Write> Meter<W> {
       KeepsBytes,
     };
 
-    /// Passes a write on.
+    /// Passes a write on to the writer.
     pub fn write(&mut self, buf: &[u8]) -> Result<usize>
         requires calls { calls_of self.old < u64.MAX }
         requires failures { failures_of self.old < u64.MAX }
@@ -159,7 +159,7 @@ impl<W: Write> Meter<W> {
         result
     }
 
-    /// Passes a flush on.
+    /// Passes a flush on to the writer.
     pub fn flush(&mut self) -> Result<()>
         requires flushes { flushes_of self.old < u64.MAX }
         requires failures { failures_of self.old < u64.MAX }

@@ -1,2 +1,2 @@
-//! Files that moved, and what their references have to become.
+//! What references become when files move.
 pub use relative_path_moves::{MoveError, moved};

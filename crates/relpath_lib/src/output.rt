@@ -1,4 +1,4 @@
-//! The whole output: making it, and writing it.
+//! Makes the whole output, and writes it.
 ghost use Rattle.std.specs.Prelude.{◌≡◌, ◌+◌, ◌<◌, ◌≤◌, List, ℕ, take, length, string_bytes, is_err, IfOk, IfErr, OnOk, if◌then◌else◌};
 ghost use Rattle.relpath_lib.specs.Meter.{calls_of, flushes_of, failures_of, IsFresh, CountsCall, CountsFailure, Appended};
 ghost use Rattle.relpath_lib.specs.Output.{IsOutput};
@@ -10,11 +10,11 @@ use crate::meter::Meter;
 use std::alloc::{AllocError, Global};
 use std::io::Write;
 
-// How many bytes of output there is room for at first, for each byte of input: most answers are no
-// longer than their line, and the longest are some times as long.
+// For how many bytes of output there is room at first, for each byte of input. Most answers are no longer
+// than their line; the longest have several times its length.
 const ROOM: usize = 4;
 
-/// The answers to the lines of a text, one for each, in order, each with a line feed.
+/// Returns the answers to the lines of a text, one for each, in order, each with a line feed.
 pub fn answer_lines(alloc: Global, text: &str) -> Result<String, AllocError>
     ensures output { IfOk result (λ output. IsOutput text.now (string_bytes output)) }
     ensures only { IfOk result (λ output. (other : List ℕ) → IsOutput text.now other
@@ -61,7 +61,7 @@ pub fn write_all<W: Write>(writer: &mut Meter<W>, bytes: &[u8]) -> Result<(), Fa
     Ok(())
 }
 
-// Writes at least one of the bytes, and answers how many.
+// Writes at least one of the bytes. Returns how many.
 fn write_some<W: Write>(writer: &mut Meter<W>, bytes: &[u8]) -> Result<usize, Fault>
     requires some { 0 < length bytes.now }
     requires calls { calls_of writer.old < u64.MAX }

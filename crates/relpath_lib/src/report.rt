@@ -1,4 +1,4 @@
-//! What is told of how `run` ended.
+//! What the program prints of how `run` ended, and its exit status.
 ghost use Rattle.std.specs.Prelude.{◌≡◌, Err, is_err, IsOk, OnOk, if◌then◌else◌};
 ghost use Rattle.std.specs.Process.{exit_status};
 ghost use Rattle.relpath_lib.specs.Meter.{failures_of, IsFresh, Appended};
@@ -10,9 +10,9 @@ use crate::output::write_all;
 use std::io::Write;
 use std::process::ExitCode;
 
-/// Tells how `run` ended: prints the fault's name, and answers the status to end with.
+/// Prints the name of the fault with which `run` ended, if it failed. Returns the exit status.
 ///
-/// Where printing fails, a part of the line may be missing.
+/// If a write fails, a part of the line may be missing.
 ///
 /// ```
 /// let mut errors = Meter::new(Vec::new(alloc));
@@ -29,14 +29,14 @@ pub fn report<W: Write>(ended: Result<(), Fault>, errors: &mut Meter<W>) -> Exit
     match ended {
         Ok(()) => ExitCode::SUCCESS,
         Err(fault) => {
-            // Nobody is left to tell where standard error fails too.
+            // If standard error fails too, there is nowhere to report it.
             let _ = print_fault(fault, errors);
             ExitCode::FAILURE
         }
     }
 }
 
-// Prints the line that names a fault.
+// Prints the line with the name of a fault.
 fn print_fault<W: Write>(fault: Fault, errors: &mut Meter<W>) -> Result<(), Fault>
     requires { IsFresh errors.old }
     ensures printed { OnOk result (Appended W.contents errors.old errors.new (report_of (Err fault))) }

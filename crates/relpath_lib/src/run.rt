@@ -1,4 +1,4 @@
-//! From the whole input to the whole output.
+//! Turns the whole input into the whole output.
 ghost use Rattle.std.specs.Prelude.{◌≡◌, ◌≢◌, ◌+◌, ◌≤◌, ◌⊎◌, ◌↔◌, IfErr, OnOk, IsErrOf};
 ghost use Rattle.relpath_lib.specs.Input.{
   max_input_len,
@@ -20,11 +20,11 @@ use crate::output::{answer_lines, write_output};
 use std::alloc::Global;
 use std::io::{Read, Write};
 
-/// Reads the whole input, then writes the answers to its lines and flushes once. After a fault other
-/// than `Write`, nothing was written.
+/// Reads the whole input, then writes the answers to its lines and flushes once. If the call fails with
+/// another fault than `Write`, nothing was written.
 ///
-/// A line is cut at tabs into fields, the command first. Room for the longest input is asked for
-/// before the first read, and memory then only for the output and by the call of each line.
+/// Tabs cut a line into fields. The first field is the command. The call allocates room for the longest
+/// input before the first read. It then allocates the output, and what the call for each line does.
 ///
 /// ```
 /// let mut reader = Meter::new(b"normalize\ta/../b\n".as_slice());
@@ -40,11 +40,11 @@ pub fn run<R: Read, W: Write>(
     requires reader { IsFresh reader.old }
     requires writer { IsFresh writer.old }
 
-    // An `Ok`: the whole input came and was accepted, and its output was flushed once.
+    // If the result is `Ok`: the whole input was read and accepted, and its output was flushed once.
     ensures ok_read { OnOk result (ReadsAll R.remaining reader.old reader.new IsAccepted) }
     ensures ok_flushed { OnOk result ((flushes_of writer.new ≡ 1) × (failures_of writer.new ≡ 0)) }
 
-    // Each fault: exactly when it comes, and what was read by then.
+    // Each fault: exactly in which case it is returned, and what was read by then.
     ensures read { IsErrOf result Fault.Read ↔ (failures_of reader.new ≡ 1) }
     ensures read_came { IsErrOf result Fault.Read →
         CameWithin R.remaining reader.old reader.new }
@@ -62,12 +62,12 @@ pub fn run<R: Read, W: Write>(
     ensures write_came { IsErrOf result Fault.Write →
         ReadsAll R.remaining reader.old reader.new IsAccepted }
 
-    // What is written, in every outcome.
+    // What is written, whatever the result.
     ensures written { IfKnown R.remaining reader.old
         (Writes W.contents writer.old writer.new result) }
     ensures untouched { IfErr result (λ fault. fault ≢ Fault.Write → writer.new ≡ writer.old) }
 
-    // How many calls are made, in every outcome.
+    // How many calls are made, whatever the result.
     ensures reads { calls_of reader.new ≤ max_input_len + 1 }
     ensures flushes { flushes_of reader.new + flushes_of writer.new ≤ 1 }
     ensures failures { failures_of reader.new + failures_of writer.new ≤ 1 }

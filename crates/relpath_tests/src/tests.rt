@@ -1,7 +1,8 @@
-//! Tests of what no contract says, over readers and writers that do as they are told.
+//! Tests of what no contract says, over readers and writers that a test controls.
 use std::fmt::Debug;
 use std::test::Fail;
 
+mod calling;
 mod fault;
 mod meter;
 mod refusals;

@@ -1,4 +1,4 @@
--- The targets so far are the page's, and stand before byte `at`.
+-- The targets so far are spans of the page, and end at byte `at` at the latest.
 use Rattle.std.proofs.Common.{map}
 use Rattle.markdown_targets.proofs.SpansLemmas.{AreSoFar}
 use Rattle.markdown_targets.proofs.in_order.Given as goal

@@ -14,6 +14,7 @@ const BLOCKS: &str = r##"
 <script>¶¶[a](b.md)¶</pre>¶[c](d.md) ⇒ d.md
 <prex>¶[a](b.md)¶¶[c](d.md) ⇒ d.md
 </pre>¶[a](b.md)¶¶[c](d.md) ⇒ d.md
+<pre/>¶[a](b.md) ⇒ b.md
 <pre>a</pre>¶[b](c.md) ⇒ c.md
 § 4.6 HTML blocks, start conditions 2 to 5
 <!-- a > b¶[c](d.md) -->¶¶[e](f.md) ⇒ f.md
@@ -146,6 +147,10 @@ a <script>b = '<img src="c.png">';</script> <img src="d.png"> ⇒ d.png
 <? <img src="b.png"> ?> ⇒ none
 <![CDATA[ <img src="b.png"> ]]> ⇒ none
 <!A <img src="b.png"> ⇒ none
+<? <img src="b.png"> <img src="c.png"> ⇒ c.png
+<![CDATA[ a¶¶<img src="b.png">¶<img src="c.png"> ⇒ c.png
+<div>¶<!1 <img src="b.png">¶<!A <img src="c.png"> ⇒ none
+<div>¶<!-- <img src="b.png"> <img src="c.png"> ⇒ none
 a <![CDATA[ <img src="b.png"> ]]> c ⇒ none
 <https://a.b/?<img src="c.png"> ⇒ c.png
 a \<img src="b.png"> ⇒ none

@@ -3,11 +3,12 @@ use super::{finds, found, same};
 use std::test::Fail;
 
 // Pages with bytes past plain text, and what is found: 2.1 to 2.3 of CommonMark 0.31.2.
-const ODD: [(&str, &str); 12] = [
+const ODD: [(&str, &str); 13] = [
     ("\u{feff}    [a](b.md)", "none"),
     ("\u{feff}# a\n    [b](c.md)", "none"),
     ("[a](b\u{7f}c.md)", "none"),
     ("[a](b\u{b}c.md)", "none"),
+    ("[a](b\0.md)", "b\0.md"),
     ("[a](b\u{a0}\"t\")", "b\u{a0}\"t\""),
     ("[a](b\u{2028}c.md)", "b\u{2028}c.md"),
     ("[\u{a0}]: b.md", "b.md"),

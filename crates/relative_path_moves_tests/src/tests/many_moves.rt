@@ -213,7 +213,7 @@ fn tells_refusals_apart() -> Result<(), Fail> {
     Ok(())
 }
 
-// Fails where a refusal doesn't print these words, in a width and in a precision too.
+// Fails if an error doesn't print these words, in a width and in a precision too.
 fn prints<T: Display>(alloc: Global, refusal: &T, words: &str) -> Result<(), Fail> {
     let printed = format!(in alloc; "{refusal}|{refusal:5.99}|{refusal:>99}|{refusal:.2}")?;
     let expected = format!(in alloc; "{words}|{words}|{words}|{words}")?;

@@ -14,7 +14,7 @@ const PATHS: [(usize, &str, usize); 6] = [
     (5, "x/../../b", 1),
 ];
 
-// Puts these paths in, and fails where another number is answered than is expected.
+// Inserts these paths. Fails if a number is returned that isn't expected.
 fn inserts(alloc: Global, index: &mut PlaceIndex) -> Result<(), Fail> {
     for (number, path, first) in &PATHS {
         let found = index.insert(alloc, RelativePath::new(path), *number)?;

@@ -15,10 +15,10 @@ use std::cmp::Ordering;
 use std::hash::{Hash, Hasher};
 use std::marker::Model;
 
-/// A relative path in a box: it owns its text and doesn't grow, as suits a map's key.
+/// A relative path in a box. It owns its text and doesn't grow, so it suits as the key of a map.
 ///
-/// It is compared and hashed as its view is; printing and the queries are reached by
-/// `as_relative_path`.
+/// It is equal, ordered and hashed as its view is. `as_relative_path` gives the view, which prints and has
+/// the queries.
 ///
 /// ```
 /// let boxed = BoxedRelativePath::from_text(alloc, "a//b")?;
@@ -36,9 +36,9 @@ impl Model for BoxedRelativePath {
 }
 
 impl BoxedRelativePath {
-    /// A copy of the text.
+    /// Returns a boxed copy of the text.
     ///
-    /// It asks for memory once, if the text isn't empty, and fails only where that is refused.
+    /// Allocates once, the text, unless it is empty. The only error is lack of memory.
     ///
     /// ```
     /// let boxed = BoxedRelativePath::from_text(alloc, "foo/bar")?;
@@ -51,9 +51,9 @@ impl BoxedRelativePath {
         Ok(BoxedRelativePath { text })
     }
 
-    /// The buffer's text.
+    /// Returns the buffer's text in a box.
     ///
-    /// It takes the text over as it is, without memory, so it can't be refused.
+    /// The box takes the buffer's memory over. Allocates nothing, and never fails.
     ///
     /// ```
     /// let buf = RelativePathBuf::from_text(alloc, "foo/bar")?;
@@ -72,9 +72,9 @@ impl BoxedRelativePath {
         Ok(BoxedRelativePath { text })
     }
 
-    /// A copy of the path.
+    /// Returns a copy of the path.
     ///
-    /// It asks for memory once, if the text isn't empty, and fails only where that is refused.
+    /// Allocates once, the text, unless it is empty. The only error is lack of memory.
     ///
     /// ```
     /// let boxed = BoxedRelativePath::from_text(alloc, "foo//bar")?;
@@ -86,7 +86,7 @@ impl BoxedRelativePath {
         BoxedRelativePath::from_text(alloc, self.text.as_str())
     }
 
-    /// The path, as a view. It takes no memory.
+    /// Returns a view of the path. Allocates nothing.
     ///
     /// ```
     /// let boxed = BoxedRelativePath::from_text(alloc, "foo/bar")?;
@@ -158,14 +158,14 @@ impl Hash for BoxedRelativePath {
     }
 }
 
-/// The conversion that this crate adds to a buffer. Only `RelativePathBuf` has it.
+/// The conversion that this crate adds to a buffer. Only `RelativePathBuf` implements it.
 pub trait BufExt {
     // The text of the buffer.
     ghost text: { Self → List ℕ };
 
-    /// The text, boxed.
+    /// Returns the buffer's text in a box.
     ///
-    /// It takes the text over as it is, without memory, so it can't be refused.
+    /// The box takes the buffer's memory over. Allocates nothing, and never fails.
     ///
     /// ```
     /// let buf = RelativePathBuf::from_text(alloc, "foo/bar")?;

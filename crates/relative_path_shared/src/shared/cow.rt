@@ -14,8 +14,8 @@ use std::hash::{Hash, Hasher};
 
 /// A relative path that is borrowed or owned.
 ///
-/// It is compared and hashed as its view is, whichever it is; printing and the queries are reached
-/// by `as_relative_path`.
+/// Both forms are equal, ordered and hashed as their view is. `as_relative_path` gives the view, which prints and has
+/// the queries.
 ///
 /// ```
 /// let borrowed = CowRelativePath::from(RelativePath::new("a//b"));
@@ -24,14 +24,14 @@ use std::hash::{Hash, Hasher};
 /// ```
 #[derive(Drop)]
 pub enum CowRelativePath<'a> {
-    /// A view of a text that another owns.
+    /// A view of a text with another owner.
     Borrowed(RelativePath<'a>),
-    /// A buffer of its own.
+    /// A buffer, which owns its text.
     Owned(RelativePathBuf),
 }
 
 impl CowRelativePath<'_> {
-    /// The path, as a view. It takes no memory.
+    /// Returns a view of the path. Allocates nothing.
     ///
     /// ```
     /// let path = CowRelativePath::from(RelativePath::new("foo/bar"));

@@ -17,8 +17,8 @@ use std::rc::RcStr;
 
 /// A relative path whose text several owners share within one thread.
 ///
-/// It is compared and hashed as its view is; printing and the queries are reached by
-/// `as_relative_path`.
+/// It is equal, ordered and hashed as its view is. `as_relative_path` gives the view, which prints and has
+/// the queries.
 ///
 /// ```
 /// let path = RcRelativePath::from_path_text(alloc, RelativePath::new("a//b"))?;
@@ -37,10 +37,10 @@ impl Model for RcRelativePath {
 }
 
 impl RcRelativePath {
-    /// A copy of the path's text, to be shared.
+    /// Returns a copy of the path's text that can be shared.
     ///
-    /// It asks for memory at most twice, for the text if it isn't empty and for the count of its
-    /// owners, and fails only where one of these is refused.
+    /// Allocates the text, unless it is empty, and the count of owners. The only error is lack of
+    /// memory.
     ///
     /// ```
     /// let path = RcRelativePath::from_path_text(alloc, RelativePath::new("foo/bar"))?;
@@ -56,10 +56,10 @@ impl RcRelativePath {
         Ok(RcRelativePath { text })
     }
 
-    /// A copy of the buffer's text, to be shared. The buffer is dropped once the copy is made.
+    /// Returns a copy of the buffer's text that can be shared, and drops the buffer. If an allocation
+    /// fails, the error is the buffer.
     ///
-    /// It asks for memory at most twice, as `from_path_text` does, and fails only where one of these is
-    /// refused. A refusal hands the buffer back.
+    /// Allocates the text, unless it is empty, and the count of owners.
     ///
     /// ```
     /// let buf = RelativePathBuf::from_text(alloc, "foo/bar")?;
@@ -73,9 +73,9 @@ impl RcRelativePath {
         RcRelativePath::from_path_text(alloc, buf.as_relative_path()).map_err(|_| buf)
     }
 
-    /// One more owner of the same text.
+    /// Returns one more owner of the same text.
     ///
-    /// It takes no memory, and fails only where the count of owners is full.
+    /// Allocates nothing. Fails only if the count of owners is at its maximum.
     ///
     /// ```
     /// let path = RcRelativePath::from_path_text(alloc, RelativePath::new("foo/bar"))?;
@@ -88,7 +88,7 @@ impl RcRelativePath {
         Ok(RcRelativePath { text })
     }
 
-    /// The path, as a view. It takes no memory.
+    /// Returns a view of the path. Allocates nothing.
     ///
     /// ```
     /// let path = RcRelativePath::from_path_text(alloc, RelativePath::new("foo/bar"))?;

@@ -1,6 +1,7 @@
 //! Each call that takes memory, between two marks, on a short text and on one of a MiB.
-//! tools/refusals runs each of these tests with each request between its marks refused in turn, so
-//! each takes a refusal as well as an answer; without that script it takes only the answer.
+//! tools/refusals runs each of these tests again and again, and makes one request between its marks fail
+//! after another. So a test accepts a failed allocation as well as the result; without that script it
+//! accepts only the result.
 use std::alloc::{AllocError, Global};
 
 mod json;

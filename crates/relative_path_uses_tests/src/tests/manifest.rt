@@ -5,14 +5,14 @@ use serde_json::Value;
 use std::alloc::Global;
 use std::test::Fail;
 
-// A manifest, as one might stand in a repository.
+// A manifest as a repository might have it.
 const MANIFEST: &str = r#"{
     "name": "a site",
     "base": "assets/./web",
     "files": ["img/x.png", "./css/../js/a.js", "\u00fc//b.css", "fonts/..\/./d", "/c.html", "..a"]
 }"#;
 
-// What the reader answers for a manifest in JSON.
+// The result of the reader for a manifest in JSON.
 fn answered(
     alloc: Global,
     json: &str,
@@ -43,7 +43,7 @@ fn reads_a_manifest(rt: HostRuntime) -> Result<(), Fail> {
     )
 }
 
-// Manifests, and why they are refused.
+// Manifests, and why they aren't accepted.
 const REFUSED: [(&str, ManifestError); 17] = [
     ("[]", ManifestError::NoBase),
     (r#"{"base": 7, "files": []}"#, ManifestError::NoBase),

@@ -1,6 +1,6 @@
 //! A page that the rewriter is given whole.
 
-/// A page with a link of each sort, which tells what each becomes.
+/// A page with a link of each sort. Each link's text says what the link becomes.
 pub const PAGE: &str = r#"# Links of a page that moves
 
 ```rust

@@ -1,6 +1,6 @@
-//! Each user, between two marks. tools/refusals runs each of these tests with each request between
-//! its marks refused in turn, so each takes a refusal as well as an answer; without that script it takes
-//! only the answer.
+//! Each user, between two marks. tools/refusals runs each of these tests again and again, and makes one
+//! request between its marks fail after another. So a test accepts a failed allocation as well as the
+//! result; without that script it accepts only the result.
 use std::alloc::{AllocError, Global};
 
 mod manifest;

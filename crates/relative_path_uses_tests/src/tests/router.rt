@@ -31,7 +31,7 @@ const SERVED: [(&str, &str); 21] = [
     ("/über/日本.html", "site/public/über/日本.html"),
 ];
 
-// Fails where another file below this root answers a request than is expected, or none.
+// Fails if the result for a request below this root isn't the expected one.
 fn serves(alloc: Global, root: &str, request: &str, expected: Option<&str>) -> Result<(), Fail> {
     let file = served(alloc, root, request)?;
     let found = file.as_ref().map(String::as_str);

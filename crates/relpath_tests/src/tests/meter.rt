@@ -6,7 +6,7 @@ use std::alloc::{AllocError, Global};
 use std::io::{self, ErrorKind};
 use std::test::Fail;
 
-// What a call answered, by an error's kind.
+// The result of a call, an error by its kind.
 fn kind<T>(answer: io::Result<T>) -> Result<T, ErrorKind> {
     answer.map_err(|e| e.kind())
 }
@@ -85,7 +85,7 @@ fn counts_a_write_that_takes_nothing_as_a_failure(rt: HostRuntime) -> Result<(),
     same("nothing taken", &found, &([Ok(0), Ok(0)], (2, 1), 2, 1))
 }
 
-// Whether each of two flushes of this sink is passed on, and answers this.
+// Whether each of two flushes of this sink is passed on and returns this.
 fn flushes_twice(case: &str, sink: Sink, answer: Result<(), ErrorKind>) -> Result<(), Fail> {
     let failures = if answer.is_ok() { 0 } else { 2 };
     let mut writer = Meter::new(sink);

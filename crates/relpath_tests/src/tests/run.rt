@@ -1,4 +1,4 @@
-//! `run`, over readers and writers that give, take and fail as they are told to.
+//! `run`, over readers and writers that return, take and fail as a test wants it.
 use super::same;
 use crate::tests::streams::{Sink, Source};
 use relpath_lib::run::run;

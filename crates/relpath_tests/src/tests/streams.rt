@@ -1,4 +1,4 @@
-//! Readers and writers that give and take as they are told to, and note what they were called with.
+//! Readers and writers that return and take what a test wants, and record their calls.
 
 use std::alloc::Global;
 use std::io::{self, ErrorKind, Read, Write};

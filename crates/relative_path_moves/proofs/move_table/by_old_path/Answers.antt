@@ -1,4 +1,4 @@
--- Each turn puts the next old path into the index, and keeps the first pair.
+-- Each turn inserts the next old path into the index, and keeps the first pair.
 use Rattle.std.proofs.Common.{◌≡◌, length, take, arith}
 use Rattle.std.proofs.lemmas.List.{length-take-le}
 use Rattle.relative_path_moves.specs.Moves.{moves_of}

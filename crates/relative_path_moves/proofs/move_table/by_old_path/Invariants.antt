@@ -1,4 +1,4 @@
--- The index has the old paths so far, and the pair is the first of them.
+-- The index has the old paths so far, and the pair is the first pair among them.
 use Rattle.std.proofs.Common.{take}
 use Rattle.relative_path_moves.specs.Moves.{moves_of}
 use Rattle.relative_path_moves.specs.PlaceIndex.{Indexes}

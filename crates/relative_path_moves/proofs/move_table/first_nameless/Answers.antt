@@ -1,4 +1,4 @@
--- A move lacks a file name where one of its paths answers none.
+-- A move lacks a file name if `file_name` of one of its paths is `None`.
 use Rattle.std.proofs.Common.{inl, inr}
 use Rattle.relative_path_moves.proofs.MovesLemmas.{nameless, named, named-next, IsFirstNameless-here}
 use Rattle.relative_path_moves.proofs.move_table.first_nameless.Goals.{then-is_none-via-then-is_none, then-is_none-via-else-is_none+then-is_none-2}

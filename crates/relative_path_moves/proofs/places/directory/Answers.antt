@@ -1,4 +1,4 @@
--- The directory is the parent; without one the path is empty.
+-- The directory is the parent. If there is no parent, the path is empty.
 use Rattle.relative_path_moves.proofs.PlacesLemmas.{IsPopped-parent}
 use Rattle.relative_path_moves.proofs.places.directory.Goals as goal
 

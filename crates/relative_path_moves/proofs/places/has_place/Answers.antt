@@ -1,4 +1,4 @@
--- From the top `..` leads to no place, so a path that leads apart from it there leads to one.
+-- From the top `..` leads to no place. So a path that differs from it there leads to a place.
 use Rattle.relative_path_moves.proofs.PlacesLemmas.{has_place-apart}
 use Rattle.relative_path_moves.proofs.places.has_place.Goals as goal
 

@@ -1,4 +1,4 @@
--- Where there is a table, the answer is what it gives; else it is what was refused of the moves.
+-- If there is a table, the result is what the table returns. Otherwise it is the error of making the table.
 use Rattle.relative_path_moves.specs.Moves.{moves_of}
 use Rattle.relative_path_moves.specs.declared.move_error.MoveError.TheVariants.{AboveRoot, NoPath}
 use Rattle.relative_path_moves.specs.declared.move_error.ReferenceError.TheVariants as reference_error

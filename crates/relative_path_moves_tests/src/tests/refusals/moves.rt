@@ -7,7 +7,7 @@ use relative_path_moves::{MoveError, MoveTable, MoveTableError, ReferenceError, 
 use std::alloc::Global;
 use std::test::Fail;
 
-// The mark after a call, which fails where memory was there and the answer has another text.
+// The mark after a call. Fails if no allocation failed and the result has another text.
 fn end_with_way(
     alloc: Global,
     answer: Result<RelativePathBuf, MoveError>,

@@ -1,4 +1,4 @@
--- A link's target is taken or passed over, and after the last link none is left.
+-- A link's target is taken or left out. After the last link no target follows.
 use Rattle.std.proofs.Common.{◌+◌, subst}
 use Rattle.markdown_targets.specs.declared.target.TargetKind.TheVariants.{Inline}
 use Rattle.markdown_targets.specs.declared.target.LinkTarget.{LinkTarget}

@@ -1,4 +1,4 @@
--- The targets so far are the page's, and come before the links that are left.
+-- The targets so far are targets of the page, and come before the remaining links.
 use Rattle.relative_path_uses.proofs.TargetsLemmas.{PicksSoFar, spans_from}
 use Rattle.relative_path_uses.proofs.finder.relative_targets.Given as goal
 

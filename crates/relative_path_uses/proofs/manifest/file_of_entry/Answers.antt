@@ -1,4 +1,5 @@
--- The file leads to the directory, or some platform reads a name of its place otherwise, or it is below the directory.
+-- The entry leads to the directory itself, or Windows reads a name of its place otherwise, or the file is below the
+-- directory.
 use Rattle.std.proofs.Common.{rules, ◌≡◌, ◌≢◌, [], Some, length, refl, sym, ap, ◌∙◌, arith}
 use Rattle.relative_path.specs.RelativePath.{path_text, path_components}
 use Rattle.serde_json.specs.View.{view}

@@ -1,4 +1,4 @@
--- The next entry has its file, or is the first that is refused.
+-- The next entry has its file, or is the first that isn't accepted.
 use Rattle.relative_path.specs.RelativePath.{path_components}
 use Rattle.relative_path_uses.proofs.ManifestLemmas.{AreFiles-next}
 use Rattle.relative_path_uses.proofs.manifest.files_below.Goals as goal

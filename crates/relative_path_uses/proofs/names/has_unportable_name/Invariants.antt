@@ -1,4 +1,4 @@
--- Such a name is left to be found exactly if the path has one.
+-- The path has such a name exactly if the remaining components have one.
 use Rattle.std.proofs.Common.{◌≡◌}
 use Rattle.std.specs.List.{list_any}
 use Rattle.relative_path.specs.Components.{components_left}

@@ -1,4 +1,4 @@
--- A port's name past ASCII is computed by its encoding.
+-- The name of a port past ASCII is computed from its encoding.
 use Rattle.std.proofs.Common.{rules}
 use Rattle.std.specs.Char.{encode_utf8}
 use Rattle.relative_path_uses.proofs.names.is_device.Goals as goal

@@ -1,4 +1,4 @@
--- The name is a device's exactly if what stands before its first space is, and only spaces follow up to the dot.
+-- The name is that of a device exactly if the text before its first space is, and only spaces follow before the dot.
 use Rattle.relative_path_uses.proofs.names.names_device.Goals as goal
 
 pub returns-then-is_device : goal.returns-then-is_device

@@ -1,4 +1,4 @@
--- The table answers, and its way is written as a reference.
+-- The path that the table returns is written as a reference.
 use Rattle.std.proofs.Common.{is_some, Err, sym, ◌∙◌, ap, string_bytes}
 use Rattle.relative_path.specs.RelativePath.{path_components}
 use Rattle.relative_path_uses.specs.Rewriter.{IsNewPath, needs_escapes}

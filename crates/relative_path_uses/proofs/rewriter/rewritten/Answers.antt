@@ -1,4 +1,4 @@
--- Each turn moves the next target, and after the last the rest of the page stays.
+-- Each turn moves the next target. After the last target the rest of the page follows.
 use Rattle.std.proofs.Common.{◌++◌, ◌∙◌, ap, sym, string_bytes}
 use Rattle.std.proofs.lemmas.Str.{IsCharBoundary-start}
 use Rattle.std.proofs.lemmas.List.{nil_from_length}

@@ -1,4 +1,4 @@
--- Some platform reads a name of the place otherwise, or its names are plain and stand after the root.
+-- Windows reads a name of the place otherwise, or the names are plain and follow the root.
 use Rattle.std.proofs.Common.{◌≡◌, refl, sym, ◌∙◌, true≢false, string_bytes}
 use Rattle.relative_path.specs.Steps.{components}
 use Rattle.relative_path_uses.specs.FromTop.{SpellsPlace}

@@ -1,4 +1,4 @@
--- A page lacks a file name where it answers none.
+-- A page lacks a file name if `file_name` is `None`.
 use Rattle.relative_path_uses.proofs.SiteMapLemmas.{named-next, IsFirstNamelessPage-here}
 use Rattle.relative_path_uses.proofs.site_map.first_nameless.Goals as goal
 

@@ -1,4 +1,4 @@
--- The byte that ends the path stands alone, so a character ends before it.
+-- The byte that ends the path is a character of its own, so a character ends before it.
 use Rattle.std.proofs.Common.{sym}
 use Rattle.relative_path_uses.proofs.TargetsLemmas.{boundary_before}
 use Rattle.relative_path_uses.proofs.target.split_path.Goals as goal

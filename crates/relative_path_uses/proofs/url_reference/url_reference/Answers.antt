@@ -1,4 +1,4 @@
--- A link that would be misread stands after `./`.
+-- A link that would be misread is written after `./`.
 use Rattle.std.proofs.Common.{◌≡◌, ◌++◌, codes, string_bytes, rules, true}
 use Rattle.relative_path_uses.specs.UrlReference.{is_misread}
 use Rattle.relative_path_uses.proofs.UrlReferenceLemmas.{IsReference-dotted}

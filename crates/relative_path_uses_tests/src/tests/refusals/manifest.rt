@@ -8,7 +8,7 @@ use serde_json::Value;
 use std::alloc::Global;
 use std::test::Fail;
 
-// What the reader answers for a manifest, between two marks.
+// The result of the reader for a manifest, between two marks.
 fn marked(
     alloc: Global,
     manifest: &Value,

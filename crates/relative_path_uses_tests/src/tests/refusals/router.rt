@@ -6,7 +6,7 @@ use relative_path_uses::served;
 use std::alloc::{AllocError, Global};
 use std::test::Fail;
 
-// The mark after a call, which fails where memory was there and the answer is another.
+// The mark after a call. Fails if no allocation failed and the result is another.
 fn end_with_file(
     alloc: Global,
     answer: Result<Option<String>, AllocError>,

@@ -67,7 +67,7 @@ fn find_the_empty_path(rt: HostRuntime) -> Result<(), Fail> {
 }
 
 // Fails where memory is there and the site has another link from its first page to its second. The
-// marks stand around the site's call.
+// marks are around the site's call.
 fn links(alloc: Global, site: &SiteMap<'_>, expected: &str) -> Result<(), Fail> {
     if site.len() < 2 {
         return Err(Fail::new("the pages"));

@@ -1,4 +1,4 @@
--- A block at a time, and far blocks without the byte at once.
+-- One block after another, and far blocks without the byte at once.
 use Rattle.std.proofs.Common.{◌-◌, ◌==◌, length, arith}
 use Rattle.relpath_lib.proofs.BytesLemmas.{position-here, position-after, position-end, position-of}
 use Rattle.relpath_lib.proofs.bytes.find_byte.Goals as goal

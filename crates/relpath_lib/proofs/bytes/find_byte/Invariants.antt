@@ -1,4 +1,4 @@
--- The byte isn't among those before the place.
+-- The byte isn't before the index.
 use Rattle.std.proofs.Common.{◌-◌, ◌≤◌, ◌==◌}
 use Rattle.std.specs.List.{position_or_len}
 use Rattle.relpath_lib.proofs.bytes.find_byte.Given as goal

@@ -1,4 +1,4 @@
--- A block without the byte is passed whole.
+-- A block without the byte is passed over.
 use Rattle.std.proofs.Common.{arith}
 use Rattle.std.proofs.lemmas.Bool.{both_ways}
 use Rattle.relpath_lib.proofs.BytesLemmas.{position_le, position-passed}

@@ -1,4 +1,4 @@
--- Another number of arguments than the command takes is told.
+-- A command with another number of arguments than it takes has an answer in words.
 use Rattle.std.proofs.Common.{sym, ◌∙◌}
 use Rattle.relpath_lib.proofs.CommandLemmas.{Adds-miscounted}
 use Rattle.relpath_lib.proofs.command.answer_command.Goals as goal

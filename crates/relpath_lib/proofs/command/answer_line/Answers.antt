@@ -1,4 +1,4 @@
--- The fields that are shown are enough to answer the line.
+-- The fields that are read are enough to answer the line.
 use Rattle.std.proofs.Common.{◌-◌, drop, length, length-drop, arith}
 use Rattle.std.proofs.lemmas.List.{take_all}
 use Rattle.relpath_lib.proofs.CommandLemmas.{Adds-take}

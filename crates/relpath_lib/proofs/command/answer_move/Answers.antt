@@ -1,4 +1,4 @@
--- The outcome is that of one move.
+-- The result is that of one move.
 use Rattle.std.proofs.Common.{◌≢◌, Ok, Err, refl}
 use Rattle.relative_path.specs.Steps.{components}
 use Rattle.relpath_lib.specs.Command.{TellsMoved}
@@ -16,12 +16,12 @@ pub returns-in-Err : goal.returns-in-Err
 returns-in-Err c =
     let refused = c.in-Err.ensures in
     Adds-three (λ old new reference. TellsMoved (components old) (components new) (components reference))
-    c.add_refusal.result (c.in-Err.refusal ≢ OutOfMemory) _ _ _ _ _ _ _ _ _
+    c.add_move_error.result (c.in-Err.error ≢ OutOfMemory) _ _ _ _ _ _ _ _ _
     c.new.ensures c.new-2.ensures c.new-3.ensures
     (λ some. (
-      Err c.in-Err.refusal,
-      IsAnswered-refused _ 0 _ c.in-Err.refusal some refused.no_file_name
+      Err c.in-Err.error,
+      IsAnswered-refused _ 0 _ c.in-Err.error some refused.no_file_name
           refused.same_old refused.above_root refused.no_path,
       refl,
     ))
-    c.add_refusal.ensures
+    c.add_move_error.ensures

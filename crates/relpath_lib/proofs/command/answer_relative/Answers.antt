@@ -1,4 +1,4 @@
--- The answer is the way between the components of the two texts.
+-- The answer is the shortest path between the components of the two texts.
 use Rattle.std.proofs.Common.{rules}
 use Rattle.relative_path.specs.Steps.{components}
 use Rattle.relative_path.specs.Relating.{IsWayText}

@@ -1,4 +1,4 @@
--- None leads where there is no answer.
+-- No path leads there if the result is `None`.
 use Rattle.std.proofs.Common.{rules}
 use Rattle.relative_path.specs.Steps.{components}
 use Rattle.relpath_lib.specs.Command.{TellsWay}

@@ -1,4 +1,4 @@
--- Each read adds what came after the filled bytes.
+-- Each read adds bytes after the filled ones.
 use Rattle.std.proofs.Common.{rules, ◌≡◌, ◌+◌, length-take, arith}
 use Rattle.std.proofs.KnownBytes.{Consumes-kept}
 use Rattle.relpath_lib.proofs.InputLemmas.{IfErr-at, Consumes-next, Consumes-widened}

@@ -1,4 +1,4 @@
--- The filled bytes came from the reader, at least one by each read.
+-- The filled bytes were read from the reader, at least one by each read.
 use Rattle.std.proofs.Common.{◌≡◌, ◌+◌, ◌-◌, ◌≤◌, ◌<◌, take, vec_len}
 use Rattle.std.specs.Vec.{vec_capacity}
 use Rattle.relpath_lib.specs.Input.{max_input_len}

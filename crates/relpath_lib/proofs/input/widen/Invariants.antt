@@ -1,4 +1,4 @@
--- The bytes that were there stay first, and the length stays within the one that is wanted.
+-- The old bytes stay first, and the length is at most the wanted length.
 use Rattle.std.proofs.Common.{◌≡◌, ◌-◌, ◌≤◌, take, vec_len, max}
 use Rattle.std.specs.Vec.{vec_capacity}
 use Rattle.relpath_lib.proofs.input.widen.Given as goal

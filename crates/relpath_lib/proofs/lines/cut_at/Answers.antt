@@ -1,4 +1,4 @@
--- The text is cut at the first place of the byte, beside which characters begin and end.
+-- The text is cut at the first index of the byte. Characters end before it and after it.
 use Rattle.std.proofs.Common.{◌≡◌, ◌-◌, ◌==◌, ap, ◌∙◌, arith}
 use Rattle.std.specs.List.{position_or_len}
 use Rattle.std.proofs.lemmas.Str.{IsCharBoundary-before_ascii, IsCharBoundary-after_ascii}

@@ -1,4 +1,4 @@
--- Each turn moves the first field that is left into the room; the room is full in the end, or nothing is left.
+-- Each turn writes the next field into the array. At the end the array is full, or no text remains.
 use Rattle.std.proofs.Common.{rules, take}
 use Rattle.relpath_lib.specs.Lines.{fields_left}
 use Rattle.relpath_lib.proofs.LinesLemmas.{fields-more, fields-some}

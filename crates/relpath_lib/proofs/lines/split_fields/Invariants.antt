@@ -1,4 +1,4 @@
--- The fields so far, and then those of what is left, are the fields of the line.
+-- The fields so far, and then those of the remaining text, are the fields of the line.
 use Rattle.std.proofs.Common.{◌≡◌, ◌-◌, ◌≤◌, ◌++◌, length, map, take}
 use Rattle.relpath_lib.specs.Lines.{fields_of, fields_left}
 use Rattle.relpath_lib.specs.declared.lines.TheConstants.{MAX_FIELDS}

@@ -1,4 +1,4 @@
--- What the left text still gives, after the output so far, is an output of the whole text.
+-- The output so far, and then an output of the remaining text, is an output of the whole text.
 use Rattle.std.proofs.Common.{ℕ, List, ◌++◌, length, string_bytes}
 use denote.Shadow.{shadow}
 use denote.Text.{Utf8}

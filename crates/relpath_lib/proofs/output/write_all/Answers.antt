@@ -1,4 +1,4 @@
--- One more write adds what it took after what is written.
+-- One more write adds the bytes that it took.
 use Rattle.std.proofs.Common.{rules, ◌-◌, drop, length, length-drop, arith}
 use Rattle.std.proofs.KnownBytes.{Appends-trans}
 use Rattle.std.proofs.Math.Seq.{take-add}

@@ -1,4 +1,4 @@
--- The writer gained what is written, at least a byte by each write.
+-- These bytes were written to the writer, at least one by each write.
 use Rattle.std.proofs.Common.{◌≡◌, ◌+◌, ◌-◌, ◌≤◌, take, length}
 use Rattle.relpath_lib.specs.Meter.{calls_of, flushes_of, failures_of, Appended}
 use Rattle.relpath_lib.proofs.output.write_all.Given as goal

@@ -16,7 +16,7 @@ fn with_long_path(alloc: Global, text: &str, end: &str) -> Result<String, AllocE
     Ok(line)
 }
 
-// Whether `run` over the input gives this output, or nothing where it was refused memory.
+// Whether `run` over the input writes this output, or nothing if an allocation failed.
 fn gives(alloc: Global, case: &str, input: &[u8], output: &[u8]) -> Result<(), Fail> {
     let mut reader = Meter::new(input);
     let mut writer = Meter::new(Vec::with_capacity(alloc, output.len())?);

@@ -1,4 +1,4 @@
--- The place meant has one target, and the way to that is what is told of it.
+-- The place where the reference led has one target, and the result is the shortest path to it.
 use Rattle.relative_path.specs.RelativePath.{path_components}
 use Rattle.relative_path_moves.specs.MoveTable.{IsShortestBuffer}
 use Rattle.relative_path_moves.proofs.MoveTableLemmas.{above_root-way, no_path-way, shortest-way, reach-way}

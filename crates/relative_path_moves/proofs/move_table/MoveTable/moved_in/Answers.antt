@@ -1,4 +1,5 @@
--- The page has one path after the moves, and the place meant one target; the way to that is what is told of it.
+-- The page has one path after the moves, and the place where the reference led has one target. The result is the shortest
+-- path between the two.
 use Rattle.relative_path.specs.RelativePath.{path_components}
 use Rattle.relative_path_moves.proofs.MoveTableLemmas.{above_root-in, no_path-in, stays-in, shortest-in}
 use Rattle.relative_path_moves.proofs.move_table.MoveTable.moved_in.Goals as goal

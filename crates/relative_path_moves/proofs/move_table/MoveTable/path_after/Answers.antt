@@ -1,4 +1,4 @@
--- The index has the number of the move whose old path leads where the file's does, if there is one.
+-- The index has the number of the move whose old path leads where the file's path leads, if there is such a move.
 use Rattle.relative_path_moves.specs.MoveTable.{olds_of}
 use Rattle.relative_path_moves.proofs.MoveTableLemmas.{IsUnmoved-found, IsTarget-found, IsTarget-kept, IsTarget-is}
 use Rattle.relative_path_moves.proofs.move_table.MoveTable.path_after.Goals as goal

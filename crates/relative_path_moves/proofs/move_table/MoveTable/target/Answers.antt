@@ -1,4 +1,4 @@
--- The index has the number of the move whose old path leads where the place does, if there is one.
+-- The index has the number of the move whose old path leads to the place, if there is such a move.
 use Rattle.relative_path_moves.specs.MoveTable.{olds_of}
 use Rattle.relative_path_moves.proofs.MoveTableLemmas.{LeadToTarget-found, LeadToTarget-kept}
 use Rattle.relative_path_moves.proofs.move_table.MoveTable.target.Goals as goal

@@ -1,4 +1,4 @@
--- What the map has for a text is a number of the index.
+-- What the map has under a text is a number of the index.
 use Rattle.std.proofs.Common.{◌≡◌, rules}
 use Rattle.std.specs.BTreeMap.{get_by_text}
 use Rattle.relative_path_moves.proofs.PlaceIndexLemmas.{within-found}

@@ -1,4 +1,4 @@
--- The map is asked for the normal text, and given the number where it has none.
+-- The map's entry for the normal text gets the number if it is vacant.
 use Rattle.std.proofs.Common.{string_bytes, arith}
 use Rattle.std.proofs.lemmas.Map.Text.{text_keys}
 use Rattle.relative_path.specs.RelativePath.{path_components}

@@ -1,4 +1,5 @@
--- The way between the directories and then the name, as a reference; and it is the same whatever the spelling of both.
+-- The shortest path between the directories and then the name, as a reference. It is the same for every spelling of the
+-- pages.
 use Rattle.std.proofs.Common.{◌≡◌, ap, ◌∙◌, None, Some, string_bytes, rules}
 use Rattle.relative_path.specs.Editing.{pushed}
 use Rattle.relative_path.specs.RelativePath.{path_text, path_components}
@@ -24,7 +25,7 @@ returns-in_default-clause-alike c page other same_page same_other =
     IsHref-same (path_at c.args.self.now c.args.from) page (path_at c.args.self.now c.args.to) other None
     (returns-in_default-clause-href c) same_page same_other
 
--- the link that the reference is made of
+-- the link from which the reference is made
 link : (c : goal.In_ok-url_reference)
     → IsShortestNamed (above_page (path_at c.args.self.now c.args.from)) (path_at c.args.self.now c.args.to)
     c.push.new.self.text

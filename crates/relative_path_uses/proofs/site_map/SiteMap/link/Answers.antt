@@ -1,4 +1,4 @@
--- The link is the shortest way from one step up from the page, whatever the spelling of both.
+-- The link is the shortest path from one step above the page. It is the same for every spelling of the pages.
 use Rattle.std.proofs.Common.{◌≡◌, refl}
 use Rattle.relative_path.specs.RelativePath.{path_text, path_components}
 use Rattle.relative_path.proofs.ForCallers.{components-up}

@@ -1,4 +1,4 @@
--- Each turn puts the next page into the index, and in the end it has all.
+-- Each turn inserts the next page into the index. At the end the index has all pages.
 use Rattle.relative_path_uses.proofs.SiteMapLemmas.{Indexes-next}
 use Rattle.relative_path_uses.proofs.site_map.SiteMap.new.Goals as goal
 

@@ -1,0 +1,283 @@
+//! The callers that CALLING.md of `relative_path` shows.
+ghost use Rattle.std.specs.Prelude.{◌∷◌, [], ◌≡◌, ◌≤◌, ℕ, codes, map, length, List, Some, IsSome, IsTrue};
+ghost use Rattle.std.specs.List.{All};
+ghost use Rattle.std.specs.Option.{option_and_then, option_map};
+ghost use Rattle.relative_path.specs.Steps.{up, name, components};
+ghost use Rattle.relative_path.specs.Walk.{walk, LeadsBelow, StaysBelow};
+ghost use Rattle.relative_path.specs.Normalizing.{IsNormal, climb};
+ghost use Rattle.relative_path.specs.Editing.{kept};
+ghost use Rattle.relative_path.specs.Naming.{file_name_of, stem_of, extension_of, IsBeside};
+ghost use Rattle.relative_path.specs.RelativePath.{path_text};
+ghost use Rattle.std.specs.Prelude.{◌++◌, ◌↔◌, IfOk, IfSome, IsNone};
+ghost use Rattle.relative_path.specs.RelativePath.{path_components};
+ghost use Rattle.relative_path.specs.Relating.{IsReachable, IsShortestText};
+
+use relative_path::{RelativePath, RelativePathBuf};
+use std::alloc::{AllocError, Global};
+
+/// The shortest link from the directory `to` to the target of a link that is written in `directory`;
+/// `None` exactly if no path leads from `to` to that target.
+pub fn carry(
+    alloc: Global,
+    directory: RelativePath<'_>,
+    link: RelativePath<'_>,
+    to: RelativePath<'_>,
+) -> Result<Option<RelativePathBuf>, AllocError>
+    ensures none { IfOk result (λ found. IsNone found ↔ (¬ IsReachable (path_components to.entry)
+        (path_components directory.entry ++ path_components link.entry))) }
+    ensures shortest { IfOk result (λ found. IfSome found (λ way.
+        IsShortestText (path_components to.entry)
+        (path_components directory.entry ++ path_components link.entry) way.text)) }
+{
+    let target = directory.join(alloc, link)?;
+    to.try_relative(alloc, target.as_relative_path())
+}
+
+/// The link to write in a copy of the page kept in `archive`, so that it still leads where `link` led
+/// from the page's directory, if a path leads there.
+pub fn relink(
+    alloc: Global,
+    page: RelativePath<'_>,
+    link: RelativePath<'_>,
+    archive: RelativePath<'_>,
+) -> Result<RelativePathBuf, AllocError>
+    ensures { IfOk result (λ copied. IsReachable (path_components archive.entry)
+        ((path_components page.entry ++ up ∷ []) ++ path_components link.entry)
+        → IsShortestText (path_components archive.entry)
+        ((path_components page.entry ++ up ∷ []) ++ path_components link.entry) copied.text) }
+{
+    let directory = page.join(alloc, RelativePath::new(".."))?;
+    let target = directory.as_relative_path().join(alloc, link)?;
+    let copied = archive.relative(alloc, target.as_relative_path())?;
+    Ok(copied)
+}
+
+/// How many components a path has.
+pub fn depth(path: RelativePath<'_>) -> usize
+    ensures { result ≡ length (path_components path.entry) }
+{
+    path.components().count()
+}
+
+/// Whether a path stays below its base. If so, it leads to one and the same place below every base.
+pub fn stays_below(path: RelativePath<'_>) -> bool
+    ensures answer { IsTrue result ↔ IsSome (walk [] (path_components path.entry)) }
+    ensures place { IsTrue result → (place : List (List ℕ)) × LeadsBelow [] place (path_components path.entry) }
+{
+    path.climb() == 0
+}
+
+/// Whether every path of a slice stays below its base.
+pub fn all_stay_below(paths: &[RelativePath<'_>]) -> bool
+    ensures { IsTrue result ↔ All (λ path. IsSome (walk [] (path_components path))) paths.now }
+{
+    for path in paths {
+        if path.climb() > 0 {
+            return false;
+        }
+    }
+    true
+}
+
+/// The page that a build makes of a source, below `out_dir`; `None` for a source that can leave its
+/// base or has no file name.
+pub fn output(
+    alloc: Global,
+    out_dir: RelativePath<'_>,
+    source: RelativePath<'_>,
+) -> Result<Option<RelativePathBuf>, AllocError>
+    ensures some { IfOk result (λ found. IsSome found ↔ (IsSome (walk [] (path_components source.entry))
+        × IsSome (file_name_of (path_text source.entry)))) }
+    ensures extension { IfOk result (λ found. IfSome found (λ page.
+        option_and_then extension_of (file_name_of page.text) ≡ Some (codes "html"))) }
+    ensures stem { IfOk result (λ found. IfSome found (λ page. option_map stem_of (file_name_of page.text)
+        ≡ option_map stem_of (file_name_of (path_text source.entry)))) }
+    ensures directory { IfOk result (λ found. IfSome found (λ page. kept (components page.text)
+        ≡ path_components out_dir.entry ++ kept (path_components source.entry))) }
+    ensures below { IfOk result (λ found. IfSome found (λ page.
+        StaysBelow (path_components out_dir.entry) (components page.text))) }
+{
+    if source.climb() > 0 || source.file_name().is_none() {
+        return Ok(None);
+    }
+    let page = source.with_extension(alloc, "html")?;
+    let page = out_dir.join(alloc, page.as_relative_path())?;
+    Ok(Some(page))
+}
+
+/// The page `index.html` beside a page; `None` for a page without a file name.
+#[tactic(auto, unfolding(relative_path::proofs::OnLiterals::relative_path_on_literals))]
+pub fn index_of(
+    alloc: Global,
+    page: RelativePath<'_>,
+) -> Result<Option<RelativePathBuf>, AllocError>
+    ensures some { IfOk result (λ found. IsSome found ↔ IsSome (file_name_of (path_text page.entry))) }
+    ensures name { IfOk result (λ found. IfSome found (λ index. file_name_of index.text ≡ Some (codes "index.html"))) }
+    ensures beside { IfOk result (λ found. IfSome found (λ index. IsBeside (path_components page.entry) (components index.text))) }
+{
+    if page.file_name().is_none() {
+        return Ok(None);
+    }
+    let index = page.with_file_name(alloc, "index.html")?;
+    Ok(Some(index))
+}
+
+/// The shortest link between the pages that a build makes of two sources.
+pub fn link(
+    alloc: Global,
+    out_dir: RelativePath<'_>,
+    from: RelativePath<'_>,
+    to: RelativePath<'_>,
+) -> Result<Option<RelativePathBuf>, AllocError>
+    ensures some { IfOk result (λ found. IsSome found ↔ ((IsSome (walk [] (path_components from.entry))
+        × IsSome (file_name_of (path_text from.entry))) × (IsSome (walk [] (path_components to.entry))
+        × IsSome (file_name_of (path_text to.entry))))) }
+{
+    let Some(page) = output(alloc, out_dir, from)? else {
+        return Ok(None);
+    };
+    let Some(target) = output(alloc, out_dir, to)? else {
+        return Ok(None);
+    };
+    let Some(directory) = from.parent() else {
+        return Ok(None);
+    };
+    let directory = out_dir.join(alloc, directory)?;
+    let way = directory
+        .as_relative_path()
+        .try_relative(alloc, target.as_relative_path())?;
+    Ok(way)
+}
+
+/// The normal form of a path. If the path leads to a place from the top, the file name is the place's
+/// last name, and the directory has the names before it.
+pub fn place_of(alloc: Global, path: RelativePath<'_>) -> Result<RelativePathBuf, AllocError>
+    ensures file_name { IfOk result (λ normal. (place : List (List ℕ)) (n : List ℕ)
+        → walk [] (path_components path.entry) ≡ Some (place ++ n ∷ [])
+        → file_name_of normal.text ≡ Some n) }
+    ensures directory { IfOk result (λ normal. (place : List (List ℕ)) (n : List ℕ)
+        → walk [] (path_components path.entry) ≡ Some (place ++ n ∷ [])
+        → kept (components normal.text) ≡ map name place) }
+{
+    let normal = path.normalize(alloc)?;
+    Ok(normal)
+}
+
+/// The shortest link from a directory to a target. It is never `None` if the directory stays below
+/// its base.
+pub fn link_from(
+    alloc: Global,
+    directory: RelativePath<'_>,
+    target: RelativePath<'_>,
+) -> Result<Option<RelativePathBuf>, AllocError>
+    ensures { IfOk result (λ found. IsSome (walk [] (path_components directory.entry)) → IsSome found) }
+{
+    let found = directory.try_relative(alloc, target)?;
+    Ok(found)
+}
+
+/// The shortest link from one directory to another. It is never `None` if both are normal and the
+/// first climbs no higher than the second.
+pub fn link_between(
+    alloc: Global,
+    from: RelativePath<'_>,
+    to: RelativePath<'_>,
+) -> Result<Option<RelativePathBuf>, AllocError>
+    ensures { IfOk result (λ found. IsNormal (path_components from.entry)
+        → IsNormal (path_components to.entry)
+        → climb (path_components from.entry) ≤ climb (path_components to.entry) → IsSome found) }
+{
+    let found = from.try_relative(alloc, to)?;
+    Ok(found)
+}
+
+/// Whether a path is normal and doesn't begin with `..`. Such a path stays below its base.
+pub fn is_normal_inside(path: RelativePath<'_>) -> bool
+    ensures { IsTrue result → IsSome (walk [] (path_components path.entry)) }
+{
+    path.is_normalized() && !path.starts_with(RelativePath::new(".."))
+}
+
+/// What follows a prefix of a path. If the path leads to a place, the prefix leads to a place too,
+/// and the rest leads on from there.
+pub fn rest_of<'a>(path: RelativePath<'a>, prefix: RelativePath<'_>) -> Option<RelativePath<'a>>
+    ensures { IfSome result (λ rest. (base place : List (List ℕ))
+        → walk base (path_components path.entry) ≡ Some place
+        → (between : List (List ℕ)) × (walk base (path_components prefix.entry) ≡ Some between)
+        × (walk between (path_components rest) ≡ Some place)) }
+{
+    let Ok(rest) = path.strip_prefix(prefix) else {
+        return None;
+    };
+    Some(rest)
+}
+
+#[test]
+fn carries_a_link(rt: HostRuntime) -> Result<(), std::test::Fail> {
+    let [docs, link, archive] = ["docs/guide", "../img/a.png", "archive"].map(RelativePath::new);
+    let way = carry(rt.alloc(), docs, link, archive)?;
+    assert!(rt; way.is_some_and(|way| way.as_relative_path().as_str() == "../docs/img/a.png"));
+    Ok(())
+}
+
+#[test]
+fn links_from_a_copy(rt: HostRuntime) -> Result<(), std::test::Fail> {
+    let [page, link, archive] = ["docs/guide.md", "img/a.png", "old/2024"].map(RelativePath::new);
+    let copied = relink(rt.alloc(), page, link, archive)?;
+    assert_eq!(rt; copied.as_relative_path().as_str(), "../../docs/img/a.png");
+    Ok(())
+}
+
+#[test]
+fn refuses_what_climbs(rt: HostRuntime) -> Result<(), std::test::Fail> {
+    let [inside, outside] = ["img/../docs", "img/../../docs"].map(RelativePath::new);
+    assert_eq!(rt; (stays_below(inside), stays_below(outside)), (true, false));
+    let paths = [inside, outside];
+    assert_eq!(rt;
+        (all_stay_below(&paths), all_stay_below(&paths[..1])),
+        (false, true)
+    );
+    assert_eq!(rt; (depth(inside), depth(outside)), (3, 4));
+    Ok(())
+}
+
+#[test]
+fn makes_pages_of_sources(rt: HostRuntime) -> Result<(), std::test::Fail> {
+    let [out_dir, source, above] = ["../out", "guide/./a.tar.md", "../b.md"].map(RelativePath::new);
+    let page = output(rt.alloc(), out_dir, source)?;
+    assert!(rt;
+        page.is_some_and(|page| page.as_relative_path().as_str() == "../out/guide/./a.tar.html")
+    );
+    assert!(rt; output(rt.alloc(), out_dir, above)?.is_none());
+    let index = index_of(rt.alloc(), source)?;
+    assert!(rt;
+        index.is_some_and(|index| index.as_relative_path().as_str() == "guide/./index.html")
+    );
+    assert!(rt; index_of(rt.alloc(), RelativePath::new("guide/.."))?.is_none());
+    let way = link(rt.alloc(), out_dir, source, RelativePath::new("b.md"))?;
+    assert!(rt; way.is_some_and(|way| way.as_relative_path().as_str() == "../b.html"));
+    Ok(())
+}
+
+#[test]
+fn finds_links_by_theorems(rt: HostRuntime) -> Result<(), std::test::Fail> {
+    let [here, above, inside] = ["docs/../img/a.png", "../img", "docs/guide"].map(
+        RelativePath::new,
+    );
+    assert_eq!(rt;
+        place_of(rt.alloc(), here)?.as_relative_path().as_str(),
+        "img/a.png"
+    );
+    let way = link_from(rt.alloc(), inside, above)?;
+    assert!(rt; way.is_some_and(|way| way.as_relative_path().as_str() == "../../../img"));
+    assert!(rt; link_from(rt.alloc(), above, inside)?.is_none());
+    let way = link_between(rt.alloc(), inside, above)?;
+    assert!(rt; way.is_some_and(|way| way.as_relative_path().as_str() == "../../../img"));
+    assert_eq!(rt;
+        (is_normal_inside(inside), is_normal_inside(above)),
+        (true, false)
+    );
+    let rest = rest_of(inside, RelativePath::new("docs")).map(RelativePath::as_str);
+    assert_eq!(rt; rest, Some("guide"));
+    Ok(())
+}
