@@ -54,11 +54,13 @@ use std::alloc::{AllocError, Global};
 /// has no target of its own; the definition of the name has it. A label that begins with `^` is a
 /// footnote's, and its definition is text. Code, comments and autolinks have no targets, nor has what
 /// stands between the tags of `script`, `style`, `textarea` and `title`, but for links of Markdown in a
-/// paragraph. Destinations passed over on purpose are in `passed_over`.
+/// paragraph. Destinations passed over on purpose are in `passed_over`; these too are spans of the page.
 ///
 /// Four things are read otherwise than CommonMark reads them: names of links are compared without case
 /// in ASCII alone; more than 100 lists and quotations in one another, and runs of more than 80
 /// backticks, are text; HTML in a block of HTML has the tags that CommonMark knows in a paragraph.
+/// An instruction, a section or a declaration that its block of HTML doesn't close ends at the next `>`, as in a
+/// browser.
 ///
 /// Time is linear in the page, but for the search of names. It allocates a copy of the page, a table of
 /// runs of backticks, two lists of targets, a list of blocks and one of open brackets, and the names

@@ -56,7 +56,7 @@ pub struct PassedOver {
 pub struct LinkTargets {
     /// The targets, in the order of the page.
     pub targets: Vec<LinkTarget>,
-    /// What is passed over on purpose, in the order of the page.
+    /// What is passed over on purpose, in the order in which it ends. A name in `[a][b][]` is there twice.
     pub passed_over: Vec<PassedOver>,
     /// Whether the page has a `<base href>`. Then no target is relative to the page's place.
     pub has_base: bool,
