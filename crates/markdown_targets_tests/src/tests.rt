@@ -5,6 +5,7 @@ use std::fmt::Debug;
 use std::test::Fail;
 
 mod blocks;
+mod calling;
 mod containers;
 mod definitions;
 mod html;
