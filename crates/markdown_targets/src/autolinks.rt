@@ -52,7 +52,7 @@ fn address_end(text: &[u8], start: usize) -> Option<usize>
     skip_byte(text, end, b'>')
 }
 
-// Whether each of the names between the dots of a domain is one.
+// Whether each part between the dots of a domain is the name of a host.
 fn is_domain(domain: &[u8]) -> bool {
     domain.split(|byte| *byte == b'.').all(is_domain_name)
 }
@@ -66,22 +66,22 @@ fn is_domain_name(name: &[u8]) -> bool {
     has_ends && name.len() <= LONGEST_NAME
 }
 
-// Whether a byte may stand in a scheme.
+// Whether a scheme may have a byte.
 fn is_of_scheme(byte: u8) -> bool {
     byte.is_ascii_alphanumeric() || byte == b'+' || byte == b'.' || byte == b'-'
 }
 
-// Whether a byte may stand in a URI.
+// Whether a URI may have a byte.
 fn is_of_uri(byte: u8) -> bool {
     !is_space_or_control(byte) && byte != b'<' && byte != b'>'
 }
 
-// Whether a byte may stand in an address before its `@`.
+// Whether an address may have a byte before its `@`.
 fn is_of_local_part(byte: u8) -> bool {
     byte.is_ascii_alphanumeric() || b".!#$%&'*+/=?^_`{|}~-".contains(&byte)
 }
 
-// Whether a byte may stand in a domain.
+// Whether a domain may have a byte.
 fn is_of_domain(byte: u8) -> bool {
     byte.is_ascii_alphanumeric() || byte == b'.' || byte == b'-'
 }

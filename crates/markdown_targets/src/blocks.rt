@@ -12,7 +12,7 @@ use crate::starts::{Before, Start, is_thematic_break};
 use crate::text_blocks::{TextBlocks, TextKind};
 use std::alloc::{AllocError, Global};
 
-// How many containers a line may stand in.
+// In how many containers a line may be.
 const MOST_CONTAINERS: usize = 100;
 
 // The mark of UTF-8 that a page may begin with.
@@ -45,7 +45,7 @@ struct Line<'a> {
 }
 
 impl<'a> Line<'a> {
-    // Where in the page the rest of the line stands.
+    // The offset of the rest of the line in the page.
     fn offset_of(self, rest: &[u8]) -> usize {
         self.end.saturating_sub(rest.len())
     }
@@ -66,7 +66,7 @@ struct Reader {
 
 // The text of the paragraphs, headings and blocks of HTML of a page in Markdown.
 //
-// Blocks are those of CommonMark 0.31. More than 100 containers in one another are read as text.
+// The blocks are those of CommonMark 0.31. What is in more than 100 containers is read as text.
 pub(crate) fn read_blocks(alloc: Global, page: &str) -> Result<TextBlocks, AllocError> {
     let page = page.as_bytes();
     let mut reader = Reader::new(alloc, page)?;
@@ -115,7 +115,7 @@ impl Reader {
         })
     }
 
-    // Reads one more line.
+    // Reads the next line.
     fn read_line(&mut self, line: Line<'_>) -> Result<(), AllocError> {
         let (depth, cursor) = self.enter_containers(line);
         if depth == self.containers.len() && self.takes(line, cursor) {
@@ -159,7 +159,7 @@ impl Reader {
         (depth, cursor)
     }
 
-    // Whether the innermost block takes a line as it is. A line that ends the block is one of it.
+    // Whether the innermost block takes a line as it is. The line that ends the block belongs to it.
     fn takes(&mut self, line: Line<'_>, cursor: Cursor<'_>) -> bool {
         match self.leaf {
             Leaf::Nothing | Leaf::Paragraph => false,

@@ -17,7 +17,7 @@ pub(crate) fn is_space(byte: u8) -> bool {
     is_blank(byte) || is_line_end(byte)
 }
 
-// Whether a byte is a space or a control of ASCII. NUL isn't one: CommonMark reads it as U+FFFD.
+// Whether a byte is a space or a control byte of ASCII other than NUL, which CommonMark reads as U+FFFD.
 pub(crate) fn is_space_or_control(byte: u8) -> bool {
     byte != 0 && byte <= b' ' || byte == 127
 }
@@ -27,7 +27,7 @@ pub(crate) fn is_blank_text(text: &[u8]) -> bool {
     text.iter().all(|&byte| is_blank(byte))
 }
 
-// How often a byte stands at the beginning of a text.
+// How many times a byte is repeated at the beginning of a text.
 pub(crate) fn run_length(text: &[u8], byte: u8) -> usize
     ensures { result ≤ length text.now }
 {

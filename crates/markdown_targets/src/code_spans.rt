@@ -1,4 +1,4 @@
-//! Code spans: text between two runs of backticks of one length.
+//! Code spans: text between two runs of backticks of the same length.
 ghost use Rattle.std.specs.Prelude.{◌≤◌, ◌<◌, length, IfSome};
 ghost use Rattle.markdown_targets.specs.Steps.{Skips, Advances};
 

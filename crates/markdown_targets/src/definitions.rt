@@ -38,7 +38,7 @@ pub(crate) fn is_definitions(text: &[u8]) -> bool {
 }
 
 impl<'a> Definition<'a> {
-    // The definition at an offset. A footnote's isn't one.
+    // The definition at an offset. The definition of a footnote isn't one of a link.
     pub(crate) fn read(text: &'a [u8], start: usize) -> Option<Definition<'a>>
         requires { start ≤ length text.now }
         ensures { IfSome result (λ definition. Advances text.now start definition.after) }
@@ -71,7 +71,7 @@ fn definition_end(text: &[u8], from: usize) -> Option<usize>
     next_line(text, from)
 }
 
-// The offset of the next line, where only blanks are left of this one.
+// The offset of the next line, if the rest of this line is blank.
 fn next_line(text: &[u8], from: usize) -> Option<usize>
     requires { from ≤ length text.now }
     ensures { IfSome result (λ end. Skips text.now from end) }

@@ -11,7 +11,7 @@ const SHORTEST: usize = 3;
 pub(crate) struct Fence {
     // A backtick or a tilde.
     byte: u8,
-    // How often it stands there.
+    // How many times the character is repeated.
     length: usize,
 }
 

@@ -43,7 +43,7 @@ impl Ending {
     }
 }
 
-// The words that end HTML which isn't a tag, in one block.
+// The endings of HTML that isn't a tag, searched within one block.
 #[derive(Clone, Copy)]
 pub(crate) struct Endings {
     comment: Ending,

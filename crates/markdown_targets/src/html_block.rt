@@ -1,4 +1,4 @@
-//! Blocks in HTML: what begins one, and what ends it.
+//! Blocks of HTML: what begins a block, and what ends it.
 
 use crate::bytes::{is_blank_text, run_end};
 use crate::cursor::Cursor;
@@ -94,7 +94,7 @@ pub(crate) enum HtmlBlock {
 }
 
 impl HtmlBlock {
-    // The block that a text begins. A tag of any name doesn't begin one in a paragraph.
+    // The block that a text begins. Within a paragraph, a tag of any name doesn't begin a block.
     pub(crate) fn begun_by(text: &[u8], is_in_paragraph: bool) -> Option<HtmlBlock> {
         let tag = text.strip_prefix(b"<")?;
         if let Some(block) = untagged_block(tag) {
@@ -114,7 +114,7 @@ impl HtmlBlock {
         matches!(self, HtmlBlock::Tags) && cursor.is_at_end()
     }
 
-    // Whether a line of the block is its last one.
+    // Whether a line of the block is its last line.
     pub(crate) fn is_ended_by(self, text: &[u8]) -> bool {
         match self {
             HtmlBlock::Raw => RAW_ENDS.iter().any(|end| has_part(text, end)),
@@ -161,7 +161,7 @@ fn is_lone_tag(text: &[u8]) -> bool {
     end.is_some_and(|end| is_blank_text(&text[end..]))
 }
 
-// The letters and digits that a text begins with, and what stands after them.
+// The letters and digits at the beginning of a text, and the text after them.
 fn split_name(text: &[u8]) -> (&[u8], &[u8]) {
     text.split_at(run_end(text, 0, |byte| byte.is_ascii_alphanumeric()))
 }

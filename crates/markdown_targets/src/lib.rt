@@ -44,27 +44,29 @@ use crate::blocks::read_blocks;
 use crate::inlines::read_inlines;
 use std::alloc::{AllocError, Global};
 
-/// The targets of the links, images and link reference definitions of a page in Markdown, and of the
-/// attributes `href` and `src` in its HTML.
+/// Returns the targets of the links, images and link reference definitions of a page in Markdown, and
+/// of the attributes `href` and `src` in its HTML.
 ///
-/// The targets are spans of the page, in its order and without overlap. That they are the page's targets is tested,
-/// and not proved. Nothing in them is decoded.
+/// The targets are spans of the page, in order and without overlap. Nothing in them is decoded. Tests show
+/// that they are the targets that the text of CommonMark 0.31.2 has; no clause does.
 ///
-/// The page is read as the text of CommonMark 0.31.2 has it. A link by name, as `[a]` and `[a][b]`,
-/// has no target of its own; the definition of the name has it. A label that begins with `^` is a
-/// footnote's, and its definition is text. Code, comments and autolinks have no targets, nor has what
-/// stands between the tags of `script`, `style`, `textarea` and `title`, but for links of Markdown in a
-/// paragraph. Destinations passed over on purpose are in `passed_over`; these too are spans of the page.
+/// A link by name, as `[a]` and `[a][b]`, has no target of its own; the definition of the name has it. A
+/// label that begins with `^` is that of a footnote, and its definition is text. Code, comments and autolinks
+/// have no targets. Between the tags of `script`, `style`, `textarea` and `title` only links of Markdown in a
+/// paragraph have targets. Destinations that are passed over on purpose are in `passed_over`, and these are
+/// spans of the page too.
 ///
-/// Four things are read otherwise than CommonMark reads them: names of links are compared without case
-/// in ASCII alone; more than 100 lists and quotations in one another, and runs of more than 80
-/// backticks, are text; HTML in a block of HTML has the tags that CommonMark knows in a paragraph.
-/// An instruction, a section or a declaration that its block of HTML doesn't close ends at the next `>`, as in a
-/// browser.
+/// The call reads these otherwise than CommonMark does:
 ///
-/// Time is linear in the page, but for the search of names. It allocates a copy of the page, a table of
-/// runs of backticks, two lists of targets, a list of blocks and one of open brackets, and the names
-/// that the page defines.
+/// - It compares the names of links without case only as far as ASCII.
+/// - It reads as text what is in more than 100 lists and quotations, and runs of more than 80 backticks.
+/// - In a block of HTML it knows the tags that CommonMark knows in a paragraph.
+/// - If a block of HTML doesn't close an instruction, a section or a declaration, that ends at the next `>`,
+///   as in a browser.
+///
+/// Time is linear in the page, except for the search of names. Allocates a copy of the page, a table of runs
+/// of backticks, two lists of targets, a list of blocks, a list of open brackets, and the names that the page
+/// defines.
 ///
 /// ```
 /// let page = "[a](b.md \"t\"), `[c](d)` and ![e](<f g>)\n\n[h]: i\n\n<img src='j'>\n";

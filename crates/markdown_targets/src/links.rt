@@ -17,7 +17,7 @@ pub(crate) struct Destination {
     pub(crate) after: usize,
 }
 
-// What stands in the parentheses of a link, and the offset after them.
+// What is in the parentheses of a link, and the offset after them.
 #[derive(Clone, Copy)]
 pub(crate) struct InlineLink {
     pub(crate) target: Option<Span>,
@@ -42,7 +42,7 @@ pub(crate) fn inline_link(text: &[u8], start: usize) -> Option<InlineLink>
     })
 }
 
-// The destination at an offset. Only one in angles may be empty.
+// The destination at an offset. A destination may be empty only between `<` and `>`.
 pub(crate) fn read_destination(text: &[u8], start: usize) -> Option<Destination>
     requires { start ≤ length text.now }
     ensures { IfSome result (λ destination. Advances text.now start destination.after) }

@@ -43,7 +43,7 @@ impl<'a> Label<'a> {
     }
 }
 
-// How many characters a text in UTF-8 has: each has one byte that continues none.
+// How many characters a text in UTF-8 has: as many as it has bytes that begin a character.
 fn character_count(text: &[u8]) -> usize {
     text.iter()
         .filter(|&&byte| !(128..192).contains(&byte))
@@ -81,7 +81,7 @@ impl Names {
     }
 }
 
-// A name without case, as far as ASCII, and with one space in place of several.
+// A name without case as far as ASCII, with one space in place of several.
 fn folded(alloc: Global, name: &[u8]) -> Result<Vec<u8>, AllocError> {
     let mut folded = Vec::with_capacity(alloc, name.len())?;
     for word in name.split(|&byte| is_space(byte)) {

@@ -7,7 +7,7 @@ use crate::html_block::HtmlBlock;
 // How many `#` a heading may have.
 const DEEPEST_HEADING: usize = 6;
 
-// How many bytes of one kind make a thematic break.
+// How many of the same byte make a thematic break.
 const SHORTEST_BREAK: usize = 3;
 
 // What a line begins.

@@ -6,7 +6,7 @@ use crate::bytes::{is_space, run_end, skip_byte, skip_spaces};
 use crate::span::Span;
 use crate::target::Quote;
 
-// The names of elements whose content is text, in which no tags stand.
+// The names of elements whose content is text without tags.
 const TEXT_ELEMENTS: [&[u8]; 4] = [b"script", b"style", b"textarea", b"title"];
 
 // The value of an attribute.
@@ -14,7 +14,7 @@ const TEXT_ELEMENTS: [&[u8]; 4] = [b"script", b"style", b"textarea", b"title"];
 pub(crate) struct Value {
     // What ends it.
     pub(crate) quote: Quote,
-    // Where it stands, without its quotes.
+    // The span of the value, without its quotes.
     pub(crate) span: Span,
     // The offset after it and its quotes.
     after: usize,
@@ -44,7 +44,7 @@ pub(crate) struct StartTag<'a> {
 }
 
 impl Links {
-    // These attributes, and one more.
+    // These attributes and another attribute.
     fn with(self, attribute: Attribute<'_>) -> Links {
         let mut links = self;
         if links.href.is_none() && attribute.name.eq_ignore_ascii_case(b"href") {
@@ -209,7 +209,7 @@ fn tag_name_end(text: &[u8], start: usize) -> Option<usize>
     }
 }
 
-// Whether a byte may stand in the name of a tag.
+// Whether the name of a tag may have a byte.
 fn is_of_tag(byte: u8) -> bool {
     byte.is_ascii_alphanumeric() || byte == b'-'
 }
@@ -219,12 +219,12 @@ fn begins_attribute(byte: u8) -> bool {
     byte.is_ascii_alphabetic() || byte == b'_' || byte == b':'
 }
 
-// Whether a byte may stand in the name of an attribute.
+// Whether the name of an attribute may have a byte.
 fn is_of_attribute(byte: u8) -> bool {
     begins_attribute(byte) || byte.is_ascii_digit() || byte == b'.' || byte == b'-'
 }
 
-// Whether a byte may stand in a value without quotes.
+// Whether a value without quotes may have a byte.
 fn is_of_value(byte: u8) -> bool {
     !is_space(byte) && !b"\"'=<>`".contains(&byte)
 }

@@ -24,12 +24,12 @@ pub enum Quote {
     Unquoted,
 }
 
-/// The target of a link, and where it stands in the page.
+/// The target of a link, and its span in the page.
 #[derive(Clone, Copy, Debug, PartialEq, Eq)]
 pub struct LinkTarget {
-    /// What it belongs to.
+    /// What the target belongs to.
     pub kind: TargetKind,
-    /// Its text, without angle brackets, quotes and title. It may be empty.
+    /// The span of its text, without angle brackets, quotes and title. The span may be empty.
     pub span: Span,
 }
 
@@ -42,7 +42,7 @@ pub enum WhyPassedOver {
     UnknownName,
 }
 
-/// What is passed over, and where it stands in the page.
+/// What is passed over, and its span in the page.
 #[derive(Clone, Copy, Debug, PartialEq, Eq)]
 pub struct PassedOver {
     /// Why.

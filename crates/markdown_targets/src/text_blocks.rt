@@ -14,7 +14,7 @@ pub(crate) enum TextKind {
     Html,
 }
 
-// A block, and where its text stands in the page.
+// A block, and the span of its text in the page.
 #[derive(Clone, Copy)]
 pub(crate) struct TextBlock {
     pub(crate) kind: TextKind,
@@ -22,8 +22,8 @@ pub(crate) struct TextBlock {
     end: usize,
 }
 
-// The page's bytes, in which the text of each block stands alone: the markers of its containers within
-// it are spaces. So an offset here is one in the page.
+// The page's bytes, with spaces in place of the markers of containers within the text of a block. So an offset
+// here is an offset in the page.
 #[derive(Drop)]
 pub(crate) struct TextBlocks {
     bytes: Vec<u8>,
