@@ -26,7 +26,7 @@ pub climb_after-nil : (names : ℕ) {climbed n : ℕ} {cs : List Step} → cs �
     → climbed ≡ n
 climb_after-nil names none comes_to = rw none at comes_to
 
--- steps lead to a place from there exactly if the base has as many names as they climb
+-- steps lead to a place from there exactly if the base has at least as many names as they climb
 IsSome-walk_after : (base : ℕ) (place : List (List ℕ)) (climbed names : ℕ) (cs : List Step)
     → length place + climbed ≡ base + names → climbed ≤ base
     → IsSome (walk place cs) ↔ (climb_after climbed names cs ≤ base)

@@ -399,23 +399,23 @@ IsShortestText-spelled f t r text same spelled shortest = record {
 
 -- ---- the bases from which two lists lead apart, by lists that lead to the same places
 
-pub same_parting : (cs cs' ds ds' : List Step) (r : Option ℕ) → IsSame cs cs' → IsSame ds ds'
+pub MatchApart-same : (cs cs' ds ds' : List Step) (r : Option ℕ) → IsSame cs cs' → IsSame ds ds'
     → MatchOption r (IsSame cs' ds') (LeadsApart cs' ds') → MatchOption r (IsSame cs ds) (LeadsApart cs ds)
-same_parting cs cs' ds ds' None first second same =
+MatchApart-same cs cs' ds ds' None first second same =
     IsSame-trans _ _ _ first (IsSame-trans _ _ _ same (IsSame-sym ds ds' second))
-same_parting cs cs' ds ds' (Some n) first second apart =
+MatchApart-same cs cs' ds ds' (Some n) first second apart =
     LeadsApart-same cs' cs ds' ds n (IsSame-sym cs cs' first) (IsSame-sym ds ds' second) apart
 
-pub parting_none : (cs ds : List Step) (r : Option ℕ) → MatchOption r (IsSame cs ds) (LeadsApart cs ds)
+pub MatchApart-none : (cs ds : List Step) (r : Option ℕ) → MatchOption r (IsSame cs ds) (LeadsApart cs ds)
     → IsNone r ↔ IsSame cs ds
-parting_none cs ds None same = (λ _. same, λ _. refl)
-parting_none cs ds (Some n) apart =
+MatchApart-none cs ds None same = (λ _. same, λ _. refl)
+MatchApart-none cs ds (Some n) apart =
     (λ none. absurd (true≢false none), λ same. absurd (LeadsApart-not_same cs ds n apart same))
 
-pub parting_some : (cs ds : List Step) (r : Option ℕ) → MatchOption r (IsSame cs ds) (LeadsApart cs ds)
+pub MatchApart-some : (cs ds : List Step) (r : Option ℕ) → MatchOption r (IsSame cs ds) (LeadsApart cs ds)
     → (n : ℕ) → (r ≡ Some n) ↔ LeadsApart cs ds n
-parting_some cs ds None same n = (λ some. absurd (cc), λ apart. absurd (LeadsApart-not_same cs ds n apart same))
-parting_some cs ds (Some m) apart n =
+MatchApart-some cs ds None same n = (λ some. absurd (cc), λ apart. absurd (LeadsApart-not_same cs ds n apart same))
+MatchApart-some cs ds (Some m) apart n =
     let is = λ (some : Some m ≡ Some n). let e : m ≡ n = cc in subst (LeadsApart cs ds) e apart in
     (is, λ at_n. ap Some (LeadsApart-unique cs ds m n apart at_n))
 

@@ -9,7 +9,7 @@ use Rattle.relative_path.specs.Components.{step_of, TakesLast}
 use Rattle.relative_path.specs.Unix.{has_root, counted, unix_components, but_last, IsAbove}
 use Rattle.relative_path.proofs.StepsLemmas.{HasNoSlash, HasNoSlash-append, components-nil, components-slash, components_whole, step_text-classed}
 use Rattle.relative_path.proofs.SlicesLemmas.{IsPrefix, IsPrefix-append, IsPrefix-trans, IsPrefix-shortest, IsShortestPrefix-from, take-IsPrefix}
-use Rattle.relative_path.proofs.UnixComponentsLemmas.{counted-append, after, LosesIdle, LastCounts, counted_first, counted_alone, but_last-push}
+use Rattle.relative_path.proofs.UnixComponentsLemmas.{counted-append, after, LosesUncounted, LastCounts, counted_first, counted_alone, but_last-push}
 use Rattle.relative_path.proofs.ListsLemmas.{last_view, head_same}
 use Rattle.relative_path.proofs.SlashesLemmas.{components-after, components-before}
 use Rattle.relative_path.proofs.EditingLemmas.{long_other}
@@ -117,8 +117,8 @@ has_root-prefix [] b bs h = ap has_root h.front
 has_root-prefix (t ∷ ts) b bs h = ap has_root h.front
 
 -- only what doesn't count was dropped from the end of the text, and the last component that is left counts
-abbrev pub IsIdleFree : Bool → List ℕ → List ℕ → Type 0
-IsIdleFree rooted text left = LosesIdle rooted text left × LastCounts rooted (components left)
+abbrev pub EndsInCounted : Bool → List ℕ → List ℕ → Type 0
+EndsInCounted rooted text left = LosesUncounted rooted text left × LastCounts rooted (components left)
 
 -- without its last component, which counts, a text has all of its counted components but the last
 counted-front : (rooted : Bool) (cs : List Step) (c : Step) → LastCounts rooted (cs ++ c ∷ [])
@@ -161,16 +161,16 @@ shortest-trimmed text p prefix end last root k root_k same =
         (subst (λ t. LastCounts (has_root text) (components t)) (sym whole) last)
         (same_front ∙ ap (λ t. counted (has_root text) (components t)) (sym whole))
 
-pub IsIdleFree-from : {rooted rooted' : Bool} {text text' left : List ℕ} → rooted ≡ rooted' → text ≡ text'
+pub EndsInCounted-from : {rooted rooted' : Bool} {text text' left : List ℕ} → rooted ≡ rooted' → text ≡ text'
     → left ≡ take (length left) text → get_or left (length left - 1) 0 ≢ slash
     → counted rooted (components left) ≡ counted rooted (components text) → LastCounts rooted (components left)
-    → IsIdleFree rooted' text' left
-IsIdleFree-from roots texts front end same last =
+    → EndsInCounted rooted' text' left
+EndsInCounted-from roots texts front end same last =
     rw (← roots, ← texts) (record { prefix = record { front = front }; end = end; same = same }, last)
 
 module _ (text end front parent : List ℕ) (taken : Option Component) (some : is_some taken ≡ true)
-    (trimmed : IsIdleFree (has_root text) text end) (takes : TakesLast end taken front)
-    (trimmed' : IsIdleFree (has_root text) front parent) where
+    (trimmed : EndsInCounted (has_root text) text end) (takes : TakesLast end taken front)
+    (trimmed' : EndsInCounted (has_root text) front parent) where
   prefix : IsPrefix text parent
   prefix = IsPrefix-trans trimmed.0.prefix (IsPrefix-trans (IsPrefix-shortest takes.1) trimmed'.0.prefix)
 

@@ -118,7 +118,7 @@ without_cur_dirs-unix text unrooted =
 -- ---- the end of a text
 
 -- only slashes, and `.` components that don't count, were dropped from the end of the text
-pub record LosesIdle (rooted : Bool) (text left : List ℕ) : Type 0 where
+pub record LosesUncounted (rooted : Bool) (text left : List ℕ) : Type 0 where
   pub prefix : IsPrefix text left
   pub end : get_or left (length left - 1) 0 ≢ slash
   pub same : counted rooted (components left) ≡ counted rooted (components text)
@@ -132,28 +132,28 @@ nil_from_components text front cs cut none =
     nil_from_length front (let short = cut.shortest 0 (components-nil ∙ sym none) in omega arith)
 
 -- a `.` after other components, or under a root, doesn't count
-counted_idle : (rooted : Bool) (cs : List Step) → (rooted ≡ true) ⊎ (cs ≢ [])
+counted-push_cur : (rooted : Bool) (cs : List Step) → (rooted ≡ true) ⊎ (cs ≢ [])
     → counted rooted (cs ++ cur ∷ []) ≡ counted rooted cs
-counted_idle true [] idle = refl
-counted_idle true (c ∷ cs) idle = counted-append true (c ∷ cs) (cur ∷ []) ∙ append-nil (counted true (c ∷ cs))
-counted_idle false [] (inl e) = absurd (true≢false (sym e))
-counted_idle false [] (inr some) = absurd (some refl)
-counted_idle false (c ∷ cs) idle = counted-append false (c ∷ cs) (cur ∷ []) ∙ append-nil (counted false (c ∷ cs))
+counted-push_cur true [] uncounted = refl
+counted-push_cur true (c ∷ cs) uncounted = counted-append true (c ∷ cs) (cur ∷ []) ∙ append-nil (counted true (c ∷ cs))
+counted-push_cur false [] (inl e) = absurd (true≢false (sym e))
+counted-push_cur false [] (inr some) = absurd (some refl)
+counted-push_cur false (c ∷ cs) uncounted = counted-append false (c ∷ cs) (cur ∷ []) ∙ append-nil (counted false (c ∷ cs))
 
-pub LosesIdle-cur : (rooted : Bool) (text left front : List ℕ) (taken : Option Component) → takes_cur taken ≡ true
-    → LosesIdle rooted text left → TakesLast left taken front → (front ≢ []) ⊎ (rooted ≡ true)
-    → LosesIdle rooted text front
-LosesIdle-cur rooted text left front None is h takes idle = absurd (true≢false (sym is))
-LosesIdle-cur rooted text left front (Some c) is h (last, cut) idle =
+pub LosesUncounted-cur : (rooted : Bool) (text left front : List ℕ) (taken : Option Component) → takes_cur taken ≡ true
+    → LosesUncounted rooted text left → TakesLast left taken front → (front ≢ []) ⊎ (rooted ≡ true)
+    → LosesUncounted rooted text front
+LosesUncounted-cur rooted text left front None is h takes uncounted = absurd (true≢false (sym is))
+LosesUncounted-cur rooted text left front (Some c) is h (last, cut) uncounted =
     let last : components left ≡ components front ++ cur ∷ [] =
     last ∙ ap (λ d. components front ++ d ∷ []) ((step_eq-Decides (step_of c) cur).0 is) in
-    let idle : (rooted ≡ true) ⊎ (components front ≢ []) =
+    let uncounted : (rooted ≡ true) ⊎ (components front ≢ []) =
     ⊎_elim (λ some. inr (λ none. some (nil_from_components left front _ cut (sym cut.same_components ∙ none))))
-    (λ e. inl e) idle in
+    (λ e. inl e) uncounted in
     record {
       prefix = IsPrefix-trans h.prefix (IsPrefix-shortest cut);
       end = end-IsShortestPrefix cut;
-      same = sym (counted_idle rooted (components front) idle) ∙ ap (counted rooted) (sym last) ∙ h.same;
+      same = sym (counted-push_cur rooted (components front) uncounted) ∙ ap (counted rooted) (sym last) ∙ h.same;
     }
 
 -- the last component counts

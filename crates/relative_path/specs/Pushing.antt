@@ -38,7 +38,8 @@ module _ {U T : Type 0} (becomes : U → T → Type 0) (steps : T → Option Rel
       × (new.text ≡ pushed_all old.text (map path_text paths))
       × (new.room < length (pushed new.text (path_text refused)))
 
-  -- the same by indices: the new text is the fold over each list of texts that the given paths have
+  -- the same by index: for each list that has the texts of the given paths, the new text is the old text after a push
+  -- of each of them
   abbrev pub PushesWholeRun : U → List ℕ → List ℕ → Type 0
   PushesWholeRun iter old new = (it : T) × becomes iter it × WholeRun steps it (λ run.
       (texts : List (List ℕ)) → run.len ≡ length texts → ReadsTexts run texts → new ≡ pushed_all old texts)

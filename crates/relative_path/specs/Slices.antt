@@ -8,7 +8,7 @@ pub record IsShortestPrefix (text : List ℕ) (cs : List Step) (p : List ℕ) : 
   pub same_components : components p ≡ cs
   pub shortest : (k : ℕ) → components (take k text) ≡ cs → length p ≤ k
 
--- p is the shortest prefix of the text with exactly its first n components, or with all of them if it has fewer
+-- p is the shortest prefix of the text with exactly its first n components, or with all of them if there are fewer
 abbrev pub IsCut : List ℕ → ℕ → List ℕ → Type 0
 IsCut text n p = IsShortestPrefix text (take n (components text)) p
 

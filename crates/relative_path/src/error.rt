@@ -15,8 +15,8 @@ use std::fmt;
 /// `BadSeparator`.
 ///
 /// ```
-/// let refused = unix::view("/foo").unwrap_err();
-/// assert_eq!(rt; refused.kind(), FromPathErrorKind::NonRelative);
+/// let error = unix::view("/foo").unwrap_err();
+/// assert_eq!(rt; error.kind(), FromPathErrorKind::NonRelative);
 /// ```
 #[derive(Clone, Copy, Debug, PartialEq, Eq)]
 pub enum FromPathErrorKind {
@@ -50,8 +50,8 @@ impl FromPathErrorKind {
 /// The error prints the words for its kind. Two errors are equal if their kinds are.
 ///
 /// ```
-/// let refused = unix::view("/foo").unwrap_err();
-/// assert_eq!(rt; refused.to_string(alloc)?.as_str(), "path contains non-relative component");
+/// let error = unix::view("/foo").unwrap_err();
+/// assert_eq!(rt; error.to_string(alloc)?.as_str(), "path contains non-relative component");
 /// ```
 #[derive(Clone, Debug, PartialEq, Eq, Drop)]
 pub struct FromPathError {
@@ -106,8 +106,8 @@ impl Error for FromPathError {}
 /// `IllegalComponent`.
 ///
 /// ```
-/// let refused = unix::relative_to(alloc, "foo", "/bar").unwrap_err();
-/// assert_eq!(rt; refused.kind(), RelativeToErrorKind::PrefixMismatch);
+/// let error = unix::relative_to(alloc, "foo", "/bar").unwrap_err();
+/// assert_eq!(rt; error.kind(), RelativeToErrorKind::PrefixMismatch);
 /// ```
 #[derive(Clone, Copy, Debug, PartialEq, Eq)]
 pub enum RelativeToErrorKind {
@@ -145,8 +145,8 @@ impl RelativeToErrorKind {
 /// The error prints the words for its kind. Two errors are equal if their kinds are.
 ///
 /// ```
-/// let refused = unix::relative_to(alloc, ".", "a/../..").unwrap_err();
-/// assert_eq!(rt; refused.to_string(alloc)?.as_str(), "path traversal cannot be determined");
+/// let error = unix::relative_to(alloc, ".", "a/../..").unwrap_err();
+/// assert_eq!(rt; error.to_string(alloc)?.as_str(), "path traversal cannot be determined");
 /// ```
 #[derive(Clone, Debug, PartialEq, Eq, Drop)]
 pub struct RelativeToError {

@@ -1,7 +1,7 @@
 use Rattle.std.proofs.Common.{length, refl, sym, ap, ◌∙◌, inl, inr, eqb-true}
 use Rattle.std.proofs.lemmas.Bool.{eqb-false, not-true, not-false}
 use Rattle.std.proofs.lemmas.List.{nil_from_length}
-use Rattle.relative_path.proofs.UnixComponentsLemmas.{LosesIdle-cur, LastCounts-taken}
+use Rattle.relative_path.proofs.UnixComponentsLemmas.{LosesUncounted-cur, LastCounts-taken}
 use Rattle.relative_path.proofs.unix_components.trim_uncounted_end.Goals as goal
 use Rattle.relative_path.proofs.unix_components.trim_uncounted_end.Goals.{then-rooted, else-rooted}
 
@@ -17,7 +17,7 @@ returns-in_default-clause-last c =
 
 pub loop-components-preserved : goal.loop-components-preserved
 loop-components-preserved c =
-    LosesIdle-cur _ _ _ _ c.next_back.result (rw (c.in-Some-CurDir.is, c.in-Some-CurDir.field-0-is) refl)
+    LosesUncounted-cur _ _ _ _ c.next_back.result (rw (c.in-Some-CurDir.is, c.in-Some-CurDir.field-0-is) refl)
     c.loop-components.invariant c.next_back.ensures.steps (elim c.if-rooted.branch [
       | then-rooted w ↦ inr w.if-rooted.true
       | else-rooted w ↦

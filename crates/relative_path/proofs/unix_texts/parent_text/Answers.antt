@@ -3,21 +3,21 @@ use Rattle.std.proofs.lemmas.Bool.{eqb-false}
 use Rattle.std.proofs.lemmas.List.{nil_from_length}
 use Rattle.relative_path.specs.Components.{text_left, TakesLast}
 use Rattle.relative_path.specs.Unix.{has_root}
-use Rattle.relative_path.proofs.UnixAboveLemmas.{IsIdleFree, IsIdleFree-from, IsAbove-parent, IsAbove-root}
+use Rattle.relative_path.proofs.UnixAboveLemmas.{EndsInCounted, EndsInCounted-from, IsAbove-parent, IsAbove-root}
 use Rattle.relative_path.proofs.unix_texts.parent_text.Goals as goal
 use Rattle.relative_path.proofs.unix_texts.parent_text.Goals.{After-trim_uncounted_end-parent, else-rooted-via-then-rooted+else-is_empty, else-rooted-via-else-rooted}
 
 -- the text without what doesn't count at its end, the component taken off it, and the rest without what doesn't count
 cut : (c : After-trim_uncounted_end-parent)
-    → IsIdleFree (has_root c.args.text.now) c.args.text.now c.trim_uncounted_end.result.now
+    → EndsInCounted (has_root c.args.text.now) c.args.text.now c.trim_uncounted_end.result.now
     × TakesLast c.trim_uncounted_end.result.now c.next_back.result (text_left c.next_back.new.self)
-    × IsIdleFree (has_root c.args.text.now) (text_left c.next_back.new.self) c.trim_uncounted_end-parent.result.now
+    × EndsInCounted (has_root c.args.text.now) (text_left c.next_back.new.self) c.trim_uncounted_end-parent.result.now
 cut c =
     let e = c.trim_uncounted_end.ensures in
     let e' = c.trim_uncounted_end-parent.ensures in (
-      IsIdleFree-from c.has_root-rooted.ensures refl e.prefix e.end e.same e.last,
+      EndsInCounted-from c.has_root-rooted.ensures refl e.prefix e.end e.same e.last,
       rw c.new-components.ensures at c.next_back.ensures.steps,
-      IsIdleFree-from c.has_root-rooted.ensures c.as_str.ensures e'.prefix e'.end e'.same e'.last,
+      EndsInCounted-from c.has_root-rooted.ensures c.as_str.ensures e'.prefix e'.end e'.same e'.last,
     )
 
 pub returns-then-is_empty : goal.returns-then-is_empty
