@@ -1,4 +1,5 @@
 mod PlacesLemmas
+mod NormalPathLemmas
 mod PlaceIndexLemmas
 mod MovesLemmas
 mod PairsLemmas

@@ -1,7 +1,7 @@
 //! A table of moves, searched by the old paths: what a reference becomes after the moves.
 ghost use Rattle.std.specs.Prelude.{◌≡◌, ◌<◌, ◌≤◌, ◌↔◌, ℕ, List, length, Some, IfOk, IfSome, IsNone, OnOk, IsErrOf, MatchOption};
-ghost use Rattle.relative_path.specs.Steps.{Step};
-ghost use Rattle.relative_path.specs.Normalizing.{IsNormalTextOf};
+ghost use Rattle.relative_path.specs.Steps.{Step, components};
+ghost use Rattle.relative_path.specs.Walk.{IsSame};
 ghost use Rattle.relative_path.specs.Relating.{Leads, IsReachable, IsShortestText};
 ghost use Rattle.relative_path.specs.RelativePath.{path_text, path_components};
 ghost use Rattle.relative_path_moves.specs.Moves.{
@@ -26,6 +26,7 @@ ghost use Rattle.relative_path_moves.specs.MoveTable.{olds_of, IsSound, IsWay, I
 ghost use Rattle.relative_path_moves.specs.PlaceIndex.{Indexes};
 
 use crate::move_error::{MoveTableError, ReferenceError};
+use crate::normal_path::NormalPath;
 use crate::place_index::PlaceIndex;
 use crate::places::{directory, has_place};
 use relative_path::{RelativePath, RelativePathBuf};
@@ -147,7 +148,7 @@ impl<'a> MoveTable<'a> {
             (BelowTop (IsMovedText self.now i way.text))) }
     {
         let (old, new) = self.paths(i);
-        let meant = directory(old).join_normalized(alloc, reference)?;
+        let meant = NormalPath::of_joined(alloc, directory(old), reference)?;
         way_or_refusal(alloc, directory(new), self.target(&meant))
     }
 
@@ -159,8 +160,8 @@ impl<'a> MoveTable<'a> {
     /// rewrites a page changes only the references that the moves broke. In a page that stays, these are
     /// the references to files that moved.
     ///
-    /// The call allocates the page's normal form, the reference joined to the page's directory, and what
-    /// [`MoveTable::moved`] does.
+    /// The call allocates the page's normal form, and what `join_normalized`, `join`, `leads_apart` and
+    /// `try_relative` do.
     ///
     /// ```
     /// let moves = [(RelativePath::new("img/x.png"), RelativePath::new("art/y.png"))];
@@ -191,7 +192,7 @@ impl<'a> MoveTable<'a> {
             (λ directory. BelowTop (λ target. IsShortestText directory target way.text)))) }
     {
         let now = self.path_after(alloc, page)?;
-        let meant = directory(page).join_normalized(alloc, reference)?;
+        let meant = NormalPath::of_joined(alloc, directory(page), reference)?;
         link_to(alloc, directory(now), reference, self.target(&meant))
     }
 
@@ -217,8 +218,8 @@ impl<'a> MoveTable<'a> {
         ensures kept { IfOk result (λ now. IsUnmoved self.now (path_components file.entry)
             → path_text now ≡ path_text file.entry) }
     {
-        let found = self.by_old.get(alloc, file)?;
-        match found {
+        let place = NormalPath::of(alloc, file)?;
+        match self.by_old.get(&place) {
             Some(j) => Ok(self.paths(j).1),
             None => Ok(file),
         }
@@ -234,15 +235,14 @@ impl<'a> MoveTable<'a> {
         moves[i]
     }
 
-    // The path, after the moves, of the file at a place. The place is given as a normal path.
-    fn target<'b>(&'b self, place: &'b RelativePathBuf) -> RelativePath<'b>
-        ensures { (cs : List Step) → IsNormalTextOf cs place.now.text
+    // The path, after the moves, of the file at a place.
+    fn target<'b>(&'b self, place: &'b NormalPath) -> RelativePath<'b>
+        ensures { (cs : List Step) → IsSame cs (components place.now)
             → LeadToTarget self.now cs (path_components result) }
     {
-        let place = place.as_relative_path();
-        match self.by_old.get_normal(place) {
+        match self.by_old.get(place) {
             Some(j) => self.paths(j).1,
-            None => place,
+            None => place.as_relative_path(),
         }
     }
 }
@@ -321,7 +321,7 @@ fn link_to(
         (IsLink (path_components directory.entry) (path_components reference.entry)
         (path_components target.entry)) result }
 {
-    if !has_place(alloc, target)? {
+    if target.climb() > 0 {
         return Err(ReferenceError::AboveRoot);
     }
     let led = directory.join(alloc, reference)?;

@@ -1,10 +1,11 @@
 //! Paths by the places that they lead to.
 ghost use Rattle.std.specs.Prelude.{◌≡◌, ◌<◌, ◌++◌, ℕ, [], ◌∷◌, List, length, IfOk, IfSome, OnOk, OnErr};
-ghost use Rattle.relative_path.specs.Steps.{Step};
-ghost use Rattle.relative_path.specs.Normalizing.{IsNormalTextOf};
-ghost use Rattle.relative_path.specs.RelativePath.{path_text, path_components};
+ghost use Rattle.relative_path.specs.Steps.{Step, components};
+ghost use Rattle.relative_path.specs.Walk.{IsSame};
+ghost use Rattle.relative_path.specs.RelativePath.{path_components};
 ghost use Rattle.relative_path_moves.specs.PlaceIndex.{Indexes, IsFirstAt, IsFoundAt};
 
+use crate::normal_path::NormalPath;
 use relative_path::RelativePath;
 use std::alloc::{AllocError, Global};
 use std::collections::BTreeMap;
@@ -18,8 +19,9 @@ use std::collections::BTreeMap;
 /// ```
 /// let mut index = PlaceIndex::new(alloc);
 /// index.insert(alloc, RelativePath::new("docs/a.md"), 0)?;
-/// assert_eq!(rt; index.get(alloc, RelativePath::new("./docs//a.md"))?, Some(0));
-/// assert_eq!(rt; index.get(alloc, RelativePath::new("a.md"))?, None);
+/// let [page, other] = ["./docs//a.md", "a.md"].map(RelativePath::new);
+/// assert_eq!(rt; index.get(&NormalPath::of(alloc, page)?), Some(0));
+/// assert_eq!(rt; index.get(&NormalPath::of(alloc, other)?), None);
 /// ```
 #[derive(Drop)]
 pub struct PlaceIndex {
@@ -31,7 +33,8 @@ impl PlaceIndex {
     ///
     /// ```
     /// let index = PlaceIndex::new(alloc);
-    /// assert_eq!(rt; index.get(alloc, RelativePath::new("a"))?, None);
+    /// let path = NormalPath::of(alloc, RelativePath::new("a"))?;
+    /// assert_eq!(rt; index.get(&path), None);
     /// ```
     pub fn new(alloc: Global) -> PlaceIndex
         ensures { Indexes [] result }
@@ -72,38 +75,22 @@ impl PlaceIndex {
         Ok(*self.by_text.entry(text)?.or_insert(number))
     }
 
-    /// Returns the number of the first path that is equivalent to this one.
-    ///
-    /// Allocates the path's normal form, and fails only if that allocation fails. Then it searches a
-    /// B-tree once.
+    /// Returns the number of the first path that is equivalent to this one. Searches a B-tree once, and
+    /// allocates nothing.
     ///
     /// ```
     /// let mut index = PlaceIndex::new(alloc);
     /// index.insert(alloc, RelativePath::new("a/../b"), 0)?;
-    /// assert_eq!(rt; index.get(alloc, RelativePath::new("b"))?, Some(0));
+    /// let path = NormalPath::of(alloc, RelativePath::new("./b"))?;
+    /// assert_eq!(rt; index.get(&path), Some(0));
     /// ```
-    pub fn get(&self, alloc: Global, path: RelativePath<'_>) -> Result<Option<usize>, AllocError>
-        ensures { IfOk result (λ found. (paths : List (List Step)) → Indexes paths self.now
-            → IsFoundAt paths (path_components path.entry) found) }
-    {
-        let normal = path.normalize(alloc)?;
-        Ok(self.get_normal(normal.as_relative_path()))
-    }
-
-    /// Returns what [`PlaceIndex::get`] does, for a path that is normal already: one that `normalize` or
-    /// `join_normalized` returned. Allocates nothing.
-    ///
-    /// ```
-    /// let mut index = PlaceIndex::new(alloc);
-    /// index.insert(alloc, RelativePath::new("a/../b"), 0)?;
-    /// assert_eq!(rt; index.get_normal(RelativePath::new("b")), Some(0));
-    /// ```
-    pub fn get_normal(&self, path: RelativePath<'_>) -> Option<usize>
+    pub fn get(&self, path: &NormalPath) -> Option<usize>
         ensures found { (paths : List (List Step)) (cs : List Step) → Indexes paths self.now
-            → IsNormalTextOf cs (path_text path.entry) → IsFoundAt paths cs result }
+            → IsSame cs (components path.now) → IsFoundAt paths cs result }
         ensures within { IfSome result (λ k. (paths : List (List Step)) → Indexes paths self.now
             → k < length paths) }
     {
+        let path = path.as_relative_path();
         self.by_text.get(path.as_str()).copied()
     }
 }

@@ -7,7 +7,7 @@ mod places;
 mod refusals;
 
 use relative_path::{RelativePath, RelativePathBuf};
-use relative_path_moves::{MoveTable, PlaceIndex, moved};
+use relative_path_moves::{MoveTable, NormalPath, PlaceIndex, moved};
 use std::alloc::{AllocError, Global};
 use std::fmt::Debug;
 use std::test::Fail;
@@ -105,6 +105,6 @@ fn finds(
     path: &str,
     expected: Option<usize>,
 ) -> Result<(), Fail> {
-    let found = index.get(alloc, RelativePath::new(path))?;
-    same(path, &found, &expected)
+    let place = NormalPath::of(alloc, RelativePath::new(path))?;
+    same(path, &index.get(&place), &expected)
 }

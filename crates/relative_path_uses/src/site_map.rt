@@ -11,7 +11,7 @@ ghost use Rattle.relative_path_uses.specs.UrlPath.{Resolves};
 
 use crate::url_reference::url_reference;
 use relative_path::{RelativePath, RelativePathBuf};
-use relative_path_moves::{PlaceIndex, directory};
+use relative_path_moves::{NormalPath, PlaceIndex, directory};
 use std::alloc::{AllocError, Global};
 use std::error::Error;
 use std::fmt;
@@ -134,7 +134,8 @@ impl<'a> SiteMap<'a> {
         ensures alike { IfOk result (λ found. (k : ℕ) → found ≡ Some k → (other : List Step)
             → IsFirstAt self.now other k ↔ IsSame (path_components path.entry) other) }
     {
-        self.by_place.get(alloc, path)
+        let place = NormalPath::of(alloc, path)?;
+        Ok(self.by_place.get(&place))
     }
 
     /// Returns the shortest link from the directory of a page to another page, or `None` if no link leads

@@ -1,6 +1,6 @@
 use super::{finds, same};
 use relative_path::RelativePath;
-use relative_path_moves::{PlaceIndex, directory, has_place};
+use relative_path_moves::{NormalPath, PlaceIndex, directory, has_place};
 use std::alloc::Global;
 use std::test::Fail;
 
@@ -29,11 +29,50 @@ fn finds_the_first_path_of_a_place(rt: HostRuntime) -> Result<(), Fail> {
     inserts(rt.alloc(), &mut index)?;
     finds(rt.alloc(), &index, "a/.", Some(0))?;
     finds(rt.alloc(), &index, "b", None)?;
-    same(
-        "../b",
-        &index.get_normal(RelativePath::new("../b")),
-        &Some(1),
-    )
+    finds(rt.alloc(), &index, "../b", Some(1))
+}
+
+// A path and a reference, the normal path of the two, its directory, and whether it has a place.
+const NORMAL: [(&str, &str, &str, &str, bool); 6] = [
+    ("a//b", "./c", "a/b/c", "a/b", true),
+    ("a", "../../b/c", "../b/c", "../b", false),
+    ("", "", "", "", true),
+    ("a/..", "..", "..", "", false),
+    ("a/b", "..", "a", "", true),
+    ("../a", "../..", "../..", "..", false),
+];
+
+#[test]
+fn joins_normal_paths(rt: HostRuntime) -> Result<(), Fail> {
+    for (base, reference, text, above, has) in &NORMAL {
+        let base = NormalPath::of(rt.alloc(), RelativePath::new(base))?;
+        let joined = base.join(rt.alloc(), RelativePath::new(reference))?;
+        same(text, &joined.as_relative_path().as_str(), text)?;
+        same(
+            text,
+            &(joined.directory().as_str(), joined.has_place()),
+            &(*above, *has),
+        )?;
+    }
+    Ok(())
+}
+
+#[test]
+fn tells_normal_paths_apart(rt: HostRuntime) -> Result<(), Fail> {
+    for (one, other, equal) in &[
+        ("a/./b/", "c/../a//b", true),
+        ("a", "../a", false),
+        ("..", "", false),
+        ("a/..", "", true),
+    ] {
+        let one = NormalPath::of(rt.alloc(), RelativePath::new(one))?;
+        let found = NormalPath::of(rt.alloc(), RelativePath::new(other))?;
+        same(other, &(one == found), equal)?;
+        let printed = format!(in rt.alloc(); "{one:?}")?;
+        let text = format!(in rt.alloc(); "{:?}", one.as_relative_path().as_str())?;
+        same("printed", &printed, &text)?;
+    }
+    Ok(())
 }
 
 #[test]

@@ -3,7 +3,7 @@ use super::long_text;
 use super::marks::{begin, end};
 use crate::tests::{finds, same};
 use relative_path::RelativePath;
-use relative_path_moves::{PlaceIndex, has_place};
+use relative_path_moves::{NormalPath, PlaceIndex, has_place};
 use std::alloc::Global;
 use std::test::Fail;
 
@@ -37,18 +37,64 @@ fn insert(rt: HostRuntime) -> Result<(), Fail> {
 fn get_of(alloc: Global, text: &str) -> Result<(), Fail> {
     let mut index = PlaceIndex::new(alloc);
     index.insert(alloc, RelativePath::new(text), 0)?;
+    let place = NormalPath::of(alloc, RelativePath::new(text))?;
     begin(alloc);
-    let found = index.get(alloc, RelativePath::new(text));
-    end(alloc, found.is_err())?;
-    same("get", &found.unwrap_or(Some(0)), &Some(0))
+    let found = index.get(&place);
+    end(alloc, false)?;
+    same("get", &found, &Some(0))
 }
 
-// Requests: 2s 3 = 0, = 0, 524288s 1048576 = 0
+// Requests: = 0, = 0, = 0
 #[test]
 fn get(rt: HostRuntime) -> Result<(), Fail> {
     get_of(rt.alloc(), "a//b")?;
     get_of(rt.alloc(), "")?;
     get_of(rt.alloc(), long_text(rt.alloc())?.as_str())
+}
+
+fn normal_of(alloc: Global, text: &str, expected: &str) -> Result<(), Fail> {
+    begin(alloc);
+    let found = NormalPath::of(alloc, RelativePath::new(text));
+    end(alloc, found.is_err())?;
+    match found {
+        Ok(normal) => same(text, &normal.as_relative_path().as_str(), &expected),
+        Err(_) => Ok(()),
+    }
+}
+
+// Requests: 4s 3 = 1, = 0, 1s = 0, 524288s 1048576 = 1
+#[test]
+fn a_normal_path(rt: HostRuntime) -> Result<(), Fail> {
+    normal_of(rt.alloc(), "./c/../a//b", "a/b")?;
+    normal_of(rt.alloc(), "", "")?;
+    normal_of(rt.alloc(), ".", "")?;
+    let long = long_text(rt.alloc())?;
+    normal_of(rt.alloc(), long.as_str(), long.as_str())
+}
+
+fn joined_of(alloc: Global, text: &str, expected: &str) -> Result<(), Fail> {
+    let [base, path] = ["a/b", text].map(RelativePath::new);
+    begin(alloc);
+    let found = NormalPath::of_joined(alloc, base, path);
+    end(alloc, found.is_err())?;
+    if let Ok(joined) = found {
+        same(text, &joined.as_relative_path().as_str(), &expected)?;
+    }
+    let base = NormalPath::of(alloc, base)?;
+    begin(alloc);
+    let found = base.join(alloc, path);
+    end(alloc, found.is_err())?;
+    match found {
+        Ok(joined) => same(text, &joined.as_relative_path().as_str(), &expected),
+        Err(_) => Ok(()),
+    }
+}
+
+// Requests: 4s 3 = 1, 4s 3 = 1, 4s = 0, 4s = 0
+#[test]
+fn a_joined_path(rt: HostRuntime) -> Result<(), Fail> {
+    joined_of(rt.alloc(), "../c", "a/c")?;
+    joined_of(rt.alloc(), "../..", "")
 }
 
 fn place_of(alloc: Global, text: &str) -> Result<(), Fail> {

@@ -174,8 +174,8 @@ fn ask_in_a_page(
     }
 }
 
-// Requests: 2s 6 3s 4 2s 1s 9 3s 2s 1s 2s 9 = 1, 2s 6 3s 6 2s 1s 8 3s 2s = 0, 1s = 0,
-// 2s 6 524289s 1048578 524289s 1s 1048578 524289s 524289s = 0
+// Requests: 2s 6 3s 4 9 3s 2s 1s 2s 9 = 1, 2s 6 3s 6 8 3s 2s = 0, = 0,
+// 2s 6 524289s 1048578 1048578 524289s 524289s = 0
 #[test]
 fn a_reference_of_a_page(rt: HostRuntime) -> Result<(), Fail> {
     let moves = [("a.md", "x/a.md"), ("b.md", "y/b.md")].map(as_paths);

@@ -23,7 +23,7 @@ fn moved_down(alloc: Global, page: &str, expected: &str) -> Result<(), Fail> {
     }
 }
 
-// Requests: 19 1s 4 1s 4 1s 1s 6 2s 1s 1s 1s 7 1s 4 1s 4 1s 1s 6 2s 1s 1s 1s 7 38 = 1
+// Requests: 19 1s 4 1s 4 6 2s 1s 1s 1s 7 1s 4 1s 4 6 2s 1s 1s 1s 7 38 = 1
 #[test]
 fn two_links(rt: HostRuntime) -> Result<(), Fail> {
     moved_down(
@@ -33,7 +33,7 @@ fn two_links(rt: HostRuntime) -> Result<(), Fail> {
     )
 }
 
-// Requests: 1048581 1s 4 524288s 1048576 524288s 1s 1048578 524289s 524288s 1s 524288s 1048579 2097162 = 1
+// Requests: 1048581 1s 4 524288s 1048576 1048578 524289s 524288s 1s 524288s 1048579 2097162 = 1
 #[test]
 fn a_long_link(rt: HostRuntime) -> Result<(), Fail> {
     let long = long_text(rt.alloc())?;
@@ -42,7 +42,7 @@ fn a_long_link(rt: HostRuntime) -> Result<(), Fail> {
     moved_down(rt.alloc(), page.as_str(), expected.as_str())
 }
 
-// Requests: 12 1s 4 2s 7 2s 1s 64 = 2
+// Requests: 12 1s 4 2s 7 64 = 2
 #[test]
 fn a_link_that_is_left(rt: HostRuntime) -> Result<(), Fail> {
     moved_down(rt.alloc(), "[c](../c.md)", "[c](../c.md)")

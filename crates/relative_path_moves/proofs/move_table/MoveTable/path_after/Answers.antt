@@ -6,18 +6,18 @@ use Rattle.relative_path_moves.proofs.move_table.MoveTable.path_after.Goals as g
 pub returns-in-Some-clause-target : goal.returns-in-Some-clause-target
 returns-in-Some-clause-target c = λ target.
     let table = rw c.self.view_is at c.self.invariant in
-    let first = rw c.in-Some.is at (c.in_ok-found.ensures (olds_of c.args.self.now) table.olds) in
+    let first = c.in-Some.ensures.found (olds_of c.args.self.now) _ table.olds c.in_ok-place.ensures.same in
     rw c.paths.ensures.new
     (IsTarget-is c.args.self.now _ _ target table.apart (IsTarget-found c.args.self.now _ c.in-Some.j first))
 
 pub returns-in-Some-clause-kept : goal.returns-in-Some-clause-kept
 returns-in-Some-clause-kept c = λ unmoved.
     let table = rw c.self.view_is at c.self.invariant in
-    let first = rw c.in-Some.is at (c.in_ok-found.ensures (olds_of c.args.self.now) table.olds) in
+    let first = c.in-Some.ensures.found (olds_of c.args.self.now) _ table.olds c.in_ok-place.ensures.same in
     absurd (IsUnmoved-found c.args.self.now _ c.in-Some.j first unmoved)
 
-pub returns-in-None-clause-target : goal.returns-in-None-clause-target
-returns-in-None-clause-target c = λ target.
+pub returns-clause-target : goal.returns-clause-target
+returns-clause-target c = λ target.
     let table = rw c.self.view_is at c.self.invariant in
-    let none = rw c.in-None.is at (c.in_ok-found.ensures (olds_of c.args.self.now) table.olds) in
+    let none = c.in-None.ensures.found (olds_of c.args.self.now) _ table.olds c.in_ok-place.ensures.same in
     IsTarget-is c.args.self.now _ _ target table.apart (IsTarget-kept c.args.self.now _ none)

@@ -4,15 +4,15 @@ use Rattle.relative_path_moves.proofs.MoveTableLemmas.{LeadToTarget-found, LeadT
 use Rattle.relative_path_moves.proofs.move_table.MoveTable.target.Goals as goal
 
 pub returns-in-Some : goal.returns-in-Some
-returns-in-Some c = λ cs normal.
+returns-in-Some c = λ cs same.
     let table = rw c.self.view_is at c.self.invariant in
     LeadToTarget-found c.args.self.now cs _ c.in-Some.j table.apart
-    (c.in-Some.ensures.found (olds_of c.args.self.now) cs table.olds (rw c.as_relative_path-place.ensures normal))
+    (c.in-Some.ensures.found (olds_of c.args.self.now) cs table.olds same)
     c.paths.ensures.new
 
 pub returns-in-None : goal.returns-in-None
-returns-in-None c = λ cs normal.
+returns-in-None c = λ cs same.
     let table = rw c.self.view_is at c.self.invariant in
     LeadToTarget-kept c.args.self.now cs _ table.apart
-    (c.in-None.ensures.found (olds_of c.args.self.now) cs table.olds (rw c.as_relative_path-place.ensures normal))
-    (rw c.as_relative_path-place.ensures normal.same)
+    (c.in-None.ensures.found (olds_of c.args.self.now) cs table.olds same)
+    (rw c.as_relative_path.ensures.text same)
