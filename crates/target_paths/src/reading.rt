@@ -1,0 +1,140 @@
+//! What a target is for a reader of its page.
+ghost use Rattle.std.specs.Prelude.{◌≡◌, ◌≤◌, ◌-◌, ◌+◌, length, Ok, IfOk, IfErr};
+ghost use Rattle.target_paths.specs.Pieces.{joined, pieces, total_size};
+ghost use Rattle.target_paths.specs.Reading.{
+  begins_tail,
+  is_tail_byte,
+  meaning,
+  meaning_decoded,
+  meaning_of_url,
+  path_pieces,
+  Says,
+  trimmed,
+};
+ghost use Rattle.target_paths.specs.Shown.{read_bytes, Refuses, RefusesTarget};
+ghost use Rattle.target_paths.specs.Url.{url_piece};
+
+use crate::piece::{Read, ReadError, push_read};
+use crate::source::source_piece;
+use crate::target::{TargetReading, TargetSyntax, WhyUnknown};
+use crate::url::{is_kept, url_piece, without_leading, without_trailing};
+use std::alloc::{AllocError, Global};
+
+// What a target is read as before its query and its fragment, and the byte where these begin.
+#[derive(Drop)]
+struct PathPart {
+    bytes: Vec<u8>,
+    tail_at: usize,
+}
+
+/// What a target is for a reader of its page.
+pub fn path_of_target(
+    alloc: Global,
+    syntax: TargetSyntax,
+    target: &str,
+) -> Result<TargetReading, AllocError>
+    ensures reading { IfOk result (Says (meaning syntax target.now)) }
+{
+    match read_target(alloc, syntax, target.as_bytes()) {
+        Ok(reading) => Ok(reading),
+        Err(ReadError::Unknown(why)) => Ok(TargetReading::Unknown(why)),
+        Err(ReadError::OutOfMemory) => Err(AllocError),
+    }
+}
+
+// The same, with what isn't known as an error.
+fn read_target(
+    alloc: Global,
+    syntax: TargetSyntax,
+    target: &[u8],
+) -> Result<TargetReading, ReadError>
+    ensures ok { IfOk result (Says (meaning syntax target.now)) }
+    ensures err { IfErr result (RefusesTarget (meaning syntax target.now)) }
+{
+    let part = read_path(alloc, syntax, target)?;
+    let text = trimmed(syntax, part.tail_at < target.len(), &part.bytes);
+    read_url(alloc, text, part.tail_at)
+}
+
+// What a target is by its text as a URL.
+fn read_url(alloc: Global, text: &[u8], tail_at: usize) -> Result<TargetReading, ReadError>
+    ensures ok { IfOk result (Says (meaning_of_url text.now tail_at)) }
+    ensures err { IfErr result (RefusesTarget (meaning_of_url text.now tail_at)) }
+{
+    if is_kept(text) {
+        return Ok(TargetReading::NotRelative);
+    }
+    let path = decoded(alloc, text)?;
+    read_path_bytes(path, tail_at)
+}
+
+// What a target is by the bytes of its path.
+fn read_path_bytes(path: Vec<u8>, tail_at: usize) -> Result<TargetReading, ReadError>
+    ensures ok { IfOk result (Says (meaning_decoded (Ok path.items) tail_at)) }
+    ensures err { IfErr result (RefusesTarget (meaning_decoded (Ok path.items) tail_at)) }
+{
+    match String::from_utf8(path) {
+        Ok(path) => Ok(TargetReading::Path { path, tail_at }),
+        Err(_) => Err(ReadError::Unknown(WhyUnknown::NotUtf8)),
+    }
+}
+
+// What a target is read as before its query and its fragment.
+fn read_path(alloc: Global, syntax: TargetSyntax, target: &[u8]) -> Result<PathPart, ReadError>
+    ensures bytes { IfOk result (λ part. joined (path_pieces syntax target.now) ≡ Ok part.bytes.items) }
+    ensures tail { IfOk result (λ part. part.tail_at ≡ total_size (path_pieces syntax target.now)) }
+    ensures err { IfErr result (Refuses (joined (path_pieces syntax target.now))) }
+{
+    let mut bytes = Vec::with_capacity(alloc, target.len())?;
+    let mut left = target;
+    while let [first, rest @ ..] = left {
+        let piece = source_piece(syntax, *first, rest);
+        if begins_tail(piece.read) {
+            break;
+        }
+        push_read(&mut bytes, piece.read)?;
+        left = &left[piece.size..];
+    }
+    Ok(PathPart {
+        bytes,
+        tail_at: target.len() - left.len(),
+    })
+}
+
+// Whether a piece that is read so begins a query or a fragment.
+fn begins_tail(read: Read) -> bool
+    ensures { result ≡ begins_tail (read_bytes read) }
+{
+    match read {
+        Read::Byte(byte) => byte == b'#' || byte == b'?',
+        Read::Character(character) => character == '#' || character == '?',
+        Read::Nothing => false,
+        Read::Unknown(_) => false,
+    }
+}
+
+// A text without the control bytes and spaces that go from its ends.
+fn trimmed(syntax: TargetSyntax, has_tail: bool, text: &[u8]) -> &[u8]
+    ensures { result.now ≡ trimmed syntax has_tail text.now }
+{
+    match syntax {
+        TargetSyntax::Markdown => text,
+        TargetSyntax::Attribute if has_tail => without_leading(text),
+        TargetSyntax::Attribute => without_trailing(without_leading(text)),
+    }
+}
+
+// The path of a URL, its percent signs decoded once.
+fn decoded(alloc: Global, text: &[u8]) -> Result<Vec<u8>, ReadError>
+    ensures ok { IfOk result (λ path. joined (pieces url_piece 0 text.now) ≡ Ok path.items) }
+    ensures err { IfErr result (Refuses (joined (pieces url_piece 0 text.now))) }
+{
+    let mut bytes = Vec::with_capacity(alloc, text.len())?;
+    let mut left = text;
+    while let [first, rest @ ..] = left {
+        let piece = url_piece(*first, rest);
+        push_read(&mut bytes, piece.read)?;
+        left = &left[piece.size..];
+    }
+    Ok(bytes)
+}

@@ -1,0 +1,139 @@
+//! How a path is written as a target.
+ghost use Rattle.std.specs.Prelude.{◌≡◌, ◌++◌, ◌<◌, true, false, List, ℕ, length, IfOk, string_bytes};
+ghost use Rattle.std.specs.List.{list_any};
+ghost use Rattle.target_paths.specs.Reading.{meaning, path, unknown};
+ghost use Rattle.target_paths.specs.Writing.{
+  begins_template,
+  ends_target,
+  hexadecimal,
+  is_escaped,
+  is_nul,
+  is_reserved,
+  IsTail,
+  path_written,
+  percent_text,
+  place_after,
+  target_of,
+  without_slashes,
+  written,
+  written_character,
+};
+ghost use Rattle.target_paths.specs.declared.target.TargetSyntax.{TargetSyntax};
+
+use std::alloc::{AllocError, Global};
+
+// Where a byte of a path is.
+#[derive(Clone, Copy)]
+pub(crate) enum Place {
+    Start,
+    FirstSegment,
+    AfterSlash,
+}
+
+impl Place {
+    // Whether a character is escaped here.
+    fn escapes(self, character: char) -> bool
+        ensures { result ≡ is_escaped self character }
+    {
+        match self {
+            Place::Start => {
+                is_reserved(character)
+                    || character == ':'
+                    || character == '$'
+                    || character == '{'
+            }
+            Place::FirstSegment => is_reserved(character) || character == ':',
+            Place::AfterSlash => is_reserved(character),
+        }
+    }
+
+    // The place after a character.
+    fn after(self, character: char) -> Place
+        ensures { result ≡ place_after self character }
+    {
+        match self {
+            Place::Start if character == '/' => Place::AfterSlash,
+            Place::Start => Place::FirstSegment,
+            Place::FirstSegment if character == '/' => Place::AfterSlash,
+            Place::FirstSegment => Place::FirstSegment,
+            Place::AfterSlash => Place::AfterSlash,
+        }
+    }
+}
+
+// Whether a character is escaped wherever it is.
+fn is_reserved(character: char) -> bool
+    ensures { result ≡ is_reserved character }
+{
+    match character {
+        '\0'..=' ' => true,
+        '"'..='#' => true,
+        '%'..=')' => true,
+        '<'..='?' => true,
+        '\\' => true,
+        '`' => true,
+        '|' => true,
+        '\u{7F}' => true,
+        _ => false,
+    }
+}
+
+// The digit of a number below 16.
+fn hexadecimal(digit: u8) -> char
+    requires { digit < 16 }
+    ensures { result ≡ hexadecimal digit }
+{
+    if digit < 10 {
+        char::from(b'0' + digit)
+    } else {
+        char::from(b'A' - 10 + digit)
+    }
+}
+
+// Adds a percent sign and the two digits of a byte.
+fn push_percent(target: &mut String, byte: u8) -> Result<(), AllocError>
+    ensures { IfOk result (λ _. string_bytes target.new ≡ string_bytes target.old ++ percent_text byte) }
+{
+    target.push('%')?;
+    target.push(hexadecimal(byte / 16))?;
+    target.push(hexadecimal(byte % 16))
+}
+
+// What is written for a path.
+fn written(alloc: Global, path: &str) -> Result<String, AllocError>
+    ensures { IfOk result (λ target. string_bytes target ≡ written Place.Start path.now) }
+{
+    let mut target = String::with_capacity(alloc, path.len())?;
+    let mut place = Place::Start;
+    for character in path.chars() {
+        push_character(&mut target, place, character)?;
+        place = place.after(character);
+    }
+    Ok(target)
+}
+
+// Adds what is written for a character.
+fn push_character(target: &mut String, place: Place, character: char) -> Result<(), AllocError>
+    ensures { IfOk result (λ _. string_bytes target.new ≡ string_bytes target.old ++ written_character place character) }
+{
+    if place.escapes(character) {
+        push_percent(target, character as u8)
+    } else {
+        target.push(character)
+    }
+}
+
+// A path without the slashes that it begins with.
+fn without_slashes(path: &str) -> &str
+    ensures { result.now ≡ without_slashes path.now }
+{
+    path.trim_start_matches('/')
+}
+
+/// The target that is written for a path.
+pub fn target_of_path(alloc: Global, path: &str) -> Result<String, AllocError>
+    ensures text { IfOk result (λ target. string_bytes target ≡ target_of path.now) }
+{
+    let path = without_slashes(path);
+    written(alloc, if path.is_empty() { "./" } else { path })
+}
