@@ -10,7 +10,7 @@ use Rattle.target_paths.specs.declared.target.TargetSyntax.{TargetSyntax}
 use Rattle.target_paths.specs.declared.target.WhyUnknown.{WhyUnknown}
 use Rattle.target_paths.specs.declared.target.WhyUnknown.TheVariants.{NotUtf8}
 use Rattle.target_paths.specs.Pieces.{Piece, pieces, joined, total_size}
-use Rattle.target_paths.specs.Reading.{is_tail_byte, begins_tail, before_tail, path_pieces, trimmed, Meaning, kept, path, unknown, meaning_decoded, meaning_of_url, meaning_read, has_tail, meaning}
+use Rattle.target_paths.specs.Reading.{is_tail_byte, begins_tail, before_tail, path_pieces, trimmed, Meaning, kept, path_before, unknown, meaning_decoded, meaning_of_url, meaning_read, has_tail, meaning}
 use Rattle.target_paths.specs.Shown.{Refuses, RefusesTarget}
 use Rattle.target_paths.specs.Source.{source_piece}
 use Rattle.target_paths.specs.Url.{is_kept, url_piece}
@@ -76,14 +76,14 @@ meaning-decoded text read tail_at is decoded =
     ap (λ t. if t then kept else meaning_decoded (joined (pieces url_piece 0 text)) tail_at) is
     ∙ ap (λ r. meaning_decoded r tail_at) decoded
 
-pub meaning-utf8 : (bytes : List ℕ) (tail_at : ℕ) → IsUtf8 bytes → meaning_decoded (Ok bytes) tail_at ≡ path bytes tail_at
+pub meaning-utf8 : (bytes : List ℕ) (tail_at : ℕ) → IsUtf8 bytes → meaning_decoded (Ok bytes) tail_at ≡ path_before bytes tail_at
 meaning-utf8 bytes tail_at is =
-    ap (λ t. if t then path bytes tail_at else unknown NotUtf8) (is_utf8-from_IsUtf8 bytes is)
+    ap (λ t. if t then path_before bytes tail_at else unknown NotUtf8) (is_utf8-from_IsUtf8 bytes is)
 
 pub meaning-not_utf8 : (bytes : List ℕ) (tail_at : ℕ) → ¬ IsUtf8 bytes
     → meaning_decoded (Ok bytes) tail_at ≡ unknown NotUtf8
 meaning-not_utf8 bytes tail_at not = of (is_utf8 bytes) refl where
-  of : (t : Bool) → is_utf8 bytes ≡ t → (if t then path bytes tail_at else unknown NotUtf8) ≡ unknown NotUtf8
+  of : (t : Bool) → is_utf8 bytes ≡ t → (if t then path_before bytes tail_at else unknown NotUtf8) ≡ unknown NotUtf8
   of true is = absurd (not (IsUtf8-from_is_utf8 bytes is))
   of false is = refl
 

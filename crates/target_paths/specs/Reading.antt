@@ -41,13 +41,13 @@ trimmed Attribute false text = without_trailing (without_leading text)
 -- what a target is: no path from the page's directory; the bytes of a path, and the byte where the tail begins; unknown
 pub data Meaning : Type 0 where
   kept : Meaning
-  path : List ℕ → ℕ → Meaning
+  path_before : List ℕ → ℕ → Meaning
   unknown : WhyUnknown → Meaning
 
 -- by what its percent signs are decoded to
 abbrev pub meaning_decoded : Result (List ℕ) WhyUnknown → ℕ → Meaning
 meaning_decoded (Err why) tail_at = unknown why
-meaning_decoded (Ok bytes) tail_at = if is_utf8 bytes then path bytes tail_at else unknown NotUtf8
+meaning_decoded (Ok bytes) tail_at = if is_utf8 bytes then path_before bytes tail_at else unknown NotUtf8
 
 -- by its text as a URL
 abbrev pub meaning_of_url : List ℕ → ℕ → Meaning
@@ -73,6 +73,6 @@ meaning syntax target =
 abbrev pub Says : Meaning → TargetReading → Type 0
 Says kept reading = reading ≡ NotRelative
 Says (unknown why) reading = reading ≡ Unknown why
-Says (path bytes tail_at) NotRelative = ⊥
-Says (path bytes tail_at) (Path text at) = (string_bytes text ≡ bytes) × (at ≡ tail_at)
-Says (path bytes tail_at) (Unknown why) = ⊥
+Says (path_before bytes tail_at) NotRelative = ⊥
+Says (path_before bytes tail_at) (Path text at) = (string_bytes text ≡ bytes) × (at ≡ tail_at)
+Says (path_before bytes tail_at) (Unknown why) = ⊥

@@ -6,7 +6,8 @@ use Rattle.std.specs.Char.{encode_utf8}
 use Rattle.std.specs.Int.{is_in_range}
 use Rattle.target_paths.specs.declared.writing.Place.{Place}
 use Rattle.target_paths.specs.declared.writing.Place.TheVariants.{Start, FirstSegment, AfterSlash}
-use Rattle.target_paths.specs.Reading.{is_tail_byte}
+use Rattle.target_paths.specs.declared.target.TargetSyntax.{TargetSyntax}
+use Rattle.target_paths.specs.Reading.{is_tail_byte, Meaning, meaning}
 use Rattle.target_paths.specs.Url.{is_slash, is_colon}
 
 -- the byte would be read otherwise, or end a target, wherever it is: 0 to 32, 127, and "#%&'()<=>?\`|
@@ -75,6 +76,10 @@ is_nul b = b == 0
 abbrev pub IsTail : List ℕ → Type 0
 IsTail [] = ⊤
 IsTail (b ∷ bs) = is_tail_byte b ≡ true
+
+-- a reader of each syntax takes the text, whatever tail is after it, as this
+abbrev pub IsTakenAs : List ℕ → Meaning → Type 0
+IsTakenAs text means = (syntax : TargetSyntax) (tail : List ℕ) → IsTail tail → meaning syntax (text ++ tail) ≡ means
 
 -- the byte ends a target of some syntax: a control byte, a space, or one of "'()<=>`
 abbrev pub ends_target : ℕ → Bool

@@ -1,7 +1,7 @@
 //! How a path is written as a target.
-ghost use Rattle.std.specs.Prelude.{◌≡◌, ◌++◌, ◌<◌, true, false, List, ℕ, length, IfOk, string_bytes};
+ghost use Rattle.std.specs.Prelude.{◌≡◌, ◌++◌, ◌<◌, true, false, length, IfOk, string_bytes};
 ghost use Rattle.std.specs.List.{list_any};
-ghost use Rattle.target_paths.specs.Reading.{meaning, path, unknown};
+ghost use Rattle.target_paths.specs.Reading.{path_before, unknown};
 ghost use Rattle.target_paths.specs.Writing.{
   begins_template,
   ends_target,
@@ -9,7 +9,7 @@ ghost use Rattle.target_paths.specs.Writing.{
   is_escaped,
   is_nul,
   is_reserved,
-  IsTail,
+  IsTakenAs,
   path_written,
   percent_text,
   place_after,
@@ -18,7 +18,7 @@ ghost use Rattle.target_paths.specs.Writing.{
   written,
   written_character,
 };
-ghost use Rattle.target_paths.specs.declared.target.TargetSyntax.{TargetSyntax};
+ghost use Rattle.target_paths.specs.declared.target.WhyUnknown.TheVariants.{EncodedNul};
 
 use std::alloc::{AllocError, Global};
 
@@ -130,10 +130,23 @@ fn without_slashes(path: &str) -> &str
     path.trim_start_matches('/')
 }
 
+// The path that is written for a path: without the slashes at its start, and `./` for an empty one.
+fn path_written(path: &str) -> &str
+    ensures { result.now ≡ path_written path.now }
+{
+    let path = without_slashes(path);
+    if path.is_empty() { "./" } else { path }
+}
+
 /// The target that is written for a path.
 pub fn target_of_path(alloc: Global, path: &str) -> Result<String, AllocError>
     ensures text { IfOk result (λ target. string_bytes target ≡ target_of path.now) }
+    ensures read { list_any is_nul path.now ≡ false → IfOk result (λ target.
+        IsTakenAs (string_bytes target) (path_before (path_written path.now) (length (string_bytes target)))) }
+    ensures nul { list_any is_nul path.now ≡ true → IfOk result (λ target.
+        IsTakenAs (string_bytes target) (unknown EncodedNul)) }
+    ensures whole { IfOk result (λ target. list_any ends_target (string_bytes target) ≡ false) }
+    ensures start { IfOk result (λ target. begins_template (string_bytes target) ≡ false) }
 {
-    let path = without_slashes(path);
-    written(alloc, if path.is_empty() { "./" } else { path })
+    written(alloc, path_written(path))
 }
