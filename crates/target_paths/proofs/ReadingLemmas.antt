@@ -1,5 +1,5 @@
 -- Targets read up to their tail, and what they are.
-use Rattle.std.proofs.Common.{◌≡◌, ℕ, ◌-◌, ◌+◌, ◌<◌, ◌≤◌, Bool, true, false, cond, if◌then◌else◌, nat_lt, List, [], ◌∷◌, length, get_or, Result, Ok, Err, refl, sym, ap, ap₂, ◌∙◌, subst, arith}
+use Rattle.std.proofs.Common.{◌≡◌, ℕ, ◌<◌, ◌≤◌, Bool, true, false, if◌then◌else◌, nat_lt, List, [], ◌∷◌, length, get_or, Result, Ok, Err, refl, sym, ap, ap₂, ◌∙◌, arith}
 use Rattle.std.proofs.lemmas.Bool.Decides.{nat_tests}
 use Rattle.std.proofs.lemmas.Str.{encode_ascii, length-encode, IsUtf8-from_is_utf8, is_utf8-from_IsUtf8}
 use Rattle.std.specs.Char.{encode_utf8, len_utf8}
@@ -10,7 +10,7 @@ use Rattle.target_paths.specs.declared.target.TargetSyntax.{TargetSyntax}
 use Rattle.target_paths.specs.declared.target.WhyUnknown.{WhyUnknown}
 use Rattle.target_paths.specs.declared.target.WhyUnknown.TheVariants.{NotUtf8}
 use Rattle.target_paths.specs.Pieces.{Piece, pieces, joined, total_size}
-use Rattle.target_paths.specs.Reading.{is_tail_byte, begins_tail, before_tail, path_pieces, trimmed, Meaning, kept, path_before, unknown, meaning_decoded, meaning_of_url, meaning_read, has_tail, meaning}
+use Rattle.target_paths.specs.Reading.{is_tail_byte, begins_tail, before_tail, path_pieces, kept, path_before, unknown, meaning_decoded, meaning_of_url, meaning_read, has_tail, meaning}
 use Rattle.target_paths.specs.Shown.{Refuses, RefusesTarget}
 use Rattle.target_paths.specs.Source.{source_piece}
 use Rattle.target_paths.specs.Url.{is_kept, url_piece}

@@ -1,8 +1,8 @@
 -- What is written for a path, read back.
-use Rattle.std.proofs.Common.{◌≡◌, ℕ, zero, suc, ◌+◌, ◌-◌, ◌*◌, ◌/◌, ◌%◌, ◌<◌, ◌≤◌, Bool, true, false, ◌||◌, ◌&&◌, ◌==◌, not, nat_lt, cond, if◌then◌else◌, List, [], ◌∷◌, ◌++◌, map, length, take, drop, get_or, Result, Ok, Err, refl, sym, ap, ap₂, ◌∙◌, arith, append-nil, append_assoc, length-append}
+use Rattle.std.proofs.Common.{◌≡◌, ℕ, suc, ◌+◌, ◌-◌, ◌*◌, ◌/◌, ◌%◌, ◌<◌, Bool, true, false, ◌||◌, ◌&&◌, ◌==◌, not, nat_lt, cond, if◌then◌else◌, List, [], ◌∷◌, ◌++◌, map, length, take, get_or, Result, Ok, Err, refl, sym, ap, ap₂, ◌∙◌, arith}
 use Rattle.std.proofs.lemmas.Bool.Decides.{nat_tests}
 use Rattle.std.proofs.lemmas.Str.{encode_ascii}
-use Rattle.std.specs.Char.{encode_utf8, digit_value, is_digit, is_ascii_punctuation, is_ascii_alphabetic}
+use Rattle.std.specs.Char.{encode_utf8, digit_value, is_ascii_punctuation, is_ascii_alphabetic}
 use Rattle.std.specs.List.{list_any, list_all, before_first, position_or_len}
 use Rattle.std.specs.Str.{IsUtf8}
 use Rattle.target_paths.specs.declared.target.TargetSyntax.{TargetSyntax}
@@ -11,10 +11,10 @@ use Rattle.target_paths.specs.declared.target.WhyUnknown.{WhyUnknown}
 use Rattle.target_paths.specs.declared.target.WhyUnknown.TheVariants.{EncodedNul, EncodedSlash}
 use Rattle.target_paths.specs.declared.writing.Place.{Place}
 use Rattle.target_paths.specs.declared.writing.Place.TheVariants.{Start, FirstSegment, AfterSlash}
-use Rattle.target_paths.specs.Pieces.{Piece, plain, pieces, followed, joined, total_size}
-use Rattle.target_paths.specs.Reading.{is_tail_byte, begins_tail, before_tail, path_pieces, trimmed, Meaning, kept, path_before, unknown, meaning_decoded, meaning_of_url, meaning_read, has_tail, meaning}
+use Rattle.target_paths.specs.Pieces.{plain, pieces, followed, joined, total_size}
+use Rattle.target_paths.specs.Reading.{is_tail_byte, before_tail, path_pieces, trimmed, path_before, unknown, meaning_decoded, meaning_of_url, meaning}
 use Rattle.target_paths.specs.Source.{source_piece, is_escape, reference_piece, reference_character, byte_piece, byte_read, character_read, is_tab_or_line_end}
-use Rattle.target_paths.specs.Url.{is_blank, before_text, without_leading, without_trailing, slash, is_slash, is_colon, is_scheme_byte, is_scheme, has_scheme, is_kept, decoded_byte, has_digits, digits_byte, url_piece}
+use Rattle.target_paths.specs.Url.{is_blank, before_text, without_leading, without_trailing, is_slash, is_colon, is_scheme_byte, has_scheme, is_kept, decoded_byte, has_digits, digits_byte, url_piece}
 use Rattle.target_paths.specs.Writing.{is_reserved, is_escaped, place_after, hexadecimal, percent_text, written_byte, written, without_slashes, some_path, path_written, target_of, is_nul, IsTail, IsTakenAs, ends_target}
 use Rattle.target_paths.proofs.ReadingLemmas.{meaning-read, meaning-decoded, meaning-utf8}
 
@@ -125,7 +125,7 @@ literal-piece : (syntax : TargetSyntax) (b : ℕ) (rest : List ℕ) → is_liter
     → source_piece syntax b rest ≡ plain b
 literal-piece syntax b rest literal =
     ap (λ t. if t then record { size = 2; read = Ok (get_or rest 0 0 ∷ []) }
-      else if b == 38 then reference_piece syntax rest (reference_character syntax rest) else byte_piece syntax b)
+    else if b == 38 then reference_piece syntax rest (reference_character syntax rest) else byte_piece syntax b)
     (literal-no_escape syntax b (get_or rest 0 0) literal)
     ∙ ap (λ t. if t then reference_piece syntax rest (reference_character syntax rest) else byte_piece syntax b)
     (literal-no_reference b literal)
@@ -218,21 +218,21 @@ ends_scheme-is [] = refl
 ends_scheme-is (w ∷ ws) =
     ap (λ bs. (is_colon w || list_any is_colon ws) && list_all is_scheme_byte bs) (before_first-next is_colon w ws)
     ∙ of (is_colon w) (is_scheme_byte w) (ends_scheme-is ws) where
-  of : (colon byte : Bool)
-      → (list_any is_colon ws && list_all is_scheme_byte (before_first is_colon ws)) ≡ ends_scheme ws
-      → ((colon || list_any is_colon ws) && list_all is_scheme_byte (cond colon [] (w ∷ before_first is_colon ws)))
-      ≡ (colon || is_scheme_byte w && ends_scheme ws)
-  of true byte rest = refl
-  of false byte rest = swapped (list_any is_colon ws) (is_scheme_byte w) (list_all is_scheme_byte (before_first is_colon ws)) (ends_scheme ws) rest
+      of : (colon byte : Bool)
+          → (list_any is_colon ws && list_all is_scheme_byte (before_first is_colon ws)) ≡ ends_scheme ws
+          → ((colon || list_any is_colon ws) && list_all is_scheme_byte (cond colon [] (w ∷ before_first is_colon ws)))
+          ≡ (colon || is_scheme_byte w && ends_scheme ws)
+      of true byte rest = refl
+      of false byte rest = swapped (list_any is_colon ws) (is_scheme_byte w) (list_all is_scheme_byte (before_first is_colon ws)) (ends_scheme ws) rest
 
 no_scheme : (ws : List ℕ) → ends_scheme ws ≡ false → has_scheme ws ≡ false
 no_scheme ws none =
     of (list_any is_colon ws) (is_ascii_alphabetic (get_or (before_first is_colon ws) 0 0))
     (list_all is_scheme_byte (before_first is_colon ws)) (ends_scheme-is ws ∙ none) where
-  of : (a b c : Bool) → (a && c) ≡ false → (a && (b && c)) ≡ false
-  of false b c is = refl
-  of true false c is = refl
-  of true true c is = is
+      of : (a b c : Bool) → (a && c) ≡ false → (a && (b && c)) ≡ false
+      of false b c is = refl
+      of true false c is = refl
+      of true true c is = is
 
 -- a byte that is a colon, written in the first segment
 colon-escaped : (b : ℕ) → is_escaped FirstSegment b ≡ false → is_colon b ≡ false
@@ -320,10 +320,11 @@ digits-percent : (b : ℕ) (rest : List ℕ) → b < 256
     × (digits_byte (hexadecimal (b / 16) ∷ hexadecimal (b % 16) ∷ rest) ≡ b)
 digits-percent b rest byte =
     let high = hexadecimal-value (b / 16) (high_digit b byte) in
-    let low = hexadecimal-value (b % 16) (low_digit b) in
-    (ap₂ (λ h l. nat_lt h 16 && nat_lt l 16) high low
-    ∙ ap₂ (λ h l. h && l) (ltb-16 (b / 16) (high_digit b byte)) (ltb-16 (b % 16) (low_digit b)),
-    ap₂ (λ h l. 16 * h + l) high low ∙ omega arith)
+    let low = hexadecimal-value (b % 16) (low_digit b) in (
+      ap₂ (λ h l. nat_lt h 16 && nat_lt l 16) high low
+          ∙ ap₂ (λ h l. h && l) (ltb-16 (b / 16) (high_digit b byte)) (ltb-16 (b % 16) (low_digit b)),
+      ap₂ (λ h l. 16 * h + l) high low ∙ omega arith,
+    )
 
 -- a byte that is kept
 decoded-kept : (b : ℕ) (rest : List ℕ) (bs : List ℕ) → (b == 37) ≡ false → is_nul b ≡ false

@@ -1,5 +1,5 @@
 -- What is written for characters.
-use Rattle.std.proofs.Common.{◌≡◌, ℕ, zero, suc, ◌+◌, ◌<◌, ◌≤◌, Bool, true, false, nat_lt, if◌then◌else◌, List, [], ◌∷◌, ◌++◌, length, drop, get_or, Option, Some, None, ◌≢◌, lit<, ne_eqb, refl, sym, ap, ap₂, ◌∙◌, arith, append-nil, append_assoc}
+use Rattle.std.proofs.Common.{◌≡◌, ℕ, suc, ◌+◌, ◌<◌, ◌≤◌, Bool, true, false, nat_lt, if◌then◌else◌, List, [], ◌∷◌, ◌++◌, length, drop, get_or, Some, None, ◌≢◌, lit<, ne_eqb, refl, sym, ap, ap₂, ◌∙◌, arith, append-nil, append_assoc}
 use Rattle.std.proofs.lemmas.Bool.Decides.{nat_tests}
 use Rattle.std.proofs.lemmas.Str.{encode_ascii, length-encode, len_utf8_bounds, inside_one}
 use Rattle.std.proofs.lemmas.List.{at_drop_more, drop_all}
@@ -9,7 +9,7 @@ use Rattle.std.specs.Str.{encode_utf8_all}
 use Rattle.std.specs.Str.Pattern.{FindsCharPrefix, IsTrimStartMatches, CutsPrefixes, IsFullyTrimmed}
 use Rattle.target_paths.specs.declared.writing.Place.{Place}
 use Rattle.target_paths.specs.declared.writing.Place.TheVariants.{Start, FirstSegment, AfterSlash}
-use Rattle.target_paths.specs.Url.{slash, is_slash}
+use Rattle.target_paths.specs.Url.{slash}
 use Rattle.target_paths.specs.Writing.{is_escaped, place_after, percent_text, written_byte, written_character, written, without_slashes}
 
 -- each byte is past ASCII

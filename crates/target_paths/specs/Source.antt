@@ -1,12 +1,11 @@
 -- The pieces of a target as a page has it: CommonMark 0.31.2, sections 2.3 (NUL), 2.4 (backslash escapes) and 2.5
 -- (references); of an attribute, the tokenizer of the HTML standard, and in it the URL standard's section 4.4, by which
 -- tabs and line ends go and a backslash is a slash.
-use Rattle.std.specs.Prelude.{ℕ, ◌+◌, Bool, true, false, ◌==◌, ◌&&◌, ◌||◌, nat_lt, List, [], ◌∷◌, length, Option, Some, None, Result, Ok, Err, if◌then◌else◌, slice_index}
+use Rattle.std.specs.Prelude.{ℕ, ◌+◌, Bool, false, ◌==◌, ◌&&◌, ◌||◌, nat_lt, List, [], ◌∷◌, length, Option, Some, None, Ok, Err, if◌then◌else◌, slice_index}
 use Rattle.std.specs.Char.{encode_utf8, is_ascii_alphabetic, is_ascii_punctuation}
 use Rattle.std.specs.Int.{is_in_range}
 use Rattle.target_paths.specs.declared.target.TargetSyntax.{TargetSyntax}
 use Rattle.target_paths.specs.declared.target.TargetSyntax.TheVariants.{Markdown, Attribute}
-use Rattle.target_paths.specs.declared.target.WhyUnknown.{WhyUnknown}
 use Rattle.target_paths.specs.declared.target.WhyUnknown.TheVariants.{CharacterReference}
 use Rattle.target_paths.specs.Pieces.{Piece, plain}
 use Rattle.target_paths.specs.References.{body_of, is_closed, character_of, body_number, body_name, is_name}

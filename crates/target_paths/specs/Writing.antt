@@ -1,7 +1,7 @@
 -- How a path is written as a target, so that a reader of each syntax takes it as that path: RFC 3986, sections 2.1
 -- (percent signs) and 4.2 (a colon in the first segment); CommonMark 0.31.2, sections 6.3 (destinations) and 6.6 (values
 -- of attributes).
-use Rattle.std.specs.Prelude.{◌≡◌, ℕ, ◌+◌, ◌/◌, ◌%◌, Bool, true, false, ◌==◌, ◌||◌, nat_lt, List, [], ◌∷◌, ◌++◌, codes, if◌then◌else◌, slice_index, ⊤}
+use Rattle.std.specs.Prelude.{◌≡◌, ℕ, ◌+◌, ◌/◌, ◌%◌, Bool, true, ◌==◌, ◌||◌, nat_lt, List, [], ◌∷◌, ◌++◌, codes, if◌then◌else◌, slice_index, ⊤}
 use Rattle.std.specs.Char.{encode_utf8}
 use Rattle.std.specs.Int.{is_in_range}
 use Rattle.target_paths.specs.declared.writing.Place.{Place}

@@ -1,4 +1,12 @@
-//! Targets as a reader takes them, and the paths that they spell.
+//! The targets of links as a reader takes them: which path a target spells, and how a path is written.
+//!
+//! A module uses those to the right of it in its row, and those of the rows below.
+//!
+//! ```text
+//! reading     reading - source, reference
+//! writing     writing
+//! both        url - piece - target
+//! ```
 #![tactic(auto)]
 
 pub use self::reading::path_of_target;

@@ -37,10 +37,7 @@ impl Place {
     {
         match self {
             Place::Start => {
-                is_reserved(character)
-                    || character == ':'
-                    || character == '$'
-                    || character == '{'
+                is_reserved(character) || character == ':' || character == '$' || character == '{'
             }
             Place::FirstSegment => is_reserved(character) || character == ':',
             Place::AfterSlash => is_reserved(character),
@@ -138,7 +135,25 @@ fn path_written(path: &str) -> &str
     if path.is_empty() { "./" } else { path }
 }
 
-/// The target that is written for a path.
+/// The target that is written for a path: [`path_of_target`](crate::path_of_target) reads it back in each
+/// syntax, whatever query or fragment is written after it.
+///
+/// These are written as percent signs: the bytes 0 to 32 and 127, `"`, `#`, `%`, `&`, `'`, `(`, `)`, `<`,
+/// `=`, `>`, `?`, `\`, `` ` `` and `|`; a colon in the first segment; at the start `{` and `$`, with which a
+/// template may begin. All others stay, those past ASCII too. So the same text serves with and without
+/// angle brackets or quotes around it.
+///
+/// Slashes at the start of the path are left out: as a path it has the same components, but a reference
+/// that begins with a slash leads elsewhere. An empty path is written `./`, since an empty reference is
+/// the page itself. No target spells a path with NUL: what is written for one is read as unknown.
+///
+/// It allocates the target, at first as long as the path, and longer if bytes are escaped. Time is linear.
+///
+/// ```
+/// assert_eq!(rt; target_of_path(alloc, "docs/my a_b.md")?.as_str(), "docs/my%20a_b.md");
+/// assert_eq!(rt; target_of_path(alloc, "a:b")?.as_str(), "a%3Ab");
+/// assert_eq!(rt; target_of_path(alloc, "")?.as_str(), "./");
+/// ```
 pub fn target_of_path(alloc: Global, path: &str) -> Result<String, AllocError>
     ensures text { IfOk result (λ target. string_bytes target ≡ target_of path.now) }
     ensures read { list_any is_nul path.now ≡ false → IfOk result (λ target.

@@ -20,7 +20,7 @@ fn a_backslash_is_a_slash(rt: HostRuntime) -> Result<(), Fail> {
 const SPACES: [(&str, &str); 12] = [
     (" a.md ", "=a.md@6"),
     ("\n\ta.md\r\n", "=a.md@8"),
-    ("a\n.m\td", "=a.md@7"),
+    ("a\n.m\td", "=a.md@6"),
     ("a b.md", "=a b.md@6"),
     ("a.md #top", "=a.md @5"),
     (" a.md#top ", "=a.md@5"),

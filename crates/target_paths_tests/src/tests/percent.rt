@@ -25,7 +25,11 @@ fn percent_signs_are_decoded_once(rt: HostRuntime) -> Result<(), Fail> {
 
 #[test]
 fn percent_signs_are_decoded_after_references(rt: HostRuntime) -> Result<(), Fail> {
-    let cases = [("&#37;41", "=A@7"), ("%&#52;1", "=A@7"), ("%26amp;", "=&amp;@7")];
+    let cases = [
+        ("&#37;41", "=A@7"),
+        ("%&#52;1", "=A@7"),
+        ("%26amp;", "=&amp;@7"),
+    ];
     all_in_markdown(rt.alloc(), &cases)?;
     all_in_attributes(rt.alloc(), &cases)
 }

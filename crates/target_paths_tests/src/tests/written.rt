@@ -7,7 +7,10 @@ const PLAIN: [(&str, &str); 11] = [
     ("../a//b/", "../a//b/"),
     (".", "."),
     ("é.md", "é.md"),
-    ("a_b-c~d!e,f;g@h+i*j[k]l^m{n}o$p", "a_b-c~d!e,f;g@h+i*j[k]l^m{n}o$p"),
+    (
+        "a_b-c~d!e,f;g@h+i*j[k]l^m{n}o$p",
+        "a_b-c~d!e,f;g@h+i*j[k]l^m{n}o$p",
+    ),
     ("", "./"),
     ("/", "./"),
     ("//a", "a"),

@@ -1,4 +1,4 @@
-use Rattle.std.proofs.Common.{◌≡◌, ◌∙◌, ap, sym, ◌||◌, arith, nat_eq, false}
+use Rattle.std.proofs.Common.{◌≡◌, ◌∙◌, ap, sym, arith, nat_eq}
 use Rattle.std.proofs.lemmas.Bool.Decides.{nat_tests}
 use Rattle.target_paths.specs.Reading.{is_tail_byte, begins_tail}
 use Rattle.target_paths.specs.Shown.{read_bytes}

@@ -1,4 +1,4 @@
-use Rattle.std.proofs.Common.{◌≡◌, ◌≤◌, ◌+◌, ◌∙◌, sym, ap, length, arith}
+use Rattle.std.proofs.Common.{◌∙◌, sym, length}
 use Rattle.target_paths.specs.Pieces.{total_size}
 use Rattle.target_paths.specs.Reading.{path_pieces}
 use Rattle.target_paths.specs.Shown.{piece_of}
@@ -15,12 +15,12 @@ loop-left-preserved c =
     let next = path_pieces-next syntax left piece c.in-len1-up.len_at_least read.piece read.some (sym c.begins_tail.ensures ∙ c.if-begins_tail.false) in
     record {
       read =
-        joined-next c.loop-left.bytes.items c.push_read.new.bytes.items piece (path_pieces syntax left)
-        (path_pieces syntax (from_byte piece.size left)) next c.in_ok-push_read.ensures.ok
-        ∙ c.loop-left.invariant.read;
+          joined-next c.loop-left.bytes.items c.push_read.new.bytes.items piece (path_pieces syntax left)
+          (path_pieces syntax (from_byte piece.size left)) next c.in_ok-push_read.ensures.ok
+          ∙ c.loop-left.invariant.read;
       within = within-next left piece.size (length c.args.target.now) c.loop-left.invariant.within;
       size =
-        size-next left piece (path_pieces syntax left) (path_pieces syntax (from_byte piece.size left))
-        (length c.args.target.now) (total_size (path_pieces syntax c.args.target.now))
-        next read.within c.in-len1-up.len_at_least c.loop-left.invariant.within c.loop-left.invariant.size;
+          size-next left piece (path_pieces syntax left) (path_pieces syntax (from_byte piece.size left))
+          (length c.args.target.now) (total_size (path_pieces syntax c.args.target.now))
+          next read.within c.in-len1-up.len_at_least c.loop-left.invariant.within c.loop-left.invariant.size;
     }

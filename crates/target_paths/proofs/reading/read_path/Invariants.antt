@@ -8,7 +8,7 @@ invariant-loop-left l = record {
   read : followed (Ok l.bytes.items) (joined (path_pieces l.syntax l.left)) ≡ joined (path_pieces l.syntax l.target);
   within : length l.left ≤ length l.target;
   size : (length l.target - length l.left) + total_size (path_pieces l.syntax l.left)
-    ≡ total_size (path_pieces l.syntax l.target);
+      ≡ total_size (path_pieces l.syntax l.target);
 }
 
 abbrev pub decreases-loop-left : goal.decreases-loop-left

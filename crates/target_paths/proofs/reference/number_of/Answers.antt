@@ -19,6 +19,6 @@ loop-byte-preserved c =
       small = omega arith;
       digits = c.loop-byte.invariant.digits ∙ list_all-next (λ b. is_digit b radix) digits k inside passes;
       value = c.loop-byte.invariant.value
-        ∙ value-next radix c.loop-byte.number c.in_ok-digit.digit 0x11_0000 digits k (omega arith) inside is
-        ∙ ap (λ n. min 0x11_0000 (digits_value_after radix n (drop (k + 1) digits))) (sym c.min-number.ensures);
+          ∙ value-next radix c.loop-byte.number c.in_ok-digit.digit 0x11_0000 digits k (omega arith) inside is
+          ∙ ap (λ n. min 0x11_0000 (digits_value_after radix n (drop (k + 1) digits))) (sym c.min-number.ensures);
     }

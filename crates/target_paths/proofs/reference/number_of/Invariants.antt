@@ -9,5 +9,5 @@ invariant-loop-byte l = record {
   small : l.number ≤ 0x11_0000;
   digits : list_all (λ b. is_digit b l.radix) l.digits ≡ list_all (λ b. is_digit b l.radix) (drop l.byte-index l.digits);
   value : min 0x11_0000 (digits_value l.radix l.digits)
-    ≡ min 0x11_0000 (digits_value_after l.radix l.number (drop l.byte-index l.digits));
+      ≡ min 0x11_0000 (digits_value_after l.radix l.number (drop l.byte-index l.digits));
 }
