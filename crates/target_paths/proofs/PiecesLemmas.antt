@@ -1,6 +1,6 @@
 -- Texts read one piece after the other.
 use Rattle.std.proofs.Common.{◌≡◌, ℕ, zero, suc, ◌-◌, ◌+◌, ◌<◌, ◌≤◌, List, [], ◌∷◌, length, take, drop, get_or, Result, Ok, Err, refl, sym, ap, ◌∙◌, arith, append_assoc, length-drop}
-use Rattle.std.proofs.lemmas.List.{take_all}
+use Rattle.std.proofs.lemmas.List.{take_all, drop-drop}
 use Rattle.target_paths.specs.declared.target.WhyUnknown.{WhyUnknown}
 use Rattle.target_paths.specs.Pieces.{Piece, pieces, followed, joined, total_size}
 
@@ -74,3 +74,17 @@ size-next left piece whole rest long total is fits some within so_far =
     let count = length-from_byte piece.size left in
     let sizes : total_size whole ≡ piece.size + total_size rest = ap total_size is in
     omega arith
+
+-- what is left after a piece is what stands from its end on
+pub left-next : (left target : List ℕ) (size : ℕ) → left ≡ drop (length target - length left) target
+    → size ≤ length (from_byte 1 left) + 1 → 1 ≤ length left → length left ≤ length target
+    → from_byte size left ≡ drop (length target - length (from_byte size left)) target
+left-next left target size is fits some within =
+    let k : ℕ = length target - length left in
+    let one = length-from_byte 1 left in
+    let count = length-from_byte size left in
+    let at : k + size ≡ length target - length (from_byte size left) = omega arith in
+    from_byte-drop size left
+    ∙ ap (drop size) is
+    ∙ drop-drop size k target
+    ∙ ap (λ n. drop n target) at

@@ -1,10 +1,11 @@
 -- What is written for a path, read back.
-use Rattle.std.proofs.Common.{◌≡◌, ℕ, suc, ◌+◌, ◌-◌, ◌*◌, ◌/◌, ◌%◌, ◌<◌, Bool, true, false, ◌||◌, ◌&&◌, ◌==◌, not, nat_lt, cond, if◌then◌else◌, List, [], ◌∷◌, ◌++◌, map, length, take, get_or, Result, Ok, Err, refl, sym, ap, ap₂, ◌∙◌, arith}
+use Rattle.std.proofs.Common.{◌≡◌, ℕ, suc, ◌+◌, ◌-◌, ◌*◌, ◌/◌, ◌%◌, ◌<◌, Bool, true, false, ◌||◌, ◌&&◌, ◌==◌, not, nat_lt, cond, if◌then◌else◌, List, [], ◌∷◌, ◌++◌, map, length, take, drop, get_or, ◌≤◌, Result, Ok, Err, refl, sym, ap, ap₂, ◌∙◌, arith, length-drop, subst}
 use Rattle.std.proofs.lemmas.Bool.Decides.{nat_tests}
-use Rattle.std.proofs.lemmas.Str.{encode_ascii}
+use Rattle.std.proofs.lemmas.List.{get_or-drop}
+use Rattle.std.proofs.lemmas.Str.{encode_ascii, IsCharBoundary-end, IsCharBoundary-before_ascii}
 use Rattle.std.specs.Char.{encode_utf8, digit_value, is_ascii_punctuation, is_ascii_alphabetic}
 use Rattle.std.specs.List.{list_any, list_all, before_first, position_or_len}
-use Rattle.std.specs.Str.{IsUtf8}
+use Rattle.std.specs.Str.{IsUtf8, IsCharBoundary}
 use Rattle.target_paths.specs.declared.target.TargetSyntax.{TargetSyntax}
 use Rattle.target_paths.specs.declared.target.TargetSyntax.TheVariants.{Markdown, Attribute}
 use Rattle.target_paths.specs.declared.target.WhyUnknown.{WhyUnknown}
@@ -12,10 +13,10 @@ use Rattle.target_paths.specs.declared.target.WhyUnknown.TheVariants.{EncodedNul
 use Rattle.target_paths.specs.declared.writing.Place.{Place}
 use Rattle.target_paths.specs.declared.writing.Place.TheVariants.{Start, FirstSegment, AfterSlash}
 use Rattle.target_paths.specs.Pieces.{plain, pieces, followed, joined, total_size}
-use Rattle.target_paths.specs.Reading.{is_tail_byte, before_tail, path_pieces, trimmed, path_before, unknown, meaning_decoded, meaning_of_url, meaning}
+use Rattle.target_paths.specs.Reading.{is_tail_byte, before_tail, path_pieces, trimmed, path_before, unknown, meaning_decoded, meaning_of_url, meaning, IsTail, BeginsRelative}
 use Rattle.target_paths.specs.Source.{source_piece, is_escape, reference_piece, reference_character, byte_piece, byte_read, character_read, is_tab_or_line_end}
 use Rattle.target_paths.specs.Url.{is_blank, before_text, without_leading, without_trailing, is_slash, is_colon, is_scheme_byte, has_scheme, is_kept, decoded_byte, has_digits, digits_byte, url_piece}
-use Rattle.target_paths.specs.Writing.{is_reserved, is_escaped, place_after, hexadecimal, percent_text, written_byte, written, without_slashes, some_path, path_written, target_of, is_nul, IsTail, IsTakenAs, ends_target}
+use Rattle.target_paths.specs.Writing.{is_reserved, is_escaped, place_after, hexadecimal, percent_text, written_byte, written, without_slashes, some_path, path_written, target_of, is_nul, IsTakenAs, ends_target}
 use Rattle.target_paths.proofs.ReadingLemmas.{meaning-read, meaning-decoded, meaning-utf8}
 
 -- ---- what is written is calm: it has no reserved byte but percent signs
@@ -57,7 +58,7 @@ escaped-ascii FirstSegment b escaped = grind (arith, nat_tests)
 escaped-ascii AfterSlash b escaped = grind (arith, nat_tests)
 
 -- by whether a byte is escaped
-by_escape : (P : Bool → Type 0) (t : Bool) → (t ≡ true → P true) → (t ≡ false → P false) → P t
+pub by_escape : (P : Bool → Type 0) (t : Bool) → (t ≡ true → P true) → (t ≡ false → P false) → P t
 by_escape P true escaped keeps = escaped refl
 by_escape P false escaped keeps = keeps refl
 
@@ -131,18 +132,10 @@ literal-piece syntax b rest literal =
     (literal-no_reference b literal)
     ∙ ap (λ bytes. record { size = 1; read = Ok bytes }) (literal-byte syntax b literal)
 
--- nothing of a tail is read
-path_pieces-tail_only : (syntax : TargetSyntax) (tail : List ℕ) → IsTail tail → path_pieces syntax tail ≡ []
-path_pieces-tail_only syntax [] is = refl
-path_pieces-tail_only syntax (t ∷ ts) is =
-    let first = source_piece syntax in
-    ap (λ p. before_tail (p ∷ pieces first (p.size - 1) ts)) (literal-piece syntax t ts (tail-literal t is))
-    ∙ ap (λ b. if b then [] else plain t ∷ path_pieces syntax ts) is
-
 -- calm bytes before a tail are the path's pieces
-path_pieces-calm : (syntax : TargetSyntax) (ws tail : List ℕ) → AreCalm ws → IsTail tail
+path_pieces-calm : (syntax : TargetSyntax) (ws tail : List ℕ) → AreCalm ws → IsTail syntax tail
     → path_pieces syntax (ws ++ tail) ≡ map plain ws
-path_pieces-calm syntax [] tail calm is = path_pieces-tail_only syntax tail is
+path_pieces-calm syntax [] tail calm is = is
 path_pieces-calm syntax (w ∷ ws) tail (first, others) is =
     let begin = source_piece syntax in
     ap (λ p. before_tail (p ∷ pieces begin (p.size - 1) (ws ++ tail)))
@@ -368,7 +361,7 @@ written-decoded place (b ∷ bs) =
 
 -- ---- the whole
 
-pub meaning-written : (syntax : TargetSyntax) (b : ℕ) (bs tail : List ℕ) → is_slash b ≡ false → IsTail tail
+pub meaning-written : (syntax : TargetSyntax) (b : ℕ) (bs tail : List ℕ) → is_slash b ≡ false → IsTail syntax tail
     → meaning syntax (written Start (b ∷ bs) ++ tail)
     ≡ meaning_decoded (decoded (b ∷ bs)) (length (written Start (b ∷ bs)))
 meaning-written syntax b bs tail other is =
@@ -379,11 +372,6 @@ meaning-written syntax b bs tail other is =
     (sym (ap total_size parts ∙ total_size-plain ws))
     ∙ ap (λ text. meaning_of_url text (length ws)) (trimmed-calm syntax (nat_lt (length ws) (length (ws ++ tail))) ws calm)
     ∙ meaning-decoded ws (decoded (b ∷ bs)) (length ws) (written-relative b bs other) (written-decoded Start (b ∷ bs))
-
--- the path begins with a byte, which is no slash
-abbrev BeginsRelative : List ℕ → Type 0
-BeginsRelative [] = ⊥
-BeginsRelative (b ∷ bs) = is_slash b ≡ false
 
 path_written-relative : (path : List ℕ) → BeginsRelative (path_written path)
 path_written-relative [] = refl
@@ -435,3 +423,49 @@ AreCalm-whole (w ∷ ws) (first, others) =
 
 pub target_of-whole : (path : List ℕ) → list_any ends_target (target_of path) ≡ false
 target_of-whole path = AreCalm-whole (target_of path) (written-calm Start (path_written path))
+
+-- ---- tails
+
+-- a byte `?` or `#` begins a tail in each syntax
+pub IsTail-byte : (syntax : TargetSyntax) (b : ℕ) (bs : List ℕ) → is_tail_byte b ≡ true → IsTail syntax (b ∷ bs)
+IsTail-byte syntax b bs is =
+    let first = source_piece syntax in
+    ap (λ p. before_tail (p ∷ pieces first (p.size - 1) bs)) (literal-piece syntax b bs (tail-literal b is))
+    ∙ ap (λ t. if t then [] else plain b ∷ path_pieces syntax bs) is
+
+past_ascii-literal : (b : ℕ) → 128 ≤ b → is_literal b ≡ true
+past_ascii-literal b past = grind (arith, nat_tests)
+
+past_ascii-no_tail : (b : ℕ) → 128 ≤ b → is_tail_byte b ≡ false
+past_ascii-no_tail b past = grind (arith, nat_tests)
+
+ltb-past : (b : ℕ) → nat_lt b 128 ≡ false → 128 ≤ b
+ltb-past b is = grind (arith, nat_tests)
+
+-- no byte past ASCII begins a tail
+not_tail : (syntax : TargetSyntax) (b : ℕ) (bs : List ℕ) → 128 ≤ b → path_pieces syntax (b ∷ bs) ≡ plain b ∷ path_pieces syntax bs
+not_tail syntax b bs past =
+    let first = source_piece syntax in
+    ap (λ p. before_tail (p ∷ pieces first (p.size - 1) bs)) (literal-piece syntax b bs (past_ascii-literal b past))
+    ∙ ap (λ t. if t then [] else plain b ∷ path_pieces syntax bs) (past_ascii-no_tail b past)
+
+IsTail-ascii : (syntax : TargetSyntax) (b : ℕ) (bs : List ℕ) → IsTail syntax (b ∷ bs) → b < 128
+IsTail-ascii syntax b bs is =
+    by_escape (λ t. nat_lt b 128 ≡ t → b < 128) (nat_lt b 128) (λ low at. ltb-below b at)
+    (λ high at. absurd (let none = not_tail syntax b bs (ltb-past b at) in cc)) refl
+
+-- a tail begins with a character
+pub IsTail-boundary : (syntax : TargetSyntax) (target : List ℕ) (k : ℕ) → k ≤ length target
+    → IsTail syntax (drop k target) → IsCharBoundary target k
+IsTail-boundary syntax target k within is = of (drop k target) refl is where
+  of : (rest : List ℕ) → drop k target ≡ rest → IsTail syntax rest → IsCharBoundary target k
+  of [] at tail =
+      let count : length (drop k target) ≡ 0 = ap length at in
+      let end : length target ≡ k = omega (arith, length-drop k target) in
+      subst (IsCharBoundary target) end (IsCharBoundary-end target)
+  of (b ∷ bs) at tail =
+      let count : length (drop k target) ≡ suc (length bs) = ap length at in
+      let first : get_or target k 0 ≡ b =
+      ap (λ n. get_or target n 0) (omega arith) ∙ sym (get_or-drop k target 0 0) ∙ ap (λ xs. get_or xs 0 0) at in
+      let low : b < 128 = IsTail-ascii syntax b bs tail in
+      IsCharBoundary-before_ascii target k (omega (arith, length-drop k target)) (omega (arith, first, low))

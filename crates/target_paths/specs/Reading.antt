@@ -1,7 +1,7 @@
 -- How a reader takes a target: what it is read as, up to its query or fragment, is a URL, whose percent signs are
 -- decoded once.
-use Rattle.std.specs.Prelude.{◌≡◌, ℕ, Bool, true, false, ◌==◌, ◌||◌, List, [], ◌∷◌, length, Result, Ok, Err, nat_lt, if◌then◌else◌, string_bytes}
-use Rattle.std.specs.Str.{is_utf8}
+use Rattle.std.specs.Prelude.{◌≡◌, ℕ, Bool, true, false, ◌==◌, ◌||◌, List, [], ◌∷◌, length, Result, Ok, Err, nat_lt, if◌then◌else◌, drop, string_bytes, ⊤}
+use Rattle.std.specs.Str.{is_utf8, IsCharBoundary}
 use Rattle.target_paths.specs.declared.target.TargetReading.{TargetReading}
 use Rattle.target_paths.specs.declared.target.TargetReading.TheVariants.{NotRelative, Path, Unknown}
 use Rattle.target_paths.specs.declared.target.TargetSyntax.{TargetSyntax}
@@ -10,7 +10,7 @@ use Rattle.target_paths.specs.declared.target.WhyUnknown.{WhyUnknown}
 use Rattle.target_paths.specs.declared.target.WhyUnknown.TheVariants.{NotUtf8}
 use Rattle.target_paths.specs.Pieces.{Piece, pieces, joined, total_size}
 use Rattle.target_paths.specs.Source.{source_piece}
-use Rattle.target_paths.specs.Url.{without_leading, without_trailing, is_kept, url_piece}
+use Rattle.target_paths.specs.Url.{without_leading, without_trailing, is_slash, is_kept, url_piece}
 
 -- the byte is `?` or `#`, which begins a query or a fragment
 abbrev pub is_tail_byte : ℕ → Bool
@@ -76,3 +76,23 @@ Says (unknown why) reading = reading ≡ Unknown why
 Says (path_before bytes tail_at) NotRelative = ⊥
 Says (path_before bytes tail_at) (Path text at) = (string_bytes text ≡ bytes) × (at ≡ tail_at)
 Says (path_before bytes tail_at) (Unknown why) = ⊥
+
+-- nothing of the text is read before its query or its fragment: it is empty, or begins with one
+abbrev pub IsTail : TargetSyntax → List ℕ → Type 0
+IsTail syntax text = path_pieces syntax text ≡ []
+
+-- from this byte on the target is a tail, which begins with a character
+pub record IsTailAt (syntax : TargetSyntax) (target : List ℕ) (tail_at : ℕ) : Type 0 where
+  pub boundary : IsCharBoundary target tail_at
+  pub tail : IsTail syntax (drop tail_at target)
+
+-- the path begins with a byte, which is no slash
+abbrev pub BeginsRelative : List ℕ → Type 0
+BeginsRelative [] = ⊥
+BeginsRelative (b ∷ bs) = is_slash b ≡ false
+
+-- this holds of the path that the result tells, and of the byte where its tail begins
+abbrev pub IfPath : TargetReading → (List ℕ → ℕ → Type 0) → Type 0
+IfPath NotRelative P = ⊤
+IfPath (Path path tail_at) P = P (string_bytes path) tail_at
+IfPath (Unknown why) P = ⊤

@@ -1,13 +1,13 @@
 -- How a path is written as a target, so that a reader of each syntax takes it as that path: RFC 3986, sections 2.1
 -- (percent signs) and 4.2 (a colon in the first segment); CommonMark 0.31.2, sections 6.3 (destinations) and 6.6 (values
 -- of attributes).
-use Rattle.std.specs.Prelude.{◌≡◌, ℕ, ◌+◌, ◌/◌, ◌%◌, Bool, true, ◌==◌, ◌||◌, nat_lt, List, [], ◌∷◌, ◌++◌, codes, if◌then◌else◌, slice_index, ⊤}
+use Rattle.std.specs.Prelude.{◌≡◌, ℕ, ◌+◌, ◌/◌, ◌%◌, Bool, ◌==◌, ◌||◌, nat_lt, List, [], ◌∷◌, ◌++◌, codes, if◌then◌else◌, slice_index}
 use Rattle.std.specs.Char.{encode_utf8}
 use Rattle.std.specs.Int.{is_in_range}
 use Rattle.target_paths.specs.declared.writing.Place.{Place}
 use Rattle.target_paths.specs.declared.writing.Place.TheVariants.{Start, FirstSegment, AfterSlash}
 use Rattle.target_paths.specs.declared.target.TargetSyntax.{TargetSyntax}
-use Rattle.target_paths.specs.Reading.{is_tail_byte, Meaning, meaning}
+use Rattle.target_paths.specs.Reading.{IsTail, Meaning, meaning}
 use Rattle.target_paths.specs.Url.{is_slash, is_colon}
 
 -- the byte would be read otherwise, or end a target, wherever it is: 0 to 32, 127, and "#%&'()<=>?\`|
@@ -72,14 +72,9 @@ target_of path = written Start (path_written path)
 abbrev pub is_nul : ℕ → Bool
 is_nul b = b == 0
 
--- the text is empty, or begins a query or a fragment
-abbrev pub IsTail : List ℕ → Type 0
-IsTail [] = ⊤
-IsTail (b ∷ bs) = is_tail_byte b ≡ true
-
 -- a reader of each syntax takes the text, whatever tail is after it, as this
 abbrev pub IsTakenAs : List ℕ → Meaning → Type 0
-IsTakenAs text means = (syntax : TargetSyntax) (tail : List ℕ) → IsTail tail → meaning syntax (text ++ tail) ≡ means
+IsTakenAs text means = (syntax : TargetSyntax) (tail : List ℕ) → IsTail syntax tail → meaning syntax (text ++ tail) ≡ means
 
 -- the byte ends a target of some syntax: a control byte, a space, or one of "'()<=>`
 abbrev pub ends_target : ℕ → Bool

@@ -2,8 +2,10 @@
 ghost use Rattle.std.specs.Prelude.{◌≡◌, ◌≤◌, ◌-◌, ◌+◌, length, Ok, IfOk, IfErr};
 ghost use Rattle.target_paths.specs.Pieces.{joined, pieces, total_size};
 ghost use Rattle.target_paths.specs.Reading.{
+  BeginsRelative,
   begins_tail,
-  is_tail_byte,
+  IfPath,
+  IsTailAt,
   meaning,
   meaning_decoded,
   meaning_of_url,
@@ -11,7 +13,7 @@ ghost use Rattle.target_paths.specs.Reading.{
   Says,
   trimmed,
 };
-ghost use Rattle.target_paths.specs.Shown.{read_bytes, Refuses, RefusesTarget};
+ghost use Rattle.target_paths.specs.Shown.{HasTail, read_bytes, Refuses, RefusesTarget};
 ghost use Rattle.target_paths.specs.Url.{url_piece};
 
 use crate::piece::{Read, ReadError, push_read};
@@ -64,6 +66,8 @@ pub fn path_of_target(
     target: &str,
 ) -> Result<TargetReading, AllocError>
     ensures reading { IfOk result (Says (meaning syntax target.now)) }
+    ensures tail { IfOk result (λ reading. IfPath reading (λ _ tail_at. IsTailAt syntax target.now tail_at)) }
+    ensures relative { IfOk result (λ reading. IfPath reading (λ path _. BeginsRelative path)) }
 {
     match read_target(alloc, syntax, target.as_bytes()) {
         Ok(reading) => Ok(reading),
@@ -79,6 +83,7 @@ fn read_target(
     target: &[u8],
 ) -> Result<TargetReading, ReadError>
     ensures ok { IfOk result (Says (meaning syntax target.now)) }
+    ensures tail { IfOk result (λ _. HasTail syntax target.now) }
     ensures err { IfErr result (RefusesTarget (meaning syntax target.now)) }
 {
     let part = read_path(alloc, syntax, target)?;
@@ -112,7 +117,8 @@ fn read_path_bytes(path: Vec<u8>, tail_at: usize) -> Result<TargetReading, ReadE
 // What a target is read as before its query and its fragment.
 fn read_path(alloc: Global, syntax: TargetSyntax, target: &[u8]) -> Result<PathPart, ReadError>
     ensures bytes { IfOk result (λ part. joined (path_pieces syntax target.now) ≡ Ok part.bytes.items) }
-    ensures tail { IfOk result (λ part. part.tail_at ≡ total_size (path_pieces syntax target.now)) }
+    ensures size { IfOk result (λ part. part.tail_at ≡ total_size (path_pieces syntax target.now)) }
+    ensures tail { IfOk result (λ _. HasTail syntax target.now) }
     ensures err { IfErr result (Refuses (joined (path_pieces syntax target.now))) }
 {
     let mut bytes = Vec::with_capacity(alloc, target.len())?;
@@ -120,15 +126,14 @@ fn read_path(alloc: Global, syntax: TargetSyntax, target: &[u8]) -> Result<PathP
     while let [first, rest @ ..] = left {
         let piece = source_piece(syntax, *first, rest);
         if begins_tail(piece.read) {
-            break;
+            let tail_at = target.len() - left.len();
+            return Ok(PathPart { bytes, tail_at });
         }
         push_read(&mut bytes, piece.read)?;
         left = &left[piece.size..];
     }
-    Ok(PathPart {
-        bytes,
-        tail_at: target.len() - left.len(),
-    })
+    let tail_at = target.len();
+    Ok(PathPart { bytes, tail_at })
 }
 
 // Whether a piece that is read so begins a query or a fragment.
