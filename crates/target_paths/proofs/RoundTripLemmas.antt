@@ -10,8 +10,8 @@ use Rattle.target_paths.specs.declared.target.TargetSyntax.{TargetSyntax}
 use Rattle.target_paths.specs.declared.target.TargetSyntax.TheVariants.{Markdown, Attribute}
 use Rattle.target_paths.specs.declared.target.WhyUnknown.{WhyUnknown}
 use Rattle.target_paths.specs.declared.target.WhyUnknown.TheVariants.{EncodedNul, EncodedSlash}
-use Rattle.target_paths.specs.declared.writing.Place.{Place}
-use Rattle.target_paths.specs.declared.writing.Place.TheVariants.{Start, FirstSegment, AfterSlash}
+use Rattle.target_paths.specs.declared.place.Place.{Place}
+use Rattle.target_paths.specs.declared.place.Place.TheVariants.{Start, FirstSegment, AfterSlash}
 use Rattle.target_paths.specs.Pieces.{plain, pieces, followed, joined, total_size}
 use Rattle.target_paths.specs.Reading.{is_tail_byte, before_tail, path_pieces, trimmed, path_before, unknown, meaning_decoded, meaning_of_url, meaning, IsTail, BeginsRelative}
 use Rattle.target_paths.specs.Source.{source_piece, is_escape, reference_piece, reference_character, byte_piece, byte_read, character_read, is_tab_or_line_end}

@@ -7,8 +7,8 @@ use Rattle.std.proofs.lemmas.Str.Pattern.{drop_at_char}
 use Rattle.std.specs.Char.{encode_utf8}
 use Rattle.std.specs.Str.{encode_utf8_all}
 use Rattle.std.specs.Str.Pattern.{FindsCharPrefix, IsTrimStartMatches, CutsPrefixes, IsFullyTrimmed}
-use Rattle.target_paths.specs.declared.writing.Place.{Place}
-use Rattle.target_paths.specs.declared.writing.Place.TheVariants.{Start, FirstSegment, AfterSlash}
+use Rattle.target_paths.specs.declared.place.Place.{Place}
+use Rattle.target_paths.specs.declared.place.Place.TheVariants.{Start, FirstSegment, AfterSlash}
 use Rattle.target_paths.specs.Url.{slash}
 use Rattle.target_paths.specs.Writing.{is_escaped, place_after, percent_text, written_byte, written_character, written, without_slashes}
 

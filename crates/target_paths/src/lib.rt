@@ -4,7 +4,7 @@
 //!
 //! ```text
 //! reading     reading - source, reference
-//! writing     writing
+//! writing     writing - place
 //! both        url - piece - target
 //! ```
 #![tactic(auto)]
@@ -14,6 +14,7 @@ pub use self::target::{TargetReading, TargetSyntax, WhyUnknown};
 pub use self::writing::target_of_path;
 
 mod piece;
+mod place;
 mod reading;
 mod reference;
 mod source;

@@ -6,13 +6,10 @@ ghost use Rattle.target_paths.specs.Writing.{
   begins_template,
   ends_target,
   hexadecimal,
-  is_escaped,
   is_nul,
-  is_reserved,
   IsTakenAs,
   path_written,
   percent_text,
-  place_after,
   target_of,
   without_slashes,
   written,
@@ -20,60 +17,8 @@ ghost use Rattle.target_paths.specs.Writing.{
 };
 ghost use Rattle.target_paths.specs.declared.target.WhyUnknown.TheVariants.{EncodedNul};
 
+use crate::place::Place;
 use std::alloc::{AllocError, Global};
-
-// Where a byte of a path is.
-#[derive(Clone, Copy)]
-pub(crate) enum Place {
-    Start,
-    FirstSegment,
-    AfterSlash,
-}
-
-impl Place {
-    // Whether a character is escaped here.
-    fn escapes(self, character: char) -> bool
-        ensures { result ≡ is_escaped self character }
-    {
-        match self {
-            Place::Start => {
-                is_reserved(character) || character == ':' || character == '$' || character == '{'
-            }
-            Place::FirstSegment => is_reserved(character) || character == ':',
-            Place::AfterSlash => is_reserved(character),
-        }
-    }
-
-    // The place after a character.
-    fn after(self, character: char) -> Place
-        ensures { result ≡ place_after self character }
-    {
-        match self {
-            Place::Start if character == '/' => Place::AfterSlash,
-            Place::Start => Place::FirstSegment,
-            Place::FirstSegment if character == '/' => Place::AfterSlash,
-            Place::FirstSegment => Place::FirstSegment,
-            Place::AfterSlash => Place::AfterSlash,
-        }
-    }
-}
-
-// Whether a character is escaped wherever it is.
-fn is_reserved(character: char) -> bool
-    ensures { result ≡ is_reserved character }
-{
-    match character {
-        '\0'..=' ' => true,
-        '"'..='#' => true,
-        '%'..=')' => true,
-        '<'..='?' => true,
-        '\\' => true,
-        '`' => true,
-        '|' => true,
-        '\u{7F}' => true,
-        _ => false,
-    }
-}
 
 // The digit of a number below 16.
 fn hexadecimal(digit: u8) -> char

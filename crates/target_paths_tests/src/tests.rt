@@ -5,6 +5,7 @@ use std::test::Fail;
 use target_paths::{TargetReading, TargetSyntax, path_of_target, target_of_path};
 
 mod attributes;
+mod calling;
 mod left_alone;
 mod markdown;
 mod percent;

@@ -4,7 +4,7 @@ use Rattle.std.specs.Str.{IsUtf8}
 use Rattle.target_paths.specs.Reading.{path_before, unknown}
 use Rattle.target_paths.specs.Writing.{IsTakenAs, path_written, written}
 use Rattle.target_paths.specs.declared.target.WhyUnknown.TheVariants.{EncodedNul}
-use Rattle.target_paths.specs.declared.writing.Place.TheVariants.{Start}
+use Rattle.target_paths.specs.declared.place.Place.TheVariants.{Start}
 use Rattle.target_paths.proofs.RoundTripLemmas.{target_of-read, target_of-nul, target_of-whole}
 use Rattle.target_paths.proofs.writing.target_of_path.Goals as goal
 

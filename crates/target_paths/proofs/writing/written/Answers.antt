@@ -5,7 +5,7 @@ use Rattle.std.proofs.lemmas.List.{length_push}
 use Rattle.std.proofs.lemmas.Str.{encodes-chars}
 use Rattle.std.specs.Str.{chars, encode_utf8_all}
 use Rattle.target_paths.specs.Writing.{written}
-use Rattle.target_paths.specs.declared.writing.Place.TheVariants.{Start}
+use Rattle.target_paths.specs.declared.place.Place.TheVariants.{Start}
 use Rattle.target_paths.proofs.WritingLemmas.{written-next, written-end}
 use Rattle.target_paths.proofs.writing.written.Goals as goal
 
