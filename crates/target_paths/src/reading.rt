@@ -29,36 +29,39 @@ struct PathPart {
     tail_at: usize,
 }
 
-/// What a target is for a reader of its page: a path from the page's directory, and the byte of the target at
-/// which its query or fragment begins; no such path; or nothing that is known.
+/// What a target is for a reader of its page: a path from the page's directory, with the byte of the
+/// target at which its query or fragment begins; no such path; or nothing that is known.
 ///
-/// First escapes and references to characters are read, up to the first `?` or `#` that is read, also by an escape or
-/// a reference. What stands after it doesn't count. What was read is a URL. An empty one, one with a
-/// scheme and one that begins with a slash are [`TargetReading::NotRelative`]. Of any other the percent
-/// signs are decoded, once.
+/// First escapes and references to characters are read, up to the first `?` or `#` that is read, also if
+/// an escape or a reference stands for it. What is after it doesn't count. What was read is a URL. An
+/// empty one, one with a scheme and one that begins with a slash are [`TargetReading::NotRelative`]. Of
+/// any other the percent signs are decoded, once.
 ///
-/// | Read | In Markdown | In an attribute |
+/// | In the target | In Markdown | In an attribute |
 /// |---|---|---|
 /// | `\` before ASCII punctuation | the punctuation | a slash, as any backslash |
-/// | `&#38;` and `&#x26;`, of 1 to 7 decimal or 1 to 6 hexadecimal digits | the character; U+FFFD for 0, a surrogate and a number past U+10FFFF | the same, but unknown for 128 to 159 |
+/// | `&#38;` and `&#x26;`, of 1 to 7 decimal or 1 to 6 hexadecimal digits | the character | the same, but unknown for 128 to 159 |
 /// | `&amp;` `&lt;` `&gt;` `&quot;` `&apos;` `&nbsp;` | the character | the same |
 /// | another `&` | unknown in `&name;`, else itself | unknown before a letter or `#`, else itself |
 /// | NUL | U+FFFD | the same |
 /// | tabs and line ends | themselves | nothing |
 /// | control bytes and spaces at the ends | themselves | nothing |
 ///
-/// A path isn't known either where it has `%2F` or `%00`, or is no UTF-8 when it is decoded.
+/// A reference to 0, to a surrogate or past U+10FFFF is U+FFFD. The path is unknown too where it has
+/// `%2F` or `%00`, or isn't UTF-8 when it is decoded. [`WhyUnknown`] has the reasons.
 ///
 /// It allocates what was read and the path, each at first as long as the target. Time is linear.
 ///
 /// ```
-/// let page = |target| path_of_target(alloc, TargetSyntax::Markdown, target);
-/// let TargetReading::Path { path, tail_at } = page("my%20a\_b.md?q#top")? else {
+/// let reading = path_of_target(alloc, TargetSyntax::Markdown, "my%20a\\_b.md?q#top")?;
+/// let TargetReading::Path { path, tail_at } = reading else {
 ///     return Err(Fail::new("a path"));
 /// };
 /// assert_eq!(rt; (path.as_str(), tail_at), ("my a_b.md", 12));
-/// assert_eq!(rt; page("#top")?, TargetReading::NotRelative);
-/// assert_eq!(rt; page("a%2Fb")?, TargetReading::Unknown(WhyUnknown::EncodedSlash));
+/// let reading = path_of_target(alloc, TargetSyntax::Attribute, "&#35;top")?;
+/// assert_eq!(rt; reading, TargetReading::NotRelative);
+/// let reading = path_of_target(alloc, TargetSyntax::Attribute, "a%2Fb")?;
+/// assert_eq!(rt; reading, TargetReading::Unknown(WhyUnknown::EncodedSlash));
 /// ```
 pub fn path_of_target(
     alloc: Global,
