@@ -50,7 +50,8 @@ struct PathPart {
 /// A reference to 0, to a surrogate or past U+10FFFF is U+FFFD. The path is unknown too where it has
 /// `%2F` or `%00`, or isn't UTF-8 when it is decoded. [`WhyUnknown`] has the reasons.
 ///
-/// It allocates what was read and the path, each at first as long as the target. Time is linear.
+/// It allocates as many bytes as the target has, and for a path as many as were read before its tail.
+/// Time is linear.
 ///
 /// ```
 /// let reading = path_of_target(alloc, TargetSyntax::Markdown, "my%20a\\_b.md?q#top")?;
