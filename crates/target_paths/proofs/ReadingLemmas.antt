@@ -10,10 +10,10 @@ use Rattle.target_paths.specs.declared.target.TargetSyntax.{TargetSyntax}
 use Rattle.target_paths.specs.declared.target.WhyUnknown.{WhyUnknown}
 use Rattle.target_paths.specs.declared.target.WhyUnknown.TheVariants.{NotUtf8}
 use Rattle.target_paths.specs.Pieces.{Piece, pieces, joined, total_size}
-use Rattle.target_paths.specs.Reading.{is_tail_byte, begins_tail, before_tail, path_pieces, kept, path_before, unknown, meaning_decoded, meaning_of_url, meaning_read, has_tail, meaning}
-use Rattle.target_paths.specs.Shown.{Refuses, RefusesTarget}
+use Rattle.target_paths.specs.Reading.{is_tail_byte, begins_tail, before_tail, path_pieces, not_relative, path_before, unknown, meaning_decoded, meaning_of_url, meaning_read, has_tail, meaning}
+use Rattle.target_paths.specs.Shown.{SaysWhy, SaysWhyOfTarget}
 use Rattle.target_paths.specs.Source.{source_piece}
-use Rattle.target_paths.specs.Url.{is_kept, url_piece}
+use Rattle.target_paths.specs.Url.{is_not_relative, url_piece}
 use Rattle.target_paths.proofs.PiecesLemmas.{from_byte, pieces-left}
 
 -- ---- what begins a tail
@@ -66,14 +66,14 @@ meaning-read syntax target read tail_at is at =
     ap₂ (λ r n. meaning_read syntax (has_tail target n) r n) is (sym at)
 
 -- by its text as a URL
-pub meaning-kept : (text : List ℕ) (tail_at : ℕ) → is_kept text ≡ true → meaning_of_url text tail_at ≡ kept
-meaning-kept text tail_at is =
-    ap (λ t. if t then kept else meaning_decoded (joined (pieces url_piece 0 text)) tail_at) is
+pub meaning-not_relative : (text : List ℕ) (tail_at : ℕ) → is_not_relative text ≡ true → meaning_of_url text tail_at ≡ not_relative
+meaning-not_relative text tail_at is =
+    ap (λ t. if t then not_relative else meaning_decoded (joined (pieces url_piece 0 text)) tail_at) is
 
-pub meaning-decoded : (text : List ℕ) (read : Result (List ℕ) WhyUnknown) (tail_at : ℕ) → is_kept text ≡ false
+pub meaning-decoded : (text : List ℕ) (read : Result (List ℕ) WhyUnknown) (tail_at : ℕ) → is_not_relative text ≡ false
     → joined (pieces url_piece 0 text) ≡ read → meaning_of_url text tail_at ≡ meaning_decoded read tail_at
 meaning-decoded text read tail_at is decoded =
-    ap (λ t. if t then kept else meaning_decoded (joined (pieces url_piece 0 text)) tail_at) is
+    ap (λ t. if t then not_relative else meaning_decoded (joined (pieces url_piece 0 text)) tail_at) is
     ∙ ap (λ r. meaning_decoded r tail_at) decoded
 
 pub meaning-utf8 : (bytes : List ℕ) (tail_at : ℕ) → IsUtf8 bytes → meaning_decoded (Ok bytes) tail_at ≡ path_before bytes tail_at
@@ -89,14 +89,14 @@ meaning-not_utf8 bytes tail_at not = of (is_utf8 bytes) refl where
 
 -- ---- the same, from what the code has at hand
 
-pub url-refused : (text : List ℕ) (tail_at : ℕ) (error : ReadError) → false ≡ is_kept text
-    → Refuses (joined (pieces url_piece 0 text)) error → RefusesTarget (meaning_of_url text tail_at) error
+pub url-refused : (text : List ℕ) (tail_at : ℕ) (error : ReadError) → false ≡ is_not_relative text
+    → SaysWhy (joined (pieces url_piece 0 text)) error → SaysWhyOfTarget (meaning_of_url text tail_at) error
 url-refused text tail_at (error.Unknown why) relative refuses =
     meaning-decoded text (Err why) tail_at (sym relative) refuses
 url-refused text tail_at error.OutOfMemory relative refuses = tt
 
 pub target-refused : (syntax : TargetSyntax) (target : List ℕ) (error : ReadError)
-    → Refuses (joined (path_pieces syntax target)) error → RefusesTarget (meaning syntax target) error
+    → SaysWhy (joined (path_pieces syntax target)) error → SaysWhyOfTarget (meaning syntax target) error
 target-refused syntax target (error.Unknown why) refuses =
     meaning-read syntax target (Err why) (total_size (path_pieces syntax target)) refuses refl
 target-refused syntax target error.OutOfMemory refuses = tt

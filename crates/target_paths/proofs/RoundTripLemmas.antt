@@ -15,7 +15,7 @@ use Rattle.target_paths.specs.declared.place.Place.TheVariants.{Start, FirstSegm
 use Rattle.target_paths.specs.Pieces.{plain, pieces, followed, joined, total_size}
 use Rattle.target_paths.specs.Reading.{is_tail_byte, before_tail, path_pieces, trimmed, path_before, unknown, meaning_decoded, meaning_of_url, meaning, IsTail, BeginsRelative}
 use Rattle.target_paths.specs.Source.{source_piece, is_escape, reference_piece, reference_character, byte_piece, byte_read, character_read, is_tab_or_line_end}
-use Rattle.target_paths.specs.Url.{is_blank, before_text, without_leading, without_trailing, is_slash, is_colon, is_scheme_byte, has_scheme, is_kept, decoded_byte, has_digits, digits_byte, url_piece}
+use Rattle.target_paths.specs.Url.{is_blank, before_text, without_leading, without_trailing, is_slash, is_colon, is_scheme_byte, has_scheme, is_not_relative, decoded_byte, has_digits, digits_byte, url_piece}
 use Rattle.target_paths.specs.Writing.{is_reserved, is_escaped, place_after, hexadecimal, percent_text, written_byte, written, without_slashes, some_path, path_written, target_of, is_nul, IsTakenAs, ends_target}
 use Rattle.target_paths.proofs.ReadingLemmas.{meaning-read, meaning-decoded, meaning-utf8}
 
@@ -255,7 +255,7 @@ colon-escaped_start : (b : ℕ) → is_escaped Start b ≡ false → is_colon b 
 colon-escaped_start b keeps = grind (arith, nat_tests)
 
 relative-by_first : (b : ℕ) (rest : List ℕ) → is_slash b ≡ false → has_scheme (b ∷ rest) ≡ false
-    → is_kept (b ∷ rest) ≡ false
+    → is_not_relative (b ∷ rest) ≡ false
 relative-by_first b rest other scheme =
     let some : (length (b ∷ rest) == 0) ≡ false = grind (arith, nat_tests) in
     ap (λ t. t || is_slash b || has_scheme (b ∷ rest)) some
@@ -263,12 +263,12 @@ relative-by_first b rest other scheme =
     ∙ scheme
 
 start-relative : (escaped : Bool) (b : ℕ) (rest : List ℕ) → is_slash b ≡ false
-    → has_scheme (written_byte escaped b ++ rest) ≡ false → is_kept (written_byte escaped b ++ rest) ≡ false
+    → has_scheme (written_byte escaped b ++ rest) ≡ false → is_not_relative (written_byte escaped b ++ rest) ≡ false
 start-relative true b rest other scheme =
     relative-by_first 37 (hexadecimal (b / 16) ∷ hexadecimal (b % 16) ∷ rest) refl scheme
 start-relative false b rest other scheme = relative-by_first b rest other scheme
 
-written-relative : (b : ℕ) (bs : List ℕ) → is_slash b ≡ false → is_kept (written Start (b ∷ bs)) ≡ false
+written-relative : (b : ℕ) (bs : List ℕ) → is_slash b ≡ false → is_not_relative (written Start (b ∷ bs)) ≡ false
 written-relative b bs other =
     start-relative (is_escaped Start b) b (written (place_after Start b) bs) other
     (no_scheme (written Start (b ∷ bs))

@@ -7,9 +7,9 @@ use Rattle.target_paths.specs.declared.target.TargetSyntax.{TargetSyntax}
 use Rattle.target_paths.specs.declared.target.WhyUnknown.{WhyUnknown}
 use Rattle.target_paths.specs.declared.target.WhyUnknown.TheVariants.{EncodedNul, EncodedSlash, NotUtf8}
 use Rattle.target_paths.specs.Pieces.{plain, pieces, followed, joined, total_size}
-use Rattle.target_paths.specs.Reading.{path_pieces, trimmed, kept, path_before, unknown, meaning_decoded, meaning_of_url, meaning_read, has_tail, meaning, Says, IsTail, IsTailAt, BeginsRelative, IfPath}
+use Rattle.target_paths.specs.Reading.{path_pieces, trimmed, not_relative, path_before, unknown, meaning_decoded, meaning_of_url, meaning_read, has_tail, meaning, Says, IsTail, IsTailAt, BeginsRelative, IfPath}
 use Rattle.target_paths.specs.Shown.{HasTail}
-use Rattle.target_paths.specs.Url.{is_slash, has_scheme, is_kept, decoded_byte, has_digits, digits_byte, url_piece}
+use Rattle.target_paths.specs.Url.{is_slash, has_scheme, is_not_relative, decoded_byte, has_digits, digits_byte, url_piece}
 use Rattle.target_paths.proofs.RoundTripLemmas.{by_escape, IsTail-boundary}
 
 -- where what is left begins a tail, that is what is left after the path
@@ -58,7 +58,7 @@ or_false : (a b : Bool) → (a || b) ≡ false → (a ≡ false) × (b ≡ false
 or_false false b is = (refl, is)
 or_false true b is = absurd (cc)
 
-decoded-relative : (text : List ℕ) → is_kept text ≡ false → ReadsRelative (joined (pieces url_piece 0 text))
+decoded-relative : (text : List ℕ) → is_not_relative text ≡ false → ReadsRelative (joined (pieces url_piece 0 text))
 decoded-relative [] relative = absurd (cc)
 decoded-relative (b ∷ rest) relative =
     let (some, scheme) = or_false (length (b ∷ rest) == 0 || is_slash b) (has_scheme (b ∷ rest)) relative in
@@ -82,16 +82,16 @@ says-url : (text : List ℕ) (n : ℕ) (reading : TargetReading) → Says (meani
     → IfPath reading (λ path at. (at ≡ n) × BeginsRelative path)
 says-url text n reading says =
     by_escape
-    (λ t. is_kept text ≡ t → Says (if t then kept else meaning_decoded (joined (pieces url_piece 0 text)) n) reading
+    (λ t. is_not_relative text ≡ t → Says (if t then not_relative else meaning_decoded (joined (pieces url_piece 0 text)) n) reading
     → IfPath reading (λ path at. (at ≡ n) × BeginsRelative path))
-    (is_kept text)
-    (λ keeps at told. kept-none reading told)
+    (is_not_relative text)
+    (λ keeps at told. not_relative-none reading told)
     (λ relative at told. says-decoded (joined (pieces url_piece 0 text)) n reading (decoded-relative text at) told)
     refl says where
-      kept-none : (reading : TargetReading) → Says kept reading → IfPath reading (λ path at. (at ≡ n) × BeginsRelative path)
-      kept-none NotRelative told = tt
-      kept-none (Unknown why) told = tt
-      kept-none (Path path at) told = absurd (cc)
+      not_relative-none : (reading : TargetReading) → Says not_relative reading → IfPath reading (λ path at. (at ≡ n) × BeginsRelative path)
+      not_relative-none NotRelative told = tt
+      not_relative-none (Unknown why) told = tt
+      not_relative-none (Path path at) told = absurd (cc)
 
 says-read : (syntax : TargetSyntax) (tail : Bool) (read : Result (List ℕ) WhyUnknown) (n : ℕ) (reading : TargetReading)
     → Says (meaning_read syntax tail read n) reading → IfPath reading (λ path at. (at ≡ n) × BeginsRelative path)

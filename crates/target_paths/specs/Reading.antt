@@ -10,7 +10,7 @@ use Rattle.target_paths.specs.declared.target.WhyUnknown.{WhyUnknown}
 use Rattle.target_paths.specs.declared.target.WhyUnknown.TheVariants.{NotUtf8}
 use Rattle.target_paths.specs.Pieces.{Piece, pieces, joined, total_size}
 use Rattle.target_paths.specs.Source.{source_piece}
-use Rattle.target_paths.specs.Url.{without_leading, without_trailing, is_slash, is_kept, url_piece}
+use Rattle.target_paths.specs.Url.{without_leading, without_trailing, is_slash, is_not_relative, url_piece}
 
 -- the byte is `?` or `#`, which begins a query or a fragment
 abbrev pub is_tail_byte : ℕ → Bool
@@ -40,7 +40,7 @@ trimmed Attribute false text = without_trailing (without_leading text)
 
 -- what a target is: no path from the page's directory; the bytes of a path, and the byte where the tail begins; unknown
 pub data Meaning : Type 0 where
-  kept : Meaning
+  not_relative : Meaning
   path_before : List ℕ → ℕ → Meaning
   unknown : WhyUnknown → Meaning
 
@@ -52,7 +52,7 @@ meaning_decoded (Ok bytes) tail_at = if is_utf8 bytes then path_before bytes tai
 -- by its text as a URL
 abbrev pub meaning_of_url : List ℕ → ℕ → Meaning
 meaning_of_url text tail_at =
-    if is_kept text then kept else meaning_decoded (joined (pieces url_piece 0 text)) tail_at
+    if is_not_relative text then not_relative else meaning_decoded (joined (pieces url_piece 0 text)) tail_at
 
 -- by what its pieces are read as
 abbrev pub meaning_read : TargetSyntax → Bool → Result (List ℕ) WhyUnknown → ℕ → Meaning
@@ -71,7 +71,7 @@ meaning syntax target =
 
 -- the result says what the target is
 abbrev pub Says : Meaning → TargetReading → Type 0
-Says kept reading = reading ≡ NotRelative
+Says not_relative reading = reading ≡ NotRelative
 Says (unknown why) reading = reading ≡ Unknown why
 Says (path_before bytes tail_at) NotRelative = ⊥
 Says (path_before bytes tail_at) (Path text at) = (string_bytes text ≡ bytes) × (at ≡ tail_at)

@@ -14,7 +14,7 @@ ends_body b = not (is_ascii_alphanumeric b || b == 35)
 abbrev pub body_of : List ℕ → List ℕ
 body_of text = before_first ends_body text
 
--- a semicolon stands after it
+-- a semicolon comes after the body
 abbrev pub is_closed : List ℕ → Bool
 is_closed text = slice_index text (length (body_of text)) == 59
 

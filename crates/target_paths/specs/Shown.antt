@@ -1,4 +1,4 @@
--- What the code's pieces and errors stand for.
+-- What the code's pieces and errors mean in the words of the definitions.
 use Rattle.std.specs.Prelude.{◌≡◌, ◌≤◌, length, drop, ℕ, List, [], ◌∷◌, Result, Ok, Err, ⊤}
 use Rattle.std.specs.Char.{encode_utf8}
 use Rattle.target_paths.specs.declared.piece.Piece as code
@@ -23,14 +23,14 @@ abbrev pub piece_of : code.Piece → Piece
 piece_of piece = record { size = piece.size; read = read_bytes piece.read }
 
 -- it says why something isn't known, or that memory ran out
-abbrev pub Refuses : Result (List ℕ) WhyUnknown → ReadError → Type 0
-Refuses read (error.Unknown why) = read ≡ Err why
-Refuses read error.OutOfMemory = ⊤
+abbrev pub SaysWhy : Result (List ℕ) WhyUnknown → ReadError → Type 0
+SaysWhy read (error.Unknown why) = read ≡ Err why
+SaysWhy read error.OutOfMemory = ⊤
 
 -- it says why a target isn't known, or that memory ran out
-abbrev pub RefusesTarget : Meaning → ReadError → Type 0
-RefusesTarget meaning (error.Unknown why) = meaning ≡ unknown why
-RefusesTarget meaning error.OutOfMemory = ⊤
+abbrev pub SaysWhyOfTarget : Meaning → ReadError → Type 0
+SaysWhyOfTarget meaning (error.Unknown why) = meaning ≡ unknown why
+SaysWhyOfTarget meaning error.OutOfMemory = ⊤
 
 -- what is left of a target after its path is a tail
 abbrev pub HasTail : TargetSyntax → List ℕ → Type 0

@@ -51,8 +51,8 @@ abbrev pub has_scheme : List ℕ → Bool
 has_scheme text = list_any is_colon text && is_scheme (before_first is_colon text)
 
 -- the text is no path from the page's directory: it is empty, has a scheme, or begins with a slash
-abbrev pub is_kept : List ℕ → Bool
-is_kept text = length text == 0 || is_slash (slice_index text 0) || has_scheme text
+abbrev pub is_not_relative : List ℕ → Bool
+is_not_relative text = length text == 0 || is_slash (slice_index text 0) || has_scheme text
 
 -- what a percent sign and two hexadecimal digits are read as, by their byte
 abbrev pub decoded_byte : ℕ → Result (List ℕ) WhyUnknown

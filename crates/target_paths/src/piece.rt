@@ -1,7 +1,7 @@
 //! Pieces of a text, and what they are read as.
 ghost use Rattle.std.specs.Prelude.{◌≡◌, ◌++◌, Ok, IfOk, IfErr};
 ghost use Rattle.target_paths.specs.Pieces.{followed};
-ghost use Rattle.target_paths.specs.Shown.{read_bytes, Refuses};
+ghost use Rattle.target_paths.specs.Shown.{read_bytes, SaysWhy};
 
 use crate::target::WhyUnknown;
 use std::alloc::AllocError;
@@ -42,7 +42,7 @@ impl From<AllocError> for ReadError {
 // Adds what a piece is read as to the bytes so far.
 pub(crate) fn push_read(bytes: &mut Vec<u8>, read: Read) -> Result<(), ReadError>
     ensures ok { IfOk result (λ _. followed (Ok bytes.old.items) (read_bytes read) ≡ Ok bytes.new.items) }
-    ensures err { IfErr result (Refuses (read_bytes read)) }
+    ensures err { IfErr result (SaysWhy (read_bytes read)) }
 {
     match read {
         Read::Byte(byte) => push_bytes(bytes, &[byte]),

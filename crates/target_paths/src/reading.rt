@@ -1,4 +1,4 @@
-//! What a target is for a reader of its page.
+//! What a target means to a reader of its page.
 ghost use Rattle.std.specs.Prelude.{◌≡◌, ◌≤◌, ◌-◌, ◌+◌, length, Ok, IfOk, IfErr};
 ghost use Rattle.target_paths.specs.Pieces.{joined, pieces, total_size};
 ghost use Rattle.target_paths.specs.Reading.{
@@ -13,13 +13,13 @@ ghost use Rattle.target_paths.specs.Reading.{
   Says,
   trimmed,
 };
-ghost use Rattle.target_paths.specs.Shown.{HasTail, read_bytes, Refuses, RefusesTarget};
+ghost use Rattle.target_paths.specs.Shown.{HasTail, read_bytes, SaysWhy, SaysWhyOfTarget};
 ghost use Rattle.target_paths.specs.Url.{url_piece};
 
 use crate::piece::{Read, ReadError, push_read};
 use crate::source::source_piece;
 use crate::target::{TargetReading, TargetSyntax, WhyUnknown};
-use crate::url::{is_kept, url_piece, without_leading, without_trailing};
+use crate::url::{is_not_relative, url_piece, without_leading, without_trailing};
 use std::alloc::{AllocError, Global};
 
 // What a target is read as before its query and its fragment, and the byte where these begin.
@@ -29,29 +29,29 @@ struct PathPart {
     tail_at: usize,
 }
 
-/// What a target is for a reader of its page: a path from the page's directory, with the byte of the
-/// target at which its query or fragment begins; no such path; or nothing that is known.
+/// Returns what a target means to a reader of its page: a path that is relative to the page's directory, with
+/// the offset of the query or fragment; not such a path; or that the meaning isn't known.
 ///
-/// First escapes and references to characters are read, up to the first `?` or `#` that is read, also if
-/// an escape or a reference stands for it. What is after it doesn't count. What was read is a URL. An
-/// empty one, one with a scheme and one that begins with a slash are [`TargetReading::NotRelative`]. Of
-/// any other the percent signs are decoded, once.
+/// The call first reads escapes and references to characters, up to the first `?` or `#`. An escape or a
+/// reference may stand for that `?` or `#`. What comes after it is the tail, and has no influence. The text that
+/// was read is a URL. If it is empty, has a scheme or begins with a slash, the result is
+/// [`TargetReading::NotRelative`]. Otherwise the call decodes percent signs, once.
 ///
 /// | In the target | In Markdown | In an attribute |
 /// |---|---|---|
-/// | `\` before ASCII punctuation | the punctuation | a slash, as any backslash |
-/// | `&#38;` and `&#x26;`, of 1 to 7 decimal or 1 to 6 hexadecimal digits | the character | the same, but unknown for 128 to 159 |
-/// | `&amp;` `&lt;` `&gt;` `&quot;` `&apos;` `&nbsp;` | the character | the same |
-/// | another `&` | unknown in `&name;`, else itself | unknown before a letter or `#`, else itself |
-/// | NUL | U+FFFD | the same |
+/// | `\` before ASCII punctuation | the punctuation | a slash, as every backslash |
+/// | `&#38;` and `&#x26;`, with 1 to 7 decimal or 1 to 6 hexadecimal digits | the character | the character, but unknown for 128 to 159 |
+/// | `&amp;` `&lt;` `&gt;` `&quot;` `&apos;` `&nbsp;` | the character | the character |
+/// | another `&` | unknown in `&name;`, otherwise itself | unknown before a letter or `#`, otherwise itself |
+/// | NUL | U+FFFD | U+FFFD |
 /// | tabs and line ends | themselves | nothing |
 /// | control bytes and spaces at the ends | themselves | nothing |
 ///
-/// A reference to 0, to a surrogate or past U+10FFFF is U+FFFD. The path is unknown too where it has
-/// `%2F` or `%00`, or isn't UTF-8 when it is decoded. [`WhyUnknown`] has the reasons.
+/// A reference to 0, to a surrogate or past U+10FFFF is read as U+FFFD. The meaning is also unknown if the path
+/// has `%2F` or `%00`, or if the decoded path isn't UTF-8. [`WhyUnknown`] has the reasons.
 ///
-/// It allocates as many bytes as the target has, and for a path as many as were read before its tail.
-/// Time is linear.
+/// Allocates as many bytes as the target has, and for a path as many bytes as were read before the tail. Time is
+/// linear.
 ///
 /// ```
 /// let reading = path_of_target(alloc, TargetSyntax::Markdown, "my%20a\\_b.md?q#top")?;
@@ -88,7 +88,7 @@ fn read_target(
 ) -> Result<TargetReading, ReadError>
     ensures ok { IfOk result (Says (meaning syntax target.now)) }
     ensures tail { IfOk result (λ _. HasTail syntax target.now) }
-    ensures err { IfErr result (RefusesTarget (meaning syntax target.now)) }
+    ensures err { IfErr result (SaysWhyOfTarget (meaning syntax target.now)) }
 {
     let part = read_path(alloc, syntax, target)?;
     let text = trimmed(syntax, part.tail_at < target.len(), &part.bytes);
@@ -98,9 +98,9 @@ fn read_target(
 // What a target is by its text as a URL.
 fn read_url(alloc: Global, text: &[u8], tail_at: usize) -> Result<TargetReading, ReadError>
     ensures ok { IfOk result (Says (meaning_of_url text.now tail_at)) }
-    ensures err { IfErr result (RefusesTarget (meaning_of_url text.now tail_at)) }
+    ensures err { IfErr result (SaysWhyOfTarget (meaning_of_url text.now tail_at)) }
 {
-    if is_kept(text) {
+    if is_not_relative(text) {
         return Ok(TargetReading::NotRelative);
     }
     let path = decoded(alloc, text)?;
@@ -110,7 +110,7 @@ fn read_url(alloc: Global, text: &[u8], tail_at: usize) -> Result<TargetReading,
 // What a target is by the bytes of its path.
 fn read_path_bytes(path: Vec<u8>, tail_at: usize) -> Result<TargetReading, ReadError>
     ensures ok { IfOk result (Says (meaning_decoded (Ok path.items) tail_at)) }
-    ensures err { IfErr result (RefusesTarget (meaning_decoded (Ok path.items) tail_at)) }
+    ensures err { IfErr result (SaysWhyOfTarget (meaning_decoded (Ok path.items) tail_at)) }
 {
     match String::from_utf8(path) {
         Ok(path) => Ok(TargetReading::Path { path, tail_at }),
@@ -123,7 +123,7 @@ fn read_path(alloc: Global, syntax: TargetSyntax, target: &[u8]) -> Result<PathP
     ensures bytes { IfOk result (λ part. joined (path_pieces syntax target.now) ≡ Ok part.bytes.items) }
     ensures size { IfOk result (λ part. part.tail_at ≡ total_size (path_pieces syntax target.now)) }
     ensures tail { IfOk result (λ _. HasTail syntax target.now) }
-    ensures err { IfErr result (Refuses (joined (path_pieces syntax target.now))) }
+    ensures err { IfErr result (SaysWhy (joined (path_pieces syntax target.now))) }
 {
     let mut bytes = Vec::with_capacity(alloc, target.len())?;
     let mut left = target;
@@ -166,7 +166,7 @@ fn trimmed(syntax: TargetSyntax, has_tail: bool, text: &[u8]) -> &[u8]
 // The path of a URL, its percent signs decoded once.
 fn decoded(alloc: Global, text: &[u8]) -> Result<Vec<u8>, ReadError>
     ensures ok { IfOk result (λ path. joined (pieces url_piece 0 text.now) ≡ Ok path.items) }
-    ensures err { IfErr result (Refuses (joined (pieces url_piece 0 text.now))) }
+    ensures err { IfErr result (SaysWhy (joined (pieces url_piece 0 text.now))) }
 {
     let mut bytes = Vec::with_capacity(alloc, text.len())?;
     let mut left = text;

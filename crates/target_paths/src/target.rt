@@ -1,10 +1,10 @@
-//! What a target is written in, and what it is read as.
+//! The syntaxes of targets, and what a target is read as.
 
-/// How the text of a target is read.
+/// The syntax of a target's text.
 #[derive(Clone, Copy, Debug, PartialEq, Eq)]
 pub enum TargetSyntax {
-    /// The destination of a link, an image or a link reference definition in Markdown, without the
-    /// angle brackets that may stand around it.
+    /// The destination of a link, an image or a link reference definition in Markdown, without the angle
+    /// brackets around it.
     Markdown,
     /// The value of an attribute of HTML, without its quotes.
     Attribute,
@@ -13,29 +13,29 @@ pub enum TargetSyntax {
 /// What a target is for a reader of its page.
 #[derive(Debug, PartialEq, Eq, Drop)]
 pub enum TargetReading {
-    /// No path from the page's directory: the page itself, a URL with a scheme, or one that begins with a
-    /// slash.
+    /// Not a path that is relative to the page's directory: the target is empty or a tail alone, has a scheme,
+    /// or begins with a slash.
     NotRelative,
-    /// A path from the page's directory.
+    /// A path that is relative to the page's directory.
     Path {
         /// The path, decoded.
         path: String,
-        /// The byte of the target at which its query or fragment begins, or its length.
+        /// The offset in the target of its query or fragment, or the target's length.
         tail_at: usize,
     },
-    /// Nothing that is known.
+    /// The meaning isn't known, for this reason.
     Unknown(WhyUnknown),
 }
 
-/// Why it isn't known what a target is.
+/// Why the meaning of a target isn't known.
 #[derive(Clone, Copy, Debug, PartialEq, Eq)]
 pub enum WhyUnknown {
-    /// It has a reference to a character that isn't one of those that are read.
+    /// The target has a reference to a character that this crate doesn't read.
     CharacterReference,
-    /// It has `%2F`, a slash that parts no directories.
+    /// The target has `%2F`, a slash that doesn't separate directories.
     EncodedSlash,
-    /// It has `%00`, which no path of a file has.
+    /// The target has `%00`, a byte that no path of a file has.
     EncodedNul,
-    /// Its percent signs are decoded to bytes that aren't UTF-8.
+    /// The decoded path isn't UTF-8.
     NotUtf8,
 }

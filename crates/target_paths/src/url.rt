@@ -6,7 +6,7 @@ ghost use Rattle.target_paths.specs.Url.{
   decoded_byte,
   has_scheme,
   is_colon,
-  is_kept,
+  is_not_relative,
   is_scheme,
   is_scheme_byte,
   url_piece,
@@ -47,8 +47,8 @@ pub(crate) fn without_trailing(text: &[u8]) -> &[u8]
 }
 
 // Whether a text is no path from the page's directory.
-pub(crate) fn is_kept(text: &[u8]) -> bool
-    ensures { result ≡ is_kept text.now }
+pub(crate) fn is_not_relative(text: &[u8]) -> bool
+    ensures { result ≡ is_not_relative text.now }
 {
     match text {
         [] => true,

@@ -65,7 +65,7 @@ fn push_character(target: &mut String, place: Place, character: char) -> Result<
     }
 }
 
-// A path without the slashes that it begins with.
+// A path without the slashes at its start.
 fn without_slashes(path: &str) -> &str
     ensures { result.now ≡ without_slashes path.now }
 {
@@ -80,19 +80,20 @@ fn path_written(path: &str) -> &str
     if path.is_empty() { "./" } else { path }
 }
 
-/// The target that is written for a path: [`path_of_target`](crate::path_of_target) reads it back in each
-/// syntax, whatever query or fragment is written after it.
+/// Returns the target to write for a path. In each syntax [`path_of_target`](crate::path_of_target) reads it
+/// back as the path, whatever query or fragment is written after it.
 ///
-/// These are written as percent signs: the bytes 0 to 32 and 127, `"`, `#`, `%`, `&`, `'`, `(`, `)`, `<`,
-/// `=`, `>`, `?`, `\`, `` ` `` and `|`; a colon in the first segment; at the start `{` and `$`, with which a
-/// template may begin. All others stay, those past ASCII too. So the same text serves with and without
-/// angle brackets or quotes around it.
+/// The call writes a percent sign and two digits for the bytes 0 to 32 and 127, and for `"`, `#`, `%`, `&`,
+/// `'`, `(`, `)`, `<`, `=`, `>`, `?`, `\`, `` ` `` and `|`. It does so for a colon in the first segment, and for
+/// `{` and `$` at the start, where a template may begin. Other bytes stay, also those past ASCII. So the same
+/// text serves with and without angle brackets or quotes around it.
 ///
-/// Slashes at the start of the path are left out: as a path it has the same components, but a reference
-/// that begins with a slash leads elsewhere. An empty path is written `./`, since an empty reference is
-/// the page itself. No target spells a path with NUL: what is written for one is read as unknown.
+/// The call leaves out slashes at the start of the path. The path without them has the same components, but a
+/// reference that begins with a slash leads elsewhere. For an empty path it writes `./`, since an empty
+/// reference leads to the page itself. No target spells a path with NUL; what is written for such a path is
+/// read as unknown.
 ///
-/// It allocates the target, at first as long as the path, and longer if bytes are escaped. Time is linear.
+/// Allocates the target, at first as many bytes as the path has, and more if bytes are escaped. Time is linear.
 ///
 /// ```
 /// assert_eq!(rt; target_of_path(alloc, "docs/my a_b.md")?.as_str(), "docs/my%20a_b.md");

@@ -1,6 +1,7 @@
-//! Each call that takes memory, between two marks, on short texts and on one of a MiB. tools/refusals
-//! runs each of these tests with each request between its marks refused in turn, so each takes a
-//! refusal as well as an answer; without that script it takes only the answer.
+//! Each call that allocates, between two marks, on short texts and on one of a MiB. tools/refusals runs
+//! each of these tests again and again, and makes one request between its marks fail after another. So
+//! a test accepts a failed allocation as well as the result; without that script it accepts only the
+//! result.
 mod marks;
 mod reading;
 mod writing;
