@@ -42,17 +42,19 @@ const NORMAL: [(&str, &str, &str, &str, bool); 6] = [
     ("../a", "../..", "../..", "..", false),
 ];
 
+// Fails where a normal path has another text, directory or place than is expected.
+fn looks(normal: &NormalPath, text: &str, above: &str, has: bool) -> Result<(), Fail> {
+    same(text, &normal.as_relative_path().as_str(), &text)?;
+    same(text, &normal.directory().as_str(), &above)?;
+    same(text, &normal.has_place(), &has)
+}
+
 #[test]
 fn joins_normal_paths(rt: HostRuntime) -> Result<(), Fail> {
     for (base, reference, text, above, has) in &NORMAL {
         let base = NormalPath::of(rt.alloc(), RelativePath::new(base))?;
         let joined = base.join(rt.alloc(), RelativePath::new(reference))?;
-        same(text, &joined.as_relative_path().as_str(), text)?;
-        same(
-            text,
-            &(joined.directory().as_str(), joined.has_place()),
-            &(*above, *has),
-        )?;
+        looks(&joined, text, above, *has)?;
     }
     Ok(())
 }

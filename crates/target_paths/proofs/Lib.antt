@@ -1,0 +1,9 @@
+pub mod FirstLemmas
+pub mod ForCallers
+pub mod NumbersLemmas
+pub mod PiecesLemmas
+pub mod ReadingLemmas
+pub mod RoundTripLemmas
+pub mod TailLemmas
+pub mod UrlLemmas
+pub mod WritingLemmas

@@ -1,0 +1,90 @@
+-- Texts read one piece after the other.
+use Rattle.std.proofs.Common.{◌≡◌, ℕ, zero, suc, ◌-◌, ◌+◌, ◌<◌, ◌≤◌, List, [], ◌∷◌, length, take, drop, get_or, Result, Ok, Err, refl, sym, ap, ◌∙◌, arith, append_assoc, length-drop}
+use Rattle.std.proofs.lemmas.List.{take_all, drop-drop}
+use Rattle.target_paths.specs.declared.target.WhyUnknown.{WhyUnknown}
+use Rattle.target_paths.specs.Pieces.{Piece, pieces, followed, joined, total_size}
+
+pub pieces-skip : (first : ℕ → List ℕ → Piece) (k : ℕ) (bs : List ℕ) → pieces first k bs ≡ pieces first 0 (drop k bs)
+pieces-skip first zero bs = refl
+pieces-skip first (suc k) [] = refl
+pieces-skip first (suc k) (b ∷ bs) = pieces-skip first k bs
+
+drop-pred : (n b : ℕ) (bs : List ℕ) → 0 < n → drop (n - 1) bs ≡ drop n (b ∷ bs)
+drop-pred zero b bs some = absurd (omega (arith, some))
+drop-pred (suc n) b bs some = let e : suc n - 1 ≡ n = omega arith in ap (λ k. drop k bs) e
+
+-- the slice of a text from a byte on
+abbrev pub from_byte : ℕ → List ℕ → List ℕ
+from_byte k text = take (length text - k) (drop k text)
+
+from_byte-drop : (k : ℕ) (text : List ℕ) → from_byte k text ≡ drop k text
+from_byte-drop k text = take_all (length text - k) (drop k text) (omega (arith, length-drop k text))
+
+-- a text by its first piece
+pub pieces-left : (first : ℕ → List ℕ → Piece) (left : List ℕ) (piece : Piece) → 1 ≤ length left
+    → piece ≡ first (get_or left 0 0) (from_byte 1 left) → 0 < piece.size
+    → pieces first 0 left ≡ piece ∷ pieces first 0 (from_byte piece.size left)
+pieces-left first [] piece some is size = absurd (omega (arith, some))
+pieces-left first (b ∷ bs) piece some is size =
+    ap (λ p. p ∷ pieces first (p.size - 1) bs) (ap (first b) (sym (from_byte-drop 1 (b ∷ bs))) ∙ sym is)
+    ∙ ap (λ ps. piece ∷ ps)
+    (pieces-skip first (piece.size - 1) bs
+    ∙ ap (pieces first 0) (drop-pred piece.size b bs size ∙ sym (from_byte-drop piece.size (b ∷ bs))))
+
+pub followed-assoc : (x y z : Result (List ℕ) WhyUnknown) → followed (followed x y) z ≡ followed x (followed y z)
+followed-assoc (Err why) y z = refl
+followed-assoc (Ok x) (Err why) z = refl
+followed-assoc (Ok x) (Ok y) (Err why) = refl
+followed-assoc (Ok x) (Ok y) (Ok z) = ap Ok (append_assoc x y z)
+
+pub followed-nil : (x : Result (List ℕ) WhyUnknown) → followed (Ok []) x ≡ x
+followed-nil (Err why) = refl
+followed-nil (Ok x) = refl
+
+-- with one piece more read, the same is left to read
+pub joined-next : (old new : List ℕ) (piece : Piece) (whole rest : List Piece) → whole ≡ piece ∷ rest
+    → followed (Ok old) piece.read ≡ Ok new → followed (Ok new) (joined rest) ≡ followed (Ok old) (joined whole)
+joined-next old new piece whole rest is read =
+    ap (λ r. followed r (joined rest)) (sym read)
+    ∙ followed-assoc (Ok old) piece.read (joined rest)
+    ∙ ap (λ ps. followed (Ok old) (joined ps)) (sym is)
+
+-- an unknown piece makes the whole unknown
+pub joined-unknown : (old : List ℕ) (piece : Piece) (whole rest : List Piece) (why : WhyUnknown) (all : Result (List ℕ) WhyUnknown)
+    → whole ≡ piece ∷ rest → piece.read ≡ Err why → followed (Ok old) (joined whole) ≡ all → all ≡ Err why
+joined-unknown old piece whole rest why all is unknown so_far =
+    sym so_far
+    ∙ ap (λ ps. followed (Ok old) (joined ps)) is
+    ∙ ap (λ read. followed (Ok old) (followed read (joined rest))) unknown
+
+length-from_byte : (k : ℕ) (text : List ℕ) → length (from_byte k text) ≡ length text - k
+length-from_byte k text = ap length (from_byte-drop k text) ∙ length-drop k text
+
+-- what is left after a piece isn't longer than a text
+pub within-next : (left : List ℕ) (size long : ℕ) → length left ≤ long → length (from_byte size left) ≤ long
+within-next left size long within = let count = length-from_byte size left in omega arith
+
+-- and the bytes of a text are those read, the piece's and those of the rest
+pub size-next : (left : List ℕ) (piece : Piece) (whole rest : List Piece) (long total : ℕ)
+    → whole ≡ piece ∷ rest → piece.size ≤ length (from_byte 1 left) + 1 → 1 ≤ length left → length left ≤ long
+    → (long - length left) + total_size whole ≡ total
+    → (long - length (from_byte piece.size left)) + total_size rest ≡ total
+size-next left piece whole rest long total is fits some within so_far =
+    let one = length-from_byte 1 left in
+    let count = length-from_byte piece.size left in
+    let sizes : total_size whole ≡ piece.size + total_size rest = ap total_size is in
+    omega arith
+
+-- what is left after a piece is what stands from its end on
+pub left-next : (left target : List ℕ) (size : ℕ) → left ≡ drop (length target - length left) target
+    → size ≤ length (from_byte 1 left) + 1 → 1 ≤ length left → length left ≤ length target
+    → from_byte size left ≡ drop (length target - length (from_byte size left)) target
+left-next left target size is fits some within =
+    let k : ℕ = length target - length left in
+    let one = length-from_byte 1 left in
+    let count = length-from_byte size left in
+    let at : k + size ≡ length target - length (from_byte size left) = omega arith in
+    from_byte-drop size left
+    ∙ ap (drop size) is
+    ∙ drop-drop size k target
+    ∙ ap (λ n. drop n target) at

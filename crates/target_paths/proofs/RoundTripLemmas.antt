@@ -1,0 +1,471 @@
+-- What is written for a path, read back.
+use Rattle.std.proofs.Common.{◌≡◌, ℕ, suc, ◌+◌, ◌-◌, ◌*◌, ◌/◌, ◌%◌, ◌<◌, Bool, true, false, ◌||◌, ◌&&◌, ◌==◌, not, nat_lt, cond, if◌then◌else◌, List, [], ◌∷◌, ◌++◌, map, length, take, drop, get_or, ◌≤◌, Result, Ok, Err, refl, sym, ap, ap₂, ◌∙◌, arith, length-drop, subst}
+use Rattle.std.proofs.lemmas.Bool.Decides.{nat_tests}
+use Rattle.std.proofs.lemmas.List.{get_or-drop}
+use Rattle.std.proofs.lemmas.Str.{encode_ascii, IsCharBoundary-end, IsCharBoundary-before_ascii}
+use Rattle.std.specs.Char.{encode_utf8, digit_value, is_ascii_punctuation, is_ascii_alphabetic}
+use Rattle.std.specs.List.{list_any, list_all, before_first, position_or_len}
+use Rattle.std.specs.Str.{IsUtf8, IsCharBoundary}
+use Rattle.target_paths.specs.declared.target.TargetSyntax.{TargetSyntax}
+use Rattle.target_paths.specs.declared.target.TargetSyntax.TheVariants.{Markdown, Attribute}
+use Rattle.target_paths.specs.declared.target.WhyUnknown.{WhyUnknown}
+use Rattle.target_paths.specs.declared.target.WhyUnknown.TheVariants.{EncodedNul, EncodedSlash}
+use Rattle.target_paths.specs.declared.place.Place.{Place}
+use Rattle.target_paths.specs.declared.place.Place.TheVariants.{Start, FirstSegment, AfterSlash}
+use Rattle.target_paths.specs.Pieces.{plain, pieces, followed, joined, total_size}
+use Rattle.target_paths.specs.Reading.{is_tail_byte, before_tail, path_pieces, trimmed, path_before, unknown, meaning_decoded, meaning_of_url, meaning, IsTail, BeginsRelative}
+use Rattle.target_paths.specs.Source.{source_piece, is_escape, reference_piece, reference_character, byte_piece, byte_read, character_read, is_tab_or_line_end}
+use Rattle.target_paths.specs.Url.{is_blank, before_text, without_leading, without_trailing, is_slash, is_colon, is_scheme_byte, has_scheme, is_not_relative, decoded_byte, has_digits, digits_byte, url_piece}
+use Rattle.target_paths.specs.Writing.{is_reserved, is_escaped, place_after, hexadecimal, percent_text, written_byte, written, without_slashes, some_path, path_written, target_of, is_nul, IsTakenAs, ends_target}
+use Rattle.target_paths.proofs.ReadingLemmas.{meaning-read, meaning-decoded, meaning-utf8}
+
+-- ---- what is written is calm: it has no reserved byte but percent signs
+
+abbrev pub is_calm : ℕ → Bool
+is_calm b = not (is_reserved b) || b == 37
+
+-- each byte is calm
+abbrev pub AreCalm : List ℕ → Type 0
+AreCalm [] = Unit {0}
+AreCalm (b ∷ bs) = (is_calm b ≡ true) × AreCalm bs
+
+AreCalm-append : (xs ys : List ℕ) → AreCalm xs → AreCalm ys → AreCalm (xs ++ ys)
+AreCalm-append [] ys calm others = others
+AreCalm-append (x ∷ xs) ys (first, rest) others = (first, AreCalm-append xs ys rest others)
+
+hexadecimal-calm : (d : ℕ) → d < 16 → is_calm (hexadecimal d) ≡ true
+hexadecimal-calm d small = grind (arith, nat_tests)
+
+high_digit : (b : ℕ) → b < 256 → b / 16 < 16
+high_digit b byte = omega arith
+
+low_digit : (b : ℕ) → b % 16 < 16
+low_digit b = omega arith
+
+percent_text-calm : (b : ℕ) → b < 256 → AreCalm (percent_text b)
+percent_text-calm b byte =
+    (refl, (hexadecimal-calm (b / 16) (high_digit b byte), (hexadecimal-calm (b % 16) (low_digit b), tt)))
+
+kept-calm : (place : Place) (b : ℕ) → is_escaped place b ≡ false → is_calm b ≡ true
+kept-calm Start b keeps = grind (arith, nat_tests)
+kept-calm FirstSegment b keeps = grind (arith, nat_tests)
+kept-calm AfterSlash b keeps = grind (arith, nat_tests)
+
+-- what is escaped is in ASCII
+escaped-ascii : (place : Place) (b : ℕ) → is_escaped place b ≡ true → b < 128
+escaped-ascii Start b escaped = grind (arith, nat_tests)
+escaped-ascii FirstSegment b escaped = grind (arith, nat_tests)
+escaped-ascii AfterSlash b escaped = grind (arith, nat_tests)
+
+-- by whether a byte is escaped
+pub by_escape : (P : Bool → Type 0) (t : Bool) → (t ≡ true → P true) → (t ≡ false → P false) → P t
+by_escape P true escaped keeps = escaped refl
+by_escape P false escaped keeps = keeps refl
+
+written_byte-calm : (place : Place) (b : ℕ) → AreCalm (written_byte (is_escaped place b) b)
+written_byte-calm place b =
+    by_escape (λ t. AreCalm (written_byte t b)) (is_escaped place b)
+    (λ escaped. let ascii = escaped-ascii place b escaped in percent_text-calm b (omega (arith, ascii)))
+    (λ keeps. (kept-calm place b keeps, tt))
+
+pub written-calm : (place : Place) (bs : List ℕ) → AreCalm (written place bs)
+written-calm place [] = tt
+written-calm place (b ∷ bs) =
+    AreCalm-append (written_byte (is_escaped place b) b) (written (place_after place b) bs) (written_byte-calm place b)
+    (written-calm (place_after place b) bs)
+
+-- ---- calm bytes are read as themselves, in each syntax
+
+-- the byte is no control byte, no space, no `&` and no backslash
+abbrev is_literal : ℕ → Bool
+is_literal b = nat_lt 32 b && not (b == 38) && not (b == 92)
+
+calm-literal : (b : ℕ) → is_calm b ≡ true → is_literal b ≡ true
+calm-literal b calm = grind (arith, nat_tests)
+
+tail-literal : (b : ℕ) → is_tail_byte b ≡ true → is_literal b ≡ true
+tail-literal b tail = grind (arith, nat_tests)
+
+calm-no_tail : (b : ℕ) → is_calm b ≡ true → is_tail_byte b ≡ false
+calm-no_tail b calm = grind (arith, nat_tests)
+
+literal-some : (b : ℕ) → is_literal b ≡ true → (b == 0) ≡ false
+literal-some b literal = grind (arith, nat_tests)
+
+literal-no_reference : (b : ℕ) → is_literal b ≡ true → (b == 38) ≡ false
+literal-no_reference b literal = grind (arith, nat_tests)
+
+literal-no_backslash : (b : ℕ) → is_literal b ≡ true → (b == 92) ≡ false
+literal-no_backslash b literal = grind (arith, nat_tests)
+
+literal-no_line_end : (b : ℕ) → is_literal b ≡ true → is_tab_or_line_end b ≡ false
+literal-no_line_end b literal = grind (arith, nat_tests)
+
+literal-character : (syntax : TargetSyntax) (b : ℕ) → is_literal b ≡ true → b < 128 → character_read syntax b ≡ b ∷ []
+literal-character Markdown b literal low = encode_ascii b low
+literal-character Attribute b literal low =
+    ap (λ t. if t then [] else if b == 92 then 47 ∷ [] else encode_utf8 b) (literal-no_line_end b literal)
+    ∙ ap (λ t. if t then 47 ∷ [] else encode_utf8 b) (literal-no_backslash b literal)
+    ∙ encode_ascii b low
+
+ltb-below : (b : ℕ) → nat_lt b 128 ≡ true → b < 128
+ltb-below b is = grind (arith, nat_tests)
+
+literal-byte : (syntax : TargetSyntax) (b : ℕ) → is_literal b ≡ true → byte_read syntax b ≡ b ∷ []
+literal-byte syntax b literal =
+    ap (λ t. if t then encode_utf8 0xFFFD else if nat_lt b 128 then character_read syntax b else b ∷ [])
+    (literal-some b literal)
+    ∙ by_escape (λ t. (if t then character_read syntax b else b ∷ []) ≡ b ∷ []) (nat_lt b 128)
+    (λ low. literal-character syntax b literal (ltb-below b low)) (λ high. refl)
+
+literal-no_escape : (syntax : TargetSyntax) (b next : ℕ) → is_literal b ≡ true → is_escape syntax b next ≡ false
+literal-no_escape Markdown b next literal = ap (λ t. t && is_ascii_punctuation next) (literal-no_backslash b literal)
+literal-no_escape Attribute b next literal = refl
+
+literal-piece : (syntax : TargetSyntax) (b : ℕ) (rest : List ℕ) → is_literal b ≡ true
+    → source_piece syntax b rest ≡ plain b
+literal-piece syntax b rest literal =
+    ap (λ t. if t then record { size = 2; read = Ok (get_or rest 0 0 ∷ []) }
+    else if b == 38 then reference_piece syntax rest (reference_character syntax rest) else byte_piece syntax b)
+    (literal-no_escape syntax b (get_or rest 0 0) literal)
+    ∙ ap (λ t. if t then reference_piece syntax rest (reference_character syntax rest) else byte_piece syntax b)
+    (literal-no_reference b literal)
+    ∙ ap (λ bytes. record { size = 1; read = Ok bytes }) (literal-byte syntax b literal)
+
+-- calm bytes before a tail are the path's pieces
+path_pieces-calm : (syntax : TargetSyntax) (ws tail : List ℕ) → AreCalm ws → IsTail syntax tail
+    → path_pieces syntax (ws ++ tail) ≡ map plain ws
+path_pieces-calm syntax [] tail calm is = is
+path_pieces-calm syntax (w ∷ ws) tail (first, others) is =
+    let begin = source_piece syntax in
+    ap (λ p. before_tail (p ∷ pieces begin (p.size - 1) (ws ++ tail)))
+    (literal-piece syntax w (ws ++ tail) (calm-literal w first))
+    ∙ ap (λ b. if b then [] else plain w ∷ path_pieces syntax (ws ++ tail)) (calm-no_tail w first)
+    ∙ ap (λ ps. plain w ∷ ps) (path_pieces-calm syntax ws tail others is)
+
+joined-plain : (ws : List ℕ) → joined (map plain ws) ≡ Ok ws
+joined-plain [] = refl
+joined-plain (w ∷ ws) = ap (followed (Ok (w ∷ []))) (joined-plain ws)
+
+total_size-plain : (ws : List ℕ) → total_size (map plain ws) ≡ length ws
+total_size-plain [] = refl
+total_size-plain (w ∷ ws) = let rest = total_size-plain ws in omega arith
+
+-- ---- nothing goes from its ends
+
+calm-no_blank : (b : ℕ) → is_calm b ≡ true → is_blank b ≡ false
+calm-no_blank b calm = grind (arith, nat_tests)
+
+without_leading-calm : (ws : List ℕ) → AreCalm ws → without_leading ws ≡ ws
+without_leading-calm [] calm = refl
+without_leading-calm (w ∷ ws) (first, others) =
+    ap (λ t. if t then without_leading ws else w ∷ ws) (calm-no_blank w first)
+
+before_text-kept : (b : ℕ) (bs : List ℕ) → is_blank b ≡ false → before_text b bs ≡ b ∷ bs
+before_text-kept b [] keeps = ap (λ t. if t then [] else b ∷ []) keeps
+before_text-kept b (c ∷ cs) keeps = refl
+
+without_trailing-calm : (ws : List ℕ) → AreCalm ws → without_trailing ws ≡ ws
+without_trailing-calm [] calm = refl
+without_trailing-calm (w ∷ ws) (first, others) =
+    ap (before_text w) (without_trailing-calm ws others) ∙ before_text-kept w ws (calm-no_blank w first)
+
+trimmed-calm : (syntax : TargetSyntax) (tail : Bool) (ws : List ℕ) → AreCalm ws → trimmed syntax tail ws ≡ ws
+trimmed-calm Markdown tail ws calm = refl
+trimmed-calm Attribute true ws calm = without_leading-calm ws calm
+trimmed-calm Attribute false ws calm =
+    ap without_trailing (without_leading-calm ws calm) ∙ without_trailing-calm ws calm
+
+-- ---- it has no scheme
+
+-- scheme bytes and a colon begin the text
+abbrev ends_scheme : List ℕ → Bool
+ends_scheme [] = false
+ends_scheme (w ∷ ws) = is_colon w || is_scheme_byte w && ends_scheme ws
+
+-- what stands before the first element that passes, by the first element
+before_first-next : (p : ℕ → Bool) (b : ℕ) (bs : List ℕ)
+    → before_first p (b ∷ bs) ≡ cond (p b) [] (b ∷ before_first p bs)
+before_first-next p b bs = of (p b) where
+  more : 1 + position_or_len p bs ≡ suc (position_or_len p bs)
+  more = omega arith
+
+  of : (passes : Bool) → take (cond (not passes) (1 + position_or_len p bs) 0) (b ∷ bs)
+      ≡ cond passes [] (b ∷ before_first p bs)
+  of true = refl
+  of false = ap (λ k. take k (b ∷ bs)) more
+
+and_false : (a : Bool) → (a && false) ≡ false
+and_false true = refl
+and_false false = refl
+
+swapped : (a s l e : Bool) → (a && l) ≡ e → (a && (s && l)) ≡ (s && e)
+swapped true true l e is = is
+swapped true false l e is = refl
+swapped false true l e is = is
+swapped false false l e is = refl
+
+ends_scheme-is : (ws : List ℕ)
+    → (list_any is_colon ws && list_all is_scheme_byte (before_first is_colon ws)) ≡ ends_scheme ws
+ends_scheme-is [] = refl
+ends_scheme-is (w ∷ ws) =
+    ap (λ bs. (is_colon w || list_any is_colon ws) && list_all is_scheme_byte bs) (before_first-next is_colon w ws)
+    ∙ of (is_colon w) (is_scheme_byte w) (ends_scheme-is ws) where
+      of : (colon byte : Bool)
+          → (list_any is_colon ws && list_all is_scheme_byte (before_first is_colon ws)) ≡ ends_scheme ws
+          → ((colon || list_any is_colon ws) && list_all is_scheme_byte (cond colon [] (w ∷ before_first is_colon ws)))
+          ≡ (colon || is_scheme_byte w && ends_scheme ws)
+      of true byte rest = refl
+      of false byte rest = swapped (list_any is_colon ws) (is_scheme_byte w) (list_all is_scheme_byte (before_first is_colon ws)) (ends_scheme ws) rest
+
+no_scheme : (ws : List ℕ) → ends_scheme ws ≡ false → has_scheme ws ≡ false
+no_scheme ws none =
+    of (list_any is_colon ws) (is_ascii_alphabetic (get_or (before_first is_colon ws) 0 0))
+    (list_all is_scheme_byte (before_first is_colon ws)) (ends_scheme-is ws ∙ none) where
+      of : (a b c : Bool) → (a && c) ≡ false → (a && (b && c)) ≡ false
+      of false b c is = refl
+      of true false c is = refl
+      of true true c is = is
+
+-- a byte that is a colon, written in the first segment
+colon-escaped : (b : ℕ) → is_escaped FirstSegment b ≡ false → is_colon b ≡ false
+colon-escaped b keeps = grind (arith, nat_tests)
+
+slash-no_scheme : (b : ℕ) → is_slash b ≡ true → is_scheme_byte b ≡ false
+slash-no_scheme b is = grind (arith, nat_tests)
+
+-- a byte and what is written after it
+written-no_scheme : (escaped : Bool) (b : ℕ) (bs : List ℕ) → (escaped ≡ false → is_colon b ≡ false)
+    → ends_scheme (written FirstSegment bs) ≡ false
+    → ends_scheme (written_byte escaped b ++ written (place_after FirstSegment b) bs) ≡ false
+written-no_scheme true b bs colon rest = refl
+written-no_scheme false b bs colon rest =
+    ap (λ t. t || is_scheme_byte b && ends_scheme (written (place_after FirstSegment b) bs)) (colon refl)
+    ∙ by_escape
+    (λ t. (is_scheme_byte b && ends_scheme (written (if t then AfterSlash else FirstSegment) bs)) ≡ false) (is_slash b)
+    (λ is. ap (λ t. t && ends_scheme (written AfterSlash bs)) (slash-no_scheme b is))
+    (λ other. ap (λ t. is_scheme_byte b && t) rest ∙ and_false (is_scheme_byte b))
+
+segment-no_scheme : (bs : List ℕ) → ends_scheme (written FirstSegment bs) ≡ false
+segment-no_scheme [] = refl
+segment-no_scheme (b ∷ bs) =
+    written-no_scheme (is_escaped FirstSegment b) b bs (colon-escaped b) (segment-no_scheme bs)
+
+colon-escaped_start : (b : ℕ) → is_escaped Start b ≡ false → is_colon b ≡ false
+colon-escaped_start b keeps = grind (arith, nat_tests)
+
+relative-by_first : (b : ℕ) (rest : List ℕ) → is_slash b ≡ false → has_scheme (b ∷ rest) ≡ false
+    → is_not_relative (b ∷ rest) ≡ false
+relative-by_first b rest other scheme =
+    let some : (length (b ∷ rest) == 0) ≡ false = grind (arith, nat_tests) in
+    ap (λ t. t || is_slash b || has_scheme (b ∷ rest)) some
+    ∙ ap (λ t. t || has_scheme (b ∷ rest)) other
+    ∙ scheme
+
+start-relative : (escaped : Bool) (b : ℕ) (rest : List ℕ) → is_slash b ≡ false
+    → has_scheme (written_byte escaped b ++ rest) ≡ false → is_not_relative (written_byte escaped b ++ rest) ≡ false
+start-relative true b rest other scheme =
+    relative-by_first 37 (hexadecimal (b / 16) ∷ hexadecimal (b % 16) ∷ rest) refl scheme
+start-relative false b rest other scheme = relative-by_first b rest other scheme
+
+written-relative : (b : ℕ) (bs : List ℕ) → is_slash b ≡ false → is_not_relative (written Start (b ∷ bs)) ≡ false
+written-relative b bs other =
+    start-relative (is_escaped Start b) b (written (place_after Start b) bs) other
+    (no_scheme (written Start (b ∷ bs))
+    (written-no_scheme (is_escaped Start b) b bs (colon-escaped_start b) (segment-no_scheme bs)))
+
+-- ---- its percent signs are decoded to the path
+
+-- what a path's bytes are decoded to: none but NUL is unknown
+abbrev decoded : List ℕ → Result (List ℕ) WhyUnknown
+decoded bs = if list_any is_nul bs then Err EncodedNul else Ok bs
+
+decoded-byte : (b : ℕ) (bs : List ℕ) → is_nul b ≡ false → followed (Ok (b ∷ [])) (decoded bs) ≡ decoded (b ∷ bs)
+decoded-byte b bs some = of (list_any is_nul bs) ∙ ap (λ t. if t || list_any is_nul bs then Err EncodedNul else Ok (b ∷ bs)) (sym some) where
+  of : (t : Bool) → followed (Ok (b ∷ [])) (if t then Err EncodedNul else Ok bs) ≡ (if t then Err EncodedNul else Ok (b ∷ bs))
+  of true = refl
+  of false = refl
+
+kept-no_percent : (place : Place) (b : ℕ) → is_escaped place b ≡ false → (b == 37) ≡ false
+kept-no_percent Start b keeps = grind (arith, nat_tests)
+kept-no_percent FirstSegment b keeps = grind (arith, nat_tests)
+kept-no_percent AfterSlash b keeps = grind (arith, nat_tests)
+
+kept-some : (place : Place) (b : ℕ) → is_escaped place b ≡ false → is_nul b ≡ false
+kept-some Start b keeps = grind (arith, nat_tests)
+kept-some FirstSegment b keeps = grind (arith, nat_tests)
+kept-some AfterSlash b keeps = grind (arith, nat_tests)
+
+escaped-no_slash : (place : Place) (b : ℕ) → is_escaped place b ≡ true → is_slash b ≡ false
+escaped-no_slash Start b escaped = grind (arith, nat_tests)
+escaped-no_slash FirstSegment b escaped = grind (arith, nat_tests)
+escaped-no_slash AfterSlash b escaped = grind (arith, nat_tests)
+
+hexadecimal-value : (d : ℕ) → d < 16 → digit_value (hexadecimal d) ≡ d
+hexadecimal-value d small = grind (arith, nat_tests)
+
+ltb-16 : (d : ℕ) → d < 16 → nat_lt d 16 ≡ true
+ltb-16 d small = grind (arith, nat_tests)
+
+-- the digits of a byte
+digits-percent : (b : ℕ) (rest : List ℕ) → b < 256
+    → (has_digits (hexadecimal (b / 16) ∷ hexadecimal (b % 16) ∷ rest) ≡ true)
+    × (digits_byte (hexadecimal (b / 16) ∷ hexadecimal (b % 16) ∷ rest) ≡ b)
+digits-percent b rest byte =
+    let high = hexadecimal-value (b / 16) (high_digit b byte) in
+    let low = hexadecimal-value (b % 16) (low_digit b) in (
+      ap₂ (λ h l. nat_lt h 16 && nat_lt l 16) high low
+          ∙ ap₂ (λ h l. h && l) (ltb-16 (b / 16) (high_digit b byte)) (ltb-16 (b % 16) (low_digit b)),
+      ap₂ (λ h l. 16 * h + l) high low ∙ omega arith,
+    )
+
+-- a byte that is kept
+decoded-kept : (b : ℕ) (rest : List ℕ) (bs : List ℕ) → (b == 37) ≡ false → is_nul b ≡ false
+    → joined (pieces url_piece 0 rest) ≡ decoded bs → joined (pieces url_piece 0 (b ∷ rest)) ≡ decoded (b ∷ bs)
+decoded-kept b rest bs other some is =
+    ap (λ p. joined (p ∷ pieces url_piece (p.size - 1) rest))
+    (ap (λ t. if t && has_digits rest then record { size = 3; read = decoded_byte (digits_byte rest) } else plain b) other)
+    ∙ ap (followed (Ok (b ∷ []))) is
+    ∙ decoded-byte b bs some
+
+-- what a byte that is no slash is decoded to
+decoded_byte-followed : (b : ℕ) (bs : List ℕ) → is_slash b ≡ false → followed (decoded_byte b) (decoded bs) ≡ decoded (b ∷ bs)
+decoded_byte-followed b bs other =
+    by_escape (λ t. is_nul b ≡ t → followed (if t then Err EncodedNul else if is_slash b then Err EncodedSlash else Ok (b ∷ [])) (decoded bs) ≡ decoded (b ∷ bs)) (is_nul b)
+    (λ nul is. ap (λ t. if t || list_any is_nul bs then Err EncodedNul else Ok (b ∷ bs)) (sym is))
+    (λ some is. ap (λ t. followed (if t then Err EncodedSlash else Ok (b ∷ [])) (decoded bs)) other ∙ decoded-byte b bs some)
+    refl
+
+-- a byte that is escaped
+decoded-escaped : (b : ℕ) (rest : List ℕ) (bs : List ℕ) → b < 256 → is_slash b ≡ false
+    → joined (pieces url_piece 0 rest) ≡ decoded bs
+    → joined (pieces url_piece 0 (percent_text b ++ rest)) ≡ decoded (b ∷ bs)
+decoded-escaped b rest bs byte other is =
+    let text = hexadecimal (b / 16) ∷ hexadecimal (b % 16) ∷ rest in
+    let (digits, value) = digits-percent b rest byte in
+    ap (λ p. joined (p ∷ pieces url_piece (p.size - 1) text))
+    (ap (λ t. if t then record { size = 3; read = decoded_byte (digits_byte text) } else plain 37) digits
+    ∙ ap (λ d. record { size = 3; read = decoded_byte d }) value)
+    ∙ ap (followed (decoded_byte b)) is
+    ∙ decoded_byte-followed b bs other
+
+written-decoded : (place : Place) (bs : List ℕ) → joined (pieces url_piece 0 (written place bs)) ≡ decoded bs
+written-decoded place [] = refl
+written-decoded place (b ∷ bs) =
+    let rest = written (place_after place b) bs in
+    let is = written-decoded (place_after place b) bs in
+    by_escape (λ t. joined (pieces url_piece 0 (written_byte t b ++ rest)) ≡ decoded (b ∷ bs)) (is_escaped place b)
+    (λ escaped. let ascii = escaped-ascii place b escaped in
+    decoded-escaped b rest bs (omega (arith, ascii)) (escaped-no_slash place b escaped) is)
+    (λ keeps. decoded-kept b rest bs (kept-no_percent place b keeps) (kept-some place b keeps) is)
+
+-- ---- the whole
+
+pub meaning-written : (syntax : TargetSyntax) (b : ℕ) (bs tail : List ℕ) → is_slash b ≡ false → IsTail syntax tail
+    → meaning syntax (written Start (b ∷ bs) ++ tail)
+    ≡ meaning_decoded (decoded (b ∷ bs)) (length (written Start (b ∷ bs)))
+meaning-written syntax b bs tail other is =
+    let ws = written Start (b ∷ bs) in
+    let calm = written-calm Start (b ∷ bs) in
+    let parts = path_pieces-calm syntax ws tail calm is in
+    meaning-read syntax (ws ++ tail) (Ok ws) (length ws) (ap joined parts ∙ joined-plain ws)
+    (sym (ap total_size parts ∙ total_size-plain ws))
+    ∙ ap (λ text. meaning_of_url text (length ws)) (trimmed-calm syntax (nat_lt (length ws) (length (ws ++ tail))) ws calm)
+    ∙ meaning-decoded ws (decoded (b ∷ bs)) (length ws) (written-relative b bs other) (written-decoded Start (b ∷ bs))
+
+path_written-relative : (path : List ℕ) → BeginsRelative (path_written path)
+path_written-relative [] = refl
+path_written-relative (b ∷ bs) =
+    by_escape (λ t. BeginsRelative (some_path (if t then without_slashes bs else b ∷ bs))) (is_slash b)
+    (λ is. path_written-relative bs) (λ other. other)
+
+slash-some : (b : ℕ) → is_slash b ≡ true → is_nul b ≡ false
+slash-some b is = grind (arith, nat_tests)
+
+path_written-nul : (path : List ℕ) → list_any is_nul (path_written path) ≡ list_any is_nul path
+path_written-nul [] = refl
+path_written-nul (b ∷ bs) =
+    by_escape
+    (λ t. list_any is_nul (some_path (if t then without_slashes bs else b ∷ bs)) ≡ (is_nul b || list_any is_nul bs))
+    (is_slash b)
+    (λ is. path_written-nul bs ∙ ap (λ t. t || list_any is_nul bs) (sym (slash-some b is))) (λ other. refl)
+
+-- what begins relative is read back
+meaning-relative : (path : List ℕ) → BeginsRelative path
+    → IsTakenAs (written Start path) (meaning_decoded (decoded path) (length (written Start path)))
+meaning-relative [] none syntax tail is = absurd none
+meaning-relative (b ∷ bs) other syntax tail is = meaning-written syntax b bs tail other is
+
+-- a path without NUL is read back
+pub target_of-read : (path : List ℕ) → IsUtf8 (path_written path) → list_any is_nul path ≡ false
+    → IsTakenAs (target_of path) (path_before (path_written path) (length (target_of path)))
+target_of-read path utf8 none syntax tail is =
+    meaning-relative (path_written path) (path_written-relative path) syntax tail is
+    ∙ ap (λ t. meaning_decoded (if t then Err EncodedNul else Ok (path_written path)) (length (target_of path)))
+    (path_written-nul path ∙ none)
+    ∙ meaning-utf8 (path_written path) (length (target_of path)) utf8
+
+-- one with NUL is unknown
+pub target_of-nul : (path : List ℕ) → list_any is_nul path ≡ true → IsTakenAs (target_of path) (unknown EncodedNul)
+target_of-nul path some syntax tail is =
+    meaning-relative (path_written path) (path_written-relative path) syntax tail is
+    ∙ ap (λ t. meaning_decoded (if t then Err EncodedNul else Ok (path_written path)) (length (target_of path)))
+    (path_written-nul path ∙ some)
+
+-- no calm byte ends a target
+calm-whole : (b : ℕ) → is_calm b ≡ true → ends_target b ≡ false
+calm-whole b calm = grind (arith, nat_tests)
+
+AreCalm-whole : (ws : List ℕ) → AreCalm ws → list_any ends_target ws ≡ false
+AreCalm-whole [] calm = refl
+AreCalm-whole (w ∷ ws) (first, others) =
+    ap (λ t. t || list_any ends_target ws) (calm-whole w first) ∙ AreCalm-whole ws others
+
+pub target_of-whole : (path : List ℕ) → list_any ends_target (target_of path) ≡ false
+target_of-whole path = AreCalm-whole (target_of path) (written-calm Start (path_written path))
+
+-- ---- tails
+
+-- a byte `?` or `#` begins a tail in each syntax
+pub IsTail-byte : (syntax : TargetSyntax) (b : ℕ) (bs : List ℕ) → is_tail_byte b ≡ true → IsTail syntax (b ∷ bs)
+IsTail-byte syntax b bs is =
+    let first = source_piece syntax in
+    ap (λ p. before_tail (p ∷ pieces first (p.size - 1) bs)) (literal-piece syntax b bs (tail-literal b is))
+    ∙ ap (λ t. if t then [] else plain b ∷ path_pieces syntax bs) is
+
+past_ascii-literal : (b : ℕ) → 128 ≤ b → is_literal b ≡ true
+past_ascii-literal b past = grind (arith, nat_tests)
+
+past_ascii-no_tail : (b : ℕ) → 128 ≤ b → is_tail_byte b ≡ false
+past_ascii-no_tail b past = grind (arith, nat_tests)
+
+ltb-past : (b : ℕ) → nat_lt b 128 ≡ false → 128 ≤ b
+ltb-past b is = grind (arith, nat_tests)
+
+-- no byte past ASCII begins a tail
+not_tail : (syntax : TargetSyntax) (b : ℕ) (bs : List ℕ) → 128 ≤ b → path_pieces syntax (b ∷ bs) ≡ plain b ∷ path_pieces syntax bs
+not_tail syntax b bs past =
+    let first = source_piece syntax in
+    ap (λ p. before_tail (p ∷ pieces first (p.size - 1) bs)) (literal-piece syntax b bs (past_ascii-literal b past))
+    ∙ ap (λ t. if t then [] else plain b ∷ path_pieces syntax bs) (past_ascii-no_tail b past)
+
+IsTail-ascii : (syntax : TargetSyntax) (b : ℕ) (bs : List ℕ) → IsTail syntax (b ∷ bs) → b < 128
+IsTail-ascii syntax b bs is =
+    by_escape (λ t. nat_lt b 128 ≡ t → b < 128) (nat_lt b 128) (λ low at. ltb-below b at)
+    (λ high at. absurd (let none = not_tail syntax b bs (ltb-past b at) in cc)) refl
+
+-- a tail begins with a character
+pub IsTail-boundary : (syntax : TargetSyntax) (target : List ℕ) (k : ℕ) → k ≤ length target
+    → IsTail syntax (drop k target) → IsCharBoundary target k
+IsTail-boundary syntax target k within is = of (drop k target) refl is where
+  of : (rest : List ℕ) → drop k target ≡ rest → IsTail syntax rest → IsCharBoundary target k
+  of [] at tail =
+      let count : length (drop k target) ≡ 0 = ap length at in
+      let end : length target ≡ k = omega (arith, length-drop k target) in
+      subst (IsCharBoundary target) end (IsCharBoundary-end target)
+  of (b ∷ bs) at tail =
+      let count : length (drop k target) ≡ suc (length bs) = ap length at in
+      let first : get_or target k 0 ≡ b =
+      ap (λ n. get_or target n 0) (omega arith) ∙ sym (get_or-drop k target 0 0) ∙ ap (λ xs. get_or xs 0 0) at in
+      let low : b < 128 = IsTail-ascii syntax b bs tail in
+      IsCharBoundary-before_ascii target k (omega (arith, length-drop k target)) (omega (arith, first, low))

@@ -1,0 +1,129 @@
+-- What a reading tells of its tail and of its path.
+use Rattle.std.proofs.Common.{◌≡◌, ℕ, ◌-◌, ◌+◌, ◌≤◌, Bool, true, false, ◌||◌, ◌&&◌, ◌==◌, if◌then◌else◌, List, [], ◌∷◌, length, drop, Result, Ok, Err, IfOk, refl, sym, ap, subst, arith, string_bytes}
+use Rattle.std.specs.Str.{is_utf8}
+use Rattle.target_paths.specs.declared.target.TargetReading.{TargetReading}
+use Rattle.target_paths.specs.declared.target.TargetReading.TheVariants.{NotRelative, Path, Unknown}
+use Rattle.target_paths.specs.declared.target.TargetSyntax.{TargetSyntax}
+use Rattle.target_paths.specs.declared.target.WhyUnknown.{WhyUnknown}
+use Rattle.target_paths.specs.declared.target.WhyUnknown.TheVariants.{EncodedNul, EncodedSlash, NotUtf8}
+use Rattle.target_paths.specs.Pieces.{plain, pieces, followed, joined, total_size}
+use Rattle.target_paths.specs.Reading.{path_pieces, trimmed, not_relative, path_before, unknown, meaning_decoded, meaning_of_url, meaning_read, has_tail, meaning, Says, IsTail, IsTailAt, BeginsRelative, IfPath}
+use Rattle.target_paths.specs.Shown.{HasTail}
+use Rattle.target_paths.specs.Url.{is_slash, has_scheme, is_not_relative, decoded_byte, has_digits, digits_byte, url_piece}
+use Rattle.target_paths.proofs.RoundTripLemmas.{by_escape, IsTail-boundary}
+
+-- where what is left begins a tail, that is what is left after the path
+pub HasTail-here : (syntax : TargetSyntax) (target left : List ℕ) → left ≡ drop (length target - length left) target
+    → length left ≤ length target
+    → (length target - length left) + total_size (path_pieces syntax left) ≡ total_size (path_pieces syntax target)
+    → path_pieces syntax left ≡ [] → HasTail syntax target
+HasTail-here syntax target left at within sizes tail =
+    let none : total_size (path_pieces syntax left) ≡ 0 = ap total_size tail in
+    let whole : length target - length left ≡ total_size (path_pieces syntax target) = omega arith in (
+      omega (arith, whole),
+      subst (λ k. IsTail syntax (drop k target)) whole (subst (IsTail syntax) at tail),
+    )
+
+pub IfOk-fact : {T E F : Type 0} (r : Result T E) → F → IfOk r (λ _. F)
+IfOk-fact (Ok x) fact = fact
+IfOk-fact (Err e) fact = tt
+
+-- ---- a path begins with a byte, which is no slash
+
+-- what is read begins so, if it is known
+abbrev ReadsRelative : Result (List ℕ) WhyUnknown → Type 0
+ReadsRelative (Err why) = Unit {0}
+ReadsRelative (Ok bytes) = BeginsRelative bytes
+
+followed-relative : (read others : Result (List ℕ) WhyUnknown) → ReadsRelative read → ReadsRelative (followed read others)
+followed-relative (Err why) others is = tt
+followed-relative (Ok []) others is = absurd is
+followed-relative (Ok (b ∷ bs)) (Err why) is = tt
+followed-relative (Ok (b ∷ bs)) (Ok cs) is = is
+
+decoded_byte-relative : (b : ℕ) → ReadsRelative (decoded_byte b)
+decoded_byte-relative b =
+    by_escape (λ t. ReadsRelative (if t then Err EncodedNul else if is_slash b then Err EncodedSlash else Ok (b ∷ []))) (b == 0)
+    (λ nul. tt)
+    (λ some. by_escape (λ t. is_slash b ≡ t → ReadsRelative (if t then Err EncodedSlash else Ok (b ∷ []))) (is_slash b)
+    (λ slash at. tt) (λ other at. at) refl)
+
+url_piece-relative : (b : ℕ) (rest : List ℕ) → is_slash b ≡ false → ReadsRelative (url_piece b rest).read
+url_piece-relative b rest other =
+    by_escape (λ t. ReadsRelative (if t then record { size = 3; read = decoded_byte (digits_byte rest) } else plain b).read)
+    (b == 37 && has_digits rest)
+    (λ escape. decoded_byte-relative (digits_byte rest)) (λ none. other)
+
+or_false : (a b : Bool) → (a || b) ≡ false → (a ≡ false) × (b ≡ false)
+or_false false b is = (refl, is)
+or_false true b is = absurd (cc)
+
+decoded-relative : (text : List ℕ) → is_not_relative text ≡ false → ReadsRelative (joined (pieces url_piece 0 text))
+decoded-relative [] relative = absurd (cc)
+decoded-relative (b ∷ rest) relative =
+    let (some, scheme) = or_false (length (b ∷ rest) == 0 || is_slash b) (has_scheme (b ∷ rest)) relative in
+    followed-relative (url_piece b rest).read (joined (pieces url_piece ((url_piece b rest).size - 1) rest))
+    (url_piece-relative b rest (or_false (length (b ∷ rest) == 0) (is_slash b) some).1)
+
+-- ---- what a reading tells
+
+says-decoded : (read : Result (List ℕ) WhyUnknown) (n : ℕ) (reading : TargetReading) → ReadsRelative read
+    → Says (meaning_decoded read n) reading → IfPath reading (λ path at. (at ≡ n) × BeginsRelative path)
+says-decoded read n NotRelative relative says = tt
+says-decoded read n (Unknown why) relative says = tt
+says-decoded (Err why) n (Path path at) relative says = absurd (cc)
+says-decoded (Ok bytes) n (Path path at) relative says = of (is_utf8 bytes) says where
+  of : (t : Bool) → Says (if t then path_before bytes n else unknown NotUtf8) (Path path at)
+      → (at ≡ n) × BeginsRelative (string_bytes path)
+  of true (same, count) = (count, subst BeginsRelative (sym same) relative)
+  of false other = absurd (cc)
+
+says-url : (text : List ℕ) (n : ℕ) (reading : TargetReading) → Says (meaning_of_url text n) reading
+    → IfPath reading (λ path at. (at ≡ n) × BeginsRelative path)
+says-url text n reading says =
+    by_escape
+    (λ t. is_not_relative text ≡ t → Says (if t then not_relative else meaning_decoded (joined (pieces url_piece 0 text)) n) reading
+    → IfPath reading (λ path at. (at ≡ n) × BeginsRelative path))
+    (is_not_relative text)
+    (λ keeps at told. not_relative-none reading told)
+    (λ relative at told. says-decoded (joined (pieces url_piece 0 text)) n reading (decoded-relative text at) told)
+    refl says where
+      not_relative-none : (reading : TargetReading) → Says not_relative reading → IfPath reading (λ path at. (at ≡ n) × BeginsRelative path)
+      not_relative-none NotRelative told = tt
+      not_relative-none (Unknown why) told = tt
+      not_relative-none (Path path at) told = absurd (cc)
+
+says-read : (syntax : TargetSyntax) (tail : Bool) (read : Result (List ℕ) WhyUnknown) (n : ℕ) (reading : TargetReading)
+    → Says (meaning_read syntax tail read n) reading → IfPath reading (λ path at. (at ≡ n) × BeginsRelative path)
+says-read syntax tail (Err why) n NotRelative says = tt
+says-read syntax tail (Err why) n (Unknown other) says = tt
+says-read syntax tail (Err why) n (Path path at) says = absurd (cc)
+says-read syntax tail (Ok text) n reading says = says-url (trimmed syntax tail text) n reading says
+
+pub says-tail : (syntax : TargetSyntax) (target : List ℕ) (reading : TargetReading) → HasTail syntax target
+    → Says (meaning syntax target) reading → IfPath reading (λ _ at. IsTailAt syntax target at)
+says-tail syntax target reading (within, tail) says =
+    of reading
+    (says-read syntax (has_tail target (total_size (path_pieces syntax target))) (joined (path_pieces syntax target))
+    (total_size (path_pieces syntax target)) reading says) where
+      of : (reading : TargetReading)
+          → IfPath reading (λ path at. (at ≡ total_size (path_pieces syntax target)) × BeginsRelative path)
+          → IfPath reading (λ _ at. IsTailAt syntax target at)
+      of NotRelative told = tt
+      of (Unknown why) told = tt
+      of (Path path at) (same, relative) =
+          subst (IsTailAt syntax target) (sym same)
+          (record { boundary = IsTail-boundary syntax target (total_size (path_pieces syntax target)) within tail; tail = tail })
+
+pub says-relative : (syntax : TargetSyntax) (target : List ℕ) (reading : TargetReading)
+    → Says (meaning syntax target) reading → IfPath reading (λ path _. BeginsRelative path)
+says-relative syntax target reading says =
+    of reading
+    (says-read syntax (has_tail target (total_size (path_pieces syntax target))) (joined (path_pieces syntax target))
+    (total_size (path_pieces syntax target)) reading says) where
+      of : (reading : TargetReading)
+          → IfPath reading (λ path at. (at ≡ total_size (path_pieces syntax target)) × BeginsRelative path)
+          → IfPath reading (λ path _. BeginsRelative path)
+      of NotRelative told = tt
+      of (Unknown why) told = tt
+      of (Path path at) (same, relative) = relative

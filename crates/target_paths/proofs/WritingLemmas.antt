@@ -1,0 +1,132 @@
+-- What is written for characters.
+use Rattle.std.proofs.Common.{◌≡◌, ℕ, suc, ◌+◌, ◌<◌, ◌≤◌, Bool, true, false, nat_lt, if◌then◌else◌, List, [], ◌∷◌, ◌++◌, length, drop, get_or, Some, None, ◌≢◌, lit<, ne_eqb, refl, sym, ap, ap₂, ◌∙◌, arith, append-nil, append_assoc}
+use Rattle.std.proofs.lemmas.Bool.Decides.{nat_tests}
+use Rattle.std.proofs.lemmas.Str.{encode_ascii, length-encode, len_utf8_bounds, inside_one}
+use Rattle.std.proofs.lemmas.List.{at_drop_more, drop_all}
+use Rattle.std.proofs.lemmas.Str.Pattern.{drop_at_char}
+use Rattle.std.specs.Char.{encode_utf8}
+use Rattle.std.specs.Str.{encode_utf8_all}
+use Rattle.std.specs.Str.Pattern.{FindsCharPrefix, IsTrimStartMatches, CutsPrefixes, IsFullyTrimmed}
+use Rattle.target_paths.specs.declared.place.Place.{Place}
+use Rattle.target_paths.specs.declared.place.Place.TheVariants.{Start, FirstSegment, AfterSlash}
+use Rattle.target_paths.specs.Url.{slash}
+use Rattle.target_paths.specs.Writing.{is_escaped, place_after, percent_text, written_byte, written_character, written, without_slashes}
+
+-- each byte is past ASCII
+abbrev ArePastAscii : List ℕ → Type 0
+ArePastAscii [] = Unit {0}
+ArePastAscii (b ∷ bs) = (128 ≤ b) × ArePastAscii bs
+
+from_reads : (bs : List ℕ) → ((k : ℕ) → k < length bs → 128 ≤ get_or bs k 0) → ArePastAscii bs
+from_reads [] reads = tt
+from_reads (b ∷ bs) reads = (reads 0 (omega arith), from_reads bs (λ k inside. reads (suc k) (omega (arith, inside))))
+
+encode-past_ascii : (c : ℕ) → 128 ≤ c → ArePastAscii (encode_utf8 c)
+encode-past_ascii c past = from_reads (encode_utf8 c) reads where
+  high : (b : ℕ) → (b < 128 → c ≡ b) → 128 ≤ b
+  high b same = of (nat_lt b 128) refl where
+    of : (t : Bool) → nat_lt b 128 ≡ t → 128 ≤ b
+    of true below =
+        let low : b < 128 = grind (arith, nat_tests) in
+        let is : c ≡ b = same low in absurd (omega (arith, is, low))
+    of false above = grind (arith, nat_tests)
+
+  reads : (k : ℕ) → k < length (encode_utf8 c) → 128 ≤ get_or (encode_utf8 c) k 0
+  reads k inside =
+      high (get_or (encode_utf8 c) k 0)
+      (λ low. inside_one c [] (encode_utf8 c) k (sym (append-nil (encode_utf8 c))) inside low)
+
+past_ascii-kept : (place : Place) (b : ℕ) → 128 ≤ b → is_escaped place b ≡ false
+past_ascii-kept Start b past = grind (arith, nat_tests)
+past_ascii-kept FirstSegment b past = grind (arith, nat_tests)
+past_ascii-kept AfterSlash b past = grind (arith, nat_tests)
+
+-- past ASCII it doesn't matter which byte
+place_after-past : (place : Place) (b c : ℕ) → 128 ≤ b → 128 ≤ c → place_after place b ≡ place_after place c
+place_after-past Start b c past beyond = grind (arith, nat_tests)
+place_after-past FirstSegment b c past beyond = grind (arith, nat_tests)
+place_after-past AfterSlash b c past beyond = refl
+
+place_after-twice : (place : Place) (b c : ℕ) → 128 ≤ b → 128 ≤ c
+    → place_after (place_after place b) c ≡ place_after place c
+place_after-twice Start b c past beyond = grind (arith, nat_tests)
+place_after-twice FirstSegment b c past beyond = grind (arith, nat_tests)
+place_after-twice AfterSlash b c past beyond = refl
+
+-- bytes past ASCII are written as they are
+written-past : (place : Place) (bs : List ℕ) (rest : List ℕ) (c : ℕ) → 128 ≤ c → 0 < length bs → ArePastAscii bs
+    → written place (bs ++ rest) ≡ bs ++ written (place_after place c) rest
+written-past place [] rest c past some high = absurd (omega (arith, some))
+written-past place (b ∷ []) rest c past some (first, others) =
+    ap (λ t. written_byte t b ++ written (place_after place b) rest) (past_ascii-kept place b first)
+    ∙ ap (λ p. b ∷ written p rest) (place_after-past place b c first past)
+written-past place (b ∷ d ∷ bs) rest c past some (first, others) =
+    ap (λ t. written_byte t b ++ written (place_after place b) (d ∷ bs ++ rest)) (past_ascii-kept place b first)
+    ∙ ap (λ text. b ∷ text)
+    (written-past (place_after place b) (d ∷ bs) rest c past (omega arith) others
+    ∙ ap (λ p. d ∷ bs ++ written p rest) (place_after-twice place b c first past))
+
+-- one character
+pub written-character : (place : Place) (c : ℕ) (rest : List ℕ)
+    → written place (encode_utf8 c ++ rest) ≡ written_character place c ++ written (place_after place c) rest
+written-character place c rest = of (nat_lt c 128) refl where
+  of : (t : Bool) → nat_lt c 128 ≡ t
+      → written place (encode_utf8 c ++ rest) ≡ written_character place c ++ written (place_after place c) rest
+  of true below =
+      let ascii : encode_utf8 c ≡ c ∷ [] = encode_ascii c (grind (arith, nat_tests)) in
+      ap (λ bs. written place (bs ++ rest)) ascii
+      ∙ ap (λ bs. (if is_escaped place c then percent_text c else bs) ++ written (place_after place c) rest) (sym ascii)
+  of false above =
+      let past : 128 ≤ c = grind (arith, nat_tests) in
+      let count : 0 < length (encode_utf8 c) = omega (arith, length-encode c, (len_utf8_bounds c).0) in
+      written-past place (encode_utf8 c) rest c past count (encode-past_ascii c past)
+      ∙ ap (λ t. (if t then percent_text c else encode_utf8 c) ++ written (place_after place c) rest) (sym (past_ascii-kept place c past))
+
+-- one character more of a path
+pub written-next : (place : Place) (cs : List ℕ) (n c more : ℕ) (old new : List ℕ) → n < length cs → c ≡ get_or cs n c
+    → more ≡ n + 1 → new ≡ old ++ written_character place c
+    → new ++ written (place_after place c) (encode_utf8_all (drop more cs)) ≡ old ++ written place (encode_utf8_all (drop n cs))
+written-next place cs n c more old new inside is count grew =
+    let rest = encode_utf8_all (drop (n + 1) cs) in
+    let at : drop n cs ≡ c ∷ drop (n + 1) cs =
+    at_drop_more (λ xs. xs) cs n c inside ∙ ap (λ d. d ∷ drop (n + 1) cs) (sym is) in
+    ap₂ (λ bs k. bs ++ written (place_after place c) (encode_utf8_all (drop k cs))) grew count
+    ∙ append_assoc old (written_character place c) (written (place_after place c) rest)
+    ∙ ap (λ bs. old ++ bs) (sym (written-character place c rest))
+    ∙ ap (λ xs. old ++ written place (encode_utf8_all xs)) (sym at)
+
+-- after the last one
+pub written-end : (place : Place) (cs : List ℕ) (n : ℕ) (text all : List ℕ) → n ≡ length cs
+    → text ++ written place (encode_utf8_all (drop n cs)) ≡ all → text ≡ all
+written-end place cs n text all count is =
+    sym (append-nil text)
+    ∙ ap (λ xs. text ++ written place (encode_utf8_all xs)) (sym (drop_all n cs (omega (arith, count))))
+    ∙ is
+
+-- ---- slashes at the start
+
+without_slashes-cut : (s ns r : List ℕ) → CutsPrefixes (FindsCharPrefix slash) s ns r
+    → without_slashes r ≡ without_slashes s
+without_slashes-cut s [] r is = ap without_slashes is
+without_slashes-cut s (n ∷ ns) r (m, cuts, found, left) =
+    ap without_slashes left
+    ∙ sym (ap without_slashes (drop_at_char slash m 0 n found (lit< tt)))
+    ∙ without_slashes-cut s ns m cuts
+
+starts_otherwise : (r : List ℕ) → ((rest : List ℕ) → r ≢ slash ∷ rest) → get_or r 0 0 ≢ slash
+starts_otherwise [] other = λ e. absurd (omega (arith, e))
+starts_otherwise (b ∷ bs) other = λ e. other bs (ap (λ x. x ∷ bs) e)
+
+trimmed_start : (r : List ℕ) → IsFullyTrimmed (FindsCharPrefix slash) r → get_or r 0 0 ≢ slash
+trimmed_start r (None, other, _) =
+    starts_otherwise r (λ rest e. other rest (e ∙ sym (ap (λ x. x ++ rest) (encode_ascii slash (lit< tt)))))
+trimmed_start r (Some n, found, nothing) = absurd (let e = found.ends in omega (arith, e, nothing))
+
+without_slashes-none : (r : List ℕ) → get_or r 0 0 ≢ slash → without_slashes r ≡ r
+without_slashes-none [] other = refl
+without_slashes-none (b ∷ bs) other =
+    ap (λ t. if t then without_slashes bs else b ∷ bs) (ne_eqb b slash other)
+
+pub without_slashes-trimmed : (s r : List ℕ) → IsTrimStartMatches (FindsCharPrefix slash) s r → r ≡ without_slashes s
+without_slashes-trimmed s r trimmed =
+    sym (without_slashes-none r (trimmed_start r trimmed.1)) ∙ without_slashes-cut s trimmed.0.0 r trimmed.0.1

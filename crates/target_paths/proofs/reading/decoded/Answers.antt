@@ -1,0 +1,17 @@
+use Rattle.std.proofs.Common.{◌∙◌}
+use Rattle.target_paths.specs.Pieces.{pieces}
+use Rattle.target_paths.specs.Shown.{piece_of}
+use Rattle.target_paths.specs.Url.{url_piece}
+use Rattle.target_paths.proofs.PiecesLemmas.{from_byte, pieces-left, joined-next}
+use Rattle.target_paths.proofs.reading.decoded.Goals as goal
+
+pub loop-left-preserved : goal.loop-left-preserved
+loop-left-preserved c =
+    let left = c.loop-left.left.now in
+    let piece = piece_of c.url_piece-piece.result in
+    let read = c.url_piece-piece.ensures in
+    joined-next c.loop-left.bytes.items c.push_read.new.bytes.items piece (pieces url_piece 0 left)
+    (pieces url_piece 0 (from_byte piece.size left))
+    (pieces-left url_piece left piece c.in-len1-up.len_at_least read.piece read.some)
+    c.in_ok-push_read.ensures.ok
+    ∙ c.loop-left.invariant

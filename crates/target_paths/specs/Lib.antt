@@ -1,0 +1,7 @@
+pub mod Pieces
+pub mod References
+pub mod Source
+pub mod Url
+pub mod Reading
+pub mod Shown
+pub mod Writing

@@ -1,0 +1,39 @@
+-- What the code's pieces and errors mean in the words of the definitions.
+use Rattle.std.specs.Prelude.{◌≡◌, ◌≤◌, length, drop, ℕ, List, [], ◌∷◌, Result, Ok, Err, ⊤}
+use Rattle.std.specs.Char.{encode_utf8}
+use Rattle.target_paths.specs.declared.piece.Piece as code
+use Rattle.target_paths.specs.declared.piece.Read.{Read}
+use Rattle.target_paths.specs.declared.piece.Read.TheVariants.{Byte, Character, Nothing, Unknown}
+use Rattle.target_paths.specs.declared.piece.ReadError.{ReadError}
+use Rattle.target_paths.specs.declared.piece.ReadError.TheVariants as error
+use Rattle.target_paths.specs.declared.target.TargetSyntax.{TargetSyntax}
+use Rattle.target_paths.specs.declared.target.WhyUnknown.{WhyUnknown}
+use Rattle.target_paths.specs.Pieces.{Piece, total_size}
+use Rattle.target_paths.specs.Reading.{Meaning, unknown, path_pieces, IsTail}
+
+-- the bytes that it is read as, or why they aren't known
+abbrev pub read_bytes : Read → Result (List ℕ) WhyUnknown
+read_bytes (Byte b) = Ok (b ∷ [])
+read_bytes (Character c) = Ok (encode_utf8 c)
+read_bytes Nothing = Ok []
+read_bytes (Unknown why) = Err why
+
+-- the piece of the definitions
+abbrev pub piece_of : code.Piece → Piece
+piece_of piece = record { size = piece.size; read = read_bytes piece.read }
+
+-- it says why something isn't known, or that memory ran out
+abbrev pub SaysWhy : Result (List ℕ) WhyUnknown → ReadError → Type 0
+SaysWhy read (error.Unknown why) = read ≡ Err why
+SaysWhy read error.OutOfMemory = ⊤
+
+-- it says why a target isn't known, or that memory ran out
+abbrev pub SaysWhyOfTarget : Meaning → ReadError → Type 0
+SaysWhyOfTarget meaning (error.Unknown why) = meaning ≡ unknown why
+SaysWhyOfTarget meaning error.OutOfMemory = ⊤
+
+-- what is left of a target after its path is a tail
+abbrev pub HasTail : TargetSyntax → List ℕ → Type 0
+HasTail syntax target =
+    let tail_at : ℕ = total_size (path_pieces syntax target) in
+    (tail_at ≤ length target) × IsTail syntax (drop tail_at target)

@@ -1,0 +1,76 @@
+-- The pieces of a target as a page has it: CommonMark 0.31.2, sections 2.3 (NUL), 2.4 (backslash escapes) and 2.5
+-- (references); of an attribute, the tokenizer of the HTML standard, and in it the URL standard's section 4.4, by which
+-- tabs and line ends go and a backslash is a slash.
+use Rattle.std.specs.Prelude.{ℕ, ◌+◌, Bool, false, ◌==◌, ◌&&◌, ◌||◌, nat_lt, List, [], ◌∷◌, length, Option, Some, None, Ok, Err, if◌then◌else◌, slice_index}
+use Rattle.std.specs.Char.{encode_utf8, is_ascii_alphabetic, is_ascii_punctuation}
+use Rattle.std.specs.Int.{is_in_range}
+use Rattle.target_paths.specs.declared.target.TargetSyntax.{TargetSyntax}
+use Rattle.target_paths.specs.declared.target.TargetSyntax.TheVariants.{Markdown, Attribute}
+use Rattle.target_paths.specs.declared.target.WhyUnknown.TheVariants.{CharacterReference}
+use Rattle.target_paths.specs.Pieces.{Piece, plain}
+use Rattle.target_paths.specs.References.{body_of, is_closed, character_of, body_number, body_name, is_name}
+
+-- a tab or the end of a line
+abbrev pub is_tab_or_line_end : ℕ → Bool
+is_tab_or_line_end c = c == 9 || c == 10 || c == 13
+
+-- the bytes that a character is read as: in an attribute a tab and the end of a line go, and a backslash is a slash
+abbrev pub character_read : TargetSyntax → ℕ → List ℕ
+character_read Markdown c = encode_utf8 c
+character_read Attribute c =
+    if is_tab_or_line_end c then []
+    else if c == 92 then 47 ∷ []
+    else encode_utf8 c
+
+-- a byte of no reference and no escape: NUL is read as U+FFFD
+abbrev pub byte_read : TargetSyntax → ℕ → List ℕ
+byte_read syntax b =
+    if b == 0 then encode_utf8 0xFFFD
+    else if nat_lt b 128 then character_read syntax b
+    else b ∷ []
+
+-- the piece of a byte by itself
+abbrev pub byte_piece : TargetSyntax → ℕ → Piece
+byte_piece syntax b = record { size = 1; read = Ok (byte_read syntax b) }
+
+-- a number of which browsers make another character than its own
+abbrev pub is_replaced : TargetSyntax → ℕ → Bool
+is_replaced Markdown number = false
+is_replaced Attribute number = is_in_range 128 159 number
+
+-- the character of a number, if that isn't replaced
+abbrev pub numbered : TargetSyntax → Option ℕ → Option ℕ
+numbered syntax None = None
+numbered syntax (Some number) = if is_replaced syntax number then None else Some (character_of number)
+
+-- the character that the body of a reference stands for
+abbrev pub body_character : TargetSyntax → List ℕ → Option ℕ
+body_character syntax body =
+    if slice_index body 0 == 35 then numbered syntax (body_number body) else body_name body
+
+-- the character that a reference stands for, by the text after its `&`
+abbrev pub reference_character : TargetSyntax → List ℕ → Option ℕ
+reference_character syntax text = if is_closed text then body_character syntax (body_of text) else None
+
+-- an `&` before this text, which begins no known reference, may begin another
+abbrev pub may_refer : TargetSyntax → List ℕ → Bool
+may_refer Markdown text = is_closed text && is_name (body_of text)
+may_refer Attribute text = is_ascii_alphabetic (slice_index text 0) || slice_index text 0 == 35
+
+-- the piece of an `&` before this text: a reference, an unknown one, or itself
+abbrev pub reference_piece : TargetSyntax → List ℕ → Option ℕ → Piece
+reference_piece syntax text (Some c) = record { size = length (body_of text) + 2; read = Ok (character_read syntax c) }
+reference_piece syntax text None =
+    if may_refer syntax text then record { size = 1; read = Err CharacterReference } else plain 38
+
+-- a backslash before this byte escapes it
+abbrev pub is_escape : TargetSyntax → ℕ → ℕ → Bool
+is_escape Markdown b next = b == 92 && is_ascii_punctuation next
+is_escape Attribute b next = false
+
+-- the piece that a byte and the text after it begin with
+abbrev pub source_piece : TargetSyntax → ℕ → List ℕ → Piece
+source_piece syntax b text =
+    if is_escape syntax b (slice_index text 0) then record { size = 2; read = Ok (slice_index text 0 ∷ []) }
+    else if b == 38 then reference_piece syntax text (reference_character syntax text)
+    else byte_piece syntax b

@@ -1,0 +1,86 @@
+-- How a path is written as a target, so that a reader of each syntax takes it as that path: RFC 3986, sections 2.1
+-- (percent signs) and 4.2 (a colon in the first segment); CommonMark 0.31.2, sections 6.3 (destinations) and 6.6 (values
+-- of attributes).
+use Rattle.std.specs.Prelude.{◌≡◌, ℕ, ◌+◌, ◌/◌, ◌%◌, Bool, ◌==◌, ◌||◌, nat_lt, List, [], ◌∷◌, ◌++◌, codes, if◌then◌else◌, slice_index}
+use Rattle.std.specs.Char.{encode_utf8}
+use Rattle.std.specs.Int.{is_in_range}
+use Rattle.target_paths.specs.declared.place.Place.{Place}
+use Rattle.target_paths.specs.declared.place.Place.TheVariants.{Start, FirstSegment, AfterSlash}
+use Rattle.target_paths.specs.declared.target.TargetSyntax.{TargetSyntax}
+use Rattle.target_paths.specs.Reading.{IsTail, Meaning, meaning}
+use Rattle.target_paths.specs.Url.{is_slash, is_colon}
+
+-- the byte would be read otherwise, or end a target, wherever it is: 0 to 32, 127, and "#%&'()<=>?\`|
+abbrev pub is_reserved : ℕ → Bool
+is_reserved b =
+    nat_lt b 33 || is_in_range 34 35 b || is_in_range 37 41 b || is_in_range 60 63 b
+    || b == 92 || b == 96 || b == 124 || b == 127
+
+-- the byte is escaped at this place: in the first segment a colon too, and at the start `{` and `$`, which may begin a
+-- template
+abbrev pub is_escaped : Place → ℕ → Bool
+is_escaped Start b = is_reserved b || is_colon b || b == 36 || b == 123
+is_escaped FirstSegment b = is_reserved b || is_colon b
+is_escaped AfterSlash b = is_reserved b
+
+-- the place after a byte
+abbrev pub place_after : Place → ℕ → Place
+place_after Start b = if is_slash b then AfterSlash else FirstSegment
+place_after FirstSegment b = if is_slash b then AfterSlash else FirstSegment
+place_after AfterSlash b = AfterSlash
+
+-- the digit of a number below 16
+abbrev pub hexadecimal : ℕ → ℕ
+hexadecimal digit = if nat_lt digit 10 then 48 + digit else 55 + digit
+
+-- a percent sign and the two digits of a byte
+abbrev pub percent_text : ℕ → List ℕ
+percent_text b = 37 ∷ hexadecimal (b / 16) ∷ hexadecimal (b % 16) ∷ []
+
+-- what is written for a byte
+abbrev pub written_byte : Bool → ℕ → List ℕ
+written_byte escaped b = if escaped then percent_text b else b ∷ []
+
+-- what is written for a character
+abbrev pub written_character : Place → ℕ → List ℕ
+written_character place c = if is_escaped place c then percent_text c else encode_utf8 c
+
+-- what is written for a path's bytes from this place on
+abbrev pub written : Place → List ℕ → List ℕ
+written place [] = []
+written place (b ∷ bs) = written_byte (is_escaped place b) b ++ written (place_after place b) bs
+
+-- the text without the slashes that it begins with
+abbrev pub without_slashes : List ℕ → List ℕ
+without_slashes [] = []
+without_slashes (b ∷ bs) = if is_slash b then without_slashes bs else b ∷ bs
+
+-- the text, or `./` in place of the empty one, which as a reference is the page itself
+abbrev pub some_path : List ℕ → List ℕ
+some_path [] = codes "./"
+some_path (b ∷ bs) = b ∷ bs
+
+-- the path that is written for a path
+abbrev pub path_written : List ℕ → List ℕ
+path_written path = some_path (without_slashes path)
+
+-- the target that is written for a path
+abbrev pub target_of : List ℕ → List ℕ
+target_of path = written Start (path_written path)
+
+-- the byte is NUL, which no file's path has
+abbrev pub is_nul : ℕ → Bool
+is_nul b = b == 0
+
+-- a reader of each syntax takes the text, whatever tail is after it, as this
+abbrev pub IsTakenAs : List ℕ → Meaning → Type 0
+IsTakenAs text means = (syntax : TargetSyntax) (tail : List ℕ) → IsTail syntax tail → meaning syntax (text ++ tail) ≡ means
+
+-- the byte ends a target of some syntax: a control byte, a space, or one of "'()<=>`
+abbrev pub ends_target : ℕ → Bool
+ends_target b =
+    nat_lt b 33 || b == 127 || b == 34 || b == 39 || b == 40 || b == 41 || b == 60 || b == 61 || b == 62 || b == 96
+
+-- the text begins as a template may: with `{` or `$`
+abbrev pub begins_template : List ℕ → Bool
+begins_template text = slice_index text 0 == 123 || slice_index text 0 == 36

@@ -1,0 +1,23 @@
+//! The targets of links as a reader takes them: which path a target spells, and how a path is written.
+//!
+//! A module uses those to the right of it in its row, and those of the rows below.
+//!
+//! ```text
+//! reading     reading - source, reference
+//! writing     writing - place
+//! both        url - piece - target
+//! ```
+#![tactic(auto)]
+
+pub use self::reading::path_of_target;
+pub use self::target::{TargetReading, TargetSyntax, WhyUnknown};
+pub use self::writing::target_of_path;
+
+mod piece;
+mod place;
+mod reading;
+mod reference;
+mod source;
+mod target;
+mod url;
+mod writing;

@@ -1,0 +1,67 @@
+//! Pieces of a text, and what they are read as.
+ghost use Rattle.std.specs.Prelude.{◌≡◌, ◌++◌, Ok, IfOk, IfErr};
+ghost use Rattle.target_paths.specs.Pieces.{followed};
+ghost use Rattle.target_paths.specs.Shown.{read_bytes, SaysWhy};
+
+use crate::target::WhyUnknown;
+use std::alloc::AllocError;
+
+// How many bytes begin a text, and what they are read as.
+#[derive(Clone, Copy)]
+pub(crate) struct Piece {
+    pub(crate) size: usize,
+    pub(crate) read: Read,
+}
+
+// What a piece is read as.
+#[derive(Clone, Copy)]
+pub(crate) enum Read {
+    Byte(u8),
+    Character(char),
+    Nothing,
+    Unknown(WhyUnknown),
+}
+
+// Why a text isn't read.
+#[derive(Clone, Copy)]
+pub(crate) enum ReadError {
+    Unknown(WhyUnknown),
+    OutOfMemory,
+}
+
+impl From<AllocError> for ReadError {
+    ghost use Rattle.target_paths.specs.declared.piece.ReadError.TheVariants.{OutOfMemory};
+
+    ghost from_gives = { λ _ error. error ≡ OutOfMemory };
+
+    fn from(_: AllocError) -> ReadError {
+        ReadError::OutOfMemory
+    }
+}
+
+// Adds what a piece is read as to the bytes so far.
+pub(crate) fn push_read(bytes: &mut Vec<u8>, read: Read) -> Result<(), ReadError>
+    ensures ok { IfOk result (λ _. followed (Ok bytes.old.items) (read_bytes read) ≡ Ok bytes.new.items) }
+    ensures err { IfErr result (SaysWhy (read_bytes read)) }
+{
+    match read {
+        Read::Byte(byte) => push_bytes(bytes, &[byte]),
+        Read::Character(character) => {
+            let mut buffer = [0; 4];
+            push_bytes(bytes, character.encode_utf8(&mut buffer).as_bytes())
+        }
+        Read::Nothing => Ok(()),
+        Read::Unknown(why) => Err(ReadError::Unknown(why)),
+    }
+}
+
+// Adds bytes.
+fn push_bytes(bytes: &mut Vec<u8>, more: &[u8]) -> Result<(), ReadError>
+    ensures ok { IfOk result (λ _. bytes.new.items ≡ bytes.old.items ++ more.now) }
+    ensures err { IfErr result (λ error. error ≡ ReadError.OutOfMemory) }
+{
+    match bytes.extend_from_slice(more) {
+        Ok(()) => Ok(()),
+        Err(error) => Err(ReadError::from(error)),
+    }
+}

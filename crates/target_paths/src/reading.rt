@@ -1,0 +1,179 @@
+//! What a target means to a reader of its page.
+ghost use Rattle.std.specs.Prelude.{◌≡◌, ◌≤◌, ◌-◌, ◌+◌, length, Ok, IfOk, IfErr};
+ghost use Rattle.target_paths.specs.Pieces.{joined, pieces, total_size};
+ghost use Rattle.target_paths.specs.Reading.{
+  BeginsRelative,
+  begins_tail,
+  IfPath,
+  IsTailAt,
+  meaning,
+  meaning_decoded,
+  meaning_of_url,
+  path_pieces,
+  Says,
+  trimmed,
+};
+ghost use Rattle.target_paths.specs.Shown.{HasTail, read_bytes, SaysWhy, SaysWhyOfTarget};
+ghost use Rattle.target_paths.specs.Url.{url_piece};
+
+use crate::piece::{Read, ReadError, push_read};
+use crate::source::source_piece;
+use crate::target::{TargetReading, TargetSyntax, WhyUnknown};
+use crate::url::{is_not_relative, url_piece, without_leading, without_trailing};
+use std::alloc::{AllocError, Global};
+
+// What a target is read as before its query and its fragment, and the byte where these begin.
+#[derive(Drop)]
+struct PathPart {
+    bytes: Vec<u8>,
+    tail_at: usize,
+}
+
+/// Returns what a target means to a reader of its page: a path that is relative to the page's directory, with
+/// the offset of the query or fragment; not such a path; or that the meaning isn't known.
+///
+/// The call first reads escapes and references to characters, up to the first `?` or `#`. An escape or a
+/// reference may stand for that `?` or `#`. What comes after it is the tail, and has no influence. The text that
+/// was read is a URL. If it is empty, has a scheme or begins with a slash, the result is
+/// [`TargetReading::NotRelative`]. Otherwise the call decodes percent signs, once.
+///
+/// | In the target | In Markdown | In an attribute |
+/// |---|---|---|
+/// | `\` before ASCII punctuation | the punctuation | a slash, as every backslash |
+/// | `&#38;` and `&#x26;`, with 1 to 7 decimal or 1 to 6 hexadecimal digits | the character | the character, but unknown for 128 to 159 |
+/// | `&amp;` `&lt;` `&gt;` `&quot;` `&apos;` `&nbsp;` | the character | the character |
+/// | another `&` | unknown in `&name;`, otherwise itself | unknown before a letter or `#`, otherwise itself |
+/// | NUL | U+FFFD | U+FFFD |
+/// | tabs and line ends | themselves | nothing |
+/// | control bytes and spaces at the ends | themselves | nothing |
+///
+/// A reference to 0, to a surrogate or past U+10FFFF is read as U+FFFD. The meaning is also unknown if the path
+/// has `%2F` or `%00`, or if the decoded path isn't UTF-8. [`WhyUnknown`] has the reasons.
+///
+/// Allocates as many bytes as the target has, and for a path as many bytes as were read before the tail. Time is
+/// linear.
+///
+/// ```
+/// let reading = path_of_target(alloc, TargetSyntax::Markdown, "my%20a\\_b.md?q#top")?;
+/// let TargetReading::Path { path, tail_at } = reading else {
+///     return Err(Fail::new("a path"));
+/// };
+/// assert_eq!(rt; (path.as_str(), tail_at), ("my a_b.md", 12));
+/// let reading = path_of_target(alloc, TargetSyntax::Attribute, "&#35;top")?;
+/// assert_eq!(rt; reading, TargetReading::NotRelative);
+/// let reading = path_of_target(alloc, TargetSyntax::Attribute, "a%2Fb")?;
+/// assert_eq!(rt; reading, TargetReading::Unknown(WhyUnknown::EncodedSlash));
+/// ```
+pub fn path_of_target(
+    alloc: Global,
+    syntax: TargetSyntax,
+    target: &str,
+) -> Result<TargetReading, AllocError>
+    ensures reading { IfOk result (Says (meaning syntax target.now)) }
+    ensures tail { IfOk result (λ reading. IfPath reading (λ _ tail_at. IsTailAt syntax target.now tail_at)) }
+    ensures relative { IfOk result (λ reading. IfPath reading (λ path _. BeginsRelative path)) }
+{
+    match read_target(alloc, syntax, target.as_bytes()) {
+        Ok(reading) => Ok(reading),
+        Err(ReadError::Unknown(why)) => Ok(TargetReading::Unknown(why)),
+        Err(ReadError::OutOfMemory) => Err(AllocError),
+    }
+}
+
+// The same, with what isn't known as an error.
+fn read_target(
+    alloc: Global,
+    syntax: TargetSyntax,
+    target: &[u8],
+) -> Result<TargetReading, ReadError>
+    ensures ok { IfOk result (Says (meaning syntax target.now)) }
+    ensures tail { IfOk result (λ _. HasTail syntax target.now) }
+    ensures err { IfErr result (SaysWhyOfTarget (meaning syntax target.now)) }
+{
+    let part = read_path(alloc, syntax, target)?;
+    let text = trimmed(syntax, part.tail_at < target.len(), &part.bytes);
+    read_url(alloc, text, part.tail_at)
+}
+
+// What a target is by its text as a URL.
+fn read_url(alloc: Global, text: &[u8], tail_at: usize) -> Result<TargetReading, ReadError>
+    ensures ok { IfOk result (Says (meaning_of_url text.now tail_at)) }
+    ensures err { IfErr result (SaysWhyOfTarget (meaning_of_url text.now tail_at)) }
+{
+    if is_not_relative(text) {
+        return Ok(TargetReading::NotRelative);
+    }
+    let path = decoded(alloc, text)?;
+    read_path_bytes(path, tail_at)
+}
+
+// What a target is by the bytes of its path.
+fn read_path_bytes(path: Vec<u8>, tail_at: usize) -> Result<TargetReading, ReadError>
+    ensures ok { IfOk result (Says (meaning_decoded (Ok path.items) tail_at)) }
+    ensures err { IfErr result (SaysWhyOfTarget (meaning_decoded (Ok path.items) tail_at)) }
+{
+    match String::from_utf8(path) {
+        Ok(path) => Ok(TargetReading::Path { path, tail_at }),
+        Err(_) => Err(ReadError::Unknown(WhyUnknown::NotUtf8)),
+    }
+}
+
+// What a target is read as before its query and its fragment.
+fn read_path(alloc: Global, syntax: TargetSyntax, target: &[u8]) -> Result<PathPart, ReadError>
+    ensures bytes { IfOk result (λ part. joined (path_pieces syntax target.now) ≡ Ok part.bytes.items) }
+    ensures size { IfOk result (λ part. part.tail_at ≡ total_size (path_pieces syntax target.now)) }
+    ensures tail { IfOk result (λ _. HasTail syntax target.now) }
+    ensures err { IfErr result (SaysWhy (joined (path_pieces syntax target.now))) }
+{
+    let mut bytes = Vec::with_capacity(alloc, target.len())?;
+    let mut left = target;
+    while let [first, rest @ ..] = left {
+        let piece = source_piece(syntax, *first, rest);
+        if begins_tail(piece.read) {
+            let tail_at = target.len() - left.len();
+            return Ok(PathPart { bytes, tail_at });
+        }
+        push_read(&mut bytes, piece.read)?;
+        left = &left[piece.size..];
+    }
+    let tail_at = target.len();
+    Ok(PathPart { bytes, tail_at })
+}
+
+// Whether a piece that is read so begins a query or a fragment.
+fn begins_tail(read: Read) -> bool
+    ensures { result ≡ begins_tail (read_bytes read) }
+{
+    match read {
+        Read::Byte(byte) => byte == b'#' || byte == b'?',
+        Read::Character(character) => character == '#' || character == '?',
+        Read::Nothing => false,
+        Read::Unknown(_) => false,
+    }
+}
+
+// A text without the control bytes and spaces that go from its ends.
+fn trimmed(syntax: TargetSyntax, has_tail: bool, text: &[u8]) -> &[u8]
+    ensures { result.now ≡ trimmed syntax has_tail text.now }
+{
+    match syntax {
+        TargetSyntax::Markdown => text,
+        TargetSyntax::Attribute if has_tail => without_leading(text),
+        TargetSyntax::Attribute => without_trailing(without_leading(text)),
+    }
+}
+
+// The path of a URL, its percent signs decoded once.
+fn decoded(alloc: Global, text: &[u8]) -> Result<Vec<u8>, ReadError>
+    ensures ok { IfOk result (λ path. joined (pieces url_piece 0 text.now) ≡ Ok path.items) }
+    ensures err { IfErr result (SaysWhy (joined (pieces url_piece 0 text.now))) }
+{
+    let mut bytes = Vec::with_capacity(alloc, text.len())?;
+    let mut left = text;
+    while let [first, rest @ ..] = left {
+        let piece = url_piece(*first, rest);
+        push_read(&mut bytes, piece.read)?;
+        left = &left[piece.size..];
+    }
+    Ok(bytes)
+}

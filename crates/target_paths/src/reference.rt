@@ -1,0 +1,124 @@
+//! References to characters: `&amp;`, `&#38;`, `&#x26;`.
+ghost use Rattle.std.specs.Prelude.{◌≡◌, ◌≤◌, ◌<◌, ◌+◌, length, min, slice_index, MatchOption, true, false};
+ghost use Rattle.std.specs.Char.{is_ascii_alphabetic, is_ascii_alphanumeric};
+ghost use Rattle.std.specs.List.{list_all, position};
+ghost use Rattle.std.specs.Option.{option_map};
+ghost use Rattle.target_paths.specs.References.{
+  are_digits,
+  body_name,
+  body_number,
+  body_of,
+  character_of,
+  ends_body,
+  is_closed,
+  is_name,
+  is_x,
+  number_of,
+};
+
+// The first number that is no character's.
+const PAST_CHARACTERS: u32 = 0x11_0000;
+
+// The body of the reference that a text after an `&` may be: its letters, digits and `#`, if a
+// semicolon stands after them.
+pub(crate) fn body(text: &[u8]) -> Option<&[u8]>
+    ensures { MatchOption result (is_closed text.now ≡ false)
+        (λ body. (is_closed text.now ≡ true) × (body.now ≡ body_of text.now) × (length body.now < length text.now)) }
+{
+    match body_end(text) {
+        Some(end) if text[end] == b';' => Some(&text[..end]),
+        _ => None,
+    }
+}
+
+// Where the body of a reference ends, if something stands after it.
+fn body_end(text: &[u8]) -> Option<usize>
+    ensures { result ≡ position ends_body text.now }
+{
+    text.iter()
+        .position(|&byte| !(byte.is_ascii_alphanumeric() || byte == b'#'))
+}
+
+// Whether a body has the form of a name.
+pub(crate) fn is_name(body: &[u8]) -> bool
+    ensures { result ≡ is_name body.now }
+{
+    begins_with_letter(body) && are_alphanumeric(body)
+}
+
+// Whether a letter begins a text.
+pub(crate) fn begins_with_letter(text: &[u8]) -> bool
+    ensures { result ≡ is_ascii_alphabetic (slice_index text.now 0) }
+{
+    match text {
+        [first, ..] => first.is_ascii_alphabetic(),
+        [] => false,
+    }
+}
+
+// Whether a text has letters and digits alone.
+fn are_alphanumeric(text: &[u8]) -> bool
+    ensures { result ≡ list_all is_ascii_alphanumeric text.now }
+{
+    text.iter().all(|byte| byte.is_ascii_alphanumeric())
+}
+
+// The character that a body names.
+pub(crate) fn named(body: &[u8]) -> Option<char>
+    ensures { result ≡ body_name body.now }
+{
+    if body == b"amp".as_slice() {
+        Some('&')
+    } else if body == b"lt".as_slice() {
+        Some('<')
+    } else if body == b"gt".as_slice() {
+        Some('>')
+    } else if body == b"quot".as_slice() {
+        Some('"')
+    } else if body == b"apos".as_slice() {
+        Some('\'')
+    } else if body == b"nbsp".as_slice() {
+        Some('\u{A0}')
+    } else {
+        None
+    }
+}
+
+// The number in a body, if it is a character's; otherwise one past them.
+pub(crate) fn number(body: &[u8]) -> Option<u32>
+    ensures { result ≡ option_map (min 0x11_0000) (body_number body.now) }
+{
+    match body {
+        [b'#', b'x', digits @ ..] => number_of(digits, 16, 6),
+        [b'#', b'X', digits @ ..] => number_of(digits, 16, 6),
+        [b'#', digits @ ..] => number_of(digits, 10, 7),
+        _ => None,
+    }
+}
+
+// The number that at most so many digits write, or the first past all characters if that is less.
+fn number_of(digits: &[u8], radix: u32, most: usize) -> Option<u32>
+    requires lower { 2 ≤ radix }
+    requires upper { radix ≤ 16 }
+    ensures { result ≡ option_map (min 0x11_0000) (number_of radix most digits.now) }
+{
+    if digits.is_empty() || digits.len() > most {
+        return None;
+    }
+    let mut number = 0;
+    for &byte in digits {
+        let digit = char::from(byte).to_digit(radix)?;
+        number = (number * radix + digit).min(PAST_CHARACTERS);
+    }
+    Some(number)
+}
+
+// The character of a number.
+pub(crate) fn character_of(number: u32) -> char
+    ensures { result ≡ character_of number }
+{
+    match char::from_u32(number) {
+        Some(character) if number != 0 => character,
+        _ => char::REPLACEMENT_CHARACTER,
+    }
+}

@@ -1,0 +1,113 @@
+//! How a path is written as a target.
+ghost use Rattle.std.specs.Prelude.{◌≡◌, ◌++◌, ◌<◌, true, false, length, IfOk, string_bytes};
+ghost use Rattle.std.specs.List.{list_any};
+ghost use Rattle.target_paths.specs.Reading.{path_before, unknown};
+ghost use Rattle.target_paths.specs.Writing.{
+  begins_template,
+  ends_target,
+  hexadecimal,
+  is_nul,
+  IsTakenAs,
+  path_written,
+  percent_text,
+  target_of,
+  without_slashes,
+  written,
+  written_character,
+};
+ghost use Rattle.target_paths.specs.declared.target.WhyUnknown.TheVariants.{EncodedNul};
+
+use crate::place::Place;
+use std::alloc::{AllocError, Global};
+
+// The digit of a number below 16.
+fn hexadecimal(digit: u8) -> char
+    requires { digit < 16 }
+    ensures { result ≡ hexadecimal digit }
+{
+    if digit < 10 {
+        char::from(b'0' + digit)
+    } else {
+        char::from(b'A' - 10 + digit)
+    }
+}
+
+// Adds a percent sign and the two digits of a byte.
+fn push_percent(target: &mut String, byte: u8) -> Result<(), AllocError>
+    ensures { IfOk result (λ _. string_bytes target.new ≡ string_bytes target.old ++ percent_text byte) }
+{
+    target.push('%')?;
+    target.push(hexadecimal(byte / 16))?;
+    target.push(hexadecimal(byte % 16))
+}
+
+// What is written for a path.
+fn written(alloc: Global, path: &str) -> Result<String, AllocError>
+    ensures { IfOk result (λ target. string_bytes target ≡ written Place.Start path.now) }
+{
+    let mut target = String::with_capacity(alloc, path.len())?;
+    let mut place = Place::Start;
+    for character in path.chars() {
+        push_character(&mut target, place, character)?;
+        place = place.after(character);
+    }
+    Ok(target)
+}
+
+// Adds what is written for a character.
+fn push_character(target: &mut String, place: Place, character: char) -> Result<(), AllocError>
+    ensures { IfOk result (λ _. string_bytes target.new ≡ string_bytes target.old ++ written_character place character) }
+{
+    if place.escapes(character) {
+        push_percent(target, character as u8)
+    } else {
+        target.push(character)
+    }
+}
+
+// A path without the slashes at its start.
+fn without_slashes(path: &str) -> &str
+    ensures { result.now ≡ without_slashes path.now }
+{
+    path.trim_start_matches('/')
+}
+
+// The path that is written for a path: without the slashes at its start, and `./` for an empty one.
+fn path_written(path: &str) -> &str
+    ensures { result.now ≡ path_written path.now }
+{
+    let path = without_slashes(path);
+    if path.is_empty() { "./" } else { path }
+}
+
+/// Returns the target to write for a path. In each syntax [`path_of_target`](crate::path_of_target) reads it
+/// back as the path, whatever query or fragment is written after it.
+///
+/// The call writes a percent sign and two digits for the bytes 0 to 32 and 127, and for `"`, `#`, `%`, `&`,
+/// `'`, `(`, `)`, `<`, `=`, `>`, `?`, `\`, `` ` `` and `|`. It does so for a colon in the first segment, and for
+/// `{` and `$` at the start, where a template may begin. Other bytes stay, also those past ASCII. So the same
+/// text serves with and without angle brackets or quotes around it.
+///
+/// The call leaves out slashes at the start of the path. The path without them has the same components, but a
+/// reference that begins with a slash leads elsewhere. For an empty path it writes `./`, since an empty
+/// reference leads to the page itself. No target spells a path with NUL; what is written for such a path is
+/// read as unknown.
+///
+/// Allocates the target, at first as many bytes as the path has, and more if bytes are escaped. Time is linear.
+///
+/// ```
+/// assert_eq!(rt; target_of_path(alloc, "docs/my a_b.md")?.as_str(), "docs/my%20a_b.md");
+/// assert_eq!(rt; target_of_path(alloc, "a:b")?.as_str(), "a%3Ab");
+/// assert_eq!(rt; target_of_path(alloc, "")?.as_str(), "./");
+/// ```
+pub fn target_of_path(alloc: Global, path: &str) -> Result<String, AllocError>
+    ensures text { IfOk result (λ target. string_bytes target ≡ target_of path.now) }
+    ensures read { list_any is_nul path.now ≡ false → IfOk result (λ target.
+        IsTakenAs (string_bytes target) (path_before (path_written path.now) (length (string_bytes target)))) }
+    ensures nul { list_any is_nul path.now ≡ true → IfOk result (λ target.
+        IsTakenAs (string_bytes target) (unknown EncodedNul)) }
+    ensures whole { IfOk result (λ target. list_any ends_target (string_bytes target) ≡ false) }
+    ensures start { IfOk result (λ target. begins_template (string_bytes target) ≡ false) }
+{
+    written(alloc, path_written(path))
+}

@@ -1,0 +1,27 @@
+//! Paths, written.
+use super::marks::{begin, end};
+use crate::tests::same;
+use std::alloc::Global;
+use std::test::Fail;
+use target_paths::target_of_path;
+
+// Fails where a path is written as another target than this, with memory at hand.
+fn is_written(alloc: Global, path: &str, expected: &str) -> Result<(), Fail> {
+    begin(alloc);
+    let answer = target_of_path(alloc, path);
+    end(alloc, answer.is_err())?;
+    match answer {
+        Ok(target) => same("a target", &target.as_str(), &expected),
+        Err(_) => Ok(()),
+    }
+}
+
+// Requests: 4 = 1, 2 = 1, 3 8 = 1, 1048576 = 1
+#[test]
+fn targets(rt: HostRuntime) -> Result<(), Fail> {
+    is_written(rt.alloc(), "b.md", "b.md")?;
+    is_written(rt.alloc(), "/", "./")?;
+    is_written(rt.alloc(), "a b", "a%20b")?;
+    let long = "a/".repeat(rt.alloc(), 524_288)?;
+    is_written(rt.alloc(), long.as_str(), long.as_str())
+}
