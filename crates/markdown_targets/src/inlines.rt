@@ -22,7 +22,7 @@ pub(crate) fn read_inlines(alloc: Global, text: &TextBlocks) -> Result<LinkTarge
     let mut reader = Reader::new(alloc, names(alloc, text)?)?;
     for block in text.blocks() {
         if let Some(bytes) = text.text_through(*block) {
-            reader.read_block(block.kind, bytes, block.start)?;
+            reader.read_inlines_of_block(block.kind, bytes, block.start)?;
         }
     }
     let Reader { found, .. } = reader;
@@ -72,7 +72,12 @@ impl Reader {
     }
 
     // Reads the block from an offset on. The text ends with it.
-    fn read_block(&mut self, kind: TextKind, text: &[u8], start: usize) -> Result<(), AllocError>
+    fn read_inlines_of_block(
+        &mut self,
+        kind: TextKind,
+        text: &[u8],
+        start: usize,
+    ) -> Result<(), AllocError>
         requires { start ≤ length text.now }
     {
         self.brackets.clear();

@@ -21,7 +21,7 @@ use Rattle.relative_path.specs.ComparingLaws.{steps_comparison}
 use Rattle.relative_path.specs.Slices.{IsRest, IsFront}
 use Rattle.relative_path.specs.Components.{step_of, text_left, components_left, TakesFirst, TakesLast, TakesFirstText, text_of, iter_text_left, texts_left, GivesComponents, GivesTextsOfComponents}
 use Rattle.relative_path.proofs.StepsLemmas.{HasNoSlash, components-nil, components-append, components_whole, last-append_slash}
-use Rattle.relative_path.proofs.SlashesLemmas.{joined_first, joined_last, HasNoSlash-before_first, HasNoSlash-after_last}
+use Rattle.relative_path.proofs.SlashesLemmas.{joined_at_first_slash, joined_at_last_slash, HasNoSlash-before_first, HasNoSlash-after_last}
 use Rattle.relative_path.proofs.SlicesLemmas.{IsSuffix, IsSuffix-drop, IsSuffix-of_drop, IsSuffix-trans, IsPrefix, IsPrefix-take, IsPrefix-trans, IsShortestPrefix-from, IsShortestPrefix-nil}
 
 -- the text without the slashes at its start
@@ -57,7 +57,7 @@ components-first : (text : List ℕ) → get_or text 0 0 ≢ slash → text ≢ 
 components-first text start some =
     let piece = λ (nonempty : before_first is_slash text ≢ []).
     components_piece (before_first is_slash text) nonempty (HasNoSlash-before_first text) in
-    elim (joined_first text) [
+    elim (joined_at_first_slash text) [
       | inl joined ↦ ap components joined ∙ components-append (before_first is_slash text) (after_first is_slash text)
           ∙ ap (λ cs. cs ++ components (after_first is_slash text))
           (piece (λ none. start (ap (λ x. get_or x 0 0) (joined ∙ ap (λ x. x ++ slash ∷ after_first is_slash text) none))))
@@ -97,7 +97,7 @@ components-last : (text : List ℕ) → get_or text (length text - 1) 0 ≢ slas
 components-last text end some =
     let piece = λ (nonempty : after_last is_slash text ≢ []).
     components_piece (after_last is_slash text) nonempty (HasNoSlash-after_last text) in
-    elim (joined_last text) [
+    elim (joined_at_last_slash text) [
       | inl joined ↦
           let ended = λ (none : after_last is_slash text ≡ []). joined ∙ ap (λ x. before_last is_slash text ++ slash ∷ x) none in
           ap components joined ∙ components-append (before_last is_slash text) (after_last is_slash text)

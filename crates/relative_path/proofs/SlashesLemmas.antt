@@ -316,9 +316,9 @@ HasNoSlash-after_last text =
     ap is_slash (get_or-drop n text k 0) ∙ fails_after_last text (n + k) (omega arith) (omega (arith, h, length-drop n text))))
 
 -- the text is what comes before its first slash, that slash, and what comes after it
-pub joined_first : (text : List ℕ) → (text ≡ before_first is_slash text ++ slash ∷ after_first is_slash text)
+pub joined_at_first_slash : (text : List ℕ) → (text ≡ before_first is_slash text ++ slash ∷ after_first is_slash text)
     ⊎ ((text ≡ before_first is_slash text) × (after_first is_slash text ≡ []))
-joined_first text =
+joined_at_first_slash text =
     let n = position_or_len is_slash text in
     ⊎_elim
     (λ some. inl (split_at_first is_slash text 0 some
@@ -327,9 +327,9 @@ joined_first text =
     (cases_lt n (length text))
 
 -- the text is what comes before its last slash, that slash, and what comes after it
-pub joined_last : (text : List ℕ) → (text ≡ before_last is_slash text ++ slash ∷ after_last is_slash text)
+pub joined_at_last_slash : (text : List ℕ) → (text ≡ before_last is_slash text ++ slash ∷ after_last is_slash text)
     ⊎ ((text ≡ after_last is_slash text) × (before_last is_slash text ≡ []))
-joined_last text =
+joined_at_last_slash text =
     let n = last_start is_slash text in
     ⊎_elim
     (λ some.

@@ -63,8 +63,8 @@ climbs_front (suc n) (suc m) less =
     ∙ sym (ap (λ k. spell (replicate k up)) (count ∙ ap suc count'))
 
 -- each of its indices is a character boundary
-pub climbs_boundary : (m n : ℕ) → n ≤ length (climbs m) → IsCharBoundary (climbs m) n
-climbs_boundary m n fits = IsCharBoundary-from_ascii (climbs m) n (ascii m) fits
+pub IsCharBoundary-climbs : (m n : ℕ) → n ≤ length (climbs m) → IsCharBoundary (climbs m) n
+IsCharBoundary-climbs m n fits = IsCharBoundary-from_ascii (climbs m) n (ascii m) fits
   where
     ascii : (k i : ℕ) → get_or (climbs k) i 0 < 128
     ascii zero i = omega arith

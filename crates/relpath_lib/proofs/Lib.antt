@@ -2,5 +2,5 @@ pub mod BytesLemmas
 pub mod CommandLemmas
 pub mod InputLemmas
 pub mod LinesLemmas
-pub mod OnlyLemmas
+pub mod UniquenessLemmas
 pub mod OutputLemmas

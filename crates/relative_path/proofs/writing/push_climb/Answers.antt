@@ -1,13 +1,13 @@
 use Rattle.std.proofs.Common.{string_bytes, ◌≡◌, ◌∙◌, ap, sym, ◌-◌, fold, length, replicate, lit<, arith}
 use Rattle.relative_path.specs.Writing.{with_piece}
 use Rattle.relative_path.specs.Steps.{up, step_text}
-use Rattle.relative_path.proofs.WritingLemmas.{climbs_boundary, with_pieces-some_climbs, some_climbs_fit}
+use Rattle.relative_path.proofs.WritingLemmas.{IsCharBoundary-climbs, with_pieces-some_climbs, some_climbs_fit}
 use Rattle.relative_path.proofs.writing.push_climb.Goals as goal
 
 pub range-requires-clause-end_boundary : goal.range-requires-clause-end_boundary
 range-requires-clause-end_boundary c =
     let count = c.min-count.ensures in
-    climbs_boundary 24 _ (omega (arith, count))
+    IsCharBoundary-climbs 24 _ (omega (arith, count))
 
 pub add_piece-requires : goal.add_piece-requires
 add_piece-requires c =

@@ -1,6 +1,6 @@
 -- Each turn takes the first line of the remaining text, and adds its answer and a line feed.
 use Rattle.std.proofs.Common.{rules, ◌++◌, string_bytes, append-nil, ap, ◌∙◌, lit<}
-use Rattle.relpath_lib.proofs.OnlyLemmas.{IsOutput-only}
+use Rattle.relpath_lib.proofs.UniquenessLemmas.{IsOutput-only}
 use Rattle.relpath_lib.proofs.OutputLemmas.{IsOutput-none, IsOutput-next}
 use Rattle.relpath_lib.proofs.output.answer_lines.Goals as goal
 
