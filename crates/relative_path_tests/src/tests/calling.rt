@@ -122,7 +122,8 @@ pub fn index_of(
     Ok(Some(index))
 }
 
-/// The shortest link between the pages that a build makes of two sources.
+/// A link between the pages that a build makes of two sources; `None` exactly if one of the sources makes
+/// no page.
 pub fn link(
     alloc: Global,
     out_dir: RelativePath<'_>,
@@ -149,7 +150,7 @@ pub fn link(
     Ok(way)
 }
 
-/// The normal form of a path. If the path leads to a place from the top, the file name is the place's
+/// A path after `normalize`. If the path leads to a place from the top, the file name is the place's
 /// last name, and the directory has the names before it.
 pub fn place_of(alloc: Global, path: RelativePath<'_>) -> Result<RelativePathBuf, AllocError>
     ensures file_name { IfOk result (λ normal. (place : List (List ℕ)) (n : List ℕ)
@@ -163,8 +164,8 @@ pub fn place_of(alloc: Global, path: RelativePath<'_>) -> Result<RelativePathBuf
     Ok(normal)
 }
 
-/// The shortest link from a directory to a target. It is never `None` if the directory stays below
-/// its base.
+/// A link from a directory to a target, by `try_relative`. It is never `None` if the directory stays
+/// below its base.
 pub fn link_from(
     alloc: Global,
     directory: RelativePath<'_>,
@@ -176,8 +177,8 @@ pub fn link_from(
     Ok(found)
 }
 
-/// The shortest link from one directory to another. It is never `None` if both are normal and the
-/// first climbs no higher than the second.
+/// A link from one directory to another, by `try_relative`. It is never `None` if both are normal and
+/// the first climbs no higher than the second.
 pub fn link_between(
     alloc: Global,
     from: RelativePath<'_>,
