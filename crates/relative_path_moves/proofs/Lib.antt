@@ -5,4 +5,5 @@ mod MovesLemmas
 mod PairsLemmas
 mod MoveTableLemmas
 mod ReferenceLemmas
+mod TreeMovesLemmas
 pub mod ForCallers

@@ -3,4 +3,5 @@ pub mod PlaceIndex
 pub mod Moves
 pub mod MoveError
 pub mod MoveTable
+pub mod TreeMoves
 pub mod Reference

@@ -1,9 +1,9 @@
 //! What references become when files move.
 //!
 //! ```text
-//! reference                   one reference, with a table made for it alone
-//!     │
-//! move_table                  many references, with one table
+//! reference    tree_moves     one reference, with a table made for it alone; moves of directories
+//!     │            │
+//! move_table ──────┘          many references, with one table
 //!     │
 //! move_error   place_index    errors of moves and of references; paths by the places they lead to
 //!                  │
@@ -19,6 +19,7 @@ pub use self::normal_path::NormalPath;
 pub use self::place_index::PlaceIndex;
 pub use self::places::{directory, has_place};
 pub use self::reference::moved;
+pub use self::tree_moves::TreeMoves;
 
 mod move_error;
 mod move_table;
@@ -26,3 +27,4 @@ mod normal_path;
 mod place_index;
 mod places;
 mod reference;
+mod tree_moves;

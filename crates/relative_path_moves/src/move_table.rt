@@ -23,7 +23,8 @@ ghost use Rattle.relative_path_moves.specs.Moves.{
 };
 ghost use Rattle.relative_path_moves.specs.MoveError.{Refuses};
 ghost use Rattle.relative_path_moves.specs.MoveTable.{olds_of, IsSound, IsWay, IsShortestBuffer, IsLink, LeadToTarget};
-ghost use Rattle.relative_path_moves.specs.PlaceIndex.{Indexes};
+ghost use Rattle.relative_path.specs.Normalizing.{IsNormalText};
+ghost use Rattle.relative_path_moves.specs.PlaceIndex.{Indexes, IsFoundAt};
 
 use crate::move_error::{MoveTableError, ReferenceError};
 use crate::normal_path::NormalPath;
@@ -225,8 +226,16 @@ impl<'a> MoveTable<'a> {
         }
     }
 
+    // The number of the move whose old path has this normal text.
+    pub(crate) fn move_from(&self, place: &RelativePathBuf) -> Option<usize>
+        requires { IsNormalText place.now.text }
+        ensures { IsFoundAt (olds_of self.now) (components place.now.text) result }
+    {
+        self.by_old.get_text(place.as_relative_path().as_str())
+    }
+
     // The old and the new path of a move.
-    fn paths(&self, i: usize) -> (RelativePath<'a>, RelativePath<'a>)
+    pub(crate) fn paths(&self, i: usize) -> (RelativePath<'a>, RelativePath<'a>)
         requires { i < length self.now }
         ensures old { path_components result.0 ≡ (move_at self.now i).old }
         ensures new { path_components result.1 ≡ (move_at self.now i).new }

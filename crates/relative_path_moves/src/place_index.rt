@@ -2,6 +2,7 @@
 ghost use Rattle.std.specs.Prelude.{◌≡◌, ◌<◌, ◌++◌, ℕ, [], ◌∷◌, List, length, IfOk, IfSome, OnOk, OnErr};
 ghost use Rattle.relative_path.specs.Steps.{Step, components};
 ghost use Rattle.relative_path.specs.Walk.{IsSame};
+ghost use Rattle.relative_path.specs.Normalizing.{IsNormalText};
 ghost use Rattle.relative_path.specs.RelativePath.{path_components};
 ghost use Rattle.relative_path_moves.specs.PlaceIndex.{Indexes, IsFirstAt, IsFoundAt};
 
@@ -90,7 +91,17 @@ impl PlaceIndex {
         ensures within { IfSome result (λ k. (paths : List (List Step)) → Indexes paths self.now
             → k < length paths) }
     {
-        let path = path.as_relative_path();
-        self.by_text.get(path.as_str()).copied()
+        self.get_text(path.as_relative_path().as_str())
+    }
+
+    // What `get` returns for the path with this normal text.
+    pub(crate) fn get_text(&self, text: &str) -> Option<usize>
+        requires { IsNormalText text.now }
+        ensures found { (paths : List (List Step)) (cs : List Step) → Indexes paths self.now
+            → IsSame cs (components text.now) → IsFoundAt paths cs result }
+        ensures within { IfSome result (λ k. (paths : List (List Step)) → Indexes paths self.now
+            → k < length paths) }
+    {
+        self.by_text.get(text).copied()
     }
 }

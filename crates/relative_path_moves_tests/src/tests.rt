@@ -5,6 +5,7 @@ mod many_moves;
 mod one_move;
 mod places;
 mod refusals;
+mod tree_moves;
 
 use relative_path::{RelativePath, RelativePathBuf};
 use relative_path_moves::{MoveTable, NormalPath, PlaceIndex, moved};

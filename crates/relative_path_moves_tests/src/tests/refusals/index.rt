@@ -62,7 +62,7 @@ fn normal_of(alloc: Global, text: &str, expected: &str) -> Result<(), Fail> {
     }
 }
 
-// Requests: 4s 3 = 1, = 0, 1s = 0, 524288s 1048576 = 1
+// Requests: 5s 3 = 1, = 0, 1s = 0, 524288s 1048576 = 1
 #[test]
 fn a_normal_path(rt: HostRuntime) -> Result<(), Fail> {
     normal_of(rt.alloc(), "./c/../a//b", "a/b")?;

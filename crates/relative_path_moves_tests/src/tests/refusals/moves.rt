@@ -3,7 +3,7 @@ use super::long_text;
 use super::marks::{begin, end};
 use crate::tests::{as_paths, same, text_of};
 use relative_path::{RelativePath, RelativePathBuf};
-use relative_path_moves::{MoveError, MoveTable, MoveTableError, ReferenceError, moved};
+use relative_path_moves::{MoveError, MoveTable, MoveTableError, ReferenceError, TreeMoves, moved};
 use std::alloc::Global;
 use std::test::Fail;
 
@@ -156,6 +156,47 @@ fn the_path_of_a_file(rt: HostRuntime) -> Result<(), Fail> {
     ask_of_a_file(rt.alloc(), &table, "", "")?;
     let long = long_text(rt.alloc())?;
     ask_of_a_file(rt.alloc(), &table, long.as_str(), long.as_str())
+}
+
+fn plants(alloc: Global, moves: &[(RelativePath<'_>, RelativePath<'_>)]) -> Result<(), Fail> {
+    begin(alloc);
+    let answer = TreeMoves::new(alloc, moves);
+    end(alloc, answer.is_err())?;
+    match answer {
+        Ok(_) => Ok(()),
+        Err(error) => same("a refusal", &error, &MoveTableError::OutOfMemory),
+    }
+}
+
+// Requests: 1s 4 488 = 2, = 0
+#[test]
+fn a_tree(rt: HostRuntime) -> Result<(), Fail> {
+    plants(rt.alloc(), &[as_paths(("docs", "guide"))])?;
+    plants(rt.alloc(), &[])
+}
+
+// Where a file is after a move of a directory.
+fn ask_of_a_tree(alloc: Global, tree: &TreeMoves<'_>, file: &str, now: &str) -> Result<(), Fail> {
+    begin(alloc);
+    let answer = tree.path_after(alloc, RelativePath::new(file));
+    end(alloc, answer.is_err())?;
+    match answer {
+        Ok(path) => same("a file", &path.as_relative_path().as_str(), &now),
+        Err(_) => Ok(()),
+    }
+}
+
+// Requests: 2s 6 6 1s 4 2s 7 = 1, 2s 7 7 = 1, = 0, 2s 4 = 1, 524288s 1048576 1048576 = 1
+#[test]
+fn the_path_of_a_file_in_a_tree(rt: HostRuntime) -> Result<(), Fail> {
+    let moves = [("docs", "guide")].map(as_paths);
+    let tree = TreeMoves::new(rt.alloc(), &moves)?;
+    ask_of_a_tree(rt.alloc(), &tree, "docs/a", "guide/a")?;
+    ask_of_a_tree(rt.alloc(), &tree, "docs2/a", "docs2/a")?;
+    ask_of_a_tree(rt.alloc(), &tree, "", "")?;
+    ask_of_a_tree(rt.alloc(), &tree, "../a", "../a")?;
+    let long = long_text(rt.alloc())?;
+    ask_of_a_tree(rt.alloc(), &tree, long.as_str(), long.as_str())
 }
 
 // A reference of a page that stays, and what it becomes, if that is another.
