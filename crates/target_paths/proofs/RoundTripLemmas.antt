@@ -216,7 +216,8 @@ ends_scheme-is (w ∷ ws) =
           → ((colon || list_any is_colon ws) && list_all is_scheme_byte (cond colon [] (w ∷ before_first is_colon ws)))
           ≡ (colon || is_scheme_byte w && ends_scheme ws)
       of true byte rest = refl
-      of false byte rest = swapped (list_any is_colon ws) (is_scheme_byte w) (list_all is_scheme_byte (before_first is_colon ws)) (ends_scheme ws) rest
+      of false byte rest = swapped (list_any is_colon ws) (is_scheme_byte w)
+          (list_all is_scheme_byte (before_first is_colon ws)) (ends_scheme ws) rest
 
 no_scheme : (ws : List ℕ) → ends_scheme ws ≡ false → has_scheme ws ≡ false
 no_scheme ws none =
@@ -281,10 +282,11 @@ abbrev decoded : List ℕ → Result (List ℕ) WhyUnknown
 decoded bs = if list_any is_nul bs then Err EncodedNul else Ok bs
 
 decoded-byte : (b : ℕ) (bs : List ℕ) → is_nul b ≡ false → followed (Ok (b ∷ [])) (decoded bs) ≡ decoded (b ∷ bs)
-decoded-byte b bs some = of (list_any is_nul bs) ∙ ap (λ t. if t || list_any is_nul bs then Err EncodedNul else Ok (b ∷ bs)) (sym some) where
-  of : (t : Bool) → followed (Ok (b ∷ [])) (if t then Err EncodedNul else Ok bs) ≡ (if t then Err EncodedNul else Ok (b ∷ bs))
-  of true = refl
-  of false = refl
+decoded-byte b bs some =
+    of (list_any is_nul bs) ∙ ap (λ t. if t || list_any is_nul bs then Err EncodedNul else Ok (b ∷ bs)) (sym some) where
+      of : (t : Bool) → followed (Ok (b ∷ [])) (if t then Err EncodedNul else Ok bs) ≡ (if t then Err EncodedNul else Ok (b ∷ bs))
+      of true = refl
+      of false = refl
 
 kept-no_percent : (place : Place) (b : ℕ) → is_escaped place b ≡ false → (b == 37) ≡ false
 kept-no_percent Start b keeps = grind (arith, nat_tests)
@@ -331,7 +333,11 @@ decoded-kept b rest bs other some is =
 -- what a byte that is no slash is decoded to
 decoded_byte-followed : (b : ℕ) (bs : List ℕ) → is_slash b ≡ false → followed (decoded_byte b) (decoded bs) ≡ decoded (b ∷ bs)
 decoded_byte-followed b bs other =
-    by_escape (λ t. is_nul b ≡ t → followed (if t then Err EncodedNul else if is_slash b then Err EncodedSlash else Ok (b ∷ [])) (decoded bs) ≡ decoded (b ∷ bs)) (is_nul b)
+    by_escape
+    (λ t. is_nul b ≡ t → followed
+    (if t then Err EncodedNul else if is_slash b then Err EncodedSlash else Ok (b ∷ []))
+    (decoded bs) ≡ decoded (b ∷ bs))
+    (is_nul b)
     (λ nul is. ap (λ t. if t || list_any is_nul bs then Err EncodedNul else Ok (b ∷ bs)) (sym is))
     (λ some is. ap (λ t. followed (if t then Err EncodedSlash else Ok (b ∷ [])) (decoded bs)) other ∙ decoded-byte b bs some)
     refl

@@ -15,14 +15,16 @@ pub returns-then-has_unportable_name-clause-refused : goal.returns-then-has_unpo
 returns-then-has_unportable_name-clause-refused c =
     let holds = sym c.has_unportable_name.ensures ∙ c.if-has_unportable_name.true in
     let refused =
-    (IsRefusedRequest-text (components c.args.request.now) c.in-Some.place.text (spells (goal.at.returns-then-has_unportable_name-clause-refused c).In-Some)).1
+    (IsRefusedRequest-text (components c.args.request.now) c.in-Some.place.text
+    (spells (goal.at.returns-then-has_unportable_name-clause-refused c).In-Some)).1
     (rw c.as_relative_path-place.ensures at holds) in
     (λ _. refused, λ _. refl)
 
 pub returns-clause-refused : goal.returns-clause-refused
 returns-clause-refused c =
     let none = sym c.has_unportable_name.ensures ∙ c.if-has_unportable_name.false in
-    let holds = (IsRefusedRequest-text (components c.args.request.now) c.in-Some.place.text (spells (goal.at.returns-clause-refused c).In-Some)).0 in (
+    let holds = (IsRefusedRequest-text (components c.args.request.now) c.in-Some.place.text
+    (spells (goal.at.returns-clause-refused c).In-Some)).0 in (
       λ no. absurd (true≢false no),
       λ refused. sym (holds refused) ∙ (rw c.as_relative_path-place.ensures at none),
     )

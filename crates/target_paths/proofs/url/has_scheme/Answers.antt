@@ -8,8 +8,10 @@ pub returns-in-Some : goal.returns-in-Some
 returns-in-Some c =
     let is = sym c.in-Some.ensures in
     c.is_scheme.ensures
-    ∙ sym (ap₂ (λ any first. any && is_scheme first) (list_any-some is_colon c.args.text.now _ is) (before_first-some is_colon c.args.text.now _ is))
+    ∙ sym (ap₂ (λ any first. any && is_scheme first) (list_any-some is_colon c.args.text.now _ is)
+    (before_first-some is_colon c.args.text.now _ is))
 
 pub returns-in-None : goal.returns-in-None
 returns-in-None c =
-    sym (ap (λ any. any && is_scheme (before_first is_colon c.args.text.now)) (list_any-none is_colon c.args.text.now (sym c.in-None.ensures)))
+    sym (ap (λ any. any && is_scheme (before_first is_colon c.args.text.now))
+    (list_any-none is_colon c.args.text.now (sym c.in-None.ensures)))

@@ -15,7 +15,8 @@ loop-character-init c =
 
 pub loop-character-preserved : goal.loop-character-preserved
 loop-character-preserved c =
-    let turn = YieldsList-turn (YieldsList-from_chars c.args.path.now c.utf8.path cc) c.loop-character.yielded _ c.loop-character.yielded_by _ _ c.in-Some.character c.in-Some.is c.next.ensures.steps in
+    let turn = YieldsList-turn (YieldsList-from_chars c.args.path.now c.utf8.path cc) c.loop-character.yielded _
+    c.loop-character.yielded_by _ _ c.in-Some.character c.in-Some.is c.next.ensures.steps in
     let cs = chars c.args.path.now in
     let place = c.loop-character.place in
     let character = c.in-Some.character in
@@ -28,5 +29,7 @@ loop-character-preserved c =
 
 pub returns : goal.returns
 returns c =
-    let end = YieldsList-end (YieldsList-from_chars c.args.path.now c.utf8.path cc) c.loop-character.yielded _ c.loop-character.yielded_by _ _ c.in-None.is c.next.ensures.steps in
-    written-end c.loop-character.place (chars c.args.path.now) (length c.loop-character.yielded) (string_bytes c.loop-character.target) (written Start c.args.path.now) end.1 c.loop-character.invariant
+    let end = YieldsList-end (YieldsList-from_chars c.args.path.now c.utf8.path cc) c.loop-character.yielded _
+    c.loop-character.yielded_by _ _ c.in-None.is c.next.ensures.steps in
+    written-end c.loop-character.place (chars c.args.path.now) (length c.loop-character.yielded)
+    (string_bytes c.loop-character.target) (written Start c.args.path.now) end.1 c.loop-character.invariant
