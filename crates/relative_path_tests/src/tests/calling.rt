@@ -33,8 +33,8 @@ pub fn carry(
     to.try_relative(alloc, target.as_relative_path())
 }
 
-/// The link to write in a copy of the page kept in `archive`, so that it still leads where `link` led
-/// from the page's directory, if a path leads there.
+/// The link to write in the page's copy, which is in the directory `archive`, so that it still leads
+/// where `link` led from the page's directory, if a path leads there.
 pub fn relink(
     alloc: Global,
     page: RelativePath<'_>,
