@@ -1,4 +1,4 @@
--- What proofs of other crates may cite.
+-- Theorems that proofs of other crates may cite.
 use Rattle.std.proofs.Common.{◌≡◌, ℕ, true, List, ◌∷◌}
 use Rattle.target_paths.specs.declared.target.TargetSyntax.{TargetSyntax}
 use Rattle.target_paths.specs.Reading.{is_tail_byte, IsTail}

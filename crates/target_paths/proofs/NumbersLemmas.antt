@@ -1,4 +1,4 @@
--- The numbers of references, capped at the first that is no character's.
+-- The numbers of references, limited to the first number that isn't that of a character.
 use Rattle.std.proofs.Common.{◌≡◌, ℕ, ◌+◌, ◌*◌, ◌<◌, ◌≤◌, min, Bool, true, ◌&&◌, if◌then◌else◌, List, [], ◌∷◌, length, drop, get_or, Option, Some, None, ap, ◌∙◌, arith, ◌⊎◌, inl, inr}
 use Rattle.std.proofs.Math.Nat.{mul-le-mul_left}
 use Rattle.std.proofs.lemmas.Bool.Decides.{nat_tests}
@@ -12,7 +12,7 @@ use Rattle.target_paths.specs.declared.target.TargetSyntax.TheVariants.{Markdown
 use Rattle.target_paths.specs.References.{character_of}
 use Rattle.target_paths.specs.Source.{is_replaced, numbered}
 
--- more digits write no less
+-- more digits write a number that isn't smaller
 digits_value-ge : (radix number : ℕ) (digits : List ℕ) → 1 ≤ radix → number ≤ digits_value_after radix number digits
 digits_value-ge radix number [] some = omega arith
 digits_value-ge radix number (b ∷ bs) some =
@@ -24,7 +24,7 @@ digits_value-ge radix number (b ∷ bs) some =
 one_below : (a b : ℕ) → (a ≤ b) ⊎ (b ≤ a)
 one_below a b = grind arith
 
--- past the cap it doesn't matter how far
+-- a number past the limit is read like the limit
 capped : (radix number cap : ℕ) (digits : List ℕ) → 1 ≤ radix
     → min cap (digits_value_after radix number digits) ≡ min cap (digits_value_after radix (min number cap) digits)
 capped radix number cap digits some = of (one_below number cap) where
@@ -37,7 +37,7 @@ capped radix number cap digits some = of (one_below number cap) where
       digits_value-ge radix (min number cap) digits some in
       omega (arith, whole, part)
 
--- one digit more
+-- the number with one more digit
 pub value-next : (radix number digit cap : ℕ) (digits : List ℕ) (k : ℕ) → 1 ≤ radix → k < length digits
     → digit_value (get_or digits k 0) ≡ digit
     → min cap (digits_value_after radix number (drop k digits))
@@ -58,7 +58,7 @@ numbered-capped : (syntax : TargetSyntax) (number : ℕ)
 numbered-capped Markdown number = grind (arith, nat_tests)
 numbered-capped Attribute number = grind (arith, nat_tests)
 
--- what becomes of a number that was found, capped
+-- the character of a limited number
 pub numbered-found : (syntax : TargetSyntax) (found : Option ℕ) (number : ℕ)
     → Some number ≡ option_map (min 0x11_0000) found
     → (if is_replaced syntax number then None else Some (character_of number)) ≡ numbered syntax found

@@ -1,4 +1,4 @@
--- Texts read one piece after the other.
+-- Texts read one piece after another.
 use Rattle.std.proofs.Common.{◌≡◌, ℕ, zero, suc, ◌-◌, ◌+◌, ◌<◌, ◌≤◌, List, [], ◌∷◌, length, take, drop, get_or, Result, Ok, Err, refl, sym, ap, ◌∙◌, arith, append_assoc, length-drop}
 use Rattle.std.proofs.lemmas.List.{take_all, drop-drop}
 use Rattle.target_paths.specs.declared.target.WhyUnknown.{WhyUnknown}
@@ -41,7 +41,7 @@ pub followed-nil : (x : Result (List ℕ) WhyUnknown) → followed (Ok []) x ≡
 followed-nil (Err why) = refl
 followed-nil (Ok x) = refl
 
--- with one piece more read, the same is left to read
+-- after one more piece is read, the rest of the pieces follow
 pub joined-next : (old new : List ℕ) (piece : Piece) (whole rest : List Piece) → whole ≡ piece ∷ rest
     → followed (Ok old) piece.read ≡ Ok new → followed (Ok new) (joined rest) ≡ followed (Ok old) (joined whole)
 joined-next old new piece whole rest is read =
@@ -49,7 +49,7 @@ joined-next old new piece whole rest is read =
     ∙ followed-assoc (Ok old) piece.read (joined rest)
     ∙ ap (λ ps. followed (Ok old) (joined ps)) (sym is)
 
--- an unknown piece makes the whole unknown
+-- if a piece is unknown, the whole text is unknown
 pub joined-unknown : (old : List ℕ) (piece : Piece) (whole rest : List Piece) (why : WhyUnknown) (all : Result (List ℕ) WhyUnknown)
     → whole ≡ piece ∷ rest → piece.read ≡ Err why → followed (Ok old) (joined whole) ≡ all → all ≡ Err why
 joined-unknown old piece whole rest why all is unknown so_far =
@@ -60,11 +60,11 @@ joined-unknown old piece whole rest why all is unknown so_far =
 length-from_byte : (k : ℕ) (text : List ℕ) → length (from_byte k text) ≡ length text - k
 length-from_byte k text = ap length (from_byte-drop k text) ∙ length-drop k text
 
--- what is left after a piece isn't longer than a text
+-- the text after a piece isn't longer than the whole text
 pub within-next : (left : List ℕ) (size long : ℕ) → length left ≤ long → length (from_byte size left) ≤ long
 within-next left size long within = let count = length-from_byte size left in omega arith
 
--- and the bytes of a text are those read, the piece's and those of the rest
+-- a text has the bytes read so far, the bytes of a piece and the bytes of the rest
 pub size-next : (left : List ℕ) (piece : Piece) (whole rest : List Piece) (long total : ℕ)
     → whole ≡ piece ∷ rest → piece.size ≤ length (from_byte 1 left) + 1 → 1 ≤ length left → length left ≤ long
     → (long - length left) + total_size whole ≡ total
@@ -75,7 +75,7 @@ size-next left piece whole rest long total is fits some within so_far =
     let sizes : total_size whole ≡ piece.size + total_size rest = ap total_size is in
     omega arith
 
--- what is left after a piece is what stands from its end on
+-- the text after a piece begins at the end of the piece
 pub left-next : (left target : List ℕ) (size : ℕ) → left ≡ drop (length target - length left) target
     → size ≤ length (from_byte 1 left) + 1 → 1 ≤ length left → length left ≤ length target
     → from_byte size left ≡ drop (length target - length (from_byte size left)) target

@@ -1,4 +1,4 @@
--- Targets read up to their tail, and what they are.
+-- Targets read up to their tail, and what they mean.
 use Rattle.std.proofs.Common.{◌≡◌, ℕ, ◌<◌, ◌≤◌, Bool, true, false, if◌then◌else◌, nat_lt, List, [], ◌∷◌, length, get_or, Result, Ok, Err, refl, sym, ap, ap₂, ◌∙◌, arith}
 use Rattle.std.proofs.lemmas.Bool.Decides.{nat_tests}
 use Rattle.std.proofs.lemmas.Str.{encode_ascii, length-encode, IsUtf8-from_is_utf8, is_utf8-from_IsUtf8}
@@ -40,7 +40,7 @@ begins_tail-character c = of (nat_lt c 128) refl where
 
 -- ---- the path's pieces
 
--- a target by its first piece, which begins no tail
+-- a target whose first piece doesn't begin the tail
 pub path_pieces-next : (syntax : TargetSyntax) (left : List ℕ) (piece : Piece) → 1 ≤ length left
     → piece ≡ source_piece syntax (get_or left 0 0) (from_byte 1 left) → 0 < piece.size → begins_tail piece.read ≡ false
     → path_pieces syntax left ≡ piece ∷ path_pieces syntax (from_byte piece.size left)
@@ -48,7 +48,7 @@ path_pieces-next syntax left piece some is size none =
     ap before_tail (pieces-left (source_piece syntax) left piece some is size)
     ∙ ap (λ t. if t then [] else piece ∷ path_pieces syntax (from_byte piece.size left)) none
 
--- or which begins one
+-- a target whose first piece begins the tail
 pub path_pieces-tail : (syntax : TargetSyntax) (left : List ℕ) (piece : Piece) → 1 ≤ length left
     → piece ≡ source_piece syntax (get_or left 0 0) (from_byte 1 left) → 0 < piece.size → begins_tail piece.read ≡ true
     → path_pieces syntax left ≡ []
@@ -56,16 +56,16 @@ path_pieces-tail syntax left piece some is size tail =
     ap before_tail (pieces-left (source_piece syntax) left piece some is size)
     ∙ ap (λ t. if t then [] else piece ∷ path_pieces syntax (from_byte piece.size left)) tail
 
--- ---- what a target is
+-- ---- what a target means
 
--- by what it is read as
+-- the meaning of a target, by what its path is read as
 pub meaning-read : (syntax : TargetSyntax) (target : List ℕ) (read : Result (List ℕ) WhyUnknown) (tail_at : ℕ)
     → joined (path_pieces syntax target) ≡ read → tail_at ≡ total_size (path_pieces syntax target)
     → meaning syntax target ≡ meaning_read syntax (nat_lt tail_at (length target)) read tail_at
 meaning-read syntax target read tail_at is at =
     ap₂ (λ r n. meaning_read syntax (has_tail target n) r n) is (sym at)
 
--- by its text as a URL
+-- the meaning of a target, by its text as a URL
 pub meaning-not_relative : (text : List ℕ) (tail_at : ℕ) → is_not_relative text ≡ true → meaning_of_url text tail_at ≡ not_relative
 meaning-not_relative text tail_at is =
     ap (λ t. if t then not_relative else meaning_decoded (joined (pieces url_piece 0 text)) tail_at) is
@@ -87,7 +87,7 @@ meaning-not_utf8 bytes tail_at not = of (is_utf8 bytes) refl where
   of true is = absurd (not (IsUtf8-from_is_utf8 bytes is))
   of false is = refl
 
--- ---- the same, from what the code has at hand
+-- ---- the same facts, as the code has them
 
 pub url-refused : (text : List ℕ) (tail_at : ℕ) (error : ReadError) → false ≡ is_not_relative text
     → SaysWhy (joined (pieces url_piece 0 text)) error → SaysWhyOfTarget (meaning_of_url text tail_at) error

@@ -24,7 +24,7 @@ use Rattle.target_paths.proofs.ReadingLemmas.{meaning-read, meaning-decoded, mea
 abbrev pub is_calm : ℕ → Bool
 is_calm b = not (is_reserved b) || b == 37
 
--- each byte is calm
+-- each written byte is calm
 abbrev pub AreCalm : List ℕ → Type 0
 AreCalm [] = Unit {0}
 AreCalm (b ∷ bs) = (is_calm b ≡ true) × AreCalm bs
@@ -51,13 +51,13 @@ kept-calm Start b keeps = grind (arith, nat_tests)
 kept-calm FirstSegment b keeps = grind (arith, nat_tests)
 kept-calm AfterSlash b keeps = grind (arith, nat_tests)
 
--- what is escaped is in ASCII
+-- an escaped byte is ASCII
 escaped-ascii : (place : Place) (b : ℕ) → is_escaped place b ≡ true → b < 128
 escaped-ascii Start b escaped = grind (arith, nat_tests)
 escaped-ascii FirstSegment b escaped = grind (arith, nat_tests)
 escaped-ascii AfterSlash b escaped = grind (arith, nat_tests)
 
--- by whether a byte is escaped
+-- two cases: a byte is escaped, or it isn't
 pub by_escape : (P : Bool → Type 0) (t : Bool) → (t ≡ true → P true) → (t ≡ false → P false) → P t
 by_escape P true escaped keeps = escaped refl
 by_escape P false escaped keeps = keeps refl
@@ -151,7 +151,7 @@ total_size-plain : (ws : List ℕ) → total_size (map plain ws) ≡ length ws
 total_size-plain [] = refl
 total_size-plain (w ∷ ws) = let rest = total_size-plain ws in omega arith
 
--- ---- nothing goes from its ends
+-- ---- what is written is never trimmed
 
 calm-no_blank : (b : ℕ) → is_calm b ≡ true → is_blank b ≡ false
 calm-no_blank b calm = grind (arith, nat_tests)
@@ -176,14 +176,14 @@ trimmed-calm Attribute true ws calm = without_leading-calm ws calm
 trimmed-calm Attribute false ws calm =
     ap without_trailing (without_leading-calm ws calm) ∙ without_trailing-calm ws calm
 
--- ---- it has no scheme
+-- ---- what is written has no scheme
 
 -- scheme bytes and a colon begin the text
 abbrev ends_scheme : List ℕ → Bool
 ends_scheme [] = false
 ends_scheme (w ∷ ws) = is_colon w || is_scheme_byte w && ends_scheme ws
 
--- what stands before the first element that passes, by the first element
+-- the elements before the first that passes a test, by the first element
 before_first-next : (p : ℕ → Bool) (b : ℕ) (bs : List ℕ)
     → before_first p (b ∷ bs) ≡ cond (p b) [] (b ∷ before_first p bs)
 before_first-next p b bs = of (p b) where
@@ -235,7 +235,7 @@ colon-escaped b keeps = grind (arith, nat_tests)
 slash-no_scheme : (b : ℕ) → is_slash b ≡ true → is_scheme_byte b ≡ false
 slash-no_scheme b is = grind (arith, nat_tests)
 
--- a byte and what is written after it
+-- a written byte, and what is written after it
 written-no_scheme : (escaped : Bool) (b : ℕ) (bs : List ℕ) → (escaped ≡ false → is_colon b ≡ false)
     → ends_scheme (written FirstSegment bs) ≡ false
     → ends_scheme (written_byte escaped b ++ written (place_after FirstSegment b) bs) ≡ false
@@ -275,9 +275,9 @@ written-relative b bs other =
     (no_scheme (written Start (b ∷ bs))
     (written-no_scheme (is_escaped Start b) b bs (colon-escaped_start b) (segment-no_scheme bs)))
 
--- ---- its percent signs are decoded to the path
+-- ---- what is written is decoded to the path
 
--- what a path's bytes are decoded to: none but NUL is unknown
+-- what the bytes of a path are decoded to: only NUL is unknown
 abbrev decoded : List ℕ → Result (List ℕ) WhyUnknown
 decoded bs = if list_any is_nul bs then Err EncodedNul else Ok bs
 
@@ -309,7 +309,7 @@ hexadecimal-value d small = grind (arith, nat_tests)
 ltb-16 : (d : ℕ) → d < 16 → nat_lt d 16 ≡ true
 ltb-16 d small = grind (arith, nat_tests)
 
--- the digits of a byte
+-- the two hexadecimal digits of a byte
 digits-percent : (b : ℕ) (rest : List ℕ) → b < 256
     → (has_digits (hexadecimal (b / 16) ∷ hexadecimal (b % 16) ∷ rest) ≡ true)
     × (digits_byte (hexadecimal (b / 16) ∷ hexadecimal (b % 16) ∷ rest) ≡ b)
@@ -321,7 +321,7 @@ digits-percent b rest byte =
       ap₂ (λ h l. 16 * h + l) high low ∙ omega arith,
     )
 
--- a byte that is kept
+-- a byte that isn't escaped
 decoded-kept : (b : ℕ) (rest : List ℕ) (bs : List ℕ) → (b == 37) ≡ false → is_nul b ≡ false
     → joined (pieces url_piece 0 rest) ≡ decoded bs → joined (pieces url_piece 0 (b ∷ rest)) ≡ decoded (b ∷ bs)
 decoded-kept b rest bs other some is =
@@ -330,7 +330,7 @@ decoded-kept b rest bs other some is =
     ∙ ap (followed (Ok (b ∷ []))) is
     ∙ decoded-byte b bs some
 
--- what a byte that is no slash is decoded to
+-- what a byte other than a slash is decoded to
 decoded_byte-followed : (b : ℕ) (bs : List ℕ) → is_slash b ≡ false → followed (decoded_byte b) (decoded bs) ≡ decoded (b ∷ bs)
 decoded_byte-followed b bs other =
     by_escape
@@ -342,7 +342,7 @@ decoded_byte-followed b bs other =
     (λ some is. ap (λ t. followed (if t then Err EncodedSlash else Ok (b ∷ [])) (decoded bs)) other ∙ decoded-byte b bs some)
     refl
 
--- a byte that is escaped
+-- an escaped byte
 decoded-escaped : (b : ℕ) (rest : List ℕ) (bs : List ℕ) → b < 256 → is_slash b ≡ false
     → joined (pieces url_piece 0 rest) ≡ decoded bs
     → joined (pieces url_piece 0 (percent_text b ++ rest)) ≡ decoded (b ∷ bs)
@@ -365,7 +365,7 @@ written-decoded place (b ∷ bs) =
     decoded-escaped b rest bs (omega (arith, ascii)) (escaped-no_slash place b escaped) is)
     (λ keeps. decoded-kept b rest bs (kept-no_percent place b keeps) (kept-some place b keeps) is)
 
--- ---- the whole
+-- ---- the whole target
 
 pub meaning-written : (syntax : TargetSyntax) (b : ℕ) (bs tail : List ℕ) → is_slash b ≡ false → IsTail syntax tail
     → meaning syntax (written Start (b ∷ bs) ++ tail)
@@ -396,7 +396,7 @@ path_written-nul (b ∷ bs) =
     (is_slash b)
     (λ is. path_written-nul bs ∙ ap (λ t. t || list_any is_nul bs) (sym (slash-some b is))) (λ other. refl)
 
--- what begins relative is read back
+-- a text that begins as a relative path is read back
 meaning-relative : (path : List ℕ) → BeginsRelative path
     → IsTakenAs (written Start path) (meaning_decoded (decoded path) (length (written Start path)))
 meaning-relative [] none syntax tail is = absurd none
@@ -411,7 +411,7 @@ target_of-read path utf8 none syntax tail is =
     (path_written-nul path ∙ none)
     ∙ meaning-utf8 (path_written path) (length (target_of path)) utf8
 
--- one with NUL is unknown
+-- a path with NUL is read as unknown
 pub target_of-nul : (path : List ℕ) → list_any is_nul path ≡ true → IsTakenAs (target_of path) (unknown EncodedNul)
 target_of-nul path some syntax tail is =
     meaning-relative (path_written path) (path_written-relative path) syntax tail is

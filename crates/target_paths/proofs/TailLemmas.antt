@@ -1,4 +1,4 @@
--- What a reading tells of its tail and of its path.
+-- What a reading says of its tail and of its path.
 use Rattle.std.proofs.Common.{◌≡◌, ℕ, ◌-◌, ◌+◌, ◌≤◌, Bool, true, false, ◌||◌, ◌&&◌, ◌==◌, if◌then◌else◌, List, [], ◌∷◌, length, drop, Result, Ok, Err, IfOk, refl, sym, ap, subst, arith, string_bytes}
 use Rattle.std.specs.Str.{is_utf8}
 use Rattle.target_paths.specs.declared.target.TargetReading.{TargetReading}
@@ -12,7 +12,7 @@ use Rattle.target_paths.specs.Shown.{HasTail}
 use Rattle.target_paths.specs.Url.{is_slash, has_scheme, is_not_relative, decoded_byte, has_digits, digits_byte, url_piece}
 use Rattle.target_paths.proofs.RoundTripLemmas.{by_escape, IsTail-boundary}
 
--- where what is left begins a tail, that is what is left after the path
+-- if the rest begins a tail, it is the rest after the path
 pub HasTail-here : (syntax : TargetSyntax) (target left : List ℕ) → left ≡ drop (length target - length left) target
     → length left ≤ length target
     → (length target - length left) + total_size (path_pieces syntax left) ≡ total_size (path_pieces syntax target)
@@ -28,9 +28,9 @@ pub IfOk-fact : {T E F : Type 0} (r : Result T E) → F → IfOk r (λ _. F)
 IfOk-fact (Ok x) fact = fact
 IfOk-fact (Err e) fact = tt
 
--- ---- a path begins with a byte, which is no slash
+-- ---- a path isn't empty, and doesn't begin with a slash
 
--- what is read begins so, if it is known
+-- if the text that was read is known, it begins so
 abbrev ReadsRelative : Result (List ℕ) WhyUnknown → Type 0
 ReadsRelative (Err why) = Unit {0}
 ReadsRelative (Ok bytes) = BeginsRelative bytes
@@ -65,7 +65,7 @@ decoded-relative (b ∷ rest) relative =
     followed-relative (url_piece b rest).read (joined (pieces url_piece ((url_piece b rest).size - 1) rest))
     (url_piece-relative b rest (or_false (length (b ∷ rest) == 0) (is_slash b) some).1)
 
--- ---- what a reading tells
+-- ---- what a reading says
 
 says-decoded : (read : Result (List ℕ) WhyUnknown) (n : ℕ) (reading : TargetReading) → ReadsRelative read
     → Says (meaning_decoded read n) reading → IfPath reading (λ path at. (at ≡ n) × BeginsRelative path)

@@ -41,7 +41,7 @@ past_ascii-kept Start b past = grind (arith, nat_tests)
 past_ascii-kept FirstSegment b past = grind (arith, nat_tests)
 past_ascii-kept AfterSlash b past = grind (arith, nat_tests)
 
--- past ASCII it doesn't matter which byte
+-- no byte past ASCII is escaped
 place_after-past : (place : Place) (b c : ℕ) → 128 ≤ b → 128 ≤ c → place_after place b ≡ place_after place c
 place_after-past Start b c past beyond = grind (arith, nat_tests)
 place_after-past FirstSegment b c past beyond = grind (arith, nat_tests)
@@ -66,7 +66,7 @@ written-past place (b ∷ d ∷ bs) rest c past some (first, others) =
     (written-past (place_after place b) (d ∷ bs) rest c past (omega arith) others
     ∙ ap (λ p. d ∷ bs ++ written p rest) (place_after-twice place b c first past))
 
--- one character
+-- what is written for one character
 pub written-character : (place : Place) (c : ℕ) (rest : List ℕ)
     → written place (encode_utf8 c ++ rest) ≡ written_character place c ++ written (place_after place c) rest
 written-character place c rest = of (nat_lt c 128) refl where
@@ -82,7 +82,7 @@ written-character place c rest = of (nat_lt c 128) refl where
       written-past place (encode_utf8 c) rest c past count (encode-past_ascii c past)
       ∙ ap (λ t. (if t then percent_text c else encode_utf8 c) ++ written (place_after place c) rest) (sym (past_ascii-kept place c past))
 
--- one character more of a path
+-- what is written for a path with one more character
 pub written-next : (place : Place) (cs : List ℕ) (n c more : ℕ) (old new : List ℕ) → n < length cs → c ≡ get_or cs n c
     → more ≡ n + 1 → new ≡ old ++ written_character place c
     → new ++ written (place_after place c) (encode_utf8_all (drop more cs)) ≡ old ++ written place (encode_utf8_all (drop n cs))
@@ -95,7 +95,7 @@ written-next place cs n c more old new inside is count grew =
     ∙ ap (λ bs. old ++ bs) (sym (written-character place c rest))
     ∙ ap (λ xs. old ++ written place (encode_utf8_all xs)) (sym at)
 
--- after the last one
+-- what is written for a whole path
 pub written-end : (place : Place) (cs : List ℕ) (n : ℕ) (text all : List ℕ) → n ≡ length cs
     → text ++ written place (encode_utf8_all (drop n cs)) ≡ all → text ≡ all
 written-end place cs n text all count is =

@@ -1,5 +1,5 @@
--- How a reader takes a target: what it is read as, up to its query or fragment, is a URL, whose percent signs are
--- decoded once.
+-- What a target means to a reader: the text before its query and its fragment is read as a URL, and the percent signs of
+-- the URL are decoded once.
 use Rattle.std.specs.Prelude.{◌≡◌, ℕ, Bool, true, false, ◌==◌, ◌||◌, List, [], ◌∷◌, length, Result, Ok, Err, nat_lt, if◌then◌else◌, drop, string_bytes, ⊤}
 use Rattle.std.specs.Str.{is_utf8, IsCharBoundary}
 use Rattle.target_paths.specs.declared.target.TargetReading.{TargetReading}
@@ -16,14 +16,14 @@ use Rattle.target_paths.specs.Url.{without_leading, without_trailing, is_slash, 
 abbrev pub is_tail_byte : ℕ → Bool
 is_tail_byte b = b == 35 || b == 63
 
--- a piece that is read so begins it
+-- a piece that is read as these bytes begins a query or a fragment
 abbrev pub begins_tail : Result (List ℕ) WhyUnknown → Bool
 begins_tail (Err why) = false
 begins_tail (Ok []) = false
 begins_tail (Ok (b ∷ [])) = is_tail_byte b
 begins_tail (Ok (b ∷ c ∷ cs)) = false
 
--- the pieces before it
+-- the pieces before the first that begins a query or a fragment
 abbrev pub before_tail : List Piece → List Piece
 before_tail [] = []
 before_tail (piece ∷ pieces) = if begins_tail piece.read then [] else piece ∷ before_tail pieces
@@ -32,44 +32,45 @@ before_tail (piece ∷ pieces) = if begins_tail piece.read then [] else piece �
 abbrev pub path_pieces : TargetSyntax → List ℕ → List Piece
 path_pieces syntax target = before_tail (pieces (source_piece syntax) 0 target)
 
--- what is left in a URL of control bytes and spaces at the ends: in an attribute none, and those before a tail
+-- the text of a URL without the control bytes and spaces that a reader removes: in Markdown none, in an attribute those
+-- at the start, and those at the end if no tail follows
 abbrev pub trimmed : TargetSyntax → Bool → List ℕ → List ℕ
 trimmed Markdown has_tail text = text
 trimmed Attribute true text = without_leading text
 trimmed Attribute false text = without_trailing (without_leading text)
 
--- what a target is: no path from the page's directory; the bytes of a path, and the byte where the tail begins; unknown
+-- what a target means: not a relative path; the bytes of a path, and the offset of the tail; or unknown, for a reason
 pub data Meaning : Type 0 where
   not_relative : Meaning
   path_before : List ℕ → ℕ → Meaning
   unknown : WhyUnknown → Meaning
 
--- by what its percent signs are decoded to
+-- the meaning of a target, by the bytes that its percent signs are decoded to
 abbrev pub meaning_decoded : Result (List ℕ) WhyUnknown → ℕ → Meaning
 meaning_decoded (Err why) tail_at = unknown why
 meaning_decoded (Ok bytes) tail_at = if is_utf8 bytes then path_before bytes tail_at else unknown NotUtf8
 
--- by its text as a URL
+-- the meaning of a target, by its text as a URL
 abbrev pub meaning_of_url : List ℕ → ℕ → Meaning
 meaning_of_url text tail_at =
     if is_not_relative text then not_relative else meaning_decoded (joined (pieces url_piece 0 text)) tail_at
 
--- by what its pieces are read as
+-- the meaning of a target, by the bytes that its pieces are read as
 abbrev pub meaning_read : TargetSyntax → Bool → Result (List ℕ) WhyUnknown → ℕ → Meaning
 meaning_read syntax has_tail (Err why) tail_at = unknown why
 meaning_read syntax has_tail (Ok text) tail_at = meaning_of_url (trimmed syntax has_tail text) tail_at
 
--- the tail begins before the target's end
+-- the target has a tail
 abbrev pub has_tail : List ℕ → ℕ → Bool
 has_tail target tail_at = nat_lt tail_at (length target)
 
--- what a target is for a reader of its syntax
+-- what a target means to a reader of its syntax
 abbrev pub meaning : TargetSyntax → List ℕ → Meaning
 meaning syntax target =
     let tail_at : ℕ = total_size (path_pieces syntax target) in
     meaning_read syntax (has_tail target tail_at) (joined (path_pieces syntax target)) tail_at
 
--- the result says what the target is
+-- the result has this meaning
 abbrev pub Says : Meaning → TargetReading → Type 0
 Says not_relative reading = reading ≡ NotRelative
 Says (unknown why) reading = reading ≡ Unknown why
@@ -77,21 +78,21 @@ Says (path_before bytes tail_at) NotRelative = ⊥
 Says (path_before bytes tail_at) (Path text at) = (string_bytes text ≡ bytes) × (at ≡ tail_at)
 Says (path_before bytes tail_at) (Unknown why) = ⊥
 
--- nothing of the text is read before its query or its fragment: it is empty, or begins with one
+-- the text is empty, or begins with a query or a fragment when it is read in this syntax
 abbrev pub IsTail : TargetSyntax → List ℕ → Type 0
 IsTail syntax text = path_pieces syntax text ≡ []
 
--- from this byte on the target is a tail, which begins with a character
+-- from this offset on the target is a tail, and the offset is an end of a character
 pub record IsTailAt (syntax : TargetSyntax) (target : List ℕ) (tail_at : ℕ) : Type 0 where
   pub boundary : IsCharBoundary target tail_at
   pub tail : IsTail syntax (drop tail_at target)
 
--- the path begins with a byte, which is no slash
+-- the path isn't empty, and doesn't begin with a slash
 abbrev pub BeginsRelative : List ℕ → Type 0
 BeginsRelative [] = ⊥
 BeginsRelative (b ∷ bs) = is_slash b ≡ false
 
--- this holds of the path that the result tells, and of the byte where its tail begins
+-- if the result is a path, P holds of the path and of the offset of its tail
 abbrev pub IfPath : TargetReading → (List ℕ → ℕ → Type 0) → Type 0
 IfPath NotRelative P = ⊤
 IfPath (Path path tail_at) P = P (string_bytes path) tail_at

@@ -10,7 +10,7 @@ use lib.Utf8.{scalar}
 abbrev pub ends_body : ℕ → Bool
 ends_body b = not (is_ascii_alphanumeric b || b == 35)
 
--- the body of a reference: the letters, digits and `#` that a text after its `&` begins with
+-- the body of a reference: the letters, digits and `#` at the start of the text after the `&`
 abbrev pub body_of : List ℕ → List ℕ
 body_of text = before_first ends_body text
 
@@ -22,12 +22,12 @@ is_closed text = slice_index text (length (body_of text)) == 59
 abbrev pub character_of : ℕ → ℕ
 character_of number = if scalar number && not (number == 0) then number else 0xFFFD
 
--- these are digits, at least one and at most so many
+-- the text consists of digits, at least one and at most `most`
 abbrev pub are_digits : ℕ → ℕ → List ℕ → Bool
 are_digits radix most digits =
     nat_lt 0 (length digits) && nat_lt (length digits) (most + 1) && list_all (λ b. is_digit b radix) digits
 
--- the number that they write
+-- the number that the digits write
 abbrev pub number_of : ℕ → ℕ → List ℕ → Option ℕ
 number_of radix most digits = if are_digits radix most digits then Some (digits_value radix digits) else None
 
@@ -42,7 +42,7 @@ body_number body =
     else if is_x (slice_index body 1) then number_of 16 6 (drop 2 body)
     else number_of 10 7 (drop 1 body)
 
--- the character that is named by one of six names
+-- the character that one of six names stands for
 abbrev pub body_name : List ℕ → Option ℕ
 body_name body =
     if bytes_eq body (codes "amp") then Some 38
@@ -53,6 +53,6 @@ body_name body =
     else if bytes_eq body (codes "nbsp") then Some 160
     else None
 
--- it has the form of a name: a letter, and then letters and digits
+-- the body has the form of a name: a letter, and then letters and digits
 abbrev pub is_name : List ℕ → Bool
 is_name body = is_ascii_alphabetic (slice_index body 0) && list_all is_ascii_alphanumeric body

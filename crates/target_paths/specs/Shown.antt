@@ -11,28 +11,28 @@ use Rattle.target_paths.specs.declared.target.WhyUnknown.{WhyUnknown}
 use Rattle.target_paths.specs.Pieces.{Piece, total_size}
 use Rattle.target_paths.specs.Reading.{Meaning, unknown, path_pieces, IsTail}
 
--- the bytes that it is read as, or why they aren't known
+-- the bytes that a piece is read as, or why these aren't known
 abbrev pub read_bytes : Read → Result (List ℕ) WhyUnknown
 read_bytes (Byte b) = Ok (b ∷ [])
 read_bytes (Character c) = Ok (encode_utf8 c)
 read_bytes Nothing = Ok []
 read_bytes (Unknown why) = Err why
 
--- the piece of the definitions
+-- the piece of the definitions that a piece of the code is
 abbrev pub piece_of : code.Piece → Piece
 piece_of piece = record { size = piece.size; read = read_bytes piece.read }
 
--- it says why something isn't known, or that memory ran out
+-- the error says why a text isn't known, or that memory ran out
 abbrev pub SaysWhy : Result (List ℕ) WhyUnknown → ReadError → Type 0
 SaysWhy read (error.Unknown why) = read ≡ Err why
 SaysWhy read error.OutOfMemory = ⊤
 
--- it says why a target isn't known, or that memory ran out
+-- the error says why the meaning of a target isn't known, or that memory ran out
 abbrev pub SaysWhyOfTarget : Meaning → ReadError → Type 0
 SaysWhyOfTarget meaning (error.Unknown why) = meaning ≡ unknown why
 SaysWhyOfTarget meaning error.OutOfMemory = ⊤
 
--- what is left of a target after its path is a tail
+-- the rest of a target after its path is a tail
 abbrev pub HasTail : TargetSyntax → List ℕ → Type 0
 HasTail syntax target =
     let tail_at : ℕ = total_size (path_pieces syntax target) in

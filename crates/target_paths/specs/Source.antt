@@ -14,7 +14,7 @@ use Rattle.target_paths.specs.References.{body_of, is_closed, character_of, body
 abbrev pub is_tab_or_line_end : ℕ → Bool
 is_tab_or_line_end c = c == 9 || c == 10 || c == 13
 
--- the bytes that a character is read as: in an attribute a tab and the end of a line go, and a backslash is a slash
+-- the bytes that a character is read as: in an attribute tabs and line ends are removed, and a backslash is a slash
 abbrev pub character_read : TargetSyntax → ℕ → List ℕ
 character_read Markdown c = encode_utf8 c
 character_read Attribute c =
@@ -22,23 +22,23 @@ character_read Attribute c =
     else if c == 92 then 47 ∷ []
     else encode_utf8 c
 
--- a byte of no reference and no escape: NUL is read as U+FFFD
+-- the bytes that a byte is read as, outside references and escapes: NUL is read as U+FFFD
 abbrev pub byte_read : TargetSyntax → ℕ → List ℕ
 byte_read syntax b =
     if b == 0 then encode_utf8 0xFFFD
     else if nat_lt b 128 then character_read syntax b
     else b ∷ []
 
--- the piece of a byte by itself
+-- the piece that is one byte
 abbrev pub byte_piece : TargetSyntax → ℕ → Piece
 byte_piece syntax b = record { size = 1; read = Ok (byte_read syntax b) }
 
--- a number of which browsers make another character than its own
+-- a number for which browsers take another character
 abbrev pub is_replaced : TargetSyntax → ℕ → Bool
 is_replaced Markdown number = false
 is_replaced Attribute number = is_in_range 128 159 number
 
--- the character of a number, if that isn't replaced
+-- the character of a number, unless browsers take another
 abbrev pub numbered : TargetSyntax → Option ℕ → Option ℕ
 numbered syntax None = None
 numbered syntax (Some number) = if is_replaced syntax number then None else Some (character_of number)
@@ -52,12 +52,12 @@ body_character syntax body =
 abbrev pub reference_character : TargetSyntax → List ℕ → Option ℕ
 reference_character syntax text = if is_closed text then body_character syntax (body_of text) else None
 
--- an `&` before this text, which begins no known reference, may begin another
+-- an `&` before this text doesn't begin a known reference, but may begin another
 abbrev pub may_refer : TargetSyntax → List ℕ → Bool
 may_refer Markdown text = is_closed text && is_name (body_of text)
 may_refer Attribute text = is_ascii_alphabetic (slice_index text 0) || slice_index text 0 == 35
 
--- the piece of an `&` before this text: a reference, an unknown one, or itself
+-- the piece of an `&` before this text: a reference, an unknown reference, or the `&` itself
 abbrev pub reference_piece : TargetSyntax → List ℕ → Option ℕ → Piece
 reference_piece syntax text (Some c) = record { size = length (body_of text) + 2; read = Ok (character_read syntax c) }
 reference_piece syntax text None =

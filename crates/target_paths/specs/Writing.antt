@@ -10,14 +10,14 @@ use Rattle.target_paths.specs.declared.target.TargetSyntax.{TargetSyntax}
 use Rattle.target_paths.specs.Reading.{IsTail, Meaning, meaning}
 use Rattle.target_paths.specs.Url.{is_slash, is_colon}
 
--- the byte would be read otherwise, or end a target, wherever it is: 0 to 32, 127, and "#%&'()<=>?\`|
+-- wherever it is, the byte would be read otherwise or end a target: 0 to 32, 127, and "#%&'()<=>?\`|
 abbrev pub is_reserved : ℕ → Bool
 is_reserved b =
     nat_lt b 33 || is_in_range 34 35 b || is_in_range 37 41 b || is_in_range 60 63 b
     || b == 92 || b == 96 || b == 124 || b == 127
 
--- the byte is escaped at this place: in the first segment a colon too, and at the start `{` and `$`, which may begin a
--- template
+-- the byte is escaped at this place: in the first segment a colon too, and at the start `{` and `$`, where a template may
+-- begin
 abbrev pub is_escaped : Place → ℕ → Bool
 is_escaped Start b = is_reserved b || is_colon b || b == 36 || b == 123
 is_escaped FirstSegment b = is_reserved b || is_colon b
@@ -50,17 +50,17 @@ abbrev pub written : Place → List ℕ → List ℕ
 written place [] = []
 written place (b ∷ bs) = written_byte (is_escaped place b) b ++ written (place_after place b) bs
 
--- the text without the slashes that it begins with
+-- the text without the slashes at its start
 abbrev pub without_slashes : List ℕ → List ℕ
 without_slashes [] = []
 without_slashes (b ∷ bs) = if is_slash b then without_slashes bs else b ∷ bs
 
--- the text, or `./` in place of the empty one, which as a reference is the page itself
+-- the text, or `./` in place of the empty text, which as a reference leads to the page itself
 abbrev pub some_path : List ℕ → List ℕ
 some_path [] = codes "./"
 some_path (b ∷ bs) = b ∷ bs
 
--- the path that is written for a path
+-- the path that a target spells for a path: without slashes at its start, and `./` for an empty path
 abbrev pub path_written : List ℕ → List ℕ
 path_written path = some_path (without_slashes path)
 
@@ -72,7 +72,7 @@ target_of path = written Start (path_written path)
 abbrev pub is_nul : ℕ → Bool
 is_nul b = b == 0
 
--- a reader of each syntax takes the text, whatever tail is after it, as this
+-- in each syntax the text has this meaning, whatever tail comes after it
 abbrev pub IsTakenAs : List ℕ → Meaning → Type 0
 IsTakenAs text means = (syntax : TargetSyntax) (tail : List ℕ) → IsTail syntax tail → meaning syntax (text ++ tail) ≡ means
 
@@ -81,6 +81,6 @@ abbrev pub ends_target : ℕ → Bool
 ends_target b =
     nat_lt b 33 || b == 127 || b == 34 || b == 39 || b == 40 || b == 41 || b == 60 || b == 61 || b == 62 || b == 96
 
--- the text begins as a template may: with `{` or `$`
+-- the text begins with `{` or `$`, where a template may begin
 abbrev pub begins_template : List ℕ → Bool
 begins_template text = slice_index text 0 == 123 || slice_index text 0 == 36

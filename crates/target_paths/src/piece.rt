@@ -6,7 +6,7 @@ ghost use Rattle.target_paths.specs.Shown.{read_bytes, SaysWhy};
 use crate::target::WhyUnknown;
 use std::alloc::AllocError;
 
-// How many bytes begin a text, and what they are read as.
+// The piece at the start of a text: how many bytes it has, and what it is read as.
 #[derive(Clone, Copy)]
 pub(crate) struct Piece {
     pub(crate) size: usize,
@@ -22,7 +22,7 @@ pub(crate) enum Read {
     Unknown(WhyUnknown),
 }
 
-// Why a text isn't read.
+// Why a text can't be read.
 #[derive(Clone, Copy)]
 pub(crate) enum ReadError {
     Unknown(WhyUnknown),
@@ -39,7 +39,7 @@ impl From<AllocError> for ReadError {
     }
 }
 
-// Adds what a piece is read as to the bytes so far.
+// Adds the bytes that a piece is read as.
 pub(crate) fn push_read(bytes: &mut Vec<u8>, read: Read) -> Result<(), ReadError>
     ensures ok { IfOk result (λ _. followed (Ok bytes.old.items) (read_bytes read) ≡ Ok bytes.new.items) }
     ensures err { IfErr result (SaysWhy (read_bytes read)) }

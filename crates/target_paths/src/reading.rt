@@ -22,7 +22,7 @@ use crate::target::{TargetReading, TargetSyntax, WhyUnknown};
 use crate::url::{is_not_relative, url_piece, without_leading, without_trailing};
 use std::alloc::{AllocError, Global};
 
-// What a target is read as before its query and its fragment, and the byte where these begin.
+// What a target is read as before its tail, and the offset of the tail.
 #[derive(Drop)]
 struct PathPart {
     bytes: Vec<u8>,
@@ -80,7 +80,7 @@ pub fn path_of_target(
     }
 }
 
-// The same, with what isn't known as an error.
+// The meaning of a target; an unknown meaning is an error.
 fn read_target(
     alloc: Global,
     syntax: TargetSyntax,
@@ -95,7 +95,7 @@ fn read_target(
     read_url(alloc, text, part.tail_at)
 }
 
-// What a target is by its text as a URL.
+// The meaning of a target, by its text as a URL.
 fn read_url(alloc: Global, text: &[u8], tail_at: usize) -> Result<TargetReading, ReadError>
     ensures ok { IfOk result (Says (meaning_of_url text.now tail_at)) }
     ensures err { IfErr result (SaysWhyOfTarget (meaning_of_url text.now tail_at)) }
@@ -107,7 +107,7 @@ fn read_url(alloc: Global, text: &[u8], tail_at: usize) -> Result<TargetReading,
     read_path_bytes(path, tail_at)
 }
 
-// What a target is by the bytes of its path.
+// The meaning of a target, by the bytes of its path.
 fn read_path_bytes(path: Vec<u8>, tail_at: usize) -> Result<TargetReading, ReadError>
     ensures ok { IfOk result (Says (meaning_decoded (Ok path.items) tail_at)) }
     ensures err { IfErr result (SaysWhyOfTarget (meaning_decoded (Ok path.items) tail_at)) }
@@ -118,7 +118,7 @@ fn read_path_bytes(path: Vec<u8>, tail_at: usize) -> Result<TargetReading, ReadE
     }
 }
 
-// What a target is read as before its query and its fragment.
+// What a target is read as before its tail.
 fn read_path(alloc: Global, syntax: TargetSyntax, target: &[u8]) -> Result<PathPart, ReadError>
     ensures bytes { IfOk result (λ part. joined (path_pieces syntax target.now) ≡ Ok part.bytes.items) }
     ensures size { IfOk result (λ part. part.tail_at ≡ total_size (path_pieces syntax target.now)) }
@@ -140,7 +140,7 @@ fn read_path(alloc: Global, syntax: TargetSyntax, target: &[u8]) -> Result<PathP
     Ok(PathPart { bytes, tail_at })
 }
 
-// Whether a piece that is read so begins a query or a fragment.
+// Whether a piece that is read as these bytes begins a query or a fragment.
 fn begins_tail(read: Read) -> bool
     ensures { result ≡ begins_tail (read_bytes read) }
 {
@@ -152,7 +152,7 @@ fn begins_tail(read: Read) -> bool
     }
 }
 
-// A text without the control bytes and spaces that go from its ends.
+// A text without the control bytes and spaces that a reader removes from its ends.
 fn trimmed(syntax: TargetSyntax, has_tail: bool, text: &[u8]) -> &[u8]
     ensures { result.now ≡ trimmed syntax has_tail text.now }
 {
@@ -163,7 +163,7 @@ fn trimmed(syntax: TargetSyntax, has_tail: bool, text: &[u8]) -> &[u8]
     }
 }
 
-// The path of a URL, its percent signs decoded once.
+// The path of a URL, with percent signs decoded once.
 fn decoded(alloc: Global, text: &[u8]) -> Result<Vec<u8>, ReadError>
     ensures ok { IfOk result (λ path. joined (pieces url_piece 0 text.now) ≡ Ok path.items) }
     ensures err { IfErr result (SaysWhy (joined (pieces url_piece 0 text.now))) }

@@ -16,11 +16,11 @@ ghost use Rattle.target_paths.specs.References.{
   number_of,
 };
 
-// The first number that is no character's.
+// The first number that isn't that of a character.
 const PAST_CHARACTERS: u32 = 0x11_0000;
 
-// The body of the reference that a text after an `&` may be: its letters, digits and `#`, if a
-// semicolon stands after them.
+// The body of the reference that a text after an `&` may begin with: letters, digits and `#`, if a
+// semicolon comes after them.
 pub(crate) fn body(text: &[u8]) -> Option<&[u8]>
     ensures { MatchOption result (is_closed text.now ≡ false)
         (λ body. (is_closed text.now ≡ true) × (body.now ≡ body_of text.now) × (length body.now < length text.now)) }
@@ -31,7 +31,7 @@ pub(crate) fn body(text: &[u8]) -> Option<&[u8]>
     }
 }
 
-// Where the body of a reference ends, if something stands after it.
+// The end of the body of a reference, if text comes after it.
 fn body_end(text: &[u8]) -> Option<usize>
     ensures { result ≡ position ends_body text.now }
 {
@@ -46,7 +46,7 @@ pub(crate) fn is_name(body: &[u8]) -> bool
     begins_with_letter(body) && are_alphanumeric(body)
 }
 
-// Whether a letter begins a text.
+// Whether a text begins with a letter.
 pub(crate) fn begins_with_letter(text: &[u8]) -> bool
     ensures { result ≡ is_ascii_alphabetic (slice_index text.now 0) }
 {
@@ -56,14 +56,14 @@ pub(crate) fn begins_with_letter(text: &[u8]) -> bool
     }
 }
 
-// Whether a text has letters and digits alone.
+// Whether a text has only letters and digits.
 fn are_alphanumeric(text: &[u8]) -> bool
     ensures { result ≡ list_all is_ascii_alphanumeric text.now }
 {
     text.iter().all(|byte| byte.is_ascii_alphanumeric())
 }
 
-// The character that a body names.
+// The character that a name stands for.
 pub(crate) fn named(body: &[u8]) -> Option<char>
     ensures { result ≡ body_name body.now }
 {
@@ -84,7 +84,7 @@ pub(crate) fn named(body: &[u8]) -> Option<char>
     }
 }
 
-// The number in a body, if it is a character's; otherwise one past them.
+// The number in a body, or a number past all characters if the body's number is greater.
 pub(crate) fn number(body: &[u8]) -> Option<u32>
     ensures { result ≡ option_map (min 0x11_0000) (body_number body.now) }
 {
@@ -96,7 +96,7 @@ pub(crate) fn number(body: &[u8]) -> Option<u32>
     }
 }
 
-// The number that at most so many digits write, or the first past all characters if that is less.
+// The number that at most `most` digits write, or the first number past all characters if that is less.
 fn number_of(digits: &[u8], radix: u32, most: usize) -> Option<u32>
     requires lower { 2 ≤ radix }
     requires upper { radix ≤ 16 }

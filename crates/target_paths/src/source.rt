@@ -48,7 +48,7 @@ fn is_escape(syntax: TargetSyntax, byte: u8, next: u8) -> bool
     }
 }
 
-// What a byte of no reference and no escape is read as.
+// What a byte outside references and escapes is read as.
 fn byte_read(syntax: TargetSyntax, byte: u8) -> Read
     ensures { read_bytes result ≡ Ok (byte_read syntax byte) }
 {
@@ -119,7 +119,7 @@ fn body_character(syntax: TargetSyntax, body: &[u8]) -> Option<char>
     }
 }
 
-// The character of a number, if browsers don't make another of it.
+// The character of a number, unless browsers take another.
 fn numbered(syntax: TargetSyntax, number: u32) -> Option<char>
     ensures { result ≡ (if is_replaced syntax number then None else Some (character_of number)) }
 {
@@ -130,7 +130,7 @@ fn numbered(syntax: TargetSyntax, number: u32) -> Option<char>
     }
 }
 
-// Whether browsers make another character of a number than its own.
+// Whether browsers take another character for a number.
 fn is_replaced(syntax: TargetSyntax, number: u32) -> bool
     ensures { result ≡ is_replaced syntax number }
 {
@@ -140,7 +140,7 @@ fn is_replaced(syntax: TargetSyntax, number: u32) -> bool
     }
 }
 
-// Whether an `&` before a text, which begins no known reference, may begin another.
+// Whether an `&` before a text, which doesn't begin a known reference, may begin another.
 fn may_refer(syntax: TargetSyntax, text: &[u8]) -> bool
     ensures { result ≡ may_refer syntax text.now }
 {

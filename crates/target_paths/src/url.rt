@@ -18,7 +18,7 @@ use crate::piece::{Piece, Read};
 use crate::reference::begins_with_letter;
 use crate::target::WhyUnknown;
 
-// A text without the control bytes and spaces that it begins with.
+// A text without control bytes and spaces at its start.
 pub(crate) fn without_leading(text: &[u8]) -> &[u8]
     ensures { result.now ≡ without_leading text.now }
 {
@@ -32,7 +32,7 @@ pub(crate) fn without_leading(text: &[u8]) -> &[u8]
     left
 }
 
-// A text without those that it ends with.
+// A text without control bytes and spaces at its end.
 pub(crate) fn without_trailing(text: &[u8]) -> &[u8]
     ensures { result.now ≡ without_trailing text.now }
 {
@@ -46,7 +46,7 @@ pub(crate) fn without_trailing(text: &[u8]) -> &[u8]
     left
 }
 
-// Whether a text is no path from the page's directory.
+// Whether a text isn't relative to the page's directory.
 pub(crate) fn is_not_relative(text: &[u8]) -> bool
     ensures { result ≡ is_not_relative text.now }
 {
@@ -57,7 +57,7 @@ pub(crate) fn is_not_relative(text: &[u8]) -> bool
     }
 }
 
-// Whether a scheme and a colon begin a text.
+// Whether a text begins with a scheme and a colon.
 fn has_scheme(text: &[u8]) -> bool
     ensures { result ≡ has_scheme text.now }
 {
@@ -67,7 +67,7 @@ fn has_scheme(text: &[u8]) -> bool
     }
 }
 
-// Where the first colon of a text is.
+// The index of the first colon of a text.
 fn first_colon(text: &[u8]) -> Option<usize>
     ensures { result ≡ position is_colon text.now }
 {

@@ -72,7 +72,7 @@ fn without_slashes(path: &str) -> &str
     path.trim_start_matches('/')
 }
 
-// The path that is written for a path: without the slashes at its start, and `./` for an empty one.
+// The path that a target spells for a path: without slashes at its start, and `./` for an empty path.
 fn path_written(path: &str) -> &str
     ensures { result.now ≡ path_written path.now }
 {
