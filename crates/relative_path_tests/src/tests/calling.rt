@@ -15,26 +15,27 @@ ghost use Rattle.relative_path.specs.Relating.{IsReachable, IsShortestText};
 use relative_path::{RelativePath, RelativePathBuf};
 use std::alloc::{AllocError, Global};
 
-/// The shortest link from the directory `to` to the target of a link that is written in `directory`;
-/// `None` exactly if no path leads from `to` to that target.
+/// `link` is written in a page that is in `directory`. The result is the shortest link that leads from
+/// `new_directory` to the same target, or `None` exactly if no path leads there.
 pub fn carry(
     alloc: Global,
     directory: RelativePath<'_>,
     link: RelativePath<'_>,
-    to: RelativePath<'_>,
+    new_directory: RelativePath<'_>,
 ) -> Result<Option<RelativePathBuf>, AllocError>
-    ensures none { IfOk result (λ found. IsNone found ↔ (¬ IsReachable (path_components to.entry)
+    ensures none { IfOk result (λ found. IsNone found ↔ (¬ IsReachable (path_components new_directory.entry)
         (path_components directory.entry ++ path_components link.entry))) }
     ensures shortest { IfOk result (λ found. IfSome found (λ way.
-        IsShortestText (path_components to.entry)
+        IsShortestText (path_components new_directory.entry)
         (path_components directory.entry ++ path_components link.entry) way.text)) }
 {
     let target = directory.join(alloc, link)?;
-    to.try_relative(alloc, target.as_relative_path())
+    new_directory.try_relative(alloc, target.as_relative_path())
 }
 
-/// The link to write in the page's copy, which is in the directory `archive`, so that it still leads
-/// where `link` led from the page's directory, if a path leads there.
+/// `link` is written in `page`, and a copy of the page is in the directory `archive`. The result is the
+/// link to write in the copy: the shortest path from `archive` to where `link` leads from the page's
+/// directory. If no path leads there, the contract says nothing.
 pub fn relink(
     alloc: Global,
     page: RelativePath<'_>,
@@ -59,7 +60,8 @@ pub fn depth(path: RelativePath<'_>) -> usize
     path.components().count()
 }
 
-/// Whether a path stays below its base. If so, it leads to one and the same place below every base.
+/// Whether a path stays below its base. If so, one list of names leads, from every base, from the base to
+/// where the path leads.
 pub fn stays_below(path: RelativePath<'_>) -> bool
     ensures answer { IsTrue result ↔ IsSome (walk [] (path_components path.entry)) }
     ensures place { IsTrue result → (place : List (List ℕ)) × LeadsBelow [] place (path_components path.entry) }
@@ -122,8 +124,8 @@ pub fn index_of(
     Ok(Some(index))
 }
 
-/// A link between the pages that a build makes of two sources; `None` exactly if one of the sources makes
-/// no page.
+/// A link from the page that a build makes of `from` to the page that it makes of `to`; `None` exactly if
+/// the build makes no page of `from` or no page of `to`.
 pub fn link(
     alloc: Global,
     out_dir: RelativePath<'_>,
@@ -150,8 +152,8 @@ pub fn link(
     Ok(way)
 }
 
-/// A path after `normalize`. If the path leads to a place from the top, the file name is the place's
-/// last name, and the directory has the names before it.
+/// The normal form of a path. If the path leads from the top to a place that has a name, the result's
+/// file name is the place's last name, and the result's directory has the names before it.
 pub fn place_of(alloc: Global, path: RelativePath<'_>) -> Result<RelativePathBuf, AllocError>
     ensures file_name { IfOk result (λ normal. (place : List (List ℕ)) (n : List ℕ)
         → walk [] (path_components path.entry) ≡ Some (place ++ n ∷ [])
@@ -164,8 +166,8 @@ pub fn place_of(alloc: Global, path: RelativePath<'_>) -> Result<RelativePathBuf
     Ok(normal)
 }
 
-/// A link from a directory to a target, by `try_relative`. It is never `None` if the directory stays
-/// below its base.
+/// A link from a directory to a target, by `try_relative`. The link is never `None` if the directory
+/// stays below its base.
 pub fn link_from(
     alloc: Global,
     directory: RelativePath<'_>,
@@ -177,8 +179,8 @@ pub fn link_from(
     Ok(found)
 }
 
-/// A link from one directory to another, by `try_relative`. It is never `None` if both are normal and
-/// the first climbs no higher than the second.
+/// A link from one directory to another, by `try_relative`. The link is never `None` if both directories
+/// are in normal form and the first climbs no higher than the second.
 pub fn link_between(
     alloc: Global,
     from: RelativePath<'_>,
@@ -192,15 +194,15 @@ pub fn link_between(
     Ok(found)
 }
 
-/// Whether a path is normal and doesn't begin with `..`. Such a path stays below its base.
+/// Whether a path is in normal form and doesn't begin with `..`. Such a path stays below its base.
 pub fn is_normal_inside(path: RelativePath<'_>) -> bool
     ensures { IsTrue result → IsSome (walk [] (path_components path.entry)) }
 {
     path.is_normalized() && !path.starts_with(RelativePath::new(".."))
 }
 
-/// What follows a prefix of a path. If the path leads to a place, the prefix leads to a place too,
-/// and the rest leads on from there.
+/// What follows a prefix of a path. If the path leads from a base to a place, the prefix leads from this
+/// base to a place too, and the rest leads on from there.
 pub fn rest_of<'a>(path: RelativePath<'a>, prefix: RelativePath<'_>) -> Option<RelativePath<'a>>
     ensures { IfSome result (λ rest. (base place : List (List ℕ))
         → walk base (path_components path.entry) ≡ Some place

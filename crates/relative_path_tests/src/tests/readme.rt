@@ -7,7 +7,7 @@ use relative_path::{RelativePath, RelativePathBuf};
 use std::alloc::{AllocError, Global};
 use std::test::Fail;
 
-/// The file that a link in a directory leads to.
+/// The path of the file to which `link` leads. The link is written in a page that is in `directory`.
 fn resolve(
     alloc: Global,
     directory: RelativePath<'_>,
