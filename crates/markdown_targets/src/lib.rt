@@ -1,16 +1,7 @@
 //! The targets in a page of Markdown, as CommonMark reads it.
 //!
-//! `blocks` finds the text of paragraphs, headings and blocks of HTML in a page, and `inlines` the
-//! targets in that. A module uses those to the right of it in its row, and those of the rows below.
-//!
-//! ```text
-//! pages        lib - blocks, inlines
-//! lines        blocks - containers, starts - fence, html_block - cursor
-//! text         inlines - brackets, code_spans, autolinks
-//! definitions  definitions - names, links
-//! html         html - tags
-//! both         text_blocks, target, span, bytes
-//! ```
+//! `finder` finds the targets; tests show which. This module keeps those that are spans of the page, in order,
+//! and proves it.
 #![tactic(auto)]
 
 ghost use Rattle.std.specs.Prelude.{map, IfOk};
@@ -20,28 +11,10 @@ ghost use Rattle.markdown_targets.specs.Spans.{IsSpanOf, AreInOrder};
 pub use self::span::Span;
 pub use self::target::{LinkTarget, LinkTargets, PassedOver, Quote, TargetKind, WhyPassedOver};
 
-mod autolinks;
-mod blocks;
-mod brackets;
-mod bytes;
-mod code_spans;
-mod containers;
-mod cursor;
-mod definitions;
-mod fence;
-mod html;
-mod html_block;
-mod inlines;
-mod links;
-mod names;
+mod finder;
 mod span;
-mod starts;
-mod tags;
 mod target;
-mod text_blocks;
 
-use crate::blocks::read_blocks;
-use crate::inlines::read_inlines;
 use std::alloc::{AllocError, Global};
 
 /// Returns the targets of the links, images and link reference definitions of a page in Markdown, and
@@ -82,8 +55,7 @@ pub fn link_targets(alloc: Global, page: &str) -> Result<LinkTargets, AllocError
     ensures passed_over { IfOk result (λ found.
         All (λ passed. IsSpanOf page.now passed.span) found.passed_over.items) }
 {
-    let text = read_blocks(alloc, page)?;
-    let mut found = read_inlines(alloc, &text)?;
+    let mut found = finder::find(alloc, page)?;
     found.passed_over.retain(|passed| passed.span.is_of(page));
     let targets = in_order(alloc, page, &found.targets)?;
     Ok(LinkTargets { targets, ..found })

@@ -1,7 +1,6 @@
 //! Pages, and what is found in them.
 use markdown_targets::{Span, link_targets};
 use std::alloc::Global;
-use std::fmt::Debug;
 use std::test::Fail;
 
 mod blocks;
@@ -14,16 +13,6 @@ mod large;
 mod left_out;
 mod limits;
 
-// Fails in the words of this case where another value was found than is expected. A call of it costs
-// a proof a fourth of what `assert_eq!` with a message does.
-fn same<T: PartialEq + Debug>(case: &str, found: &T, expected: &T) -> Result<(), Fail> {
-    if found == expected {
-        Ok(())
-    } else {
-        Err(Fail::new(format_args!("{case:?}: {found:?}, not {expected:?}")))
-    }
-}
-
 // Adds the text of a span, after a space. One without bytes is `<>`.
 fn add(texts: &mut String, page: &str, span: Span) -> Result<(), Fail> {
     let text = page.get(span.start..span.end).ok_or("a span")?;
@@ -32,6 +21,15 @@ fn add(texts: &mut String, page: &str, span: Span) -> Result<(), Fail> {
     }
     texts.push_str(if text.is_empty() { "<>" } else { text })?;
     Ok(())
+}
+
+// What a table has of its pages.
+#[derive(Clone, Copy)]
+enum What {
+    Targets,
+    PassedOver,
+    // `base` where a page has a base.
+    Base,
 }
 
 // The targets of a page, in order and parted by spaces.
@@ -53,8 +51,18 @@ fn passed_over(alloc: Global, page: &str) -> Result<String, Fail> {
 }
 
 // Whether a page has a base.
-fn has_base(alloc: Global, page: &str) -> Result<bool, Fail> {
-    Ok(link_targets(alloc, page)?.has_base)
+fn base(alloc: Global, page: &str) -> Result<String, Fail> {
+    let has_base = link_targets(alloc, page)?.has_base;
+    Ok(String::from_str(alloc, if has_base { "base" } else { "" })?)
+}
+
+// What a table has of a page.
+fn texts(alloc: Global, what: What, page: &str) -> Result<String, Fail> {
+    match what {
+        What::Targets => found(alloc, page),
+        What::PassedOver => passed_over(alloc, page),
+        What::Base => base(alloc, page),
+    }
 }
 
 // Fails where other texts are found in a page than these. No page has the text `none`.
@@ -72,37 +80,26 @@ fn finds(alloc: Global, section: &str, page: &str, expected: &str) -> Result<(),
     are(section, page, &found(alloc, page)?, expected)
 }
 
-// The same of each page of a table, whose sections each begin with `§` and a name. A line is a page
-// and its targets. Within a page `¶` stands for LF, `␍` for CR and `→` for a tab.
+// The same of each page of a table, whose sections each begin with `§` and a name.
 fn all_find(alloc: Global, table: &str) -> Result<(), Fail> {
     for part in table.split('§') {
         let (section, rows) = part.split_once('\n').unwrap_or((part, ""));
-        section_finds(alloc, section, rows)?;
+        all_have(alloc, What::Targets, section, rows)?;
     }
     Ok(())
 }
 
-// The same of each page of a section.
-fn section_finds(alloc: Global, section: &str, rows: &str) -> Result<(), Fail> {
-    for row in rows.lines() {
-        let (page, expected) = row.split_once(" ⇒ ").ok_or("a row without targets")?;
-        let page = shown(alloc, page)?;
-        finds(alloc, section, &page, expected)?;
-    }
-    Ok(())
-}
-
-// The same of what is passed over in the pages of one section.
-fn all_pass_over(alloc: Global, rows: &str) -> Result<(), Fail> {
+// Fails where a page of a section has other texts than its row says. A row is a page and its texts.
+fn all_have(alloc: Global, what: What, section: &str, rows: &str) -> Result<(), Fail> {
     for row in rows.lines() {
         let (page, expected) = row.split_once(" ⇒ ").ok_or("a row without texts")?;
         let page = shown(alloc, page)?;
-        are("passed over", &page, &passed_over(alloc, &page)?, expected)?;
+        are(section, &page, &texts(alloc, what, &page)?, expected)?;
     }
     Ok(())
 }
 
-// The page that a row shows.
+// The page that a row shows: `¶` stands for LF, `␍` for CR and `→` for a tab.
 fn shown(alloc: Global, page: &str) -> Result<String, Fail> {
     let page = page.replace(alloc, "¶", "\n")?;
     let page = page.replace(alloc, "␍", "\r")?;

@@ -1,5 +1,5 @@
 //! What is passed over on purpose: footnotes, templates, names without a definition.
-use super::{all_find, all_pass_over, has_base, same};
+use super::{What, all_find, all_have};
 use std::test::Fail;
 
 // A definition whose label begins with `^` is a footnote's text.
@@ -41,16 +41,15 @@ const PASSED_OVER: &str = r##"[a]({{b}}/c.md) ![d](${e}) ⇒ {{b}}/c.md ${e}
 "##;
 
 // Pages, and whether they have a base.
-const BASES: [(&str, bool); 8] = [
-    ("<base href=\"b/\">", true),
-    ("a <BASE HREF=b>", true),
-    ("<base>", false),
-    ("<base target=\"b\">", false),
-    ("<!-- <base href=\"b/\"> -->", false),
-    ("`<base href=\"b/\">`", false),
-    ("</base href=\"b/\">", false),
-    ("<basefont href=\"b/\">", false),
-];
+const BASES: &str = r##"<base href="b/"> ⇒ base
+a <BASE HREF=b> ⇒ base
+<base> ⇒ none
+<base target="b"> ⇒ none
+<!-- <base href="b/"> --> ⇒ none
+`<base href="b/">` ⇒ none
+</base href="b/"> ⇒ none
+<basefont href="b/"> ⇒ none
+"##;
 
 #[test]
 fn passes_over_footnotes(rt: HostRuntime) -> Result<(), Fail> {
@@ -64,13 +63,10 @@ fn passes_over_templates(rt: HostRuntime) -> Result<(), Fail> {
 
 #[test]
 fn says_what_it_passes_over(rt: HostRuntime) -> Result<(), Fail> {
-    all_pass_over(rt.alloc(), PASSED_OVER)
+    all_have(rt.alloc(), What::PassedOver, "passed over", PASSED_OVER)
 }
 
 #[test]
 fn says_whether_there_is_a_base(rt: HostRuntime) -> Result<(), Fail> {
-    for (page, expected) in &BASES {
-        same(page, &has_base(rt.alloc(), page)?, expected)?;
-    }
-    Ok(())
+    all_have(rt.alloc(), What::Base, "a base", BASES)
 }

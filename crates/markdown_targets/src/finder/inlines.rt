@@ -1,0 +1,308 @@
+//! The targets in the text of a page's blocks.
+ghost use Rattle.std.specs.Prelude.{◌≡◌, ◌≤◌, ◌<◌, length, IfOk, IfSome};
+ghost use Rattle.markdown_targets.specs.Steps.{Skips, Advances};
+
+use crate::finder::autolinks::autolink_end;
+use crate::finder::brackets::{Bracket, Brackets, Opener};
+use crate::finder::bytes::{run_end, step_over};
+use crate::finder::code_spans::BacktickRuns;
+use crate::finder::definitions::{Definition, add_names};
+use crate::finder::html::{Endings, unclosed_end};
+use crate::finder::links::inline_link;
+use crate::finder::names::{Label, Names};
+use crate::finder::tags::StartTag;
+use crate::finder::text_blocks::{TextBlocks, TextKind};
+use crate::span::Span;
+use crate::target::{LinkTarget, LinkTargets, PassedOver, TargetKind, WhyPassedOver};
+use std::alloc::{AllocError, Global};
+
+// The targets of links, images, definitions and attributes, in the order in which these end, and what
+// is passed over.
+pub(crate) fn read_inlines(alloc: Global, text: &TextBlocks) -> Result<LinkTargets, AllocError> {
+    let mut reader = Reader::new(alloc, names(alloc, text)?)?;
+    for block in text.blocks() {
+        if let Some(bytes) = text.text_through(*block) {
+            reader.read_inlines_of_block(block.kind, bytes, block.start)?;
+        }
+    }
+    let Reader { found, .. } = reader;
+    Ok(found)
+}
+
+// The names that the paragraphs of a page define.
+fn names(alloc: Global, text: &TextBlocks) -> Result<Names, AllocError> {
+    let mut names = Names::new(alloc);
+    for block in text.blocks() {
+        if block.kind == TextKind::Paragraph
+            && let Some(bytes) = text.text_through(*block)
+        {
+            add_names(bytes, block.start, &mut names)?;
+        }
+    }
+    Ok(names)
+}
+
+// What is known while a page is read: of its block the brackets, the runs of backticks, the words that
+// end HTML, and how far the content of an element is text.
+#[derive(Drop)]
+struct Reader {
+    found: LinkTargets,
+    names: Names,
+    brackets: Brackets,
+    runs: BacktickRuns,
+    endings: Endings,
+    content_end: usize,
+}
+
+impl Reader {
+    // Nothing was read.
+    fn new(alloc: Global, names: Names) -> Result<Reader, AllocError> {
+        Ok(Reader {
+            found: LinkTargets {
+                targets: Vec::new(alloc),
+                passed_over: Vec::new(alloc),
+                has_base: false,
+            },
+            names,
+            brackets: Brackets::new(alloc),
+            runs: BacktickRuns::new(alloc)?,
+            endings: Endings::new(),
+            content_end: 0,
+        })
+    }
+
+    // Reads the block from an offset on. The text ends with it.
+    fn read_inlines_of_block(
+        &mut self,
+        kind: TextKind,
+        text: &[u8],
+        start: usize,
+    ) -> Result<(), AllocError>
+        requires { start ≤ length text.now }
+    {
+        self.brackets.clear();
+        self.endings = Endings::new();
+        match kind {
+            TextKind::Paragraph => {
+                let inlines = self.read_definitions(text, start)?;
+                self.read_inlines(text, inlines)
+            }
+            TextKind::Heading => self.read_inlines(text, start),
+            TextKind::Html => self.read_html(text, start),
+        }
+    }
+
+    // Reads the definitions with which a paragraph begins, and returns the offset after them.
+    fn read_definitions(&mut self, text: &[u8], start: usize) -> Result<usize, AllocError>
+        requires { start ≤ length text.now }
+        ensures { IfOk result (λ end. Skips text.now start end) }
+    {
+        let mut k = start;
+        while let Some(definition) = Definition::read(text, k) {
+            self.add_target(text, TargetKind::Definition, definition.target)?;
+            k = definition.after;
+        }
+        Ok(k)
+    }
+
+    // Reads the inlines from an offset on.
+    fn read_inlines(&mut self, text: &[u8], start: usize) -> Result<(), AllocError>
+        requires { start ≤ length text.now }
+    {
+        self.runs.see(text, start);
+        let mut k = start;
+        while k < text.len() {
+            k = self.read_inline(text, k)?;
+        }
+        Ok(())
+    }
+
+    // Reads what is at an offset, and returns the offset after it.
+    fn read_inline(&mut self, text: &[u8], k: usize) -> Result<usize, AllocError>
+        requires { k < length text.now }
+        ensures { IfOk result (λ end. Advances text.now k end) }
+    {
+        match &text[k..] {
+            [b'`', ..] => Ok(self.runs.span_end(text, k)),
+            [b'<', ..] => self.read_angles(text, k),
+            [b'[', ..] => {
+                self.brackets.open(Opener::Link, k)?;
+                Ok(k + 1)
+            }
+            [b'!', b'[', ..] => {
+                self.brackets.open(Opener::Image, k + 1)?;
+                Ok(k + 2)
+            }
+            [b']', ..] => self.close_bracket(text, k + 1),
+            _ => Ok(step_over(text, k)),
+        }
+    }
+
+    // Reads the autolink or the HTML at an offset, and returns the offset after it, or after the angle
+    // where there is none.
+    fn read_angles(&mut self, text: &[u8], k: usize) -> Result<usize, AllocError>
+        requires { k < length text.now }
+        ensures { IfOk result (λ end. Advances text.now k end) }
+    {
+        if let Some(end) = autolink_end(text, k) {
+            return Ok(end);
+        }
+        let Some(html) = self.endings.read(text, k) else {
+            return Ok(k + 1);
+        };
+        if let Some(tag) = html.tag
+            && k >= self.content_end
+        {
+            self.add_tag(text, tag)?;
+            self.content_end = tag.content_end(text, html.after);
+        }
+        Ok(html.after)
+    }
+
+    // Reads the HTML from an offset on.
+    fn read_html(&mut self, text: &[u8], start: usize) -> Result<(), AllocError>
+        requires { start ≤ length text.now }
+    {
+        let mut k = start;
+        while k < text.len() {
+            k = self.read_tag(text, k)?;
+        }
+        Ok(())
+    }
+
+    // Reads the next tag from an offset on, and returns the offset after it, or after its element if the
+    // content of that is text.
+    fn read_tag(&mut self, text: &[u8], from: usize) -> Result<usize, AllocError>
+        requires { from < length text.now }
+        ensures { IfOk result (λ end. Advances text.now from end) }
+    {
+        let start = run_end(text, from, |byte| byte != b'<');
+        if start == text.len() {
+            return Ok(start);
+        }
+        let Some(html) = self.endings.read(text, start) else {
+            return Ok(unclosed_end(text, start));
+        };
+        let Some(tag) = html.tag else {
+            return Ok(html.after);
+        };
+        self.add_tag(text, tag)?;
+        Ok(tag.content_end(text, html.after))
+    }
+
+    // Closes a bracket, and returns the offset after it, or after its link.
+    fn close_bracket(&mut self, text: &[u8], after: usize) -> Result<usize, AllocError>
+        requires { after ≤ length text.now }
+        ensures { IfOk result (λ end. Skips text.now after end) }
+    {
+        let Some(bracket) = self.brackets.close() else {
+            return Ok(after);
+        };
+        let Some(end) = self.link_end(text, bracket, after)? else {
+            return Ok(after);
+        };
+        if bracket.opener == Opener::Link {
+            self.brackets.deactivate();
+        }
+        Ok(end)
+    }
+
+    // The end of the link whose text ends at an offset.
+    fn link_end(
+        &mut self,
+        text: &[u8],
+        bracket: Bracket,
+        after: usize,
+    ) -> Result<Option<usize>, AllocError>
+        requires { after ≤ length text.now }
+        ensures { IfOk result (λ end. IfSome end (λ end. Skips text.now after end)) }
+    {
+        let Some(link) = inline_link(text, after) else {
+            return self.reference_end(text, bracket, after);
+        };
+        if let Some(target) = link.target {
+            self.add_target(text, TargetKind::Inline, target)?;
+        }
+        Ok(Some(link.after))
+    }
+
+    // The end of the link by name whose text ends at an offset: `[text][name]`, `[name][]` or `[name]`.
+    fn reference_end(
+        &mut self,
+        text: &[u8],
+        bracket: Bracket,
+        after: usize,
+    ) -> Result<Option<usize>, AllocError>
+        requires { after ≤ length text.now }
+        ensures { IfOk result (λ end. IfSome end (λ end. Skips text.now after end)) }
+    {
+        if let Some(label) = Label::read(text, after) {
+            return self.named_end(text, label, label.after);
+        }
+        let Some(label) = Label::read(text, bracket.start) else {
+            return Ok(None);
+        };
+        if label.after != after {
+            return Ok(None);
+        }
+        if text[after..].starts_with(b"[]") {
+            return self.named_end(text, label, after + 2);
+        }
+        Ok(if self.names.has(label.name)? {
+            Some(after)
+        } else {
+            None
+        })
+    }
+
+    // The end of a link by a name in brackets, if the name is defined. Otherwise the name is passed over,
+    // unless it is a footnote's or has a target of its own.
+    fn named_end(
+        &mut self,
+        text: &[u8],
+        label: Label<'_>,
+        end: usize,
+    ) -> Result<Option<usize>, AllocError>
+        ensures { IfOk result (λ named. IfSome named (λ named. named ≡ end)) }
+    {
+        if self.names.has(label.name)? {
+            return Ok(Some(end));
+        }
+        if !label.is_footnote() && text.get(end) != Some(&b'(') {
+            self.pass_over(WhyPassedOver::UnknownName, label.span)?;
+        }
+        Ok(None)
+    }
+
+    // Adds the targets of a start tag.
+    fn add_tag(&mut self, text: &[u8], tag: StartTag<'_>) -> Result<(), AllocError> {
+        if tag.is(b"base") && tag.href().is_some() {
+            self.found.has_base = true;
+            return Ok(());
+        }
+        for value in tag.values().into_iter().flatten() {
+            self.add_target(text, TargetKind::Attribute(value.quote), value.span)?;
+        }
+        Ok(())
+    }
+
+    // Adds a target, or passes it over if a template writes it.
+    fn add_target(&mut self, text: &[u8], kind: TargetKind, span: Span) -> Result<(), AllocError> {
+        if text.get(span.start..span.end).is_some_and(is_template) {
+            return self.pass_over(WhyPassedOver::Template, span);
+        }
+        self.found.targets.push(LinkTarget { kind, span })?;
+        Ok(())
+    }
+
+    // Adds what is passed over.
+    fn pass_over(&mut self, why: WhyPassedOver, span: Span) -> Result<(), AllocError> {
+        self.found.passed_over.push(PassedOver { why, span })?;
+        Ok(())
+    }
+}
+
+// Whether a template writes a destination.
+fn is_template(destination: &[u8]) -> bool {
+    matches!(destination, [b'{', b'{' | b'%', ..] | [b'$', b'{', ..])
+}

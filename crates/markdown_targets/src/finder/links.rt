@@ -1,0 +1,110 @@
+//! The parts of a link: its destination, its title and a label.
+ghost use Rattle.std.specs.Prelude.{◌≤◌, ◌<◌, length, IfSome};
+ghost use Rattle.markdown_targets.specs.Steps.{Advances};
+
+use crate::finder::bytes::{
+    find_unescaped, is_line_end, is_space_or_control, skip_byte, skip_spaces, step_over,
+};
+use crate::span::Span;
+
+// How deep the parentheses of a destination may be.
+const DEEPEST: usize = 32;
+
+// A destination, and the offset after it and its angles.
+#[derive(Clone, Copy)]
+pub(crate) struct Destination {
+    pub(crate) span: Span,
+    pub(crate) after: usize,
+}
+
+// What is in the parentheses of a link, and the offset after them.
+#[derive(Clone, Copy)]
+pub(crate) struct InlineLink {
+    pub(crate) target: Option<Span>,
+    pub(crate) after: usize,
+}
+
+// The parentheses of a link at an offset.
+pub(crate) fn inline_link(text: &[u8], start: usize) -> Option<InlineLink>
+    ensures { IfSome result (λ link. Advances text.now start link.after) }
+{
+    let inside = skip_spaces(text, skip_byte(text, start, b'(')?);
+    let destination = read_destination(text, inside);
+    let after = match destination {
+        Some(destination) => destination.after,
+        None => inside,
+    };
+    let end = skip_spaces(text, title_end(text, after).unwrap_or(after));
+    let after = skip_byte(text, end, b')')?;
+    Some(InlineLink {
+        target: destination.map(|destination| destination.span),
+        after,
+    })
+}
+
+// The destination at an offset. A destination may be empty only between `<` and `>`.
+pub(crate) fn read_destination(text: &[u8], start: usize) -> Option<Destination>
+    requires { start ≤ length text.now }
+    ensures { IfSome result (λ destination. Advances text.now start destination.after) }
+{
+    if let Some(start) = skip_byte(text, start, b'<') {
+        let end = find_unescaped(text, start, |byte| {
+            byte == b'<' || byte == b'>' || is_line_end(byte)
+        })?;
+        let after = skip_byte(text, end, b'>')?;
+        Some(Destination {
+            span: Span { start, end },
+            after,
+        })
+    } else {
+        let end = bare_destination_end(text, start)?;
+        Some(Destination {
+            span: Span { start, end },
+            after: end,
+        })
+    }
+}
+
+// The end of a destination without angles, whose parentheses are balanced.
+fn bare_destination_end(text: &[u8], start: usize) -> Option<usize>
+    requires { start ≤ length text.now }
+    ensures { IfSome result (λ end. Advances text.now start end) }
+{
+    let mut depth = 0;
+    let mut k = start;
+    while k < text.len() {
+        match text[k] {
+            b'(' if depth == DEEPEST => return None,
+            b'(' => depth += 1,
+            b')' if depth == 0 => break,
+            b')' => depth -= 1,
+            byte if is_space_or_control(byte) => break,
+            _ => {}
+        }
+        k = step_over(text, k);
+    }
+    if depth == 0 && k > start {
+        Some(k)
+    } else {
+        None
+    }
+}
+
+// The end of the title at an offset, which begins with spaces.
+pub(crate) fn title_end(text: &[u8], start: usize) -> Option<usize>
+    requires { start ≤ length text.now }
+    ensures { IfSome result (λ end. Advances text.now start end) }
+{
+    let opening = skip_spaces(text, start);
+    if opening == start {
+        return None;
+    }
+    let quote = *text.get(opening)?;
+    let close = match quote {
+        b'"' | b'\'' => quote,
+        b'(' => b')',
+        _ => return None,
+    };
+    let end = find_unescaped(text, opening + 1, |byte| byte == close || byte == quote)?;
+    skip_byte(text, end, close)
+}

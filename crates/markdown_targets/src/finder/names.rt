@@ -1,0 +1,96 @@
+//! Names of links: the labels in brackets, and which of them are defined.
+ghost use Rattle.std.specs.Prelude.{◌≤◌, ◌<◌, length, IfSome};
+ghost use Rattle.markdown_targets.specs.Steps.{Advances};
+
+use crate::finder::bytes::{find_unescaped, is_space, skip_byte};
+use crate::span::Span;
+use std::alloc::{AllocError, Global};
+use std::collections::BTreeSet;
+
+// How many characters a label may have.
+const LONGEST_LABEL: usize = 999;
+
+// A label, and the offset after its brackets.
+#[derive(Clone, Copy)]
+pub(crate) struct Label<'a> {
+    pub(crate) span: Span,
+    pub(crate) name: &'a [u8],
+    pub(crate) after: usize,
+}
+
+impl<'a> Label<'a> {
+    // The label in brackets at an offset. It has no brackets inside, and holds more than spaces.
+    pub(crate) fn read(text: &'a [u8], start: usize) -> Option<Label<'a>>
+        ensures { IfSome result (λ label. Advances text.now start label.after) }
+    {
+        let start = skip_byte(text, start, b'[')?;
+        let end = find_unescaped(text, start, |byte| byte == b'[' || byte == b']')?;
+        let after = skip_byte(text, end, b']')?;
+        let name = &text[start..end];
+        if name.iter().all(|&byte| is_space(byte)) || character_count(name) > LONGEST_LABEL {
+            return None;
+        }
+        Some(Label {
+            span: Span { start, end },
+            name,
+            after,
+        })
+    }
+
+    // Whether the label is a footnote's.
+    pub(crate) fn is_footnote(self) -> bool {
+        self.name.first() == Some(&b'^')
+    }
+}
+
+// How many characters a text in UTF-8 has: as many as it has bytes that begin a character.
+fn character_count(text: &[u8]) -> usize {
+    text.iter()
+        .filter(|&&byte| !(128..192).contains(&byte))
+        .count()
+}
+
+// The names that a page defines.
+#[derive(Drop)]
+pub(crate) struct Names {
+    alloc: Global,
+    folded: BTreeSet<Vec<u8>>,
+}
+
+impl Names {
+    // No names.
+    pub(crate) fn new(alloc: Global) -> Names {
+        Names {
+            alloc,
+            folded: BTreeSet::new(alloc),
+        }
+    }
+
+    // Adds a name.
+    pub(crate) fn add(&mut self, name: &[u8]) -> Result<(), AllocError> {
+        self.folded.insert(folded(self.alloc, name)?)?;
+        Ok(())
+    }
+
+    // Whether a name was added, in this case or another.
+    pub(crate) fn has(&self, name: &[u8]) -> Result<bool, AllocError> {
+        if self.folded.is_empty() {
+            return Ok(false);
+        }
+        Ok(self.folded.contains(folded(self.alloc, name)?.as_slice()))
+    }
+}
+
+// A name without case as far as ASCII, with one space in place of several.
+fn folded(alloc: Global, name: &[u8]) -> Result<Vec<u8>, AllocError> {
+    let mut folded = Vec::with_capacity(alloc, name.len())?;
+    for word in name.split(|&byte| is_space(byte)) {
+        if !word.is_empty() && !folded.is_empty() {
+            folded.push(b' ')?;
+        }
+        for byte in word {
+            folded.push(byte.to_ascii_lowercase())?;
+        }
+    }
+    Ok(folded)
+}

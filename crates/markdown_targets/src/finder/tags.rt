@@ -1,0 +1,230 @@
+//! Tags in HTML, with the attributes that link.
+ghost use Rattle.std.specs.Prelude.{◌≤◌, ◌<◌, length, IfSome};
+ghost use Rattle.markdown_targets.specs.Steps.{Skips, Advances};
+
+use crate::finder::bytes::{is_space, run_end, skip_byte, skip_spaces};
+use crate::span::Span;
+use crate::target::Quote;
+
+// The names of elements whose content is text without tags.
+const TEXT_ELEMENTS: [&[u8]; 4] = [b"script", b"style", b"textarea", b"title"];
+
+// The value of an attribute.
+#[derive(Clone, Copy)]
+pub(crate) struct Value {
+    // What ends it.
+    pub(crate) quote: Quote,
+    // The span of the value, without its quotes.
+    pub(crate) span: Span,
+    // The offset after it and its quotes.
+    after: usize,
+}
+
+// An attribute, and the offset after it.
+#[derive(Clone, Copy)]
+struct Attribute<'a> {
+    name: &'a [u8],
+    value: Option<Value>,
+    after: usize,
+}
+
+// The first attributes `href` and `src` of a tag. One that is there may have no value.
+#[derive(Clone, Copy)]
+struct Links {
+    href: Option<Option<Value>>,
+    src: Option<Option<Value>>,
+}
+
+// A start tag, and the offset after it.
+#[derive(Clone, Copy)]
+pub(crate) struct StartTag<'a> {
+    name: &'a [u8],
+    links: Links,
+    pub(crate) after: usize,
+}
+
+impl Links {
+    // These attributes and another attribute.
+    fn with(self, attribute: Attribute<'_>) -> Links {
+        let mut links = self;
+        if links.href.is_none() && attribute.name.eq_ignore_ascii_case(b"href") {
+            links.href = Some(attribute.value);
+        }
+        if links.src.is_none() && attribute.name.eq_ignore_ascii_case(b"src") {
+            links.src = Some(attribute.value);
+        }
+        links
+    }
+}
+
+impl<'a> StartTag<'a> {
+    // The start tag at an offset.
+    pub(crate) fn read(text: &'a [u8], start: usize) -> Option<StartTag<'a>>
+        ensures { IfSome result (λ tag. Advances text.now start tag.after) }
+    {
+        let name_start = skip_byte(text, start, b'<')?;
+        let name_end = tag_name_end(text, name_start)?;
+        let mut links = Links {
+            href: None,
+            src: None,
+        };
+        let mut k = name_end;
+        while let Some(attribute) = Attribute::read(text, k) {
+            links = links.with(attribute);
+            k = attribute.after;
+        }
+        let slash = skip_spaces(text, k);
+        let after = skip_byte(text, skip_byte(text, slash, b'/').unwrap_or(slash), b'>')?;
+        Some(StartTag {
+            name: &text[name_start..name_end],
+            links,
+            after,
+        })
+    }
+
+    // Whether the tag has this name, in any case.
+    pub(crate) fn is(self, name: &[u8]) -> bool {
+        self.name.eq_ignore_ascii_case(name)
+    }
+
+    // The value of its first `href`.
+    pub(crate) fn href(self) -> Option<Value> {
+        self.links.href?
+    }
+
+    // The values of its first `href` and its first `src`, in the order of the page.
+    pub(crate) fn values(self) -> [Option<Value>; 2] {
+        let href = self.links.href.flatten();
+        let src = self.links.src.flatten();
+        match (href, src) {
+            (Some(first), Some(second)) if second.span.start < first.span.start => [src, href],
+            _ => [href, src],
+        }
+    }
+
+    // The end of the tag's element if its content is text, or else the offset after the tag.
+    pub(crate) fn content_end(self, text: &[u8], after: usize) -> usize
+        requires { after ≤ length text.now }
+        ensures { Skips text.now after result }
+    {
+        if !TEXT_ELEMENTS.iter().any(|name| self.is(name)) {
+            return after;
+        }
+        for k in after..text.len() {
+            if closes(&text[k..], self.name) {
+                return k;
+            }
+        }
+        text.len()
+    }
+}
+
+impl<'a> Attribute<'a> {
+    // The attribute at an offset, which begins with spaces.
+    fn read(text: &'a [u8], start: usize) -> Option<Attribute<'a>>
+        requires { start ≤ length text.now }
+        ensures { IfSome result (λ attribute. Advances text.now start attribute.after) }
+    {
+        let name = skip_spaces(text, start);
+        let end = run_end(text, name, is_of_attribute);
+        if name == start || end == name || !begins_attribute(text[name]) {
+            return None;
+        }
+        let value = read_value(text, end);
+        let after = match value {
+            Some(value) => value.after,
+            None => end,
+        };
+        Some(Attribute {
+            name: &text[name..end],
+            value,
+            after,
+        })
+    }
+}
+
+// The value after the name of an attribute that ends at an offset.
+fn read_value(text: &[u8], name_end: usize) -> Option<Value>
+    requires { name_end ≤ length text.now }
+    ensures { IfSome result (λ value. Advances text.now name_end value.after) }
+{
+    let equals = skip_spaces(text, name_end);
+    let start = skip_spaces(text, skip_byte(text, equals, b'=')?);
+    let byte = *text.get(start)?;
+    let quote = match byte {
+        b'"' => Quote::Double,
+        b'\'' => Quote::Single,
+        _ => return read_unquoted_value(text, start),
+    };
+    let start = start + 1;
+    let end = run_end(text, start, |other| other != byte);
+    let after = skip_byte(text, end, byte)?;
+    let span = Span { start, end };
+    Some(Value { quote, span, after })
+}
+
+// The value without quotes at an offset.
+fn read_unquoted_value(text: &[u8], start: usize) -> Option<Value>
+    requires { start ≤ length text.now }
+    ensures { IfSome result (λ value. Advances text.now start value.after) }
+{
+    let end = run_end(text, start, is_of_value);
+    if end == start {
+        return None;
+    }
+    let span = Span { start, end };
+    Some(Value {
+        quote: Quote::Unquoted,
+        span,
+        after: end,
+    })
+}
+
+// The end of the closing tag at an offset.
+pub(crate) fn closing_tag_end(text: &[u8], start: usize) -> Option<usize>
+    ensures { IfSome result (λ end. Advances text.now start end) }
+{
+    let slash = skip_byte(text, start, b'<')?;
+    let name_end = tag_name_end(text, skip_byte(text, slash, b'/')?)?;
+    skip_byte(text, skip_spaces(text, name_end), b'>')
+}
+
+// Whether a text begins with the closing tag of an element.
+fn closes(text: &[u8], name: &[u8]) -> bool {
+    text.strip_prefix(b"</").is_some_and(|tag| tag[..run_end(
+        tag, 0, is_of_tag,
+    )].eq_ignore_ascii_case(name))
+}
+
+// The end of the name of a tag at an offset.
+fn tag_name_end(text: &[u8], start: usize) -> Option<usize>
+    requires { start ≤ length text.now }
+    ensures { IfSome result (λ end. Advances text.now start end) }
+{
+    let end = run_end(text, start, is_of_tag);
+    if end > start && text[start].is_ascii_alphabetic() {
+        Some(end)
+    } else {
+        None
+    }
+}
+
+// Whether the name of a tag may have a byte.
+fn is_of_tag(byte: u8) -> bool {
+    byte.is_ascii_alphanumeric() || byte == b'-'
+}
+
+// Whether a byte may begin the name of an attribute.
+fn begins_attribute(byte: u8) -> bool {
+    byte.is_ascii_alphabetic() || byte == b'_' || byte == b':'
+}
+
+// Whether the name of an attribute may have a byte.
+fn is_of_attribute(byte: u8) -> bool {
+    begins_attribute(byte) || byte.is_ascii_digit() || byte == b'.' || byte == b'-'
+}
+
+// Whether a value without quotes may have a byte.
+fn is_of_value(byte: u8) -> bool {
+    !is_space(byte) && !b"\"'=<>`".contains(&byte)
+}
