@@ -227,11 +227,11 @@ impl<'a> MoveTable<'a> {
     }
 
     // The number of the move whose old path has this normal text.
-    pub(crate) fn move_from(&self, place: &RelativePathBuf) -> Option<usize>
-        requires { IsNormalText place.now.text }
-        ensures { IsFoundAt (olds_of self.now) (components place.now.text) result }
+    pub(crate) fn move_from(&self, place: RelativePath<'_>) -> Option<usize>
+        requires { IsNormalText (path_text place) }
+        ensures { IsFoundAt (olds_of self.now) (path_components place.entry) result }
     {
-        self.by_old.get_text(place.as_relative_path().as_str())
+        self.by_old.get_text(place.as_str())
     }
 
     // The old and the new path of a move.
