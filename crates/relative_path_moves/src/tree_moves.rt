@@ -113,8 +113,8 @@ impl<'a> TreeMoves<'a> {
 
     /// Returns the normal path of a file or directory after the moves.
     ///
-    /// Allocates the path's normal form. If a move takes the file along, it allocates the result once more.
-    /// Fails only if an allocation fails.
+    /// Allocates the path's normal form, and once more, the result, if a move takes the file along. Fails only
+    /// if an allocation fails.
     ///
     /// ```
     /// let moves = [(RelativePath::new("docs"), RelativePath::new("guide"))];
@@ -142,8 +142,8 @@ impl<'a> TreeMoves<'a> {
     /// Returns where a page is after the moves, and its directory before and after them. The result serves
     /// all references of the page, by [`TreeMoves::moved_in`].
     ///
-    /// Allocates the normal forms of the page and of its directories, and what [`TreeMoves::path_after`]
-    /// does. Fails only if an allocation fails.
+    /// Allocates what [`TreeMoves::path_after`] does, and the normal form of each of the two directories.
+    /// Fails only if an allocation fails.
     ///
     /// ```
     /// let moves = [(RelativePath::new("docs"), RelativePath::new("guide"))];
@@ -182,22 +182,22 @@ impl<'a> TreeMoves<'a> {
     }
 
     /// Returns what a reference in a page becomes after the moves. The page is given by the result of
-    /// [`TreeMoves::moved_page`], and may have moved or not.
-    ///
-    /// A reference is a *path* here: it has no scheme, no query and no fragment, and a percent sign is a
-    /// byte of a name. For the target of a link in a page see the crate `target_paths`.
+    /// [`TreeMoves::moved_page`], and may move or stay. A reference is a *path* here, without scheme,
+    /// query, fragment and percent signs: a percent sign is a byte of a name. The crate `target_paths`
+    /// reads the target of a link as a path.
     ///
     /// Returns `None` if the reference, as it is written, still leads from the page's new directory to
     /// its target, above the root too. Otherwise the result is the shortest path from the page's new
     /// directory to the target. The target is where the reference led before the moves; if a move takes
     /// that place along, the target is where the nearest move takes it.
     ///
-    /// Fails with [`ReferenceError::AboveRoot`] if the reference doesn't lead to its target any more, and
-    /// the target climbs above the root. Fails with [`ReferenceError::NoPath`] if no path leads to the
-    /// target.
+    /// If the reference no longer leads to its target, the call fails with [`ReferenceError::AboveRoot`]
+    /// where the target climbs above the root, and with [`ReferenceError::NoPath`] where no path leads from
+    /// the page's new directory to the target.
     ///
     /// Allocates at most six times: what `join_normalized` does, the target if a move takes it along, and
-    /// what `try_relative` does. For a reference that stays, only the first two.
+    /// what `try_relative` does if the reference doesn't stay. It fails with `OutOfMemory` only if one of
+    /// these allocations fails.
     ///
     /// ```
     /// let moves = [(RelativePath::new("docs"), RelativePath::new("guide"))];
