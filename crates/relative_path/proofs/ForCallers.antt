@@ -1,6 +1,6 @@
 -- What a caller's proof may cite, next to `OnLiterals`: where lists of components lead, and what the components of a
 -- text are. Other crates can name no other lemma module of this crate.
-use Rattle.std.proofs.Common.{◌≡◌, ◌≢◌, ◌↔◌, ℕ, ◌<◌, ◌≤◌, false, All, List, [], ◌∷◌, ◌++◌, length, map, replicate, get_or, codes, Some, IsSome, option_and_then, refl, sym, ap, ◌∙◌, subst, arith, append_assoc, append-nil}
+use Rattle.std.proofs.Common.{◌≡◌, ◌≢◌, ◌↔◌, ℕ, ◌<◌, ◌≤◌, false, All, List, [], ◌∷◌, ◌++◌, length, map, replicate, take, ◌-◌, get_or, codes, Some, IsSome, option_and_then, inl, inr, refl, sym, ap, ◌∙◌, subst, arith, append_assoc, append-nil, take_at, length-append}
 use Rattle.std.specs.Prelude.{slice_get}
 use Rattle.std.proofs.lemmas.Bool.{cond-false}
 use Rattle.std.proofs.lemmas.List.{length-replicate}
@@ -8,16 +8,20 @@ use Rattle.std.proofs.lemmas.List.Elements.{All-from_recursion}
 use Rattle.relative_path.specs.Steps.{Step, cur, up, name, slash, is_slash, step_text, classed, components, spell, SpellsItself, SpellThemselves}
 use Rattle.relative_path.specs.Walk.{walk, IsSame, LeadsInTurn, StaysBelow}
 use Rattle.relative_path.specs.Normalizing.{AreNames, IsNormal, IsNormalForm, IsNormalTextOf, climb}
+use Rattle.relative_path.specs.Slices.{IsShortestPrefix, IsFront}
 use Rattle.relative_path.specs.Editing.{kept, pushed, unslashed}
 use Rattle.relative_path.specs.Naming.{last_name}
 use Rattle.relative_path.specs.Relating.{Leads, IsReachable, IsShortestText}
 use Rattle.relative_path.specs.Unix.{has_root}
 use Rattle.relative_path.proofs.ListsLemmas as lists
 use Rattle.relative_path.proofs.StepsLemmas as steps
+use Rattle.relative_path.proofs.SlicesLemmas as slices
+use Rattle.relative_path.proofs.SpellingLemmas as spelling
 use Rattle.relative_path.proofs.WalkLemmas as walks
 use Rattle.relative_path.proofs.EditingLemmas as editing
 use Rattle.relative_path.proofs.NamingExtensionLemmas as extensions
 use Rattle.relative_path.proofs.NamingEditsLemmas as edits
+use Rattle.relative_path.proofs.NormalStepsLemmas as normal_steps
 use Rattle.relative_path.proofs.NormalStepsLemmas.{normal_unique}
 use Rattle.relative_path.proofs.ClimbingLemmas.{climb_after, IsSome-walk}
 use Rattle.relative_path.proofs.RelatingLemmas as relating
@@ -128,6 +132,56 @@ pub IsShortestText-same : {f g t u : List Step} {text : List ℕ} → IsSame f g
     → IsShortestText g u text
 IsShortestText-same from to way = relating.IsShortestText-same _ _ _ _ _ (IsSame-sym from) (IsSame-sym to) way
 
+-- ---- normal lists
+
+-- a normal list stays normal with a name at its end
+pub IsNormal-push_name : (cs : List Step) (n : List ℕ) → IsNormal cs → IsNormal (cs ++ name n ∷ [])
+IsNormal-push_name = normal_steps.IsNormal-push_name
+
+-- the front of a normal list is normal
+pub IsNormal-append_left : (cs ds : List Step) → IsNormal (cs ++ ds) → IsNormal cs
+IsNormal-append_left = normal_steps.IsNormal-append_left
+
+-- a normal list with one more step at its end has a normal form
+normal_push : (ds : List Step) (c : Step) → IsNormal ds
+    → (es : List Step) × IsNormal es × ((rest : List Step) → IsSame (ds ++ c ∷ rest) (es ++ rest))
+normal_push ds cur normal = (ds, normal, walks.IsSame-cur ds)
+normal_push ds (name n) normal = (
+  ds ++ name n ∷ [],
+  IsNormal-push_name ds n normal,
+  λ rest. rw (append_assoc ds (name n ∷ []) rest) (IsSame-refl (ds ++ name n ∷ rest)),
+)
+normal_push ds up normal = elim (lists.last_view ds) [
+  | inl none ↦ rw none (up ∷ [], tt, λ rest. IsSame-refl (up ∷ rest))
+  | inr (fs, c, joined) ↦ rw joined (last fs c (subst IsNormal joined normal))
+]
+  where
+    last : (fs : List Step) (c : Step) → IsNormal (fs ++ c ∷ [])
+        → (es : List Step) × IsNormal es × ((rest : List Step) → IsSame ((fs ++ c ∷ []) ++ up ∷ rest) (es ++ rest))
+    last fs cur normal = absurd (normal_steps.IsNormal-not_cur fs normal)
+    last fs up normal = (
+      (fs ++ up ∷ []) ++ up ∷ [],
+      normal_steps.IsNormal-push_up_after_up fs normal,
+      λ rest. rw (append_assoc (fs ++ up ∷ []) (up ∷ []) rest) (IsSame-refl ((fs ++ up ∷ []) ++ up ∷ rest)),
+    )
+    last fs (name n) normal = (
+      fs,
+      normal_steps.IsNormal-front fs (name n) normal,
+      λ rest. rw (append_assoc fs (name n ∷ []) (up ∷ rest)) (walks.IsSame-name_up fs rest n),
+    )
+
+normal_after : (ds cs : List Step) → IsNormal ds → (es : List Step) × IsNormal es × IsSame (ds ++ cs) es
+normal_after ds [] normal = (ds, normal, rw (append-nil ds) (IsSame-refl ds))
+normal_after ds (c ∷ cs) normal =
+    let (es, is, same) = normal_push ds c normal in
+    let (fs, is_last, same_last) = normal_after es cs is in
+    (fs, is_last, IsSame-trans (same cs) same_last)
+
+-- each list has a normal form
+pub IsNormalForm-some : (cs : List Step) → (ds : List Step) × IsNormalForm cs ds
+IsNormalForm-some cs =
+    let (ds, normal, same) = normal_after [] cs tt in (ds, record { normal = normal; same = same })
+
 -- ---- what the components of a text are
 
 -- the text `..` has one component
@@ -190,6 +244,27 @@ name-proper n proper = (
 pub spell-pushed : (text : List ℕ) (c : Step) → text ≡ spell (components text) → SpellsItself c
     → pushed text (step_text c) ≡ spell (components text ++ c ∷ [])
 spell-pushed = editing.spell-pushed
+
+-- the front of a text that spells its components does so too
+pub spelled-front : (text front : List ℕ) → text ≡ spell (components text) → IsFront text front
+    → front ≡ spell (components front)
+spelled-front text front spelled is = elim (lists.last_view (components text)) [
+  | inl none ↦
+      let cut : IsShortestPrefix text [] front =
+      subst (λ cs. IsShortestPrefix text cs front) (ap (λ cs. take (length cs - 1) cs) none) is in
+      slices.IsShortestPrefix-unique cut (slices.IsShortestPrefix-nil text) ∙ ap spell (sym cut.same_components)
+  | inr (cs, c, joined) ↦
+      let count : length cs ≡ length (cs ++ c ∷ []) - 1 = omega (arith, length-append cs (c ∷ [])) in
+      let cut : IsShortestPrefix text cs front =
+      subst (λ ds. IsShortestPrefix text ds front)
+      (ap (λ ds. take (length ds - 1) ds) joined ∙ take_at cs (c ∷ []) (length (cs ++ c ∷ []) - 1) count) is in
+      let proper = steps.SpellThemselves-append_left cs (c ∷ []) (subst SpellThemselves joined (SpellThemselves-components text)) in
+      let whole : text ≡ spell (cs ++ c ∷ []) = spelled ∙ ap spell joined in
+      let spelled_front : IsShortestPrefix text cs (spell cs) =
+      slices.IsShortestPrefix-from (rw whole (spelling.IsPrefix-spell cs c)) (spelling.components-spell cs proper)
+      (spelling.spell_end cs proper) in
+      slices.IsShortestPrefix-unique cut spelled_front ∙ ap spell (sym cut.same_components)
+]
 
 has_root-non_slash : (n rest : List ℕ) → steps.HasNoSlash n → 0 < length n → has_root (n ++ rest) ≡ false
 has_root-non_slash [] rest none some = absurd (omega arith)

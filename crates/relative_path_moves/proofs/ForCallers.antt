@@ -1,10 +1,18 @@
--- Theorems on moves that a caller's proof may cite: if no two moves have the same old path, a place has one target.
+-- Theorems on moves that a caller's proof may cite: if no two moves have the same old path, a place has one target, and
+-- so has a file in a table of moves of directories.
 use Rattle.std.proofs.Common.{◌≡◌, List}
 use Rattle.relative_path.specs.Steps.{Step}
 use Rattle.relative_path_moves.specs.Moves.{Move, AreApart, IsTarget}
+use Rattle.relative_path_moves.specs.TreeMoves.{IsTreeTarget}
 use Rattle.relative_path_moves.proofs.MovesLemmas as moves
+use Rattle.relative_path_moves.proofs.TreeMovesLemmas as trees
 
 -- a place has one target
 pub IsTarget-only : (moves : List Move) (place one other : List Step) → AreApart moves → IsTarget moves place one
     → IsTarget moves place other → other ≡ one
 IsTarget-only = moves.IsTarget-only
+
+-- a file has one target
+pub IsTreeTarget-only : (moves : List Move) (file one other : List Step) → AreApart moves → IsTreeTarget moves file one
+    → IsTreeTarget moves file other → other ≡ one
+IsTreeTarget-only = trees.IsTreeTarget-only

@@ -5,5 +5,7 @@ mod MovesLemmas
 mod PairsLemmas
 mod MoveTableLemmas
 mod ReferenceLemmas
+mod FrontTextLemmas
+mod LeadingLemmas
 mod TreeMovesLemmas
 pub mod ForCallers

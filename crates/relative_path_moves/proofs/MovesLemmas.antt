@@ -1,17 +1,20 @@
 -- The one target of a place, moves as pairs of paths, and the first move without a file name.
-use Rattle.std.proofs.Common.{◌≡◌, ◌≢◌, ℕ, ◌<◌, ◌+◌, ◌⊎◌, List, [], ◌∷◌, ◌++◌, length, take, get_or, not, is_some, Bool, true, false, Bor, true≢false, Option, Some, None, inl, inr, sym, ap, ◌∙◌, arith}
+use Rattle.std.proofs.Common.{◌≡◌, ◌≢◌, ℕ, ◌<◌, ◌+◌, ◌⊎◌, List, [], ◌∷◌, ◌++◌, length, take, get_or, not, is_some, Bool, true, false, Bor, true≢false, Option, Some, None, inl, inr, refl, sym, ap, subst, zero, suc, ◌∙◌, arith}
 use Rattle.std.proofs.lemmas.Bool.{cases_lt, cases_order}
-use Rattle.std.proofs.lemmas.List.{get_or-map, length-map, take_more}
+use Rattle.std.proofs.Math.Seq.{get_or-append_seam}
+use Rattle.std.proofs.lemmas.List.{get_or-map, get_or_append_left, length-append, length-map, take_more}
 use Rattle.std.proofs.lemmas.Option.{none-some}
 use Rattle.std.specs.Option.{option_copied}
 use Rattle.relative_path.specs.Steps.{Step}
 use Rattle.relative_path.specs.Naming.{file_name_of}
+use Rattle.relative_path.specs.Normalizing.{IsNormalTextOf}
 use Rattle.relative_path.specs.RelativePath.{path_text, path_components}
 use Rattle.relative_path.specs.declared.path.RelativePath.{RelativePath}
 use Rattle.relative_path.proofs.ForCallers.{IsSame-sym, IsSame-trans}
 use Rattle.relative_path_moves.specs.Moves.{Move, LacksFileName, IsFirstNameless, moves_of, move_at, AreApart, MovesFrom, IsTarget}
 use Rattle.relative_path_moves.specs.PlaceIndex.{path_at}
 use Rattle.relative_path_moves.specs.MoveTable.{olds_of}
+use Rattle.relative_path_moves.specs.TreeMoves.{HaveNewTexts}
 
 -- ---- one target of a place
 
@@ -110,3 +113,51 @@ IsFirstNameless-here paths none k within before lacks = record {
   lacks = rw (move_at-moves_of paths k none within) lacks;
   first = before;
 }
+
+-- ---- the normal texts of the new paths
+
+-- the texts are the normal texts of the new paths of the first k moves
+pub record HaveFirstTexts (moves : List Move) (k : ℕ) (texts : List (List ℕ)) : Type 0 where
+  pub count : length texts ≡ k
+  pub each : (j : ℕ) → j < k → IsNormalTextOf (move_at moves j).new (get_or texts j [])
+
+pub HaveFirstTexts-start : (moves : List Move) (texts : List (List ℕ)) → texts ≡ [] → HaveFirstTexts moves 0 texts
+HaveFirstTexts-start moves texts none = record { count = ap length none; each = λ j less. absurd (omega arith) }
+
+pub HaveFirstTexts-next : (paths : List (RelativePath × RelativePath)) (none : RelativePath × RelativePath) (k : ℕ)
+    (texts : List (List ℕ)) (text : List ℕ) → k < length paths → HaveFirstTexts (moves_of paths) k texts
+    → IsNormalTextOf (path_components (get_or paths k none).1) text
+    → HaveFirstTexts (moves_of paths) (k + 1) (texts ++ text ∷ [])
+HaveFirstTexts-next paths none k texts text within before is = record {
+  count = length-append texts (text ∷ []) ∙ ap (λ n. n + 1) before.count;
+  each = λ j less. elim (cases_lt j k) [
+    | inl earlier ↦
+        subst (IsNormalTextOf (move_at (moves_of paths) j).new)
+        (sym (get_or_append_left texts (text ∷ []) [] j (omega (arith, before.count, earlier)))) (before.each j earlier)
+    | inr no_less ↦
+        let here : j ≡ k = omega arith in
+        let last : get_or (texts ++ text ∷ []) k [] ≡ text =
+        ap (λ i. get_or (texts ++ text ∷ []) i []) (sym before.count) ∙ get_or-append_seam texts text [] [] in
+        rw (here, last, move_at-moves_of paths k none within) is
+  ];
+}
+
+pub HaveNewTexts-all : (paths : List (RelativePath × RelativePath)) (k : ℕ) (texts : List (List ℕ))
+    → HaveFirstTexts (moves_of paths) k texts → k ≡ length paths → HaveNewTexts (moves_of paths) texts
+HaveNewTexts-all paths k texts first all =
+    let count : k ≡ length (moves_of paths) = all ∙ sym (length-moves_of paths) in
+    record { count = first.count ∙ count; each = λ j less. first.each j (omega (arith, count, less)) }
+
+-- a text within the list, whatever is read past the end
+get_or-within : (texts : List (List ℕ)) (j : ℕ) (one other : List ℕ) → j < length texts
+    → get_or texts j one ≡ get_or texts j other
+get_or-within [] j one other less = absurd (omega (arith, less))
+get_or-within (text ∷ texts) zero one other less = refl
+get_or-within (text ∷ texts) (suc j) one other less = get_or-within texts j one other (omega (arith, less))
+
+-- the text of a new path
+pub HaveNewTexts-at : (moves : List Move) (texts : List (List ℕ)) (j : ℕ) (none : List ℕ) → HaveNewTexts moves texts
+    → j < length moves → IsNormalTextOf (move_at moves j).new (get_or texts j none)
+HaveNewTexts-at moves texts j none news within =
+    subst (IsNormalTextOf (move_at moves j).new) (get_or-within texts j [] none (omega (arith, news.count, within)))
+    (news.each j within)

@@ -1,147 +1,103 @@
--- The nearest move above a place, found one component after another.
-use Rattle.std.proofs.Common.{◌≡◌, ℕ, ◌<◌, ◌≤◌, ◌+◌, List, [], ◌∷◌, ◌++◌, length, map, take, drop, Option, Some, None, IsSome, inl, inr, refl, sym, ap, ◌∙◌, subst, arith, append_assoc, append-nil, take_at, take-append-drop, true≢false, Result, Ok, Err, IfOk}
-use Rattle.std.proofs.lemmas.Bool.{cases_lt}
+-- The nearest move above a place, found from the place upwards, and where it takes a file.
+use Rattle.std.proofs.Common.{◌≡◌, ℕ, ◌<◌, ◌≤◌, ◌+◌, List, [], ◌∷◌, ◌++◌, length, map, take, drop, Option, Some, None, Bool, false, not, is_some, unwrap_or, IsSome, inl, inr, refl, sym, ap, ◌∙◌, subst, arith, append_assoc, append-nil, take_at, take-append-drop, true≢false, IfSome, Result, Ok, Err, IfOk}
+use Rattle.std.proofs.lemmas.Bool.{cases_lt, cases_order}
 use Rattle.std.proofs.lemmas.List.{append_cancel_left, length-map, length-append, length-take-le, map-append, take-map}
 use Rattle.std.proofs.lemmas.Option.{none-some}
-use Rattle.std.specs.Option.{option_or}
 use Rattle.relative_path.specs.Steps.{Step, cur, up, name, components, spell, step_text, SpellsItself, SpellThemselves}
 use Rattle.relative_path.specs.Walk.{IsSame}
 use Rattle.relative_path.specs.Editing.{pushed}
+use Rattle.relative_path.specs.Slices.{IsFront}
+use Rattle.relative_path.specs.Components.{step_of, TakesLast}
+use Rattle.relative_path.specs.declared.component.Component.{Component}
+use Rattle.relative_path.specs.Naming.{last_name}
 use Rattle.relative_path.specs.Normalizing.{AreNames, IsNormal, IsNormalText, IsNormalTextOf}
-use Rattle.relative_path.proofs.ForCallers.{walk-names, SpellThemselves-components, components-place, IsSame-sym, IsSame-place, components-pushed, spell-pushed}
-use Rattle.relative_path.proofs.OnLiterals.{relative_path_on_literals}
-use Rattle.relative_path_moves.specs.Places.{place_of}
-use Rattle.relative_path_moves.specs.PlaceIndex.{path_at, IsFoundAt}
-use Rattle.relative_path_moves.specs.Moves.{Move, move_at}
+use Rattle.relative_path.proofs.ForCallers.{IsSame-trans, IsSame-append_right, IsSame-last_name, last_name-name, kept-name, IsNormal-append_left, spelled-front, walk-names, SpellThemselves-components, components-place, IsSame-sym, IsSame-place, components-pushed, spell-pushed}
+use Rattle.relative_path_moves.specs.Places.{place_of, directory}
+use Rattle.relative_path_moves.specs.PlaceIndex.{path_at, IsFirstAt, IsNoneAt}
+use Rattle.relative_path_moves.specs.Moves.{Move, move_at, AreNamed, AreApart}
 use Rattle.relative_path_moves.specs.MoveTable.{olds_of}
-use Rattle.relative_path_moves.specs.TreeMoves.{TakesAlong, IsNearest, IsTakenTo, AtTreePath, NearestUpTo}
+use Rattle.relative_path_moves.specs.TreeMoves.{TakesAlong, IsNearest, IsTakenTo, IsLeftInPlace, IsTreeTarget, AtTreePath, NearestUpTo}
 use Rattle.relative_path_moves.proofs.MovesLemmas.{old_at}
+use Rattle.relative_path_moves.proofs.NormalPathLemmas.{IsNormalTextOf-same}
+use Rattle.relative_path_moves.proofs.LeadingLemmas.{last_name_of, last_name_same, some_of}
 
--- ---- the front of a normal list
+-- ---- the walk up from a place
 
-AreNames-front : (ds es : List Step) → AreNames (ds ++ es) → AreNames ds
-AreNames-front [] es names = tt
-AreNames-front (cur ∷ ds) es names = names
-AreNames-front (up ∷ ds) es names = names
-AreNames-front (name n ∷ ds) es names = AreNames-front ds es names
+-- the text is that of a front of the list, and no old path leads to a longer front
+pub record IsAbove (olds : List (List Step)) (cs : List Step) (text : List ℕ) : Type 0 where
+  pub normal : IsNormalText text
+  pub under : List Step
+  pub split : components text ++ under ≡ cs
+  pub none : (m : ℕ) → length (components text) < m → m ≤ length cs → IsNoneAt olds (take m cs)
 
-IsNormal-front : (ds es : List Step) → IsNormal (ds ++ es) → IsNormal ds
-IsNormal-front [] es normal = tt
-IsNormal-front (cur ∷ ds) es normal = normal
-IsNormal-front (up ∷ ds) es normal = IsNormal-front ds es normal
-IsNormal-front (name n ∷ ds) es normal = AreNames-front ds es normal
-
--- the text spells the first components of the list, and the others are left
-pub record IsFrontText (cs : List Step) (text : List ℕ) (left : List Step) : Type 0 where
-  pub spelled : text ≡ spell (components text)
-  pub split : components text ++ left ≡ cs
-
--- the empty text spells no component
-pub IsFrontText-start : (cs : List Step) (text : List ℕ) → text ≡ [] → IsFrontText cs text cs
-unfolding relative_path_on_literals
-IsFrontText-start cs text is = rw is (record { spelled = refl; split = refl })
-
--- the components after a push
-components-next : (text : List ℕ) (c : Step) → SpellsItself c
-    → components (pushed text (step_text c)) ≡ components text ++ c ∷ []
-components-next text c alone = components-pushed text (step_text c) ∙ ap (λ cs. components text ++ cs) alone
-
--- the next component is pushed
-pub IsFrontText-next : (cs : List Step) (text next : List ℕ) (c : Step) (left rest : List Step) → IsFrontText cs text left
-    → left ≡ c ∷ rest → SpellsItself c → next ≡ pushed text (step_text c) → IsFrontText cs next rest
-IsFrontText-next cs text next c left rest front is alone pushes =
-    let comps = components-next text c alone in
-    rw pushes (record {
-      spelled = spell-pushed text c front.spelled alone ∙ ap spell (sym comps);
-      split = ap (λ ds. ds ++ rest) comps ∙ append_assoc (components text) (c ∷ []) rest
-          ∙ ap (λ ds. components text ++ ds) (sym is) ∙ front.split;
-    })
-
--- the text is normal if the list is
-pub IsFrontText-normal : (cs : List Step) (text : List ℕ) (left : List Step) → IsNormal cs → IsFrontText cs text left
-    → IsNormalText text
-IsFrontText-normal cs text left normal front = record {
-  spelled = front.spelled;
-  normal = IsNormal-front (components text) left (subst IsNormal (sym front.split) normal);
+pub IsAbove-start : (olds : List (List Step)) (text : List ℕ) → IsNormalText text → IsAbove olds (components text) text
+IsAbove-start olds text normal = record {
+  normal = normal;
+  under = [];
+  split = append-nil (components text);
+  none = λ m less le. absurd (omega arith);
 }
 
--- its components are the first of the list
-pub IsFrontText-take : (cs : List Step) (text : List ℕ) (left : List Step) → IsFrontText cs text left
-    → take (length (components text)) cs ≡ components text
-IsFrontText-take cs text left front =
-    ap (take (length (components text))) (sym front.split) ∙ take_at (components text) left (length (components text)) refl
+-- the front that the text has
+front_of : (olds : List (List Step)) (cs : List Step) (text : List ℕ) (above : IsAbove olds cs text) (m : ℕ)
+    → length (components text) ≡ m → take m cs ≡ components text
+front_of olds cs text above m count =
+    ap (take m) (sym above.split) ∙ take_at (components text) above.under m count
 
--- ---- the nearest of the first components
+pub IsAbove-next : (olds : List (List Step)) (cs : List Step) (text front : List ℕ) (c : Step) → IsAbove olds cs text
+    → IsNoneAt olds (components text) → components text ≡ components front ++ c ∷ [] → IsFront text front
+    → IsAbove olds cs front
+IsAbove-next olds cs text front c above none last is_front =
+    let count = ap length last ∙ length-append (components front) (c ∷ []) in
+    record {
+      normal = record {
+        spelled = spelled-front text front above.normal.spelled is_front;
+        normal = IsNormal-append_left (components front) (c ∷ []) (subst IsNormal last above.normal.normal);
+      };
+      under = c ∷ above.under;
+      split = sym (append_assoc (components front) (c ∷ []) above.under) ∙ ap (λ ds. ds ++ above.under) (sym last)
+          ∙ above.split;
+      none = λ m less le. elim (cases_lt (length (components text)) m) [
+        | inl longer ↦ above.none m longer le
+        | inr no_longer ↦
+            subst (IsNoneAt olds) (sym (front_of olds cs text above m (omega (arith, count, less, no_longer)))) none
+      ];
+    }
 
-pub NearestUpTo-start : (olds : List (List Step)) (cs : List Step) (here : Option ℕ) → IsFoundAt olds [] here
-    → NearestUpTo olds cs 0 here
-NearestUpTo-start olds cs None none = λ m le. let zero : m ≡ 0 = omega arith in rw zero none
-NearestUpTo-start olds cs (Some j) is = (0, omega arith, is, λ l less le. absurd (omega arith))
+-- the last component is taken off
+pub IsAbove-taken : (olds : List (List Step)) (cs : List Step) (text front : List ℕ) (taken : Option Component)
+    (none : Bool) → IsAbove olds cs text → IsNoneAt olds (components text) → TakesLast text taken front
+    → is_some taken ≡ not none → none ≡ false → IsAbove olds cs front
+IsAbove-taken olds cs text front None none above absent takes is some = absurd (true≢false (sym (is ∙ ap not some)))
+IsAbove-taken olds cs text front (Some c) none above absent takes is some =
+    IsAbove-next olds cs text front (step_of c) above absent takes.0 takes.1
 
-pub NearestUpTo-next : (olds : List (List Step)) (cs : List Step) (n : ℕ) (here before : Option ℕ)
-    → IsFoundAt olds (take (n + 1) cs) here → NearestUpTo olds cs n before
-    → NearestUpTo olds cs (n + 1) (option_or here before)
-NearestUpTo-next olds cs n (Some j) before is nearest = (n + 1, omega arith, is, λ l less le. absurd (omega arith))
-NearestUpTo-next olds cs n None None none before = λ m le. elim (cases_lt m (n + 1)) [
-  | inl less ↦ before m (omega arith)
-  | inr no_less ↦ let last : m ≡ n + 1 = omega arith in rw last none
-]
-NearestUpTo-next olds cs n None (Some j) none (m, within, is, longer) = (
-  m,
-  omega arith,
-  is,
-  λ l less le.
-      elim (cases_lt l (n + 1)) [
-        | inl before ↦ longer l less (omega arith)
-        | inr no_less ↦ let last : l ≡ n + 1 = omega arith in rw last none
-      ],
+-- no old path leads to a front of the list
+pub NearestUpTo-none : (olds : List (List Step)) (cs : List Step) (text : List ℕ) → IsAbove olds cs text
+    → IsNoneAt olds (components text) → components text ≡ [] → NearestUpTo olds cs (length cs) None
+NearestUpTo-none olds cs text above none empty m le =
+    let count : length (components text) ≡ 0 = ap length empty in
+    elim (cases_lt 0 m) [
+      | inl longer ↦ above.none m (omega (arith, count, longer)) le
+      | inr no_longer ↦ subst (IsNoneAt olds) (sym (front_of olds cs text above m (omega (arith, count, no_longer)))) none
+    ]
+
+-- the first old path that is found is the nearest
+pub NearestUpTo-found : (olds : List (List Step)) (cs : List Step) (text : List ℕ) (j : ℕ) → IsAbove olds cs text
+    → IsFirstAt olds (components text) j → NearestUpTo olds cs (length cs) (Some j)
+NearestUpTo-found olds cs text j above first = (
+  length (components text),
+  omega (arith, ap length above.split, length-append (components text) above.under),
+  subst (λ ds. IsFirstAt olds ds j) (sym (front_of olds cs text above (length (components text)) refl)) first,
+  above.none,
 )
 
--- the empty text has no component
-pub NearestUpTo-empty : (olds : List (List Step)) (cs : List Step) (text : List ℕ) (found : Option ℕ) → text ≡ []
-    → IsFoundAt olds (components text) found → NearestUpTo olds cs (length (components text)) found
-unfolding relative_path_on_literals
-NearestUpTo-empty olds cs text found empty is =
-    let none : components text ≡ [] = ap components empty in
-    rw none (NearestUpTo-start olds cs found (rw none at is))
-
--- one turn: the first component that is left is pushed, and looked up
-pub record IsTurn (cs : List Step) (text next left rest : List ℕ) (c : Step) : Type 0 where
-  pub front : IsFrontText cs text (components left)
-  pub first : components left ≡ c ∷ components rest
-  pub pushes : next ≡ pushed text (step_text c)
-
-alone : (cs : List Step) (text next left rest : List ℕ) (c : Step) → IsTurn cs text next left rest c → SpellsItself c
-alone cs text next left rest c turn = (subst SpellThemselves turn.first (SpellThemselves-components left)).0
-
-pub IsFrontText-turn : (cs : List Step) (text next left rest : List ℕ) (c : Step) → IsTurn cs text next left rest c
-    → IsFrontText cs next (components rest)
-IsFrontText-turn cs text next left rest c turn =
-    IsFrontText-next cs text next c (components left) (components rest) turn.front turn.first
-    (alone cs text next left rest c turn) turn.pushes
-
-pub NearestUpTo-turn : (olds : List (List Step)) (cs : List Step) (text next left rest : List ℕ) (c : Step)
-    (here before : Option ℕ) → IsTurn cs text next left rest c → IsFoundAt olds (components next) here
-    → NearestUpTo olds cs (length (components text)) before
-    → NearestUpTo olds cs (length (components next)) (option_or here before)
-NearestUpTo-turn olds cs text next left rest c here before turn is nearest =
-    let comps : components next ≡ components text ++ c ∷ [] =
-    ap components turn.pushes ∙ components-next text c (alone cs text next left rest c turn) in
-    let count : length (components next) ≡ length (components text) + 1 =
-    ap length comps ∙ length-append (components text) (c ∷ []) in
-    let front = IsFrontText-take cs next (components rest) (IsFrontText-turn cs text next left rest c turn) in
-    rw count
-    (NearestUpTo-next olds cs (length (components text)) here before
-    (subst (λ n. IsFoundAt olds (take n cs) here) count (rw front is)) nearest)
-
--- at the end all components are pushed
-pub NearestUpTo-end : (olds : List (List Step)) (cs : List Step) (text left : List ℕ) (found : Option ℕ)
-    → IsFrontText cs text (components left) → components left ≡ []
-    → NearestUpTo olds cs (length (components text)) found → NearestUpTo olds cs (length cs) found
-NearestUpTo-end olds cs text left found front none nearest =
-    let all : components text ≡ cs =
-    sym (append-nil (components text)) ∙ ap (λ ds. components text ++ ds) (sym none) ∙ front.split in
-    subst (λ n. NearestUpTo olds cs n found) (ap length all) nearest
+-- the text is the normal text of the old path that is found
+pub IsNormalTextOf-found : (moves : List Move) (text : List ℕ) (j : ℕ) → IsNormalText text
+    → IsFirstAt (olds_of moves) (components text) j → IsNormalTextOf (move_at moves j).old text
+IsNormalTextOf-found moves text j normal first =
+    let within : j < length moves = omega (arith, first.within, length-map moves (λ move. move.old)) in
+    IsNormalTextOf-same (move_at moves j).old text normal (IsSame-sym (rw (old_at moves j within) at first.same))
 
 -- ---- the nearest move of a place
 
@@ -204,27 +160,16 @@ IsNearest-found moves place j (m, within, first, longer) =
 -- ---- the target of a file
 
 -- the file has no place from the top
-pub AtTreePath-above : (moves : List Move) (file : List Step) (text : List ℕ) → IsNormalTextOf file text
-    → place_of (components text) ≡ None → AtTreePath moves file (λ target. IsNormalTextOf target text)
-AtTreePath-above moves file text normal none = (
-  file,
-  inr (λ place j below leads takes. none-some place (sym none ∙ sym (normal.same.everywhere []) ∙ leads), refl),
-  normal,
-)
+pub IsLeftInPlace-above : (moves : List Move) (file : List Step) (text : List ℕ) → IsNormalTextOf file text
+    → ¬ IsSome (place_of (components text)) → IsLeftInPlace moves file
+IsLeftInPlace-above moves file text normal none place j below leads takes =
+    none (subst IsSome (sym (sym (normal.same.everywhere []) ∙ leads)) refl)
 
 -- no move takes the file along
-pub AtTreePath-kept : (moves : List Move) (file : List Step) (text : List ℕ) → IsNormalTextOf file text
-    → NearestUpTo (olds_of moves) (components text) (length (components text)) None
-    → AtTreePath moves file (λ target. IsNormalTextOf target text)
-AtTreePath-kept moves file text normal none = (
-  file,
-  inr (
-    λ place j below leads takes.
-        not_taken moves place (rw (components-place normal leads) at none) j below takes,
-    refl,
-  ),
-  normal,
-)
+pub IsLeftInPlace-kept : (moves : List Move) (file : List Step) (text : List ℕ) → IsNormalTextOf file text
+    → NearestUpTo (olds_of moves) (components text) (length (components text)) None → IsLeftInPlace moves file
+IsLeftInPlace-kept moves file text normal none place j below leads takes =
+    not_taken moves place (rw (components-place normal leads) at none) j below takes
 
 -- the move takes the file along; below the old path the names lead on
 pub record IsTaken (moves : List Move) (file : List Step) (text top : List ℕ) (j : ℕ) : Type 0 where
@@ -255,10 +200,136 @@ pub IfOk-all : {T E : Type 0} {P Q : T → Type 0} (result : Result T E) → ((x
 IfOk-all (Ok x) all holds = all x holds
 IfOk-all (Err e) all holds = tt
 
+-- the names below the old path
+pub IsTaken-rest : (moves : List Move) (file : List Step) (text top : List ℕ) (j : ℕ) (rest : List Step)
+    → (taken : IsTaken moves file text top j) → components text ≡ components top ++ rest → rest ≡ map name taken.below
+IsTaken-rest moves file text top j rest taken split =
+    append_cancel_left (components top) rest (map name taken.below) (sym split ∙ taken.split)
+
+AreNames-map : (ns : List (List ℕ)) → AreNames (map name ns)
+AreNames-map [] = tt
+AreNames-map (n ∷ ns) = AreNames-map ns
+
+pub AreNames-rest : (moves : List Move) (file : List Step) (text top : List ℕ) (j : ℕ) (rest : List Step)
+    → IsTaken moves file text top j → components text ≡ components top ++ rest → AreNames rest
+AreNames-rest moves file text top j rest taken split =
+    rw (IsTaken-rest moves file text top j rest taken split) (AreNames-map taken.below)
+
+-- the number of the nearest move is that of a move
+pub within-nearest : (moves : List Move) (cs : List Step) (j : ℕ) → NearestUpTo (olds_of moves) cs (length cs) (Some j)
+    → j < length moves
+within-nearest moves cs j (m, within, first, longer) = omega (arith, first.within, length-map moves (λ move. move.old))
+
 -- the path of the file after the moves
-pub AtTreePath-taken : (moves : List Move) (file : List Step) (text top now : List ℕ) (j : ℕ) (rest : List Step)
-    → IsTaken moves file text top j → components text ≡ components top ++ rest
-    → IsNormalTextOf ((move_at moves j).new ++ rest) now → AtTreePath moves file (λ target. IsNormalTextOf target now)
-AtTreePath-taken moves file text top now j rest taken split normal =
-    let names = append_cancel_left (components top) rest (map name taken.below) (sym split ∙ taken.split) in
-    ((move_at moves j).new ++ map name taken.below, inl taken.taken, rw names at normal)
+pub taken-target : (moves : List Move) (file : List Step) (text top new now : List ℕ) (j : ℕ) (rest : List Step)
+    → IsTaken moves file text top j → components text ≡ components top ++ rest → IsNormalTextOf (move_at moves j).new new
+    → IsNormalTextOf (components new ++ rest) now
+    → (target : List Step) × IsTakenTo moves file target × IsNormalTextOf target now
+taken-target moves file text top new now j rest taken split is_new normal =
+    let names = IsTaken-rest moves file text top j rest taken split in
+    let there = IsSame-trans (IsSame-append_right (map name taken.below) is_new.same) (rw names at normal.same) in (
+      (move_at moves j).new ++ map name taken.below,
+      taken.taken,
+      IsNormalTextOf-same ((move_at moves j).new ++ map name taken.below) now normal.normal_text there,
+    )
+
+-- a file that is taken along has a file name after the moves
+named_target : (moves : List Move) (file target : List Step) → AreNamed moves → IsTakenTo moves file target
+    → (n : List ℕ) × (last_name target ≡ Some n)
+named_target moves file target named taken = elim (last_name_of taken.below) [
+  | inl empty ↦
+      let (n, is) =
+      some_of (last_name (move_at moves taken.move).new)
+      (λ none. named taken.move taken.nearest.takes.within (inr none)) in (
+        n,
+        ap last_name (taken.new ∙ ap (λ ns. (move_at moves taken.move).new ++ map name ns) empty
+            ∙ append-nil (move_at moves taken.move).new) ∙ is,
+      )
+  | inr (ms, n, joined) ↦ (
+    n,
+    ap last_name
+        (taken.new ∙ ap (λ ns. (move_at moves taken.move).new ++ ns) (ap (map name) joined ∙ map-append name ms (n ∷ []))
+        ∙ sym (append_assoc (move_at moves taken.move).new (map name ms) (name n ∷ [])))
+        ∙ last_name-name ((move_at moves taken.move).new ++ map name ms) n,
+  )
+]
+
+-- the directory of its normal path is its directory
+pub directory-target : (moves : List Move) (file target : List Step) (now after : List ℕ) → AreNamed moves
+    → IsTakenTo moves file target → IsNormalTextOf target now → IsNormalTextOf (directory (components now)) after
+    → IsNormalTextOf (directory target) after
+directory-target moves file target now after named taken normal is =
+    let (n, has) = named_target moves file target named taken in
+    let (ds, ends, same) =
+    last_name_same (directory target) (components now) n normal.normal_text.normal
+    (IsSame-trans (IsSame-sym (IsSame-last_name target n has)) normal.same) in
+    let kept_now : directory (components now) ≡ ds = ap directory ends ∙ kept-name ds n in
+    IsNormalTextOf-same (directory target) after is.normal_text (IsSame-trans same (rw kept_now at is.same))
+
+-- a file has one place
+one_place : (file : List Step) (one other : List (List ℕ)) → place_of file ≡ Some one → place_of file ≡ Some other
+    → one ≡ other
+one_place file one other is is_other = ap (λ found. unwrap_or found []) (sym is ∙ is_other)
+
+-- two lists of names that lead on to one place, and are equally long, are equal, and so are the fronts before them
+same_fronts : (tops others below more : List (List ℕ)) → tops ++ below ≡ others ++ more → length below ≡ length more
+    → (tops ≡ others) × (below ≡ more)
+same_fronts tops others below more is equal =
+    let count : length tops ≡ length others =
+    omega (arith, ap length is, length-append tops below, length-append others more, equal) in
+    let front = sym (take_at tops below (length others) count) ∙ ap (take (length others)) is
+    ∙ take_at others more (length others) refl in
+    (front, append_cancel_left others below more (subst (λ top. top ++ below ≡ others ++ more) front is))
+
+-- two moves that take one place along, with equally many names below their old paths, are one move
+one_taken : (moves : List Move) (place : List (List ℕ)) (j k : ℕ) (below more : List (List ℕ)) → AreApart moves
+    → TakesAlong moves place j below → TakesAlong moves place k more → length below ≡ length more
+    → (j ≡ k) × (below ≡ more)
+one_taken moves place j k below more apart one other equal =
+    let (tops, names) = same_fronts one.top other.top below more (sym one.down ∙ other.down) equal in
+    let same : IsSame (move_at moves j).old (move_at moves k).old =
+    IsSame-trans (IsSame-place one.old) (rw tops (IsSame-sym (IsSame-place other.old))) in (
+      elim (cases_order j k) [
+        | inl is ↦ is
+        | inr (inl less) ↦ absurd (apart j k (record { before = less; within = other.within; same = same }))
+        | inr (inr more) ↦ absurd (apart k j (record { before = more; within = one.within; same = IsSame-sym same }))
+      ],
+      names,
+    )
+
+-- if no two moves have the same old path, a file has one target
+pub IsTreeTarget-only : (moves : List Move) (file one other : List Step) → AreApart moves → IsTreeTarget moves file one
+    → IsTreeTarget moves file other → other ≡ one
+IsTreeTarget-only moves file one other apart (inl is) (inl is_other) =
+    let places = one_place file is_other.place is.place is_other.leads is.leads in
+    let takes = subst (λ place. TakesAlong moves place is_other.move is_other.below) places is_other.nearest.takes in
+    let least = is.nearest.nearest is_other.move is_other.below takes in
+    let least_other =
+    is_other.nearest.nearest is.move is.below
+    (subst (λ place. TakesAlong moves place is.move is.below) (sym places) is.nearest.takes) in
+    let (move, names) =
+    one_taken moves is.place is_other.move is.move is_other.below is.below apart takes is.nearest.takes
+    (omega (arith, least, least_other)) in
+    is_other.new ∙ ap (λ k. (move_at moves k).new ++ map name is_other.below) move
+    ∙ ap (λ ns. (move_at moves is.move).new ++ map name ns) names ∙ sym is.new
+IsTreeTarget-only moves file one other apart (inl is) (inr (left, e)) =
+    absurd (left is.place is.move is.below is.leads is.nearest.takes)
+IsTreeTarget-only moves file one other apart (inr (left, e)) (inl is) =
+    absurd (left is.place is.move is.below is.leads is.nearest.takes)
+IsTreeTarget-only moves file one other apart (inr (left, e)) (inr (left_other, f)) = f ∙ sym e
+
+-- where no move takes a file along
+pub AtTreePath-left : (moves : List Move) (file : List Step) {P : List Step → Type 0} → IsLeftInPlace moves file → P file
+    → AtTreePath moves file P
+AtTreePath-left moves file left holds = (file, inr (left, refl), holds)
+
+-- what holds of every list that leads where the normal text of the target leads holds of the target
+pub AtTreePath-same : (moves : List Move) (file : List Step) (text : List ℕ) {P : List Step → Type 0}
+    → AtTreePath moves file (λ target. IsNormalTextOf target text)
+    → ((target : List Step) → IsSame target (components text) → P target) → AtTreePath moves file P
+AtTreePath-same moves file text (target, is, normal) all = (target, is, all target normal.same)
+
+pub IfSome-all : {T : Type 0} {P Q : T → Type 0} (found : Option T) → ((x : T) → P x → Q x) → IfSome found P
+    → IfSome found Q
+IfSome-all (Some x) all holds = all x holds
+IfSome-all None all holds = tt

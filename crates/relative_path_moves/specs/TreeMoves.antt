@@ -1,9 +1,10 @@
 -- Moves of files and directories: a move of a directory is a move of all below it.
-use Rattle.std.specs.Prelude.{◌≡◌, ◌⊎◌, ◌<◌, ◌≤◌, ℕ, List, ◌++◌, map, length, take, Option, Some, None}
+use Rattle.std.specs.Prelude.{◌≡◌, ◌⊎◌, ◌<◌, ◌≤◌, ℕ, List, ◌++◌, map, length, take, slice_index_or, [], Option, Some, None}
 use Rattle.relative_path.specs.Steps.{Step, name}
+use Rattle.relative_path.specs.Normalizing.{IsNormalTextOf}
 use Rattle.relative_path_moves.specs.Places.{place_of}
 use Rattle.relative_path_moves.specs.PlaceIndex.{IsFirstAt, IsNoneAt}
-use Rattle.relative_path_moves.specs.Moves.{Move, move_at}
+use Rattle.relative_path_moves.specs.Moves.{Move, move_at, AreNamed}
 
 -- the old path of move number j leads to the place or to a directory above it, and these names lead on to the place
 pub record TakesAlong (moves : List Move) (place : List (List ℕ)) (j : ℕ) (below : List (List ℕ)) : Type 0 where
@@ -38,6 +39,20 @@ IsTreeTarget moves file target = IsTakenTo moves file target ⊎ IsLeftInPlace m
 -- P holds of where a file is after the moves
 abbrev pub AtTreePath : List Move → List Step → (List Step → Type 0) → Type 0
 AtTreePath moves file P = (target : List Step) × IsTreeTarget moves file target × P target
+
+-- P holds of where the target of a reference is after the moves; the reference leads from a directory before the moves
+abbrev pub AtTreeTarget : List Move → List Step → List Step → (List Step → Type 0) → Type 0
+AtTreeTarget moves directory reference P = AtTreePath moves (directory ++ reference) P
+
+-- the texts are the normal texts of the new paths of the moves, in order
+pub record HaveNewTexts (moves : List Move) (texts : List (List ℕ)) : Type 0 where
+  pub count : length texts ≡ length moves
+  pub each : (k : ℕ) → k < length moves → IsNormalTextOf (move_at moves k).new (slice_index_or texts k [])
+
+-- the moves have file names, and the texts are the normal texts of their new paths, in order
+pub record IsSoundTree (moves : List Move) (texts : List (List ℕ)) : Type 0 where
+  pub named : AreNamed moves
+  pub news : HaveNewTexts moves texts
 
 -- of the first n components, the number is that of the old path that has the most of them; `None` if no old path has
 abbrev pub NearestUpTo : List (List Step) → List Step → ℕ → Option ℕ → Type 0

@@ -1,15 +1,15 @@
 //! What references become when files move.
 //!
 //! ```text
-//! reference    tree_moves     one reference, with a table made for it alone; moves of directories
-//!     │            │
-//! move_table ──────┘          many references, with one table
-//!     │
-//! move_error   place_index    errors of moves and of references; paths by the places they lead to
+//! reference    tree_moves       one reference, with a table made for it alone; moves of directories
+//!     │         │      │
+//! move_table ───┘   leading      many references, with one table; whether a reference leads to a target
+//!     │                │
+//! move_error   place_index       errors of moves and of references; paths by the places they lead to
+//!                  │   │
+//!             normal_path        a path that is known to be normal
 //!                  │
-//!             normal_path     a path that is known to be normal
-//!                  │
-//!               places        a file's directory; whether a path has a place from the top
+//!               places           a file's directory; whether a path has a place from the top
 //! ```
 #![tactic(auto)]
 
@@ -19,8 +19,9 @@ pub use self::normal_path::NormalPath;
 pub use self::place_index::PlaceIndex;
 pub use self::places::{directory, has_place};
 pub use self::reference::moved;
-pub use self::tree_moves::TreeMoves;
+pub use self::tree_moves::{MovedPage, TreeMoves};
 
+mod leading;
 mod move_error;
 mod move_table;
 mod normal_path;

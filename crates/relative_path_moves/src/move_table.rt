@@ -115,7 +115,9 @@ impl<'a> MoveTable<'a> {
         self.moves.len()
     }
 
-    /// Returns what a reference in the file of move number `i` becomes after all the moves.
+    /// Returns what a reference in the file of move number `i` becomes after all the moves. A reference is
+    /// a *path* here, without scheme, query, fragment and percent signs: a percent sign is a byte of a
+    /// name. For the targets of the links of a page call `rewritten` of the crate `relative_path_uses`.
     ///
     /// The result is the shortest path from the file's new directory to the target of the reference. The
     /// target is the place where the reference led before the moves; if that is the old path of a move,
@@ -154,7 +156,9 @@ impl<'a> MoveTable<'a> {
     }
 
     /// Returns what a reference becomes in the page that was at this path before the moves. The page
-    /// itself may move or stay.
+    /// itself may move or stay. A reference is a *path* here, without scheme, query, fragment and percent
+    /// signs: a percent sign is a byte of a name. For the targets of the links of a page call `rewritten`
+    /// of the crate `relative_path_uses`.
     ///
     /// Returns `None` if the reference, as it is written, still leads from the page's new directory to
     /// its target. Otherwise the result is the path that [`MoveTable::moved`] describes. So a caller that
@@ -227,11 +231,11 @@ impl<'a> MoveTable<'a> {
     }
 
     // The number of the move whose old path has this normal text.
-    pub(crate) fn move_from(&self, place: &RelativePathBuf) -> Option<usize>
-        requires { IsNormalText place.now.text }
-        ensures { IsFoundAt (olds_of self.now) (components place.now.text) result }
+    pub(crate) fn move_from(&self, place: RelativePath<'_>) -> Option<usize>
+        requires { IsNormalText (path_text place) }
+        ensures { IsFoundAt (olds_of self.now) (path_components place.entry) result }
     {
-        self.by_old.get_text(place.as_relative_path().as_str())
+        self.by_old.get_text(place.as_str())
     }
 
     // The old and the new path of a move.

@@ -7,7 +7,7 @@ ghost use Rattle.std.specs.Bool.{nat_eq};
 ghost use Rattle.relative_path.specs.Steps.{components};
 ghost use Rattle.relative_path.specs.Walk.{IsSame};
 ghost use Rattle.relative_path.specs.Editing.{IsPopped};
-ghost use Rattle.relative_path.specs.Normalizing.{IsNormalText, IsNormalTextOf};
+ghost use Rattle.relative_path.specs.Normalizing.{AreNames, IsNormalText, IsNormalTextOf};
 ghost use Rattle.relative_path.specs.RelativePath.{path_text, path_components};
 ghost use Rattle.relative_path_moves.specs.Places.{directory, place_of};
 
@@ -91,6 +91,27 @@ impl NormalPath {
             IsNormalTextOf (components self.now ++ path_components path.entry) normal) }
     {
         NormalPath::of_joined(alloc, self.as_relative_path(), path)
+    }
+
+    // The normal path that leads where this one and then these names lead. Allocates once, the result.
+    pub(crate) fn followed_by(
+        &self,
+        alloc: Global,
+        names: RelativePath<'_>,
+    ) -> Result<NormalPath, AllocError>
+        requires { AreNames (path_components names) }
+        ensures { IfOk result (λ normal.
+            IsNormalTextOf (components self.now ++ path_components names.entry) normal) }
+    {
+        let front = self.as_relative_path();
+        let room = front.as_str().len().saturating_add(1);
+        let room = room.saturating_add(names.as_str().len());
+        let mut path = RelativePathBuf::with_capacity(alloc, room)?;
+        path.push(front)?;
+        for name in names.components() {
+            path.push(name.as_relative_path())?;
+        }
+        Ok(NormalPath { path })
     }
 
     /// Returns the directory of a file with this path, as [`directory`] does. Allocates nothing.

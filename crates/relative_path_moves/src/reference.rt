@@ -20,10 +20,11 @@ use crate::move_table::MoveTable;
 use relative_path::{RelativePath, RelativePathBuf};
 use std::alloc::Global;
 
-/// Returns what a reference in a file that moved becomes after all the moves.
+/// Returns what a reference in a file that moved becomes after all the moves. A reference is a *path*
+/// here, without scheme, query, fragment and percent signs: a percent sign is a byte of a name. For the
+/// targets of the links of a page call `rewritten` of the crate `relative_path_uses`.
 ///
-/// A reference is a *path* here: it has no scheme, no query and no fragment, and a percent sign is a byte
-/// of a name. A move is the old and the new path of a file, both relative to one root. The reference is in
+/// A move is the old and the new path of a file, both relative to one root. The reference is in
 /// the file of move number `i`. The result is the shortest path from that file's new directory to the
 /// target of the reference. The target is the place where the reference led before the moves; if that is
 /// the old path of a move, the target is its new path.

@@ -1,16 +1,30 @@
 //! A table of moves of files and directories.
-ghost use Rattle.std.specs.Prelude.{◌≡◌, ◌↔◌, ℕ, List, length, take, map, Some, IfOk, OnOk, IsErrOf, MatchOption};
+ghost use Rattle.std.specs.Prelude.{◌≡◌, ◌↔◌, ℕ, List, length, None, Some, IfOk, IfSome, IfNone, IsNone, OnOk, IsErrOf, MatchOption};
 ghost use Rattle.relative_path.specs.Steps.{Step, components};
 ghost use Rattle.relative_path.specs.Normalizing.{IsNormalTextOf};
-ghost use Rattle.relative_path.specs.RelativePath.{path_components};
-ghost use Rattle.relative_path_moves.specs.Moves.{Move, moves_of, IsFirstNameless, AreNamed, IsFirstPair, AreApart};
+ghost use Rattle.relative_path.specs.Relating.{Leads, IsReachable, IsShortestText};
+ghost use Rattle.relative_path.specs.RelativePath.{path_text, path_components};
+ghost use Rattle.relative_path_moves.specs.Places.{directory};
+ghost use Rattle.relative_path_moves.specs.Moves.{
+  Move,
+  moves_of,
+  move_at,
+  IsFirstNameless,
+  AreNamed,
+  IsFirstPair,
+  AreApart,
+  ClimbsAbove,
+  BelowTop,
+};
 ghost use Rattle.relative_path_moves.specs.MoveError.{Refuses};
 ghost use Rattle.relative_path_moves.specs.MoveTable.{olds_of};
-ghost use Rattle.relative_path_moves.specs.TreeMoves.{AtTreePath, NearestUpTo};
+ghost use Rattle.relative_path_moves.specs.TreeMoves.{AtTreePath, AtTreeTarget, IsLeftInPlace, IsTakenTo, NearestUpTo, HaveNewTexts, IsSoundTree};
 
-use crate::move_error::MoveTableError;
+use crate::leading::leads_to;
+use crate::move_error::{MoveTableError, ReferenceError};
 use crate::move_table::MoveTable;
 use crate::normal_path::NormalPath;
+use crate::places::directory;
 use relative_path::{RelativePath, RelativePathBuf};
 use std::alloc::{AllocError, Global};
 use std::marker::Model;
@@ -38,19 +52,36 @@ use std::marker::Model;
 #[derive(Drop)]
 pub struct TreeMoves<'a> {
     table: MoveTable<'a>,
+    // The normal forms of the new paths.
+    news: Vec<NormalPath>,
 }
 
 impl<'a> Model for TreeMoves<'a> {
     ghost Value = { List Move };
 
     ghost view = { λ tree. tree.table };
+
+    ghost invariant = { λ tree. IsSoundTree tree.table tree.news.items };
+}
+
+/// Where a page is after the moves, and its directory before and after them.
+///
+/// [`TreeMoves::moved_page`] makes it once for all references of the page.
+#[derive(Debug, Drop)]
+pub struct MovedPage {
+    /// The page's path after the moves.
+    pub path: NormalPath,
+    /// The page's directory before the moves.
+    pub before: NormalPath,
+    /// The page's directory after the moves.
+    pub after: NormalPath,
 }
 
 impl<'a> TreeMoves<'a> {
     /// Makes the table of these moves. Fails as [`MoveTable::new`] does: if a path has no file name, or if
     /// two old paths lead to the same place. A new path above the root is no error.
     ///
-    /// Allocates what [`MoveTable::new`] does.
+    /// Allocates what [`MoveTable::new`] does, and then a table and the normal form of each new path.
     ///
     /// ```
     /// let moves = [("docs", "guide"), ("./docs", "d")]
@@ -72,15 +103,18 @@ impl<'a> TreeMoves<'a> {
         ensures out_of_memory { IsErrOf result MoveTableError.OutOfMemory → AreNamed (moves_of moves.now) }
     {
         match MoveTable::new(alloc, moves) {
-            Ok(table) => Ok(TreeMoves { table }),
+            Ok(table) => {
+                let news = new_paths(alloc, moves)?;
+                Ok(TreeMoves { table, news })
+            }
             Err(error) => Err(error),
         }
     }
 
     /// Returns the normal path of a file or directory after the moves.
     ///
-    /// Allocates the path's normal form and a copy of it. If a move takes the file along, it allocates the
-    /// normal form of the old path too, and what `join_normalized` does. Fails only if an allocation fails.
+    /// Allocates the path's normal form, and once more, the result, if a move takes the file along. Fails only
+    /// if an allocation fails.
     ///
     /// ```
     /// let moves = [(RelativePath::new("docs"), RelativePath::new("guide"))];
@@ -99,32 +133,211 @@ impl<'a> TreeMoves<'a> {
             (λ target. IsNormalTextOf target now)) }
     {
         let place = NormalPath::of(alloc, file)?;
-        if !place.has_place() {
-            return Ok(place);
+        match self.taken_to(alloc, &place)? {
+            Some(now) => Ok(now),
+            None => Ok(place),
         }
-        let Some(j) = self.nearest(alloc, &place)? else {
-            return Ok(place);
-        };
-        let (old, new) = self.table.paths(j);
-        let top = NormalPath::of(alloc, old)?;
-        let below = place
-            .as_relative_path()
-            .strip_prefix(top.as_relative_path());
-        NormalPath::of_joined(alloc, new, below.unwrap())
     }
 
-    // The number of the nearest move whose old path leads to the place or to a directory above it.
-    fn nearest(&self, alloc: Global, place: &NormalPath) -> Result<Option<usize>, AllocError>
-        ensures { IfOk result (NearestUpTo (olds_of self.now) (components place.now)
-            (length (components place.now))) }
+    /// Returns where a page is after the moves, and its directory before and after them. The result serves
+    /// all references of the page, by [`TreeMoves::moved_in`].
+    ///
+    /// Allocates what [`TreeMoves::path_after`] does, and the normal form of each of the two directories.
+    /// Fails only if an allocation fails.
+    ///
+    /// ```
+    /// let moves = [(RelativePath::new("docs"), RelativePath::new("guide"))];
+    /// let tree = TreeMoves::new(alloc, &moves)?;
+    /// let page = tree.moved_page(alloc, RelativePath::new("docs/sub/a.md"))?;
+    /// assert_eq!(rt; page.path.as_relative_path().as_str(), "guide/sub/a.md");
+    /// assert_eq!(rt; page.before.as_relative_path().as_str(), "docs/sub");
+    /// assert_eq!(rt; page.after.as_relative_path().as_str(), "guide/sub");
+    /// ```
+    pub fn moved_page(&self, alloc: Global, page: RelativePath<'_>) -> Result<MovedPage, AllocError>
+        ensures before { IfOk result
+            (λ moved. IsNormalTextOf (directory (path_components page.entry)) moved.before) }
+        ensures after { IfOk result (λ moved. AtTreePath self.now (path_components page.entry)
+            (λ now. IsNormalTextOf now moved.path × IsNormalTextOf (directory now) moved.after)) }
     {
-        let path = place.as_relative_path();
-        let mut above = RelativePathBuf::with_capacity(alloc, path.as_str().len())?;
-        let mut nearest = self.table.move_from(&above);
-        for component in path.components() {
-            above.push(component.as_relative_path())?;
-            nearest = self.table.move_from(&above).or(nearest);
+        let before = NormalPath::of(alloc, directory(page))?;
+        let place = NormalPath::of(alloc, page)?;
+        match self.taken_to(alloc, &place)? {
+            Some(path) => {
+                let after = NormalPath::of(alloc, path.directory())?;
+                Ok(MovedPage {
+                    path,
+                    before,
+                    after,
+                })
+            }
+            None => {
+                let after = NormalPath::of(alloc, directory(page))?;
+                Ok(MovedPage {
+                    path: place,
+                    before,
+                    after,
+                })
+            }
         }
-        Ok(nearest)
+    }
+
+    /// Returns what a reference in a page becomes after the moves. The page is given by the result of
+    /// [`TreeMoves::moved_page`], and may move or stay. A reference is a *path* here, without scheme,
+    /// query, fragment and percent signs: a percent sign is a byte of a name. The crate `target_paths`
+    /// reads the target of a link as a path.
+    ///
+    /// Returns `None` if the reference, as it is written, still leads from the page's new directory to
+    /// its target, above the root too. Otherwise the result is the shortest path from the page's new
+    /// directory to the target. The target is where the reference led before the moves; if a move takes
+    /// that place along, the target is where the nearest move takes it.
+    ///
+    /// If the reference no longer leads to its target, the call fails with [`ReferenceError::AboveRoot`]
+    /// where the target climbs above the root, and with [`ReferenceError::NoPath`] where no path leads from
+    /// the page's new directory to the target.
+    ///
+    /// Allocates at most six times: what `join_normalized` does, the target if a move takes it along, and
+    /// what `try_relative` does if the reference doesn't stay. It fails with `OutOfMemory` only if one of
+    /// these allocations fails.
+    ///
+    /// ```
+    /// let moves = [(RelativePath::new("docs"), RelativePath::new("guide"))];
+    /// let tree = TreeMoves::new(alloc, &moves)?;
+    /// let page = tree.moved_page(alloc, RelativePath::new("docs/a.md"))?;
+    /// assert!(rt; tree.moved_in(alloc, &page, RelativePath::new("img/x.png"))?.is_none());
+    /// let page = tree.moved_page(alloc, RelativePath::new("index.md"))?;
+    /// let way = tree.moved_in(alloc, &page, RelativePath::new("docs/a.md"))?;
+    /// let way = way.ok_or("a way")?;
+    /// assert_eq!(rt; way.as_relative_path().as_str(), "guide/a.md");
+    /// ```
+    pub fn moved_in(
+        &self,
+        alloc: Global,
+        page: &MovedPage,
+        reference: RelativePath<'_>,
+    ) -> Result<Option<RelativePathBuf>, ReferenceError>
+        ensures stays { IfOk result (λ way. IsNone way
+            → AtTreeTarget self.now (components page.now.before) (path_components reference.entry)
+            (λ target. Leads (components page.now.after) (path_components reference.entry) target)) }
+        ensures shortest { IfOk result (λ way. IfSome way (λ way.
+            AtTreeTarget self.now (components page.now.before) (path_components reference.entry)
+            (λ target. ¬ Leads (components page.now.after) (path_components reference.entry) target
+            × BelowTop (λ target. IsShortestText (components page.now.after) target way.text) target))) }
+        ensures above_root { IsErrOf result ReferenceError.AboveRoot
+            → AtTreeTarget self.now (components page.now.before) (path_components reference.entry)
+            (λ target. ¬ Leads (components page.now.after) (path_components reference.entry) target
+            × ClimbsAbove target) }
+        ensures no_path { IsErrOf result ReferenceError.NoPath
+            → AtTreeTarget self.now (components page.now.before) (path_components reference.entry)
+            (λ target. ¬ Leads (components page.now.after) (path_components reference.entry) target
+            × BelowTop (λ target. ¬ IsReachable (components page.now.after) target) target) }
+    {
+        let target = self.target(alloc, &page.before, reference)?;
+        link_from(alloc, &page.after, reference, &target)
+    }
+
+    // The normal path, after the moves, of where a reference led from a directory.
+    fn target(
+        &self,
+        alloc: Global,
+        directory: &NormalPath,
+        reference: RelativePath<'_>,
+    ) -> Result<NormalPath, AllocError>
+        ensures { IfOk result (λ now. AtTreeTarget self.now (components directory.now)
+            (path_components reference.entry) (λ target. IsNormalTextOf target now)) }
+    {
+        let meant = directory.join(alloc, reference)?;
+        match self.taken_to(alloc, &meant)? {
+            Some(now) => Ok(now),
+            None => Ok(meant),
+        }
+    }
+
+    // The normal path to which the nearest move takes the file with this normal path. `None` if no move
+    // takes it along. Allocates at most once.
+    fn taken_to(&self, alloc: Global, place: &NormalPath) -> Result<Option<NormalPath>, AllocError>
+        ensures target { IfOk result (λ now. (file : List Step) → IsNormalTextOf file place.now
+            → MatchOption now (IsLeftInPlace self.now file)
+            (λ now. (target : List Step) × IsTakenTo self.now file target × IsNormalTextOf target now)) }
+        ensures named { IfOk result (λ now. IfSome now (λ _. AreNamed self.now)) }
+    {
+        if !place.has_place() {
+            return Ok(None);
+        }
+        let Some((j, old)) = self.nearest(place) else {
+            return Ok(None);
+        };
+        let below = place.as_relative_path().strip_prefix(old);
+        let now = self.news[j].followed_by(alloc, below.unwrap())?;
+        Ok(Some(now))
+    }
+
+    // The number of the nearest move whose old path leads to the place or to a directory above it, and the
+    // normal form of that old path. Allocates nothing.
+    fn nearest<'p>(&self, place: &'p NormalPath) -> Option<(usize, RelativePath<'p>)>
+        ensures none { IfNone result (NearestUpTo (olds_of self.now) (components place.now)
+            (length (components place.now)) None) }
+        ensures nearest { IfSome result (λ found. NearestUpTo (olds_of self.now) (components place.now)
+            (length (components place.now)) (Some found.0)) }
+        ensures old { IfSome result
+            (λ found. IsNormalTextOf (move_at self.now found.0).old (path_text found.1)) }
+    {
+        let mut left = place.as_relative_path().components();
+        loop {
+            let above = left.as_relative_path();
+            if let Some(j) = self.table.move_from(above) {
+                return Some((j, above));
+            }
+            if left.next_back().is_none() {
+                return None;
+            }
+        }
+    }
+}
+
+// The normal forms of the new paths of the moves.
+fn new_paths(
+    alloc: Global,
+    moves: &[(RelativePath<'_>, RelativePath<'_>)],
+) -> Result<Vec<NormalPath>, AllocError>
+    ensures { IfOk result (λ news. HaveNewTexts (moves_of moves.now) news.items) }
+{
+    let mut news = Vec::with_capacity(alloc, moves.len())?;
+    for (_, new) in moves {
+        news.push(NormalPath::of(alloc, *new)?)?;
+    }
+    Ok(news)
+}
+
+// The shortest path from a directory to a target, or `None` if the reference leads there. Fails if the
+// reference doesn't lead there, and the target climbs above the root or no path leads there.
+fn link_from(
+    alloc: Global,
+    directory: &NormalPath,
+    reference: RelativePath<'_>,
+    target: &NormalPath,
+) -> Result<Option<RelativePathBuf>, ReferenceError>
+    ensures stays { IfOk result (λ way. IsNone way
+        → Leads (components directory.now) (path_components reference.entry) (components target.now)) }
+    ensures shortest { IfOk result (λ way. IfSome way (λ way.
+        (¬ Leads (components directory.now) (path_components reference.entry) (components target.now))
+        × BelowTop (λ target. IsShortestText (components directory.now) target way.text)
+        (components target.now))) }
+    ensures above_root { IsErrOf result ReferenceError.AboveRoot
+        → (¬ Leads (components directory.now) (path_components reference.entry) (components target.now))
+        × ClimbsAbove (components target.now) }
+    ensures no_path { IsErrOf result ReferenceError.NoPath
+        → (¬ Leads (components directory.now) (path_components reference.entry) (components target.now))
+        × BelowTop (λ target. ¬ IsReachable (components directory.now) target) (components target.now) }
+{
+    if leads_to(directory, reference, target) {
+        return Ok(None);
+    }
+    if !target.has_place() {
+        return Err(ReferenceError::AboveRoot);
+    }
+    let (from, to) = (directory.as_relative_path(), target.as_relative_path());
+    match from.try_relative(alloc, to)? {
+        Some(way) => Ok(Some(way)),
+        None => Err(ReferenceError::NoPath),
     }
 }

@@ -1,5 +1,5 @@
 //! Where files are after moves of directories.
-use super::{read_moves, same};
+use super::{read_moves, same, text_of};
 use relative_path::RelativePath;
 use relative_path_moves::{MoveTableError, NormalPath, TreeMoves};
 use std::alloc::Global;
@@ -51,4 +51,127 @@ fn two_moves_of_one_directory_are_an_error(rt: HostRuntime) -> Result<(), Fail> 
     let moves = read_moves(rt.alloc(), "a > b, docs > c, d/../docs > e")?;
     let error = TreeMoves::new(rt.alloc(), &moves).err();
     same("docs", &error, &Some(MoveTableError::SameOld(1, 2)))
+}
+
+// A page before moves, a reference in it, and what the reference becomes, `as it is`, or an error's words
+// after `! `.
+type Link = (&'static str, &'static str, &'static str);
+
+// What a reference of a page becomes, if it doesn't stay as it is, or an error's words after `! `.
+fn told_in_tree(
+    alloc: Global,
+    tree: &TreeMoves<'_>,
+    page: &str,
+    reference: &str,
+) -> Result<String, Fail> {
+    let page = tree.moved_page(alloc, RelativePath::new(page))?;
+    match tree.moved_in(alloc, &page, RelativePath::new(reference)) {
+        Ok(Some(way)) => Ok(String::from_str(alloc, text_of(&way))?),
+        Ok(None) => Ok(String::from_str(alloc, "as it is")?),
+        Err(refusal) => Ok(format!(in alloc; "! {refusal}")?),
+    }
+}
+
+// Fails where a reference becomes another text than is expected in one of these cases.
+fn links_become(alloc: Global, moves: &str, links: &[Link]) -> Result<(), Fail> {
+    let moves = read_moves(alloc, moves)?;
+    let tree = TreeMoves::new(alloc, &moves)?;
+    for (page, reference, expected) in links {
+        let told = told_in_tree(alloc, &tree, page, reference)?;
+        same(page, &(*reference, told.as_str()), &(*reference, *expected))?;
+    }
+    Ok(())
+}
+
+#[test]
+fn links_to_a_directory_that_moves(rt: HostRuntime) -> Result<(), Fail> {
+    let links = [
+        ("index.md", "docs/a.md", "guide/a.md"),
+        ("index.md", "docs", "guide"),
+        ("index.md", "./docs/sub/../a.md", "guide/a.md"),
+        ("index.md", "docs2/a.md", "as it is"),
+        ("x/y.md", "../docs/img/x.png", "../guide/img/x.png"),
+        ("x/y.md", "../docs2", "as it is"),
+        ("index.md", "", "as it is"),
+        ("index.md", ".", "as it is"),
+        ("index.md", "./b.md", "as it is"),
+    ];
+    links_become(rt.alloc(), "docs > guide", &links)
+}
+
+#[test]
+fn links_of_a_page_in_a_directory_that_moves(rt: HostRuntime) -> Result<(), Fail> {
+    let links = [
+        ("docs/a.md", "img/x.png", "as it is"),
+        ("docs/a.md", "./b.md", "as it is"),
+        ("docs/sub/c.md", "../a.md", "as it is"),
+        ("docs/a.md", "../docs/b.md", "b.md"),
+        ("docs/a.md", "../index.md", "../../index.md"),
+        ("docs/a.md", "..", "../.."),
+        ("docs/a.md", "", "as it is"),
+        ("docs/a.md", ".", "as it is"),
+        ("docs/./a.md", "../docs2/x", "../../docs2/x"),
+        ("docs", "docs/a.md", "guide/a.md"),
+        ("docs/a.md/..", "a.md", "guide/a.md/a.md"),
+    ];
+    links_become(rt.alloc(), "docs > new/guide", &links)
+}
+
+// The nearest move counts, for the page and for the target.
+#[test]
+fn links_with_moves_within_moves(rt: HostRuntime) -> Result<(), Fail> {
+    let links = [
+        ("docs/c.md", "a.md", "../b.md"),
+        ("docs/a.md", "c.md", "guide/c.md"),
+        ("docs/sub/e.md", "deep/g.md", "../../d/g.md"),
+        ("docs/sub/deep/g.md", "../e.md", "../guide/sub/e.md"),
+        ("docs/sub/deep/f/g.md", "../h.md", "as it is"),
+        ("docs/sub/deep/g.md", "../../a.md", "../b.md"),
+    ];
+    links_become(
+        rt.alloc(),
+        "docs > guide, docs/sub/deep > d, docs/a.md > b.md",
+        &links,
+    )
+}
+
+#[test]
+fn links_above_the_root(rt: HostRuntime) -> Result<(), Fail> {
+    let links = [
+        ("docs/a.md", "../../issues", "as it is"),
+        ("docs/sub/a.md", "../../../issues", "as it is"),
+        (
+            "deep/a.md",
+            "../../issues",
+            "! reference climbs above the root",
+        ),
+        ("index.md", "../issues", "as it is"),
+        (
+            "flat/b/a.md",
+            "../../../issues",
+            "! reference climbs above the root",
+        ),
+        ("flat/b/a.md", "../..", ".."),
+        (
+            "flat/b/a.md",
+            "../../../flat/b/c.md",
+            "! reference climbs above the root",
+        ),
+    ];
+    links_become(
+        rt.alloc(),
+        "docs > guide, deep > deep/er, flat/b > b",
+        &links,
+    )
+}
+
+#[test]
+fn links_with_a_new_path_above_the_root(rt: HostRuntime) -> Result<(), Fail> {
+    let links = [
+        ("out/a.md", "../index.md", "! no path"),
+        ("out/a.md", "b.md", "as it is"),
+        ("out/a.md", "../out/b.md", "as it is"),
+        ("index.md", "out/a.md", "! reference climbs above the root"),
+    ];
+    links_become(rt.alloc(), "out > ../out", &links)
 }

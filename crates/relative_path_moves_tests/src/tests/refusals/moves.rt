@@ -168,7 +168,7 @@ fn plants(alloc: Global, moves: &[(RelativePath<'_>, RelativePath<'_>)]) -> Resu
     }
 }
 
-// Requests: 1s 4 488 = 2, = 0
+// Requests: 1s 4 488 1s 1s 5 = 4, = 0
 #[test]
 fn a_tree(rt: HostRuntime) -> Result<(), Fail> {
     plants(rt.alloc(), &[as_paths(("docs", "guide"))])?;
@@ -186,7 +186,7 @@ fn ask_of_a_tree(alloc: Global, tree: &TreeMoves<'_>, file: &str, now: &str) -> 
     }
 }
 
-// Requests: 2s 6 6 1s 4 2s 7 = 1, 2s 7 7 = 1, = 0, 2s 4 = 1, 524288s 1048576 1048576 = 1
+// Requests: 2s 6 7 = 1, 2s 7 = 1, = 0, 2s 4 = 1, 524288s 1048576 = 1
 #[test]
 fn the_path_of_a_file_in_a_tree(rt: HostRuntime) -> Result<(), Fail> {
     let moves = [("docs", "guide")].map(as_paths);
@@ -197,6 +197,84 @@ fn the_path_of_a_file_in_a_tree(rt: HostRuntime) -> Result<(), Fail> {
     ask_of_a_tree(rt.alloc(), &tree, "../a", "../a")?;
     let long = long_text(rt.alloc())?;
     ask_of_a_tree(rt.alloc(), &tree, long.as_str(), long.as_str())
+}
+
+// The path of a page after a move of a directory, and its directory before and after the move.
+fn ask_of_a_page(
+    alloc: Global,
+    tree: &TreeMoves<'_>,
+    page: &str,
+    now: (&str, &str, &str),
+) -> Result<(), Fail> {
+    begin(alloc);
+    let answer = tree.moved_page(alloc, RelativePath::new(page));
+    end(alloc, answer.is_err())?;
+    let Ok(moved) = answer else {
+        return Ok(());
+    };
+    let path = moved.path.as_relative_path().as_str();
+    let before = moved.before.as_relative_path().as_str();
+    let after = moved.after.as_relative_path().as_str();
+    same(page, &(path, before, after), &now)
+}
+
+// Requests: 1s 4 2s 6 7 1s 5 = 3, 1s 1 2s 3 1s 1 = 3, = 0, 524287s 1048573 524288s 1048576 524287s 1048573 = 3
+#[test]
+fn a_page_of_a_tree(rt: HostRuntime) -> Result<(), Fail> {
+    let moves = [("docs", "guide")].map(as_paths);
+    let tree = TreeMoves::new(rt.alloc(), &moves)?;
+    ask_of_a_page(rt.alloc(), &tree, "docs/a", ("guide/a", "docs", "guide"))?;
+    ask_of_a_page(rt.alloc(), &tree, "c/d", ("c/d", "c", "c"))?;
+    ask_of_a_page(rt.alloc(), &tree, "", ("", "", ""))?;
+    let long = long_text(rt.alloc())?;
+    let above = long.strip_suffix("/aa").ok_or("a directory")?;
+    ask_of_a_page(
+        rt.alloc(),
+        &tree,
+        long.as_str(),
+        (long.as_str(), above, above),
+    )
+}
+
+// A reference in a page after a move of a directory, and what it becomes, if that is another.
+fn ask_in_a_tree(
+    alloc: Global,
+    tree: &TreeMoves<'_>,
+    (page, reference): (&str, &str),
+    expected: Result<Option<&str>, ReferenceError>,
+) -> Result<(), Fail> {
+    let page = tree.moved_page(alloc, RelativePath::new(page))?;
+    begin(alloc);
+    let answer = tree.moved_in(alloc, &page, RelativePath::new(reference));
+    let is_refused = answer.as_ref().err() == Some(&ReferenceError::OutOfMemory);
+    end(alloc, is_refused)?;
+    if is_refused {
+        return Ok(());
+    }
+    let found = answer.as_ref().map(|way| way.as_ref().map(text_of));
+    same(reference, &found, &expected.as_ref().map(|way| *way))
+}
+
+// Requests: 4s 6 7 1s 2s 10 = 1, 2s 6 7 2s 7 = 1, 2s 6 7 = 0, 1s 1 = 0, 4s 4 = 0, 524289s 1048578 = 0
+#[test]
+fn a_reference_in_a_tree(rt: HostRuntime) -> Result<(), Fail> {
+    let moves = [("docs", "guide")].map(as_paths);
+    let tree = TreeMoves::new(rt.alloc(), &moves)?;
+    ask_in_a_tree(
+        rt.alloc(),
+        &tree,
+        ("c/d", "../docs/b"),
+        Ok(Some("../guide/b")),
+    )?;
+    ask_in_a_tree(rt.alloc(), &tree, ("d", "docs/b"), Ok(Some("guide/b")))?;
+    ask_in_a_tree(rt.alloc(), &tree, ("docs/a", "b"), Ok(None))?;
+    ask_in_a_tree(rt.alloc(), &tree, ("c/d", ""), Ok(None))?;
+    let deep = [("docs", "new/guide")].map(as_paths);
+    let deep = TreeMoves::new(rt.alloc(), &deep)?;
+    let above = Err(ReferenceError::AboveRoot);
+    ask_in_a_tree(rt.alloc(), &deep, ("docs/a", "../../x"), above)?;
+    let long = long_text(rt.alloc())?;
+    ask_in_a_tree(rt.alloc(), &tree, ("c/d", long.as_str()), Ok(None))
 }
 
 // A reference of a page that stays, and what it becomes, if that is another.

@@ -1,14 +1,13 @@
--- The components so far are those of the buffer's text, and the nearest of them is found.
+-- No old path leads to a front of the place that is longer than what is left.
 use Rattle.std.proofs.Common.{length}
 use Rattle.relative_path.specs.Steps.{components}
-use Rattle.relative_path.specs.Components.{components_left}
+use Rattle.relative_path.specs.Components.{text_left, components_left}
 use Rattle.relative_path_moves.specs.MoveTable.{olds_of}
-use Rattle.relative_path_moves.specs.TreeMoves.{NearestUpTo}
-use Rattle.relative_path_moves.proofs.TreeMovesLemmas.{IsFrontText}
+use Rattle.relative_path_moves.proofs.TreeMovesLemmas.{IsAbove}
 use Rattle.relative_path_moves.proofs.tree_moves.TreeMoves.nearest.Given as goal
 
-abbrev pub invariant-loop-component : goal.invariant-loop-component
-invariant-loop-component l = record {
-  front : IsFrontText (components l.place) l.above.text (components_left l.component-iterator);
-  nearest : NearestUpTo (olds_of l.self) (components l.place) (length (components l.above.text)) l.nearest;
-}
+abbrev pub invariant-loop-j : goal.invariant-loop-j
+invariant-loop-j l = IsAbove (olds_of l.self) (components l.place) (text_left l.left)
+
+abbrev pub decreases-loop-j : goal.decreases-loop-j
+decreases-loop-j l = length (components_left l.left)

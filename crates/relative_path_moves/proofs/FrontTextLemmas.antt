@@ -1,0 +1,71 @@
+-- A normal text onto which names are pushed, one after another.
+use Rattle.std.proofs.Common.{◌≡◌, ℕ, List, [], ◌∷◌, ◌++◌, refl, sym, ap, ◌∙◌, subst, append_assoc, append-nil}
+use Rattle.relative_path.specs.Steps.{Step, cur, up, name, components, spell, step_text, SpellsItself, SpellThemselves}
+use Rattle.relative_path.specs.Editing.{pushed}
+use Rattle.relative_path.specs.Normalizing.{AreNames, IsNormal, IsNormalText, IsNormalTextOf}
+use Rattle.relative_path.proofs.ForCallers.{IsSame-refl, SpellThemselves-components, components-pushed, spell-pushed, unslashed-spell}
+use Rattle.relative_path_moves.proofs.NormalPathLemmas.{IsNormalTextOf-same}
+
+-- the text spells the first components of the list, and the others are left
+pub record IsFrontText (cs : List Step) (text : List ℕ) (left : List Step) : Type 0 where
+  pub spelled : text ≡ spell (components text)
+  pub split : components text ++ left ≡ cs
+
+-- a push onto the empty text gives the text that is pushed
+pub IsFrontText-start : (front empty text : List ℕ) (names : List Step) → IsNormalText front → empty ≡ []
+    → text ≡ pushed empty front → IsFrontText (components front ++ names) text names
+IsFrontText-start front empty text names normal none pushes =
+    let whole : text ≡ front =
+    pushes ∙ ap (λ text. pushed text front) none
+    ∙ subst (λ text. pushed [] text ≡ text) (sym normal.spelled)
+    (unslashed-spell (components front) (SpellThemselves-components front)) in
+    rw whole (record { spelled = normal.spelled; split = refl })
+
+-- the components after a push
+components-next : (text : List ℕ) (c : Step) → SpellsItself c
+    → components (pushed text (step_text c)) ≡ components text ++ c ∷ []
+components-next text c alone = components-pushed text (step_text c) ∙ ap (λ cs. components text ++ cs) alone
+
+-- the next component is pushed
+pub IsFrontText-next : (cs : List Step) (text next left rest : List ℕ) (c : Step) → IsFrontText cs text (components left)
+    → components left ≡ c ∷ components rest → next ≡ pushed text (step_text c) → IsFrontText cs next (components rest)
+IsFrontText-next cs text next left rest c front is pushes =
+    let alone : SpellsItself c = (subst SpellThemselves is (SpellThemselves-components left)).0 in
+    let comps = components-next text c alone in
+    rw pushes (record {
+      spelled = spell-pushed text c front.spelled alone ∙ ap spell (sym comps);
+      split = ap (λ ds. ds ++ components rest) comps ∙ append_assoc (components text) (c ∷ []) (components rest)
+          ∙ ap (λ ds. components text ++ ds) (sym is) ∙ front.split;
+    })
+
+AreNames-append : (cs ds : List Step) → AreNames cs → AreNames ds → AreNames (cs ++ ds)
+AreNames-append [] ds names more = more
+AreNames-append (cur ∷ cs) ds names more = absurd names
+AreNames-append (up ∷ cs) ds names more = absurd names
+AreNames-append (name n ∷ cs) ds names more = AreNames-append cs ds names more
+
+AreNames-normal : (cs : List Step) → AreNames cs → IsNormal cs
+AreNames-normal [] names = tt
+AreNames-normal (cur ∷ cs) names = absurd names
+AreNames-normal (up ∷ cs) names = absurd names
+AreNames-normal (name n ∷ cs) names = names
+
+-- a normal list stays normal with names at its end
+IsNormal-append_names : (cs ds : List Step) → IsNormal cs → AreNames ds → IsNormal (cs ++ ds)
+IsNormal-append_names [] ds normal names = AreNames-normal ds names
+IsNormal-append_names (cur ∷ cs) ds normal names = absurd normal
+IsNormal-append_names (up ∷ cs) ds normal names = IsNormal-append_names cs ds normal names
+IsNormal-append_names (name n ∷ cs) ds normal names = AreNames-append cs ds normal names
+
+-- all names are pushed
+pub IsFrontText-end : (front text : List ℕ) (names left : List Step) → IsNormalText front → AreNames names
+    → IsFrontText (components front ++ names) text left → left ≡ []
+    → IsNormalTextOf (components front ++ names) text
+IsFrontText-end front text names left normal are is none =
+    let all : components text ≡ components front ++ names =
+    sym (append-nil (components text)) ∙ ap (λ ds. components text ++ ds) (sym none) ∙ is.split in
+    IsNormalTextOf-same (components front ++ names) text
+    (record {
+      spelled = is.spelled;
+      normal = subst IsNormal (sym all) (IsNormal-append_names (components front) names normal.normal are);
+    }) (rw all (IsSame-refl (components front ++ names)))
