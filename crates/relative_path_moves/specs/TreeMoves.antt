@@ -44,3 +44,7 @@ abbrev pub NearestUpTo : List (List Step) → List Step → ℕ → Option ℕ �
 NearestUpTo olds cs n None = (m : ℕ) → m ≤ n → IsNoneAt olds (take m cs)
 NearestUpTo olds cs n (Some j) =
     (m : ℕ) × (m ≤ n) × IsFirstAt olds (take m cs) j × ((l : ℕ) → m < l → l ≤ n → IsNoneAt olds (take l cs))
+
+-- P holds of where the target of a reference is after the moves; the reference leads from a directory before the moves
+abbrev pub AtTreeTarget : List Move → List Step → List Step → (List Step → Type 0) → Type 0
+AtTreeTarget moves directory reference P = AtTreePath moves (directory ++ reference) P

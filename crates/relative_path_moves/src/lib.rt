@@ -19,7 +19,7 @@ pub use self::normal_path::NormalPath;
 pub use self::place_index::PlaceIndex;
 pub use self::places::{directory, has_place};
 pub use self::reference::moved;
-pub use self::tree_moves::TreeMoves;
+pub use self::tree_moves::{MovedPage, TreeMoves};
 
 mod move_error;
 mod move_table;

@@ -6,9 +6,13 @@ ghost use Rattle.relative_path.specs.RelativePath.{path_components};
 ghost use Rattle.relative_path_moves.specs.Moves.{Move, moves_of, IsFirstNameless, AreNamed, IsFirstPair, AreApart};
 ghost use Rattle.relative_path_moves.specs.MoveError.{Refuses};
 ghost use Rattle.relative_path_moves.specs.MoveTable.{olds_of};
-ghost use Rattle.relative_path_moves.specs.TreeMoves.{AtTreePath, NearestUpTo};
+ghost use Rattle.relative_path_moves.specs.TreeMoves.{AtTreePath, AtTreeTarget, NearestUpTo};
+ghost use Rattle.std.specs.Prelude.{◌++◌, IfSome, IsNone};
+ghost use Rattle.relative_path.specs.Relating.{Leads, IsReachable, IsShortestText};
+ghost use Rattle.relative_path_moves.specs.Moves.{ClimbsAbove, BelowTop};
+ghost use Rattle.relative_path_moves.specs.Places.{directory};
 
-use crate::move_error::MoveTableError;
+use crate::move_error::{MoveTableError, ReferenceError};
 use crate::move_table::MoveTable;
 use crate::normal_path::NormalPath;
 use relative_path::{RelativePath, RelativePathBuf};
@@ -38,6 +42,17 @@ use std::marker::Model;
 #[derive(Drop)]
 pub struct TreeMoves<'a> {
     table: MoveTable<'a>,
+}
+
+/// Where a page is after the moves, and its directory before and after them.
+#[derive(Drop)]
+pub struct MovedPage {
+    /// The page's path after the moves.
+    pub path: NormalPath,
+    /// The page's directory before the moves.
+    pub before: NormalPath,
+    /// The page's directory after the moves.
+    pub after: NormalPath,
 }
 
 impl<'a> Model for TreeMoves<'a> {
@@ -77,6 +92,18 @@ impl<'a> TreeMoves<'a> {
         }
     }
 
+    /// The number of moves in the table.
+    ///
+    /// ```
+    /// let moves = [(RelativePath::new("docs"), RelativePath::new("guide"))];
+    /// assert_eq!(rt; TreeMoves::new(alloc, &moves)?.len(), 1);
+    /// ```
+    pub fn len(&self) -> usize
+        ensures { result ≡ length self.now }
+    {
+        self.table.len()
+    }
+
     /// Returns the normal path of a file or directory after the moves.
     ///
     /// Allocates the path's normal form and a copy of it. If a move takes the file along, it allocates the
@@ -111,6 +138,41 @@ impl<'a> TreeMoves<'a> {
             .as_relative_path()
             .strip_prefix(top.as_relative_path());
         NormalPath::of_joined(alloc, new, below.unwrap())
+    }
+
+    /// STUB
+    pub fn moved_page(&self, alloc: Global, page: RelativePath<'_>) -> Result<MovedPage, AllocError>
+        ensures before { IfOk result (λ moved. IsNormalTextOf (directory (path_components page.entry)) moved.before) }
+        ensures after { IfOk result (λ moved. AtTreePath self.now (path_components page.entry)
+            (λ now. IsNormalTextOf now moved.path × IsNormalTextOf (directory now) moved.after)) }
+    {
+        Err(AllocError)
+    }
+
+    /// STUB
+    pub fn moved_in(
+        &self,
+        alloc: Global,
+        page: &MovedPage,
+        reference: RelativePath<'_>,
+    ) -> Result<Option<RelativePathBuf>, ReferenceError>
+        ensures stays { IfOk result (λ way. IsNone way → AtTreeTarget self.now (components page.now.before)
+            (path_components reference.entry)
+            (λ target. Leads (components page.now.after) (path_components reference.entry) target)) }
+        ensures shortest { IfOk result (λ way. IfSome way (λ way. AtTreeTarget self.now
+            (components page.now.before) (path_components reference.entry)
+            (λ target. (¬ Leads (components page.now.after) (path_components reference.entry) target)
+            × BelowTop (λ target. IsShortestText (components page.now.after) target way.text) target))) }
+        ensures above_root { IsErrOf result ReferenceError.AboveRoot → AtTreeTarget self.now
+            (components page.now.before) (path_components reference.entry)
+            (λ target. (¬ Leads (components page.now.after) (path_components reference.entry) target)
+            × ClimbsAbove target) }
+        ensures no_path { IsErrOf result ReferenceError.NoPath → AtTreeTarget self.now
+            (components page.now.before) (path_components reference.entry)
+            (λ target. (¬ Leads (components page.now.after) (path_components reference.entry) target)
+            × BelowTop (λ target. ¬ IsReachable (components page.now.after) target) target) }
+    {
+        Err(ReferenceError::OutOfMemory)
     }
 
     // The number of the nearest move whose old path leads to the place or to a directory above it.

@@ -13,7 +13,7 @@ pub use self::manifest::{ManifestError, manifest_files};
 pub use self::rewriter::{RewrittenPage, Unchanged, rewritten};
 pub use self::router::served;
 pub use self::site_map::{SiteMap, SiteMapError};
-pub use self::target::Target;
+pub use self::target::{Target, are_in_order};
 
 mod finder;
 mod from_top;
