@@ -111,6 +111,18 @@ impl<'a> TreeMoves<'a> {
         }
     }
 
+    /// The number of moves in the table.
+    ///
+    /// ```
+    /// let moves = [(RelativePath::new("docs"), RelativePath::new("guide"))];
+    /// assert_eq!(rt; TreeMoves::new(alloc, &moves)?.len(), 1);
+    /// ```
+    pub fn len(&self) -> usize
+        ensures { result ≡ length self.now }
+    {
+        self.table.len()
+    }
+
     /// Returns the normal path of a file or directory after the moves.
     ///
     /// Allocates the path's normal form, and once more, the result, if a move takes the file along. Fails only
@@ -220,15 +232,15 @@ impl<'a> TreeMoves<'a> {
             (λ target. Leads (components page.now.after) (path_components reference.entry) target)) }
         ensures shortest { IfOk result (λ way. IfSome way (λ way.
             AtTreeTarget self.now (components page.now.before) (path_components reference.entry)
-            (λ target. ¬ Leads (components page.now.after) (path_components reference.entry) target
+            (λ target. (¬ Leads (components page.now.after) (path_components reference.entry) target)
             × BelowTop (λ target. IsShortestText (components page.now.after) target way.text) target))) }
         ensures above_root { IsErrOf result ReferenceError.AboveRoot
             → AtTreeTarget self.now (components page.now.before) (path_components reference.entry)
-            (λ target. ¬ Leads (components page.now.after) (path_components reference.entry) target
+            (λ target. (¬ Leads (components page.now.after) (path_components reference.entry) target)
             × ClimbsAbove target) }
         ensures no_path { IsErrOf result ReferenceError.NoPath
             → AtTreeTarget self.now (components page.now.before) (path_components reference.entry)
-            (λ target. ¬ Leads (components page.now.after) (path_components reference.entry) target
+            (λ target. (¬ Leads (components page.now.after) (path_components reference.entry) target)
             × BelowTop (λ target. ¬ IsReachable (components page.now.after) target) target) }
     {
         let target = self.target(alloc, &page.before, reference)?;

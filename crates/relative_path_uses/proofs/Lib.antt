@@ -7,3 +7,4 @@ pub mod UrlPathLemmas
 pub mod SiteMapLemmas
 pub mod TargetsLemmas
 pub mod RewriterLemmas
+pub mod SiteLemmas

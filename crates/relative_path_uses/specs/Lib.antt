@@ -7,3 +7,4 @@ pub mod UrlPath
 pub mod SiteMap
 pub mod Targets
 pub mod Rewriter
+pub mod Site

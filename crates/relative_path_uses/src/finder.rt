@@ -1,26 +1,26 @@
 //! The targets of a page's links that moves can change.
-ghost use Rattle.std.specs.Prelude.{◌≡◌, false, map, IfOk, IsTrue};
-ghost use Rattle.std.specs.List.{between};
-ghost use Rattle.markdown_targets.specs.Spans.{IsSpanOf, AreInOrder};
-ghost use Rattle.relative_path_uses.specs.Targets.{is_not_relative, path_of, HasTargets};
+ghost use Rattle.std.specs.Prelude.{◌≡◌, map, IfOk};
+ghost use Rattle.relative_path_uses.specs.Targets.{HasTargets, span_of};
 
-use crate::target::{Target, is_relative};
+use crate::target::Target;
 use markdown_targets::{LinkTarget, Span, TargetKind, link_targets};
 use std::alloc::{AllocError, Global};
+use target_paths::TargetSyntax;
 
-/// Returns the targets of a page's links whose paths are relative to its directory, in the order of the
-/// page.
+/// Returns the targets of a page's links in the order of the page, each with the syntax of its text.
 ///
-/// These are the targets that [`link_targets`] finds in links, images and definitions. Targets with a
-/// scheme, a leading slash or no path (`#top`, `?q`) are left out, and so are attributes of HTML. A page
-/// with a `<base href>` has no such targets. Tests show which targets are found; no clause does.
+/// These are the targets that [`link_targets`] finds: of links, images and definitions in Markdown, and of
+/// the attributes `href` and `src` in HTML. In a page with a `<base href>` no target leads on from the page's
+/// directory, so the result is empty. Tests show which targets are found; no clause does.
 ///
 /// Allocates what [`link_targets`] does, and a list of the targets. Time is linear in the page.
 ///
 /// ```
-/// let page = "[a](b.md#top) [c](#d) [e](https://f.org) `[g](h)`";
+/// let page = "[a](b.md#top) `[g](h)` <img src='c.png'>";
 /// let found = targets(alloc, page)?;
-/// assert_eq!(rt; found.as_slice(), [Target { start: 4, end: 12 }].as_slice());
+/// let link = Target { syntax: TargetSyntax::Markdown, start: 4, end: 12 };
+/// let image = Target { syntax: TargetSyntax::Attribute, start: 33, end: 38 };
+/// assert_eq!(rt; found.as_slice(), [link, image].as_slice());
 /// ```
 pub fn targets(alloc: Global, page: &str) -> Result<Vec<Target>, AllocError>
     ensures in_order { IfOk result (λ targets. HasTargets page.now 0 targets.items) }
@@ -29,41 +29,26 @@ pub fn targets(alloc: Global, page: &str) -> Result<Vec<Target>, AllocError>
     if found.has_base {
         return Ok(Vec::new(alloc));
     }
-    relative_targets(alloc, page, &found.targets)
+    with_syntax(alloc, &found.targets)
 }
 
-// The targets of Markdown whose paths are relative to the page's directory.
-fn relative_targets(
-    alloc: Global,
-    page: &str,
-    links: &[LinkTarget],
-) -> Result<Vec<Target>, AllocError>
-    requires { AreInOrder page.now 0 (map (λ link. link.span) links.now) }
-    ensures { IfOk result (λ targets. HasTargets page.now 0 targets.items) }
+// The targets, each with the syntax of its text.
+fn with_syntax(alloc: Global, links: &[LinkTarget]) -> Result<Vec<Target>, AllocError>
+    ensures { IfOk result (λ targets. map span_of targets.items ≡ map (λ link. link.span) links.now) }
 {
-    let mut targets = Vec::new(alloc);
+    let mut targets = Vec::with_capacity(alloc, links.len())?;
     for link in links {
         let Span { start, end } = link.span;
-        if is_of_page(page, *link) {
-            targets.push(Target { start, end })?;
-        }
+        let syntax = syntax_of(link.kind);
+        targets.push(Target { syntax, start, end })?;
     }
     Ok(targets)
 }
 
-// Whether a target belongs to Markdown, and its path is relative to the page's directory.
-fn is_of_page(page: &str, link: LinkTarget) -> bool
-    requires { IsSpanOf page.now link.span }
-    ensures { IsTrue result
-        → is_not_relative (path_of (between link.span.start link.span.end page.now)) ≡ false }
-{
-    is_markdown(link.kind) && is_relative(&page[link.span.start..link.span.end])
-}
-
-// Whether a target belongs to Markdown, and not to an attribute of HTML.
-fn is_markdown(kind: TargetKind) -> bool {
+// The syntax of a target's text.
+fn syntax_of(kind: TargetKind) -> TargetSyntax {
     match kind {
-        TargetKind::Inline | TargetKind::Definition => true,
-        TargetKind::Attribute(_) => false,
+        TargetKind::Inline | TargetKind::Definition => TargetSyntax::Markdown,
+        TargetKind::Attribute(_) => TargetSyntax::Attribute,
     }
 }

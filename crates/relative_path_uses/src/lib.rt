@@ -12,8 +12,9 @@ pub use self::finder::targets;
 pub use self::manifest::{ManifestError, manifest_files};
 pub use self::rewriter::{RewrittenPage, Unchanged, rewritten};
 pub use self::router::served;
+pub use self::site::{MovedSitePage, SitePage, rewritten_site};
 pub use self::site_map::{SiteMap, SiteMapError};
-pub use self::target::Target;
+pub use self::target::{Target, are_in_order};
 
 mod finder;
 mod from_top;
@@ -21,6 +22,7 @@ mod manifest;
 mod names;
 mod rewriter;
 mod router;
+mod site;
 mod site_map;
 mod target;
 mod url_reference;

@@ -1,10 +1,11 @@
 use super::pages::PAGE;
 use super::same;
 use relative_path::RelativePath;
-use relative_path_moves::MoveTable;
+use relative_path_moves::TreeMoves;
 use relative_path_uses::{RewrittenPage, Unchanged, rewritten, targets};
 use std::alloc::Global;
 use std::test::Fail;
+use target_paths::WhyUnknown;
 
 fn as_paths<'a>((old, new): (&'a str, &'a str)) -> (RelativePath<'a>, RelativePath<'a>) {
     (RelativePath::new(old), RelativePath::new(new))
@@ -42,10 +43,13 @@ const LINKED: [(&str, &str); 11] = [
     ("[self](a.md) [here](.)", "[self](b.md) [here](..)"),
     (
         "[up](sub) [in](sub/x:y.md) [g](g/)",
-        "[up](./) [in](./x:y.md) [g](../g/)",
+        "[up](./) [in](x%3Ay.md) [g](../g/)",
     ),
     ("[c][c]\n\n[c]: c.md\n", "[c][c]\n\n[c]: ../../e/f.md\n"),
-    ("`[c](c.md)` [g](<g h.md>)", "`[c](c.md)` [g](<../g h.md>)"),
+    (
+        "`[c](c.md)` [g](<g h.md>)",
+        "`[c](c.md)` [g](<../g%20h.md>)",
+    ),
 ];
 
 // Pages that stay as they are.
@@ -66,9 +70,10 @@ fn after(
     from: &str,
     page: &str,
 ) -> Result<RewrittenPage, Fail> {
-    let table = MoveTable::new(alloc, moves)?;
+    let tree = TreeMoves::new(alloc, moves)?;
     let found = targets(alloc, page)?;
-    Ok(rewritten(alloc, page, &found, &table, RelativePath::new(from))?)
+    let moved = tree.moved_page(alloc, RelativePath::new(from))?;
+    Ok(rewritten(alloc, page, &found, &tree, &moved)?)
 }
 
 // Fails where it becomes another text than is expected, or a link is reported as unchanged.
@@ -111,32 +116,30 @@ fn moves_a_page_that_stays(rt: HostRuntime) -> Result<(), Fail> {
 }
 
 // Old and new paths of a page, the page with one unchanged link, and where and why.
-const UNCHANGED: [(&str, &str, &str, usize, Unchanged); 8] = [
-    ("a.md", "b.md", "[e](../e.md)", 4, Unchanged::AboveRoot),
+const UNCHANGED: [(&str, &str, &str, usize, Unchanged); 6] = [
+    ("a.md", "b/a.md", "[e](../e.md)", 4, Unchanged::AboveRoot),
     ("d.md", "../x/d.md", "[e](e.md)", 4, Unchanged::NoPath),
+    ("a\0/a.md", "b/a.md", "[x](x.md)", 4, Unchanged::Nul),
     (
-        "My Docs/a.md",
-        "b/a.md",
-        "[x](x.md)",
+        "a.md",
+        "b.md",
+        "[x](a%2Fb)",
         4,
-        Unchanged::Unwritable,
+        Unchanged::Unknown(WhyUnknown::EncodedSlash),
     ),
-    ("(a)/a.md", "b/a.md", "[x](x.md)", 4, Unchanged::Unwritable),
-    ("a#/a.md", "b/a.md", "[x](x.md)", 4, Unchanged::Unwritable),
     (
-        "a\n/a.md",
-        "b/a.md",
-        "[x](<x.md>)",
-        5,
-        Unchanged::Unwritable,
+        "a.md",
+        "b.md",
+        "<img src='&T;'>",
+        10,
+        Unchanged::Unknown(WhyUnknown::CharacterReference),
     ),
-    ("a>/a.md", "b/a.md", "[x](<x.md>)", 5, Unchanged::Unwritable),
     (
-        "a`|&/a.md",
-        "b/a.md",
-        "![x](x.md)",
+        "a.md",
+        "b.md",
+        "[x](<%ff>)",
         5,
-        Unchanged::Unwritable,
+        Unchanged::Unknown(WhyUnknown::NotUtf8),
     ),
 ];
 
@@ -162,15 +165,76 @@ fn leaves_a_link_that_it_cant_move(rt: HostRuntime) -> Result<(), Fail> {
 #[test]
 fn moves_the_others_beside_a_link_that_is_left(rt: HostRuntime) -> Result<(), Fail> {
     let moves = [("My Docs/a.md", "b/a.md")].map(as_paths);
-    let page = "[x](x.md) [y](<y.md#z>) [z](../z.md)";
+    let page = "[x](%2f) [y](<y.md#z>) [z](../../z.md)";
     let moved = after(rt.alloc(), &moves, "My Docs/a.md", page)?;
-    let expected = "[x](x.md) [y](<../My Docs/y.md#z>) [z](../z.md)";
+    let expected = "[x](%2f) [y](<../My%20Docs/y.md#z>) [z](../../z.md)";
     same(page, &moved.text.as_str(), &expected)?;
-    same(
-        page,
-        &moved.unchanged.as_slice(),
-        &[(4, Unchanged::Unwritable)].as_slice(),
-    )
+    let slash = Unchanged::Unknown(WhyUnknown::EncodedSlash);
+    same(page, &moved.unchanged.as_slice(), &[(4, slash)].as_slice())
+}
+
+// Moves of files with awkward names, and of directories.
+const AWKWARD: [(&str, &str); 9] = [
+    ("my file.md", "docs/my file.md"),
+    ("a_b.md", "docs/a_b.md"),
+    ("img/x.png", "art/x.png"),
+    ("c.md", "d%20e.md"),
+    ("b.md", "b/c#d.md"),
+    ("old", "new"),
+    ("(a)", "a`|&"),
+    ("g\n", "g>"),
+    ("old/in", "in:"),
+];
+
+// Links of a page that stays at the root, and what they become.
+const SPELLED: [(&str, &str); 12] = [
+    (
+        "[x](my%20file.md) [z](a\\_b.md) [w](c.md) <img src=\"img/x.png\">",
+        "[x](docs/my%20file.md) [z](docs/a_b.md) [w](d%2520e.md) <img src=\"art/x.png\">",
+    ),
+    ("[b](b.md#top) [t](#top)", "[b](b/c%23d.md#top) [t](#top)"),
+    (
+        "[o](old/a.md) [o](old) [o](old/) [p](old2/a.md)",
+        "[o](new/a.md) [o](new) [o](new/) [p](old2/a.md)",
+    ),
+    ("[o](old/in/x.md)", "[o](in%3A/x.md)"),
+    ("[a](%28a%29/x.md)", "[a](a%60%7C%26/x.md)"),
+    ("[g](<g%0a/x.md>)", "[g](<g%3E/x.md>)"),
+    ("<a href=c.md?q>c</a>", "<a href=d%2520e.md?q>c</a>"),
+    (
+        "<a href='&#99;.md&amp;'>c</a> <a href=' c.md '>",
+        "<a href='&#99;.md&amp;'>c</a> <a href='d%2520e.md'>",
+    ),
+    ("[i](../../issues)", "[i](../../issues)"),
+    ("[c](./c.md) [d](x/../d.md)", "[c](d%2520e.md) [d](x/../d.md)"),
+    (
+        "[c](c.md\\#c) [d](c.md&#35;d)",
+        "[c](d%2520e.md\\#c) [d](d%2520e.md&#35;d)",
+    ),
+    ("[h](http://h/x) [r](/c.md)", "[h](http://h/x) [r](/c.md)"),
+];
+
+#[test]
+fn reads_and_writes_targets_as_a_browser_does(rt: HostRuntime) -> Result<(), Fail> {
+    let moves = AWKWARD.map(as_paths);
+    for (page, expected) in &SPELLED {
+        becomes(rt.alloc(), &moves, "index.md", page, expected)?;
+    }
+    Ok(())
+}
+
+#[test]
+fn reports_nothing_where_nothing_moves(rt: HostRuntime) -> Result<(), Fail> {
+    let page = "[x](a%2Fb) <img src='&T;'> [y](../../y)";
+    becomes(rt.alloc(), &[], "docs/a.md", page, page)
+}
+
+#[test]
+fn keeps_links_within_a_directory_that_moves(rt: HostRuntime) -> Result<(), Fail> {
+    let moves = [("docs", "guide"), ("img", "docs")].map(as_paths);
+    let page = "[b](b.md) [b](../docs/b.md) [c](./sub/../c.md) [i](../img/i.png) [o](../../o)";
+    let expected = "[b](b.md) [b](b.md) [c](./sub/../c.md) [i](../docs/i.png) [o](../../o)";
+    becomes(rt.alloc(), &moves, "docs/a.md", page, expected)
 }
 
 #[test]

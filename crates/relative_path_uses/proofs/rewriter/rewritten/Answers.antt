@@ -2,8 +2,7 @@
 use Rattle.std.proofs.Common.{◌++◌, ◌∙◌, ap, sym, string_bytes}
 use Rattle.std.proofs.lemmas.Str.{IsCharBoundary-start}
 use Rattle.std.proofs.lemmas.List.{nil_from_length}
-use Rattle.relative_path.specs.RelativePath.{path_components}
-use Rattle.relative_path_uses.specs.Rewriter.{reported}
+use Rattle.relative_path_uses.specs.Rewriter.{moving, reported}
 use Rattle.relative_path_uses.proofs.RewriterLemmas.{Progress-start, Progress-next, IsRewritten-last}
 use Rattle.relative_path_uses.proofs.rewriter.rewritten.Goals as goal
 
@@ -12,7 +11,7 @@ loop-target-init c = record {
   start = IsCharBoundary-start c.args.page.now c.utf8.page;
   rest = c.requires;
   progress =
-      Progress-start c.args.table.now (path_components c.args.from) c.args.page.now c.args.targets.now
+      Progress-start (moving c.args.tree.now c.args.moved.now) c.args.page.now c.args.targets.now
       (string_bytes c.in_ok-text.text) c.new-unchanged.result.items c.in_ok-text.ensures.bytes c.new-unchanged.ensures.items;
 }
 
@@ -25,11 +24,11 @@ loop-target-preserved c =
       start = is.end;
       rest = others;
       progress =
-          Progress-next c.args.table.now (path_components c.args.from) c.args.page.now c.args.targets.now
+          Progress-next (moving c.args.tree.now c.args.moved.now) c.args.page.now c.args.targets.now
           c.loop-target.at c.in-Some.target.now c.in-Some.others.now (string_bytes c.loop-target.text)
           (string_bytes c.push_target.new.text) c.loop-target.unchanged.items c.push_unchanged.new.unchanged.items part
           (rw first at c.loop-target.invariant.progress)
-          (rw (c.text.ensures, c.is_angled-angled.ensures) at becomes)
+          (rw c.text.ensures at becomes)
           (added ∙ ap (λ text. text ++ part.text) (c.in_ok-push_str.ensures.bytes
           ∙ ap (λ gap. string_bytes c.loop-target.text ++ gap) c.range.ensures.value))
           (c.in_ok-push_unchanged.ensures
@@ -41,7 +40,7 @@ returns c =
     let none = nil_from_length c.loop-target.rest.now c.in_default.ensures.cases in
     record {
       rewritten =
-          IsRewritten-last c.args.table.now (path_components c.args.from) c.args.page.now c.args.targets.now
+          IsRewritten-last (moving c.args.tree.now c.args.moved.now) c.args.page.now c.args.targets.now
           c.loop-target.at (string_bytes c.loop-target.text) (string_bytes c.push_str-2.new.self)
           c.loop-target.unchanged.items (rw none at c.loop-target.invariant.progress)
           (c.in_ok-push_str-2.ensures.bytes

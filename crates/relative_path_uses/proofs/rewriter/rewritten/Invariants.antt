@@ -1,8 +1,8 @@
 -- The targets so far have become their parts.
 use Rattle.std.proofs.Common.{length, string_bytes}
 use Rattle.std.specs.Str.{IsCharBoundary}
-use Rattle.relative_path.specs.RelativePath.{path_components}
 use Rattle.relative_path_uses.specs.Targets.{HasTargets}
+use Rattle.relative_path_uses.specs.Rewriter.{moving}
 use Rattle.relative_path_uses.proofs.RewriterLemmas.{Progress}
 use Rattle.relative_path_uses.proofs.rewriter.rewritten.Given as goal
 
@@ -11,7 +11,7 @@ invariant-loop-target l = record {
   start : IsCharBoundary l.page l.at;
   rest : HasTargets l.page l.at l.rest;
   progress :
-      Progress l.table (path_components l.from) l.page l.targets l.at l.rest (string_bytes l.text) l.unchanged.items;
+      Progress (moving l.tree l.moved) l.page l.targets l.at l.rest (string_bytes l.text) l.unchanged.items;
 }
 
 abbrev pub decreases-loop-target : goal.decreases-loop-target

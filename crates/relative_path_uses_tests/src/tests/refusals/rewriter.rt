@@ -3,8 +3,8 @@ use super::long_text;
 use super::marks::{begin, end};
 use crate::tests::same;
 use relative_path::RelativePath;
-use relative_path_moves::MoveTable;
-use relative_path_uses::{rewritten, targets};
+use relative_path_moves::TreeMoves;
+use relative_path_uses::{SitePage, rewritten, rewritten_site, targets};
 use std::alloc::Global;
 use std::test::Fail;
 
@@ -12,10 +12,11 @@ use std::test::Fail;
 // was there and the page becomes another text than is expected.
 fn moved_down(alloc: Global, page: &str, expected: &str) -> Result<(), Fail> {
     let moves = [(RelativePath::new("a.md"), RelativePath::new("b/a.md"))];
-    let table = MoveTable::new(alloc, &moves)?;
+    let tree = TreeMoves::new(alloc, &moves)?;
     let found = targets(alloc, page)?;
+    let moved = tree.moved_page(alloc, RelativePath::new("a.md"))?;
     begin(alloc);
-    let answer = rewritten(alloc, page, &found, &table, RelativePath::new("a.md"));
+    let answer = rewritten(alloc, page, &found, &tree, &moved);
     end(alloc, answer.is_err())?;
     match answer {
         Ok(new) => same(page, &new.text.as_str(), &expected),
@@ -53,6 +54,36 @@ fn a_link_that_is_left(rt: HostRuntime) -> Result<(), Fail> {
 fn a_page_without_links(rt: HostRuntime) -> Result<(), Fail> {
     moved_down(rt.alloc(), "no link](", "no link](")?;
     moved_down(rt.alloc(), "", "")
+}
+
+// A site of one page, which moves into a directory.
+fn site_moved_down(alloc: Global, text: &str, expected: &str) -> Result<(), Fail> {
+    let moves = [(RelativePath::new("a.md"), RelativePath::new("b/a.md"))];
+    let tree = TreeMoves::new(alloc, &moves)?;
+    let found = targets(alloc, text)?;
+    let path = RelativePath::new("a.md");
+    let page = SitePage {
+        path,
+        text,
+        targets: &found,
+    };
+    begin(alloc);
+    let answer = rewritten_site(alloc, &[page], &tree);
+    end(alloc, answer.is_err())?;
+    match answer {
+        Ok(pages) => {
+            let new = pages.first().ok_or("a page")?;
+            same(text, &new.path.as_relative_path().as_str(), &"b/a.md")?;
+            same(text, &new.page.text.as_str(), &expected)
+        }
+        Err(_) => Ok(()),
+    }
+}
+
+// Requests: 0 = 0
+#[test]
+fn a_site(rt: HostRuntime) -> Result<(), Fail> {
+    site_moved_down(rt.alloc(), "[c](c.md)", "[c](../c.md)")
 }
 
 fn finds(alloc: Global, page: &str, count: usize) -> Result<(), Fail> {
