@@ -1,47 +1,56 @@
--- The pages of a site, and the links from one to another.
-use Rattle.std.specs.Prelude.{◌≡◌, ◌≢◌, ◌<◌, ◌⊎◌, ℕ, List, [], ◌∷◌, ◌++◌, length, codes, decimal, None, Option, MatchOption}
-use Rattle.relative_path.specs.Steps.{Step, up, name, components, spell}
+-- The pages of a site, and the references from one to another.
+use Rattle.std.specs.Prelude.{◌≡◌, ◌≢◌, ◌<◌, ◌⊎◌, ℕ, List, [], ◌∷◌, ◌++◌, map, length, false, codes, decimal, None, Option, MatchOption, slice_index_or}
+use Rattle.relative_path.specs.Steps.{Step, up, name, spell}
+use Rattle.relative_path.specs.Walk.{IsSame}
 use Rattle.relative_path.specs.Naming.{last_name}
-use Rattle.relative_path.specs.Relating.{Leads, IsReachable, IsShortestText}
-use Rattle.relative_path_moves.specs.PlaceIndex.{path_at}
-use Rattle.relative_path_uses.specs.UrlReference.{IsReference}
+use Rattle.relative_path.specs.Relating.{Leads, IsReachable}
+use Rattle.target_paths.specs.Writing.{target_of}
+use Rattle.relative_path_uses.specs.UrlPath.{Page, url_steps}
 use Rattle.relative_path_uses.specs.declared.site_map.SiteMapError.{SiteMapError}
 use Rattle.relative_path_uses.specs.declared.site_map.SiteMapError.TheVariants.{NoFileName, OutOfMemory}
 
+-- page number k, counted from 0
+abbrev pub page_at : List Page → ℕ → Page
+page_at pages k = slice_index_or pages k (record { path = []; is_directory = false })
+
+-- the components of the pages' paths
+abbrev pub paths_of : List Page → List (List Step)
+paths_of pages = map (λ page. page.path) pages
+
+-- both pages lead to the same place from every base, and both are directories' pages or neither is
+pub record IsSamePage (page other : Page) : Type 0 where
+  pub path : IsSame page.path other.path
+  pub is_directory : page.is_directory ≡ other.is_directory
+
 -- each page has a file name
-abbrev pub AreNamedPages : List (List Step) → Type 0
-AreNamedPages pages = (k : ℕ) → k < length pages → last_name (path_at pages k) ≢ None
+abbrev pub AreNamedPages : List Page → Type 0
+AreNamedPages pages = (k : ℕ) → k < length pages → last_name (page_at pages k).path ≢ None
 
 -- k is the number of the first page without a file name
-pub record IsFirstNamelessPage (pages : List (List Step)) (k : ℕ) : Type 0 where
+pub record IsFirstNamelessPage (pages : List Page) (k : ℕ) : Type 0 where
   pub within : k < length pages
-  pub nameless : last_name (path_at pages k) ≡ None
-  pub first : (j : ℕ) → j < k → last_name (path_at pages j) ≢ None
+  pub nameless : last_name (page_at pages k).path ≡ None
+  pub first : (j : ℕ) → j < k → last_name (page_at pages j).path ≢ None
 
--- the directory of a page: one step up from it
-abbrev pub above_page : List Step → List Step
-above_page page = page ++ up ∷ []
+-- where references on a page start: one step up from the end of its URL path, so at a directory's page the directory
+abbrev pub start_of : Page → List Step
+start_of page = url_steps page ++ up ∷ []
 
--- found is the shortest link from the directory of a page to another page, or `None` if no list leads there
-abbrev pub IsPageLink : List Step → List Step → Option (List ℕ) → Type 0
-IsPageLink from to found = MatchOption found (¬ IsReachable (above_page from) to) (IsShortestText (above_page from) to)
-
--- the list ends in a name
+-- the list ends in a name, or in an empty segment
 abbrev pub EndsInName : List Step → Type 0
 EndsInName cs = (front : List Step) × (n : List ℕ) × (cs ≡ front ++ name n ∷ [])
 
--- the text spells the list that leads from f to t and ends in a name, and every other list that does is longer
-pub record IsShortestNamed (f t : List Step) (text : List ℕ) : Type 0 where
-  pub spelled : text ≡ spell (components text)
-  pub named : EndsInName (components text)
-  pub leads : Leads f (components text) t
-  pub shortest : (s : List Step) → Leads f s t → EndsInName s
-      → (length (components text) < length s) ⊎ (s ≡ components text)
+-- the list leads from f to t and ends in a name, and every other list that does is longer
+pub record IsShortestNamed (f t link : List Step) : Type 0 where
+  pub named : EndsInName link
+  pub leads : Leads f link t
+  pub shortest : (s : List Step) → Leads f s t → EndsInName s → (length link < length s) ⊎ (s ≡ link)
 
--- found is the shortest link that ends in a name, as a reference, or `None` if no list leads there
-abbrev pub IsHref : List Step → List Step → Option (List ℕ) → Type 0
-IsHref from to found = MatchOption found (¬ IsReachable (above_page from) to)
-    (λ href. (link : List ℕ) × IsShortestNamed (above_page from) to link × IsReference link href)
+-- found is the target for the shortest list that ends in a name and leads to the end of the other page's URL path, or
+-- `None` if no list leads there
+abbrev pub IsHref : Page → Page → Option (List ℕ) → Type 0
+IsHref from to found = MatchOption found (¬ IsReachable (start_of from) (url_steps to))
+    (λ href. (link : List Step) × IsShortestNamed (start_of from) (url_steps to) link × (href ≡ target_of (spell link)))
 
 -- what an error prints
 abbrev pub site_map_error_text : SiteMapError → List ℕ

@@ -4,6 +4,7 @@ pub mod NumbersLemmas
 pub mod PiecesLemmas
 pub mod ReadingLemmas
 pub mod RoundTripLemmas
+pub mod SegmentsLemmas
 pub mod TailLemmas
 pub mod UrlLemmas
 pub mod WritingLemmas

@@ -355,7 +355,7 @@ decoded-escaped b rest bs byte other is =
     ∙ ap (followed (decoded_byte b)) is
     ∙ decoded_byte-followed b bs other
 
-written-decoded : (place : Place) (bs : List ℕ) → joined (pieces url_piece 0 (written place bs)) ≡ decoded bs
+pub written-decoded : (place : Place) (bs : List ℕ) → joined (pieces url_piece 0 (written place bs)) ≡ decoded bs
 written-decoded place [] = refl
 written-decoded place (b ∷ bs) =
     let rest = written (place_after place b) bs in

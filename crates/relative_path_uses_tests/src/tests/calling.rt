@@ -1,7 +1,8 @@
 //! The caller that the page of `relative_path_uses` shows.
 ghost use Rattle.std.specs.Prelude.{◌<◌, ℕ, IfOk, IfSome, length, string_bytes};
 ghost use Rattle.relative_path.specs.RelativePath.{path_components};
-ghost use Rattle.relative_path_moves.specs.PlaceIndex.{path_at, IsFirstAt};
+ghost use Rattle.relative_path_moves.specs.PlaceIndex.{IsFirstAt};
+ghost use Rattle.relative_path_uses.specs.SiteMap.{page_at, paths_of};
 ghost use Rattle.relative_path_uses.specs.UrlPath.{Resolves};
 
 use relative_path::RelativePath;
@@ -19,8 +20,8 @@ pub fn link_to(
 ) -> Result<Option<String>, AllocError>
     requires { from < length site.now }
     ensures { IfOk result (λ found. IfSome found (λ href. (to : ℕ)
-        × IsFirstAt site.now (path_components path.entry) to
-        × Resolves (path_at site.now from) (path_at site.now to) (string_bytes href))) }
+        × IsFirstAt (paths_of site.now) (path_components path.entry) to
+        × Resolves (page_at site.now from) (page_at site.now to) (string_bytes href))) }
 {
     let found = site.find(alloc, path)?;
     let Some(to) = found else {

@@ -10,7 +10,7 @@ fn finds_targets_with_their_syntax(rt: HostRuntime) -> Result<(), Fail> {
     let [b, c, g] = [
         (TargetSyntax::Markdown, 4, 8),
         (TargetSyntax::Attribute, 24, 29),
-        (TargetSyntax::Markdown, 47, 50),
+        (TargetSyntax::Markdown, 48, 51),
     ]
     .map(|(syntax, start, end)| Target { syntax, start, end });
     same(page, &found.as_slice(), &[b, c, g].as_slice())
@@ -28,17 +28,26 @@ const SPANS: [((usize, usize), (usize, usize), bool); 6] = [
     ((0, 0), (0, 0), true),
     ((1, 4), (0, 1), false),
     ((0, 2), (2, 4), false),
-    ((0, 1), (3, 5), false),
+    ((0, 1), (3, 6), false),
     ((1, 0), (1, 1), false),
 ];
 
 #[test]
-fn tells_targets_in_order(_rt: HostRuntime) -> Result<(), Fail> {
+fn knows_targets_in_order(_rt: HostRuntime) -> Result<(), Fail> {
     for ((start, end), (next, last), expected) in &SPANS {
         let syntax = TargetSyntax::Markdown;
-        let first = Target { syntax, start: *start, end: *end };
-        let second = Target { syntax, start: *next, end: *last };
-        same("two spans", &are_in_order("aébc", &[first, second]), expected)?;
+        let first = Target {
+            syntax,
+            start: *start,
+            end: *end,
+        };
+        let second = Target {
+            syntax,
+            start: *next,
+            end: *last,
+        };
+        let in_order = are_in_order("aébc", &[first, second]);
+        same("two spans", &in_order, expected)?;
     }
     Ok(())
 }

@@ -202,11 +202,14 @@ const SPELLED: [(&str, &str); 12] = [
     ("[g](<g%0a/x.md>)", "[g](<g%3E/x.md>)"),
     ("<a href=c.md?q>c</a>", "<a href=d%2520e.md?q>c</a>"),
     (
-        "<a href='&#99;.md&amp;'>c</a> <a href=' c.md '>",
-        "<a href='&#99;.md&amp;'>c</a> <a href='d%2520e.md'>",
+        "<a href='&#99;.md&#38;'>c</a> <a href=' c.md '>c</a>",
+        "<a href='&#99;.md&#38;'>c</a> <a href='d%2520e.md'>c</a>",
     ),
     ("[i](../../issues)", "[i](../../issues)"),
-    ("[c](./c.md) [d](x/../d.md)", "[c](d%2520e.md) [d](x/../d.md)"),
+    (
+        "[c](./c.md) [d](x/../d.md)",
+        "[c](d%2520e.md) [d](x/../d.md)",
+    ),
     (
         "[c](c.md\\#c) [d](c.md&#35;d)",
         "[c](d%2520e.md\\#c) [d](d%2520e.md&#35;d)",

@@ -1,7 +1,7 @@
 //! The site map.
 use super::long_text;
 use super::marks::{begin, end};
-use crate::tests::{same, text_of};
+use crate::tests::same;
 use relative_path::RelativePath;
 use relative_path_uses::{SiteMap, SiteMapError};
 use std::alloc::{AllocError, Global};
@@ -66,37 +66,8 @@ fn find_the_empty_path(rt: HostRuntime) -> Result<(), Fail> {
     same("find", &answer.unwrap_or(None), &None)
 }
 
-// Fails where memory is there and the site has another link from its first page to its second. The
+// Fails where memory is there and the site has another reference from its first page to its second. The
 // marks are around the site's call.
-fn links(alloc: Global, site: &SiteMap<'_>, expected: &str) -> Result<(), Fail> {
-    if site.len() < 2 {
-        return Err(Fail::new("the pages"));
-    }
-    begin(alloc);
-    let answer = site.link(alloc, 0, 1);
-    end(alloc, answer.is_err())?;
-    match answer {
-        Ok(link) => same("link", &link.as_ref().map(text_of), &Some(expected)),
-        Err(_) => Ok(()),
-    }
-}
-
-// Requests: 15 3s 1s 9 = 1, 15 3s 524288s 1048574 = 1
-#[test]
-fn link(rt: HostRuntime) -> Result<(), Fail> {
-    let long = long_text(rt.alloc())?;
-    for (page, link) in &[
-        ("d.html", "../d.html"),
-        (long.as_str(), long.strip_prefix("a/").unwrap_or("")),
-    ] {
-        let pages = ["a/index.html", *page].map(RelativePath::new);
-        let site = SiteMap::new(rt.alloc(), &pages)?;
-        links(rt.alloc(), &site, link)?;
-    }
-    Ok(())
-}
-
-// The same of the reference.
 fn refers(alloc: Global, site: &SiteMap<'_>, expected: &str) -> Result<(), Fail> {
     if site.len() < 2 {
         return Err(Fail::new("the pages"));
@@ -125,9 +96,9 @@ fn long_after(alloc: Global, front: &str) -> Result<String, AllocError> {
 fn href(rt: HostRuntime) -> Result<(), Fail> {
     let pages = PAGES.map(RelativePath::new);
     let site = SiteMap::new(rt.alloc(), &pages)?;
-    refers(rt.alloc(), &site, "./b:c.html")?;
+    refers(rt.alloc(), &site, "b%3Ac.html")?;
     let page = long_after(rt.alloc(), "a/c:")?;
-    let href = long_after(rt.alloc(), "./c:")?;
+    let href = long_after(rt.alloc(), "c%3A")?;
     let pages = ["a/index.html", page.as_str()].map(RelativePath::new);
     let site = SiteMap::new(rt.alloc(), &pages)?;
     refers(rt.alloc(), &site, href.as_str())
