@@ -72,13 +72,24 @@ fn told_in_tree(
     }
 }
 
+// Fails where a reference in a page becomes another text than is expected.
+fn link_becomes(
+    alloc: Global,
+    tree: &TreeMoves<'_>,
+    page: &str,
+    reference: &str,
+    expected: &str,
+) -> Result<(), Fail> {
+    let told = told_in_tree(alloc, tree, page, reference)?;
+    same(reference, &told.as_str(), &expected)
+}
+
 // Fails where a reference becomes another text than is expected in one of these cases.
 fn links_become(alloc: Global, moves: &str, links: &[Link]) -> Result<(), Fail> {
     let moves = read_moves(alloc, moves)?;
     let tree = TreeMoves::new(alloc, &moves)?;
     for (page, reference, expected) in links {
-        let told = told_in_tree(alloc, &tree, page, reference)?;
-        same(page, &(*reference, told.as_str()), &(*reference, *expected))?;
+        link_becomes(alloc, &tree, page, reference, expected)?;
     }
     Ok(())
 }
