@@ -91,7 +91,7 @@ fn long_after(alloc: Global, front: &str) -> Result<String, AllocError> {
     Ok(text)
 }
 
-// Requests: 1s 1s 8 10 = 1, 1s 524288s 1048575 2097150 1048580 = 1
+// Requests: 1s 1s 8 8 16 = 1, 1s 524288s 1048575 2097150 1048578 2097156 = 1
 #[test]
 fn href(rt: HostRuntime) -> Result<(), Fail> {
     let pages = PAGES.map(RelativePath::new);
