@@ -1,5 +1,6 @@
 """What the scripts of this folder share."""
 
+import html.parser
 import pathlib
 import re
 import shutil
@@ -15,6 +16,10 @@ COUNTS = ROOT / "tools/counts.txt"
 PAGES = ["README.md", *(str(it.relative_to(ROOT)) for part in ("docs", "crates/*") for it in sorted(ROOT.glob(f"{part}/*.md")))]
 
 COMMENT_OR_STRING = re.compile(r"//[^\n]*|\"(?:\\.|[^\"\\])*\"")
+# A place of a page of Markdown where a definition may begin.
+LABEL = re.compile(r"\[((?:[^\[\]\\]|\\.)+)\]:", re.S)
+# What stands for a target in a marked page.
+WORD = re.compile(r"zq(\d+)qz")
 # A fenced block, and a line of docs.
 BLOCK = re.compile(r"^ {0,3}(`{3,}|~{3,})(.*)\n((?:.*\n)*?) {0,3}\1 *$", re.M)
 DOC = re.compile(r"\s*//[/!] ?(.*)$")
@@ -184,3 +189,94 @@ def closing(mask, at):
         at += 1
         if depth == 0:
             return at
+
+
+def built(folder, name, source, libraries, script):
+    """A program of these libraries of the repository, proved in this folder."""
+    def rt(command, crate):
+        done = ran(["rt", command], crate)
+        if done.returncode != 0:
+            sys.exit(f"{script}: rt {command} in {crate}:\n{done.stdout}")
+    ours = [it for it in crates() if it in below(libraries)]
+    for library in libraries:
+        rt("lib", CRATES / library)
+    for library in ours:
+        shutil.copytree(CRATES / library, folder / "crates" / library, ignore=shutil.ignore_patterns("incremental"))
+    crate = folder / "crates" / name
+    (crate / "src").mkdir(parents=True)
+    (crate / "src/main.rt").write_text(source)
+    lines = [f"{it}: {' '.join(crates()[it])}\n" for it in ours]
+    (folder / "crates.txt").write_text("".join([*lines, f"{name}: {' '.join(libraries)}\n"]))
+    rt("run", crate)
+    return str(crate / "out" / name)
+
+
+def below(libraries):
+    """These libraries and all that they use."""
+    found = set()
+    for library in libraries:
+        found |= {library, *below(crates().get(library, []))}
+    return found
+
+
+def is_template(text):
+    """Whether a destination may be one that a template fills in."""
+    return text.startswith(("{{", "{%", "${"))
+
+
+def marked(page, targets):
+    """A page whose targets are words, each with its number."""
+    pieces, end = [], 0
+    for number, (_, start, after) in enumerate(targets):
+        pieces += [page[end:start], b"zq%dqz" % number]
+        end = after
+    return b"".join(pieces + [page[end:]])
+
+
+def labels_of(page):
+    """The labels of what may be a definition in a page, without containers' marks."""
+    labels = (re.sub(r"\n[ \t>]*", " ", it.replace("\r", "\n")) for it in LABEL.findall(page))
+    return list(dict.fromkeys(it for it in labels if not it.startswith("^")))
+
+
+def real_pages(folders, *left_out):
+    """The distinct pages below folders that are UTF-8 and have none of these texts, with their names."""
+    pages = {}
+    for path in sorted(it for folder in folders for it in pathlib.Path(folder).rglob("*.md") if it.is_file()):
+        try:
+            page = path.read_bytes().decode()
+        except UnicodeDecodeError:
+            continue
+        if not any(it in page for it in left_out):
+            pages.setdefault(page, str(path))
+    return pages
+
+
+class Tags(html.parser.HTMLParser):
+    """The values of `href` and `src` in the start tags of HTML."""
+
+    CDATA_CONTENT_ELEMENTS = ("script", "style", "textarea", "title")
+
+    def __init__(self):
+        super().__init__()
+        self.values = []
+
+    def parse_comment(self, start, _report=1):
+        """The end of a comment, as browsers find it."""
+        end = re.compile(r"<!--(?:-?>|.*?--!?>|.*)", re.S).match(self.rawdata, start)
+        return end.end()
+
+    def parse_marked_section(self, start, _report=1):
+        """The same of what browsers read as a comment."""
+        return self.parse_bogus_comment(start)
+
+    def handle_starttag(self, tag, attrs):
+        self.values += linked(tag, attrs)
+
+
+def linked(tag, attributes):
+    """The values of the first `href` and the first `src` among the attributes of a start tag."""
+    first = dict(reversed(attributes))
+    if tag == "base" and first.get("href") is not None:
+        return []
+    return [first[it] for it in ("href", "src") if first.get(it)]
