@@ -2,7 +2,6 @@ pub mod FromTopLemmas
 pub mod NamesLemmas
 pub mod RouterLemmas
 pub mod ManifestLemmas
-pub mod UrlReferenceLemmas
 pub mod UrlPathLemmas
 pub mod SiteMapLemmas
 pub mod TargetsLemmas

@@ -2,7 +2,6 @@ pub mod Names
 pub mod FromTop
 pub mod Router
 pub mod Manifest
-pub mod UrlReference
 pub mod UrlPath
 pub mod SiteMap
 pub mod Targets

@@ -4,7 +4,10 @@ use Rattle.std.specs.List.{list_any, list_all, before_first}
 use Rattle.std.specs.Str.{str_eq_ignore_ascii_case}
 use Rattle.relative_path.specs.Steps.{Step, cur, up, name, is_slash}
 use Rattle.relative_path.specs.Naming.{is_dot}
-use Rattle.relative_path_uses.specs.UrlReference.{is_colon}
+
+-- the byte is a colon
+abbrev pub is_colon : ℕ → Bool
+is_colon b = b == 58
 
 -- `b'\\'`
 abbrev pub backslash : ℕ

@@ -3,8 +3,9 @@
 //! A module uses modules of the layer below, and those to its left in its own layer.
 //!
 //! ```text
-//! what callers see      manifest  router  site_map  target  finder  rewriter
-//! paths and names       from_top  names  url_reference
+//! pages of a site       site
+//! what callers see      manifest  router  site_map  finder  rewriter
+//! paths and names       from_top  names  target
 //! ```
 #![tactic(auto)]
 
@@ -25,4 +26,3 @@ mod router;
 mod site;
 mod site_map;
 mod target;
-mod url_reference;
