@@ -152,7 +152,7 @@ pub fn link(
     Ok(way)
 }
 
-/// The normal form of a path. If the path leads from the top to a place that has a name, the result's
+/// The normal form of a path. If the path leads from the top to a place other than the top, the result's
 /// file name is the place's last name, and the result's parent has the names before it.
 pub fn place_of(alloc: Global, path: RelativePath<'_>) -> Result<RelativePathBuf, AllocError>
     ensures file_name { IfOk result (λ normal. (place : List (List ℕ)) (n : List ℕ)
