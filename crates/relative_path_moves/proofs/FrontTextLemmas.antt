@@ -51,7 +51,7 @@ AreNames-normal (up ∷ cs) names = absurd names
 AreNames-normal (name n ∷ cs) names = names
 
 -- a normal list stays normal with names at its end
-IsNormal-append_names : (cs ds : List Step) → IsNormal cs → AreNames ds → IsNormal (cs ++ ds)
+pub IsNormal-append_names : (cs ds : List Step) → IsNormal cs → AreNames ds → IsNormal (cs ++ ds)
 IsNormal-append_names [] ds normal names = AreNames-normal ds names
 IsNormal-append_names (cur ∷ cs) ds normal names = absurd normal
 IsNormal-append_names (up ∷ cs) ds normal names = IsNormal-append_names cs ds normal names

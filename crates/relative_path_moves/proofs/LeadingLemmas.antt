@@ -1,5 +1,5 @@
 -- A reference and its target, walked back from their ends: from where the reference leads to the target.
-use Rattle.std.proofs.Common.{◌≡◌, ◌≢◌, ◌↔◌, ℕ, zero, suc, ◌+◌, ◌-◌, ◌<◌, ◌≤◌, ◌⊎◌, Bool, true, false, not, IsTrue, List, [], ◌∷◌, ◌++◌, length, map, replicate, Option, Some, None, is_some, Bor, refl, sym, ap, ◌∙◌, subst, inl, inr, arith, drop, take-append-drop, append_assoc, append-nil, true≢false}
+use Rattle.std.proofs.Common.{◌≡◌, ◌≢◌, ◌↔◌, ℕ, zero, suc, ◌+◌, ◌⊎◌, Bool, true, false, not, IsTrue, List, [], ◌∷◌, ◌++◌, length, map, replicate, Option, Some, None, is_some, Bor, refl, sym, ap, ◌∙◌, subst, inl, inr, arith, drop, take-append-drop, append_assoc, append-nil, true≢false}
 use Rattle.std.specs.Option.{option_eq, option_copied}
 use Rattle.std.specs.Ordering.{on}
 use Rattle.std.proofs.lemmas.Bool.{not-true, not-false}
@@ -11,7 +11,6 @@ use Rattle.relative_path.specs.Walk.{IsSame}
 use Rattle.relative_path.specs.Normalizing.{AreNames, IsNormal, IsNormalForm, climb}
 use Rattle.relative_path.specs.Naming.{last_name}
 use Rattle.relative_path.specs.Editing.{kept_len, kept}
-use Rattle.relative_path.specs.Prefixing.{StartsWith}
 use Rattle.relative_path.specs.Components.{step_of, TakesLast}
 use Rattle.relative_path.specs.Comparing.{step_eq}
 use Rattle.relative_path.specs.ComparingLaws.{step_eq-Decides}

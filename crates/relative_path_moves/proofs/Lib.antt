@@ -8,4 +8,6 @@ mod ReferenceLemmas
 mod FrontTextLemmas
 mod LeadingLemmas
 mod TreeMovesLemmas
+mod LeastLemmas
+mod CollisionsLemmas
 pub mod ForCallers

@@ -149,7 +149,7 @@ HaveNewTexts-all paths k texts first all =
     record { count = first.count ∙ count; each = λ j less. first.each j (omega (arith, count, less)) }
 
 -- a text within the list, whatever is read past the end
-get_or-within : (texts : List (List ℕ)) (j : ℕ) (one other : List ℕ) → j < length texts
+pub get_or-within : (texts : List (List ℕ)) (j : ℕ) (one other : List ℕ) → j < length texts
     → get_or texts j one ≡ get_or texts j other
 get_or-within [] j one other less = absurd (omega (arith, less))
 get_or-within (text ∷ texts) zero one other less = refl

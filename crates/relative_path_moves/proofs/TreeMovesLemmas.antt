@@ -2,16 +2,14 @@
 use Rattle.std.proofs.Common.{◌≡◌, ℕ, ◌<◌, ◌≤◌, ◌+◌, List, [], ◌∷◌, ◌++◌, length, map, take, drop, Option, Some, None, Bool, false, not, is_some, unwrap_or, IsSome, inl, inr, refl, sym, ap, ◌∙◌, subst, arith, append_assoc, append-nil, take_at, take-append-drop, true≢false, IfSome, Result, Ok, Err, IfOk}
 use Rattle.std.proofs.lemmas.Bool.{cases_lt, cases_order}
 use Rattle.std.proofs.lemmas.List.{append_cancel_left, length-map, length-append, length-take-le, map-append, take-map}
-use Rattle.std.proofs.lemmas.Option.{none-some}
-use Rattle.relative_path.specs.Steps.{Step, cur, up, name, components, spell, step_text, SpellsItself, SpellThemselves}
+use Rattle.relative_path.specs.Steps.{Step, name, components}
 use Rattle.relative_path.specs.Walk.{IsSame, place_of}
-use Rattle.relative_path.specs.Editing.{pushed}
 use Rattle.relative_path.specs.Slices.{IsFront}
 use Rattle.relative_path.specs.Components.{step_of, TakesLast}
 use Rattle.relative_path.specs.declared.component.Component.{Component}
 use Rattle.relative_path.specs.Naming.{last_name}
 use Rattle.relative_path.specs.Normalizing.{AreNames, IsNormal, IsNormalText, IsNormalTextOf}
-use Rattle.relative_path.proofs.ForCallers.{IsSame-trans, IsSame-append_right, IsSame-last_name, last_name-name, kept-name, IsNormal-append_left, spelled-front, walk-names, SpellThemselves-components, components-place, IsSame-sym, IsSame-place, components-pushed, spell-pushed}
+use Rattle.relative_path.proofs.ForCallers.{IsSame-trans, IsSame-append_right, IsSame-last_name, last_name-name, kept-name, IsNormal-append_left, spelled-front, walk-names, components-place, IsSame-sym, IsSame-place}
 use Rattle.relative_path_moves.specs.Places.{directory}
 use Rattle.relative_path_moves.specs.PlaceIndex.{path_at, IsFirstAt, IsNoneAt}
 use Rattle.relative_path_moves.specs.Moves.{Move, move_at, AreNamed, AreApart}
@@ -206,7 +204,8 @@ pub IsTaken-rest : (moves : List Move) (file : List Step) (text top : List ℕ) 
 IsTaken-rest moves file text top j rest taken split =
     append_cancel_left (components top) rest (map name taken.below) (sym split ∙ taken.split)
 
-AreNames-map : (ns : List (List ℕ)) → AreNames (map name ns)
+-- names are names
+pub AreNames-map : (ns : List (List ℕ)) → AreNames (map name ns)
 AreNames-map [] = tt
 AreNames-map (n ∷ ns) = AreNames-map ns
 

@@ -4,7 +4,7 @@ use Rattle.relative_path.specs.Steps.{Step, name}
 use Rattle.relative_path.specs.Normalizing.{IsNormalTextOf}
 use Rattle.relative_path.specs.Walk.{place_of}
 use Rattle.relative_path_moves.specs.PlaceIndex.{IsFirstAt, IsNoneAt}
-use Rattle.relative_path_moves.specs.Moves.{Move, move_at, AreNamed}
+use Rattle.relative_path_moves.specs.Moves.{Move, move_at, AreNamed, AreApart}
 
 -- the old path of move number j leads to the place or to a directory above it, and these names lead on to the place
 pub record TakesAlong (moves : List Move) (place : List (List ℕ)) (j : ℕ) (below : List (List ℕ)) : Type 0 where
@@ -49,9 +49,10 @@ pub record HaveNewTexts (moves : List Move) (texts : List (List ℕ)) : Type 0 w
   pub count : length texts ≡ length moves
   pub each : (k : ℕ) → k < length moves → IsNormalTextOf (move_at moves k).new (slice_index_or texts k [])
 
--- the moves have file names, and the texts are the normal texts of their new paths, in order
+-- the moves have file names, no two have the same old path, and the texts are the normal texts of their new paths, in order
 pub record IsSoundTree (moves : List Move) (texts : List (List ℕ)) : Type 0 where
   pub named : AreNamed moves
+  pub apart : AreApart moves
   pub news : HaveNewTexts moves texts
 
 -- of the first n components, the number is that of the old path that has the most of them; `None` if no old path has

@@ -21,6 +21,7 @@ pub use self::places::{directory, has_place};
 pub use self::reference::moved;
 pub use self::tree_moves::{MovedPage, TreeMoves};
 
+mod collisions;
 mod leading;
 mod move_error;
 mod move_table;

@@ -25,7 +25,10 @@ ghost use Rattle.relative_path_moves.specs.MoveError.{Refuses};
 ghost use Rattle.relative_path_moves.specs.MoveTable.{olds_of, IsSound, IsWay, IsShortestBuffer, IsLink, LeadToTarget};
 ghost use Rattle.relative_path.specs.Normalizing.{IsNormalText};
 ghost use Rattle.relative_path_moves.specs.PlaceIndex.{Indexes, IsFoundAt};
+ghost use Rattle.relative_path_moves.specs.TreeMoves.{HaveNewTexts};
+ghost use Rattle.relative_path_moves.specs.Collisions.{news_of, CollideAt, HoldsNowhere, IsLeastPair};
 
+use crate::collisions::first_collision;
 use crate::move_error::{MoveTableError, ReferenceError};
 use crate::normal_path::NormalPath;
 use crate::place_index::PlaceIndex;
@@ -201,6 +204,37 @@ impl<'a> MoveTable<'a> {
         link_to(alloc, directory(now), reference, self.target(&meant))
     }
 
+    /// Returns the first two moves whose new paths collide: they lead to one place, or one of them leads to a
+    /// place below the other, as if the other file were a directory. The result is the lexicographically
+    /// least pair of numbers of moves, the lesser number first. `None` means that no two new paths collide.
+    ///
+    /// The call sees only the new paths. It doesn't see files that stay (for these call
+    /// [`MoveTable::same_new_as`]), nor that two names are the same on a file system that ignores case, that
+    /// two spellings of a name beyond ASCII are the same (Unicode's normal forms), or that a symbolic link
+    /// leads elsewhere. Paths above the root collide only if they do so from every base: `../site/a` and `a`
+    /// don't, though the root may be called `site`.
+    ///
+    /// Allocates the normal form of each new path, a list of them, and an index of them. Searches the index
+    /// once for each new path and for each directory above it. Fails only if an allocation fails.
+    ///
+    /// ```
+    /// let moves = [("a", "x/y"), ("b", "z"), ("c", "x/./y/c")]
+    ///     .map(|(old, new)| (RelativePath::new(old), RelativePath::new(new)));
+    /// let table = MoveTable::new(alloc, &moves)?;
+    /// assert_eq!(rt; table.same_new(alloc)?, Some((0, 2)));
+    /// let table = MoveTable::new(alloc, &moves[..2])?;
+    /// assert_eq!(rt; table.same_new(alloc)?, None);
+    /// ```
+    pub fn same_new(&self, alloc: Global) -> Result<Option<(usize, usize)>, AllocError>
+        ensures none { IfOk result (λ found. IsNone found
+            ↔ HoldsNowhere (CollideAt (news_of self.now))) }
+        ensures first { (j k : ℕ) → IfOk result (λ found. (found ≡ Some (j, k))
+            ↔ IsLeastPair (CollideAt (news_of self.now)) j k) }
+    {
+        let news = new_paths(alloc, self.moves)?;
+        first_collision(alloc, &news)
+    }
+
     /// Returns the path of a file after the moves. If the path leads where the old path of a move leads,
     /// the result is the new path of that move. Otherwise the result is the path itself, unchanged.
     ///
@@ -258,6 +292,20 @@ impl<'a> MoveTable<'a> {
             None => place.as_relative_path(),
         }
     }
+}
+
+// The normal forms of the new paths of the moves.
+pub(crate) fn new_paths(
+    alloc: Global,
+    moves: &[(RelativePath<'_>, RelativePath<'_>)],
+) -> Result<Vec<NormalPath>, AllocError>
+    ensures { IfOk result (λ news. HaveNewTexts (moves_of moves.now) news.items) }
+{
+    let mut news = Vec::with_capacity(alloc, moves.len())?;
+    for (_, new) in moves {
+        news.push(NormalPath::of(alloc, *new)?)?;
+    }
+    Ok(news)
 }
 
 // The number of the first move whose old or new path has no file name.

@@ -1,5 +1,5 @@
 //! A table of moves of files and directories.
-ghost use Rattle.std.specs.Prelude.{◌≡◌, ◌↔◌, ℕ, List, length, None, Some, IfOk, IfSome, IfNone, IsNone, OnOk, IsErrOf, MatchOption};
+ghost use Rattle.std.specs.Prelude.{◌≡◌, ◌↔◌, ℕ, List, length, map, None, Some, IfOk, IfSome, IfNone, IsNone, OnOk, IsErrOf, MatchOption};
 ghost use Rattle.relative_path.specs.Steps.{Step, components};
 ghost use Rattle.relative_path.specs.Normalizing.{IsNormalTextOf};
 ghost use Rattle.relative_path.specs.Relating.{Leads, IsReachable, IsShortestText};
@@ -18,11 +18,13 @@ ghost use Rattle.relative_path_moves.specs.Moves.{
 };
 ghost use Rattle.relative_path_moves.specs.MoveError.{Refuses};
 ghost use Rattle.relative_path_moves.specs.MoveTable.{olds_of};
-ghost use Rattle.relative_path_moves.specs.TreeMoves.{AtTreePath, AtTreeTarget, IsLeftInPlace, IsTakenTo, NearestUpTo, HaveNewTexts, IsSoundTree};
+ghost use Rattle.relative_path_moves.specs.TreeMoves.{AtTreePath, AtTreeTarget, IsLeftInPlace, IsTakenTo, NearestUpTo, IsSoundTree};
+ghost use Rattle.relative_path_moves.specs.Collisions.{CollideAfter, HoldsNowhere, IsLeastPair, HavePathsAfter};
 
+use crate::collisions::first_collision;
 use crate::leading::leads_to;
 use crate::move_error::{MoveTableError, ReferenceError};
-use crate::move_table::MoveTable;
+use crate::move_table::{MoveTable, new_paths};
 use crate::normal_path::NormalPath;
 use crate::places::directory;
 use relative_path::{RelativePath, RelativePathBuf};
@@ -247,6 +249,64 @@ impl<'a> TreeMoves<'a> {
         link_from(alloc, &page.after, reference, &target)
     }
 
+    /// Returns the first two of these files that collide after the moves: their paths after the moves lead to
+    /// one place, or one of the paths leads to a place below the other, as if the other file were a
+    /// directory. The result is the lexicographically least pair of numbers of files, the lesser number
+    /// first. The files are numbered from 0. `None` means that no two of the files collide.
+    ///
+    /// The files are given by their paths before the moves. A program that moves files calls this with all
+    /// files of the tree. The list has files only, since a directory collides with each file in it, and each
+    /// file once.
+    ///
+    /// The call sees only the files of the list, and only their paths. It doesn't see that two names are the
+    /// same on a file system that ignores case, that two spellings of a name beyond ASCII are the same
+    /// (Unicode's normal forms), or that a symbolic link leads elsewhere. Paths above the root collide only if
+    /// they do so from every base: `../site/a` and `a` don't, though the root may be called `site`.
+    ///
+    /// Allocates what [`TreeMoves::path_after`] does for each file, a list of the results, and an index of
+    /// them. Searches the index once for each file and for each directory above it. Fails only if an
+    /// allocation fails.
+    ///
+    /// ```
+    /// let moves = [("docs", "guide"), ("x.md", "guide/a.md")]
+    ///     .map(|(old, new)| (RelativePath::new(old), RelativePath::new(new)));
+    /// let tree = TreeMoves::new(alloc, &moves)?;
+    /// let files = ["x.md", "docs/b.md", "docs/a.md"].map(RelativePath::new);
+    /// assert_eq!(rt; tree.same_place(alloc, &files)?, Some((0, 2)));
+    /// assert_eq!(rt; tree.same_place(alloc, &files[..2])?, None);
+    /// ```
+    pub fn same_place(
+        &self,
+        alloc: Global,
+        files: &[RelativePath<'_>],
+    ) -> Result<Option<(usize, usize)>, AllocError>
+        ensures none { IfOk result (λ found. IsNone found
+            ↔ HoldsNowhere (CollideAfter self.now (map path_components files.now))) }
+        ensures first { (j k : ℕ) → IfOk result (λ found. (found ≡ Some (j, k))
+            ↔ IsLeastPair (CollideAfter self.now (map path_components files.now)) j k) }
+    {
+        // Opens the table, so that its proof knows that no two moves have the same old path.
+        let _ = &self.news;
+        let after = self.paths_after(alloc, files)?;
+        first_collision(alloc, &after)
+    }
+
+    // The normal paths of the files after the moves.
+    fn paths_after(
+        &self,
+        alloc: Global,
+        files: &[RelativePath<'_>],
+    ) -> Result<Vec<NormalPath>, AllocError>
+        ensures { IfOk result
+            (λ after. HavePathsAfter self.now (map path_components files.now) after.items) }
+    {
+        let mut after = Vec::with_capacity(alloc, files.len())?;
+        for file in files {
+            after.push(self.path_after(alloc, *file)?)?;
+        }
+        Ok(after)
+    }
+
     // The normal path, after the moves, of where a reference led from a directory.
     fn target(
         &self,
@@ -304,20 +364,6 @@ impl<'a> TreeMoves<'a> {
             }
         }
     }
-}
-
-// The normal forms of the new paths of the moves.
-fn new_paths(
-    alloc: Global,
-    moves: &[(RelativePath<'_>, RelativePath<'_>)],
-) -> Result<Vec<NormalPath>, AllocError>
-    ensures { IfOk result (λ news. HaveNewTexts (moves_of moves.now) news.items) }
-{
-    let mut news = Vec::with_capacity(alloc, moves.len())?;
-    for (_, new) in moves {
-        news.push(NormalPath::of(alloc, *new)?)?;
-    }
-    Ok(news)
 }
 
 // The shortest path from a directory to a target, or `None` if the reference leads there. Fails if the

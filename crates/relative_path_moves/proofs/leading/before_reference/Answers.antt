@@ -1,8 +1,6 @@
 -- Each turn takes the last component off the reference.
 use Rattle.std.proofs.Common.{◌≡◌, ◌≢◌, subst, ◌∷◌, [], ◌++◌, ◌∙◌, sym, ap, length, length-append, arith}
-use Rattle.relative_path.specs.Steps.{Step}
-use Rattle.relative_path.specs.Components.{components_left, text_left, step_of}
-use Rattle.relative_path.specs.RelativePath.{path_components}
+use Rattle.relative_path.specs.Components.{components_left, step_of}
 use Rattle.relative_path_moves.proofs.LeadingLemmas.{IsBack-cur, IsBack-up, IsBack-name_up, IsBack-name, IsBack-other, last-same, last-other}
 use Rattle.relative_path_moves.proofs.leading.before_reference.Goals as goal
 

@@ -1,5 +1,5 @@
 -- The rest after the front is that many `..` exactly if it climbs so far and has no file name.
-use Rattle.std.proofs.Common.{true≢false, sym, ◌∙◌, arith, refl}
+use Rattle.std.proofs.Common.{true≢false, sym, arith}
 use Rattle.relative_path.specs.RelativePath.{path_components}
 use Rattle.relative_path_moves.proofs.LeadingLemmas.{then_ups, lacks_name}
 use Rattle.relative_path_moves.proofs.leading.has_then.Goals as goal

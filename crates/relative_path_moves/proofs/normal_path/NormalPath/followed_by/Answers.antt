@@ -1,7 +1,5 @@
 -- Each turn pushes the next name.
-use Rattle.std.proofs.Common.{◌∙◌, ap}
 use Rattle.relative_path.specs.Components.{text_left, step_of}
-use Rattle.relative_path.specs.Steps.{components}
 use Rattle.relative_path.specs.RelativePath.{path_components}
 use Rattle.relative_path_moves.proofs.FrontTextLemmas.{IsFrontText-start, IsFrontText-next, IsFrontText-end}
 use Rattle.relative_path_moves.proofs.normal_path.NormalPath.followed_by.Goals as goal

@@ -1,5 +1,5 @@
 -- A page that moves has a file name after the moves.
-use Rattle.std.proofs.Common.{inl, refl}
+use Rattle.std.proofs.Common.{inl}
 use Rattle.relative_path.specs.RelativePath.{path_components}
 use Rattle.relative_path_moves.proofs.TreeMovesLemmas.{directory-target}
 use Rattle.relative_path_moves.proofs.tree_moves.TreeMoves.moved_page.Goals as goal

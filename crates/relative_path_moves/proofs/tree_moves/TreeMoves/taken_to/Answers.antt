@@ -1,5 +1,5 @@
 -- The nearest move takes the file along. If no move does, it stays.
-use Rattle.std.proofs.Common.{◌≡◌, ◌++◌, map, IsSome, IsTrue, true≢false, sym, ◌∙◌, arith, rules}
+use Rattle.std.proofs.Common.{map, IsTrue, rules}
 use Rattle.relative_path.specs.Steps.{name, components}
 use Rattle.relative_path.specs.RelativePath.{path_components, path_text}
 use Rattle.relative_path.proofs.ForCallers.{IsSame-refl}
