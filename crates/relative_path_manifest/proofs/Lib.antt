@@ -1,1 +1,1 @@
-pub mod ManifestLemmas
+mod ManifestLemmas

@@ -15,8 +15,7 @@ use Rattle.relative_path_manifest.specs.declared.manifest.ManifestError.TheVaria
 use Rattle.relative_path_files.specs.FromTop.{SpellsPlace}
 use Rattle.std.specs.List.{list_any}
 use Rattle.relative_path_files.specs.Names.{is_unportable_step}
-use Rattle.relative_path_files.proofs.FromTopLemmas.{SpellsPlace-some}
-use Rattle.relative_path_files.proofs.NamesLemmas.{All-IsPlainName}
+use Rattle.relative_path_files.proofs.ForCallers.{SpellsPlace-some, All-IsPlainName}
 use Rattle.relative_path_manifest.specs.Manifest.{base_member, item_list, entries_of, OfManifest, IsRefusedManifest, IsFileOf, AreFiles, IsRefusedFor, file_text}
 
 -- the file of an entry whose path has a place with a name

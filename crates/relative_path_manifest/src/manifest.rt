@@ -84,7 +84,7 @@ impl<T: Drop> From<AllocFailed<T>> for ManifestError {
 ///
 /// The call fails at the first entry that isn't a string, climbs above the directory, leads to the
 /// directory itself, or has a name that Windows reads otherwise. So each file is below the directory, and
-/// has only names that [`crate::served`] serves. An entry that leaves the directory and comes back climbs
+/// has only names that `resolve_request` of `relative_path_files` serves. An entry that leaves the directory and comes back climbs
 /// above it too.
 ///
 /// `base` itself may not have a name that Windows reads otherwise. But `base` may climb, and then each file

@@ -4,8 +4,7 @@ use Rattle.std.proofs.Common.{rules, ◌≡◌, ◌≢◌, [], Some, length, ref
 use Rattle.relative_path.specs.RelativePath.{path_text, path_components}
 use Rattle.serde_json.specs.View.{view}
 use Rattle.relative_path_files.specs.FromTop.{SpellsPlace}
-use Rattle.relative_path_files.proofs.FromTopLemmas.{SpellsPlace-empty}
-use Rattle.relative_path_files.proofs.NamesLemmas.{any-unportable}
+use Rattle.relative_path_files.proofs.ForCallers.{SpellsPlace-empty, any-unportable}
 use Rattle.relative_path_manifest.proofs.ManifestLemmas.{IsFileOf-place}
 use Rattle.relative_path_manifest.proofs.manifest.file_of_entry.Goals as goal
 use Rattle.relative_path_manifest.proofs.manifest.file_of_entry.Goals.{In_ok-place}
