@@ -1,1 +1,2 @@
 mod ManifestLemmas
+mod ClashLemmas
