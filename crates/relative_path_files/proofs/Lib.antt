@@ -1,3 +1,4 @@
-pub mod FromTopLemmas
-pub mod NamesLemmas
-pub mod RouterLemmas
+mod FromTopLemmas
+mod NamesLemmas
+mod RouterLemmas
+pub mod ForCallers

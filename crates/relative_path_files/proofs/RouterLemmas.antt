@@ -1,13 +1,15 @@
--- The text of a place, pushed onto a root.
-use Rattle.std.proofs.Common.{◌≡◌, ◌≢◌, ◌↔◌, ℕ, false, List, [], ◌∷◌, ◌++◌, map, IsTrue, refl, sym, ap, ◌∙◌}
-use Rattle.std.specs.List.{list_any}
+-- The text of a place, pushed onto a root, and the last component of a request.
+use Rattle.std.proofs.Common.{◌≡◌, ◌≢◌, ◌-◌, ℕ, List, [], ◌∷◌, ◌++◌, map, length, get_or, Option, Some, None, refl, sym, ap, subst, ◌∙◌}
+use Rattle.std.proofs.lemmas.Option.{same_Some}
+use Rattle.std.specs.List.{All}
 use Rattle.relative_path.specs.Steps.{Step, name, components, spell, SpellThemselves}
 use Rattle.relative_path.specs.Editing.{with_separator, unslashed}
+use Rattle.relative_path.specs.Walk.{place_of}
 use Rattle.relative_path.proofs.ForCallers.{SpellThemselves-components, name-proper, unslashed-spell}
 use Rattle.relative_path_files.specs.FromTop.{SpellsPlace}
-use Rattle.relative_path_files.specs.Names.{is_unportable_step}
-use Rattle.relative_path_files.specs.Router.{IsRefusedRequest, below, added, IsServed}
-use Rattle.relative_path_files.proofs.NamesLemmas.{unportable-names, All-IsPlainName}
+use Rattle.relative_path_files.specs.Names.{IfName, IsPlainName}
+use Rattle.relative_path_files.specs.Router.{below, added, IsBelowRoot, HasPlainPlace}
+use Rattle.relative_path_files.proofs.NamesLemmas.{place-All}
 
 -- a text of names is pushed as it is
 added-spell : (root : List ℕ) (place : List (List ℕ)) → SpellThemselves (map name place)
@@ -25,24 +27,20 @@ added-spell root (n ∷ place) proper =
       starts_empty (b ∷ bs) [] e = absurd (cc)
       starts_empty (b ∷ bs) (m ∷ place) e = absurd (cc)
 
--- the root and the names of the place, if Windows reads none of them otherwise
-pub IsServed-added : (root : List ℕ) (request : List Step) (text file : List ℕ) → SpellsPlace request text
-    → list_any is_unportable_step (components text) ≡ false → file ≡ added root text → IsServed root request file
-IsServed-added root request text file spells none is =
+-- the root, and then the names of the place
+pub IsBelowRoot-added : (root : List ℕ) (request : List Step) (text path : List ℕ) → SpellsPlace request text
+    → path ≡ added root text → IsBelowRoot root request path
+IsBelowRoot-added root request text path spells is =
     let proper : SpellThemselves (map name spells.place) = rw spells.names at (SpellThemselves-components text) in
     record {
       place = spells.place;
       named = spells.named;
-      plain = All-IsPlainName request text spells none;
       text = is ∙ ap (added root) spells.spelled ∙ added-spell root spells.place proper;
     }
 
--- the result for a request with a place is `None` exactly if Windows reads a component of the place's text otherwise
-pub IsRefusedRequest-text : (request : List Step) (text : List ℕ) → SpellsPlace request text
-    → IsRefusedRequest request ↔ IsTrue (list_any is_unportable_step (components text))
-IsRefusedRequest-text request text spells = (
-  λ refused. ap (list_any is_unportable_step) spells.names ∙ unportable-names spells.place
-      ∙ (rw spells.named at refused),
-  λ holds. rw spells.named
-      (sym (unportable-names spells.place) ∙ sym (ap (list_any is_unportable_step) spells.names) ∙ holds),
-)
+-- a list has one place, and its names are plain if the components of its text are
+pub HasPlainPlace-text : (request : List Step) (text : List ℕ) → SpellsPlace request text
+    → All (IfName IsPlainName) (components text) → HasPlainPlace request
+HasPlainPlace-text request text spells plain = λ place named.
+    let same : spells.place ≡ place = same_Some spells.place place (sym spells.named ∙ named) in
+    subst (All IsPlainName) same (place-All IsPlainName request text spells plain)

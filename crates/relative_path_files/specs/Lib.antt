@@ -1,3 +1,5 @@
+pub mod Win32
 pub mod Names
+pub mod NameTests
 pub mod FromTop
 pub mod Router

@@ -1,5 +1,5 @@
 //! The places that paths lead to from the top.
-ghost use Rattle.std.specs.Prelude.{◌≡◌, ◌↔◌, IfOk, IfSome, IsNone, None};
+ghost use Rattle.std.specs.Prelude.{◌≡◌, ◌≢◌, ◌↔◌, IfErr, IfOk, IfSome, IsNone, None};
 ghost use Rattle.relative_path.specs.RelativePath.{path_components};
 ghost use Rattle.relative_path.specs.Walk.{place_of};
 ghost use Rattle.relative_path_files.specs.FromTop.{SpellsPlace};
@@ -16,6 +16,7 @@ pub fn place_from_top(
     ensures none { IfOk result (λ found. IsNone found ↔ (place_of (path_components path.entry) ≡ None)) }
     ensures some { IfOk result (λ found. IfSome found
         (λ place. SpellsPlace (path_components path.entry) place.text)) }
+    ensures err { IfErr result (λ _. place_of (path_components path.entry) ≢ None) }
 {
     if path.climb() > 0 {
         return Ok(None);

@@ -10,8 +10,8 @@
 #![tactic(auto)]
 
 pub use self::from_top::place_from_top;
-pub use self::names::has_unportable_name;
-pub use self::router::resolve_request;
+pub use self::names::{has_plain_names, is_plain_name, may_be_short_name};
+pub use self::router::{RequestError, ResolvedRequest, resolve_request, resolve_request_on_unix};
 
 mod from_top;
 mod names;

@@ -1,1 +1,2 @@
-pub mod ManifestLemmas
+mod ManifestLemmas
+mod ClashLemmas

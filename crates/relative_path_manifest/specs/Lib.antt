@@ -1,1 +1,2 @@
 pub mod Manifest
+pub mod Clash

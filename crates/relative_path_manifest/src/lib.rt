@@ -1,6 +1,8 @@
 //! Reads the files that a manifest in JSON lists. Proved from the public contracts of the crates that it uses.
 #![tactic(auto)]
 
-pub use self::manifest::{ManifestError, manifest_files};
+pub use self::clash::manifest_clash;
+pub use self::manifest::{ManifestError, manifest_base, manifest_files, manifest_files_on_unix};
 
+mod clash;
 mod manifest;

@@ -4,6 +4,7 @@ use std::alloc::Global;
 use std::fmt::{Debug, Display};
 use std::test::Fail;
 
+mod calling;
 mod manifest;
 mod refusals;
 

@@ -1,38 +1,39 @@
--- Windows reads a name of the place otherwise, or the names are plain and follow the root.
-use Rattle.std.proofs.Common.{◌≡◌, refl, sym, ◌∙◌, true≢false, string_bytes}
+-- The names of the place aren't all plain, or they are and follow the root.
+use Rattle.std.proofs.Common.{◌≡◌, Some, rules}
+use Rattle.std.proofs.lemmas.Bool.{both_ways}
 use Rattle.relative_path.specs.Steps.{components}
 use Rattle.relative_path_files.specs.FromTop.{SpellsPlace}
-use Rattle.relative_path_files.specs.Router.{added}
-use Rattle.relative_path_files.proofs.RouterLemmas.{IsServed-added, IsRefusedRequest-text}
+use Rattle.relative_path_files.proofs.RouterLemmas.{IsBelowRoot-added, HasPlainPlace-text}
+use Rattle.relative_path_files.proofs.NamesLemmas.{All-place}
+use Rattle.relative_path_files.specs.Names.{IsPlainName}
 use Rattle.relative_path_files.proofs.router.resolve_request.Goals as goal
-use Rattle.relative_path_files.proofs.router.resolve_request.Goals.{In-Some}
+use Rattle.relative_path_files.proofs.router.resolve_request.Goals.{In_ok-place}
 
 -- the place that the request leads to
-spells : (c : In-Some) → SpellsPlace (components c.args.request.now) c.in-Some.place.text
-spells c = rw c.new.ensures at (rw c.in-Some.is at c.in_ok-place.ensures.some)
+spells : (c : In_ok-place) → SpellsPlace (components c.args.request.now) c.in_ok-place.place.text
+spells c =
+    let found : c.in_ok-place_from_top.field-0 ≡ Some c.in_ok-place.place = search rules in
+    rw c.new-request.ensures at (rw found at c.in_ok-place_from_top.ensures.some)
 
-pub returns-then-has_unportable_name-clause-refused : goal.returns-then-has_unportable_name-clause-refused
-returns-then-has_unportable_name-clause-refused c =
-    let holds = sym c.has_unportable_name.ensures ∙ c.if-has_unportable_name.true in
-    let refused =
-    (IsRefusedRequest-text (components c.args.request.now) c.in-Some.place.text
-    (spells (goal.at.returns-then-has_unportable_name-clause-refused c).In-Some)).1
-    (rw c.as_relative_path-place.ensures at holds) in
-    (λ _. refused, λ _. refl)
-
-pub returns-clause-refused : goal.returns-clause-refused
-returns-clause-refused c =
-    let none = sym c.has_unportable_name.ensures ∙ c.if-has_unportable_name.false in
-    let holds = (IsRefusedRequest-text (components c.args.request.now) c.in-Some.place.text
-    (spells (goal.at.returns-clause-refused c).In-Some)).0 in (
-      λ no. absurd (true≢false no),
-      λ refused. sym (holds refused) ∙ (rw c.as_relative_path-place.ensures at none),
+pub returns-then-not-has_plain_names-clause-refused : goal.returns-then-not-has_plain_names-clause-refused
+returns-then-not-has_plain_names-clause-refused c =
+    let place = spells (goal.at.returns-then-not-has_plain_names-clause-refused c).In_ok-place in (
+      place.place,
+      place.named,
+      λ plain. both_ways c.has_plain_names.result c.if-not-has_plain_names.true
+          (c.has_plain_names.ensures.plain.1 (rw c.as_relative_path-place.ensures
+          (All-place IsPlainName (components c.args.request.now) c.in_ok-place.place.text place plain))),
     )
 
-pub returns-clause-file : goal.returns-clause-file
-returns-clause-file c =
-    let none = sym c.has_unportable_name.ensures ∙ c.if-has_unportable_name.false in
-    let file : string_bytes c.in_ok-file_in_root.field-0 ≡ added c.args.root.now c.in-Some.place.text =
-    rw c.as_relative_path-place.ensures at c.in_ok-file_in_root.ensures in
-    IsServed-added c.args.root.now (components c.args.request.now) c.in-Some.place.text _ (spells (goal.at.returns-clause-file c).In-Some)
-    (rw c.as_relative_path-place.ensures at none) file
+pub returns-clause-path : goal.returns-clause-path
+returns-clause-path c =
+    IsBelowRoot-added c.args.root.now (components c.args.request.now) c.in_ok-place.place.text _
+    (spells (goal.at.returns-clause-path c).In_ok-place)
+    (rw c.as_relative_path-place.ensures at c.in_ok-path.ensures)
+
+pub returns-clause-plain : goal.returns-clause-plain
+returns-clause-plain c =
+    HasPlainPlace-text (components c.args.request.now) c.in_ok-place.place.text
+    (spells (goal.at.returns-clause-plain c).In_ok-place)
+    (rw c.as_relative_path-place.ensures at
+    (c.has_plain_names.ensures.plain.0 c.if-not-has_plain_names.false))
