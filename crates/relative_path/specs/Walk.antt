@@ -15,6 +15,10 @@ walk base (cur ∷ cs) = walk base cs
 walk base (up ∷ cs) = option_and_then (λ place. walk place cs) (above base)
 walk base (name n ∷ cs) = walk (base ++ n ∷ []) cs
 
+-- the place where components lead from the top; no place if they climb above it
+abbrev pub place_of : List Step → Option (List (List ℕ))
+place_of cs = walk [] cs
+
 -- from every base both lead to the same place, or neither leads to a place
 pub record IsSame (cs ds : List Step) : Type 0 where
   pub everywhere : (base : List (List ℕ)) → walk base cs ≡ walk base ds

@@ -2,13 +2,13 @@
 use Rattle.std.proofs.Common.{◌≡◌, ◌≢◌, ◌↔◌, ℕ, ◌<◌, List, length, Option, Some, None, IsNone, IfSome, Result, Ok, Err, IfOk, inl, inr, [], ◌++◌, refl, sym, ap, ◌∙◌, arith}
 use Rattle.std.proofs.lemmas.List.{length-map}
 use Rattle.relative_path.specs.Steps.{Step}
-use Rattle.relative_path.specs.Walk.{walk, IsSame}
+use Rattle.relative_path.specs.Walk.{walk, IsSame, place_of}
 use Rattle.relative_path.specs.Relating.{Leads, IsReachable, IsShortestText}
 use Rattle.relative_path.specs.RelativePathBuf.{Buffer}
 use Rattle.relative_path.proofs.ForCallers.{IsSame-refl, IsSame-sym, IsSame-trans, IsReachable-same, IsShortestText-same}
 use Rattle.relative_path_moves.specs.declared.move_error.ReferenceError.{ReferenceError}
 use Rattle.relative_path_moves.specs.declared.move_error.ReferenceError.TheVariants.{AboveRoot, NoPath, OutOfMemory}
-use Rattle.relative_path_moves.specs.Places.{place_of, directory}
+use Rattle.relative_path_moves.specs.Places.{directory}
 use Rattle.relative_path_moves.specs.PlaceIndex.{IsFirstAt, IsNoneAt}
 use Rattle.relative_path_moves.specs.Moves.{Move, move_at, MovesFrom, AreApart, IsUnmoved, IsTarget, AtNewPath, ForTargetOfLink, ClimbsAbove, BelowTop}
 use Rattle.relative_path_moves.specs.MoveError.{Refuses}

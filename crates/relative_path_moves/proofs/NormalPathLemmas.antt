@@ -2,10 +2,9 @@
 use Rattle.std.proofs.Common.{◌≡◌, ◌↔◌, ℕ, List, [], ◌∷◌, map, Some, unwrap_or, refl, sym, ap, ◌∙◌}
 use Rattle.std.proofs.lemmas.Option.{none-some}
 use Rattle.relative_path.specs.Steps.{Step, cur, up, name, components, spell}
-use Rattle.relative_path.specs.Walk.{IsSame}
+use Rattle.relative_path.specs.Walk.{IsSame, place_of}
 use Rattle.relative_path.specs.Normalizing.{AreNames, IsNormal, IsNormalText, IsNormalTextOf}
 use Rattle.relative_path.proofs.ForCallers.{walk-names, IsSame-refl, IsSame-sym, IsSame-trans, IsSame-append_left, IsSame-append_right, IsSame-name_up}
-use Rattle.relative_path_moves.specs.Places.{place_of}
 
 -- ---- lists
 

@@ -5,14 +5,13 @@ use Rattle.std.proofs.lemmas.Option.{none-some}
 use Rattle.std.specs.Option.{option_eq}
 use lib.Dec.{eqb}
 use Rattle.relative_path.specs.Steps.{Step, up, components}
-use Rattle.relative_path.specs.Walk.{walk}
+use Rattle.relative_path.specs.Walk.{walk, place_of}
 use Rattle.relative_path.specs.Editing.{IsPopped}
 use Rattle.relative_path.specs.Relating.{LeadsApart}
 use Rattle.relative_path.specs.RelativePath.{path_text}
 use Rattle.relative_path.specs.declared.path.RelativePath.{RelativePath}
 use Rattle.relative_path.proofs.ForCallers.{components-up}
 use Rattle.relative_path.proofs.OnLiterals.{relative_path_on_literals}
-use Rattle.relative_path_moves.specs.Places.{place_of}
 
 -- the empty text is its own directory
 IsPopped-empty : IsPopped [] []

@@ -4,7 +4,7 @@ use Rattle.std.proofs.lemmas.Bool.{cases_lt, cases_order}
 use Rattle.std.proofs.lemmas.List.{append_cancel_left, length-map, length-append, length-take-le, map-append, take-map}
 use Rattle.std.proofs.lemmas.Option.{none-some}
 use Rattle.relative_path.specs.Steps.{Step, cur, up, name, components, spell, step_text, SpellsItself, SpellThemselves}
-use Rattle.relative_path.specs.Walk.{IsSame}
+use Rattle.relative_path.specs.Walk.{IsSame, place_of}
 use Rattle.relative_path.specs.Editing.{pushed}
 use Rattle.relative_path.specs.Slices.{IsFront}
 use Rattle.relative_path.specs.Components.{step_of, TakesLast}
@@ -12,7 +12,7 @@ use Rattle.relative_path.specs.declared.component.Component.{Component}
 use Rattle.relative_path.specs.Naming.{last_name}
 use Rattle.relative_path.specs.Normalizing.{AreNames, IsNormal, IsNormalText, IsNormalTextOf}
 use Rattle.relative_path.proofs.ForCallers.{IsSame-trans, IsSame-append_right, IsSame-last_name, last_name-name, kept-name, IsNormal-append_left, spelled-front, walk-names, SpellThemselves-components, components-place, IsSame-sym, IsSame-place, components-pushed, spell-pushed}
-use Rattle.relative_path_moves.specs.Places.{place_of, directory}
+use Rattle.relative_path_moves.specs.Places.{directory}
 use Rattle.relative_path_moves.specs.PlaceIndex.{path_at, IsFirstAt, IsNoneAt}
 use Rattle.relative_path_moves.specs.Moves.{Move, move_at, AreNamed, AreApart}
 use Rattle.relative_path_moves.specs.MoveTable.{olds_of}

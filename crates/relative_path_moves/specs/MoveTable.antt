@@ -1,13 +1,12 @@
 -- What a table of moves holds, and the path that it gives to a target.
 use Rattle.std.specs.Prelude.{◌≡◌, ◌≢◌, List, ◌++◌, map, Result, Ok, Err, Option, Some, None, ⊤}
 use Rattle.relative_path.specs.Steps.{Step}
-use Rattle.relative_path.specs.Walk.{IsSame}
+use Rattle.relative_path.specs.Walk.{IsSame, place_of}
 use Rattle.relative_path.specs.Relating.{IsReachable, IsShortestText}
 use Rattle.relative_path.specs.RelativePathBuf.{Buffer}
 use Rattle.relative_path_moves.specs.declared.move_error.ReferenceError.{ReferenceError}
 use Rattle.relative_path_moves.specs.declared.move_error.ReferenceError.TheVariants.{AboveRoot, NoPath, OutOfMemory}
 use Rattle.relative_path_moves.specs.declared.place_index.PlaceIndex.{PlaceIndex}
-use Rattle.relative_path_moves.specs.Places.{place_of}
 use Rattle.relative_path_moves.specs.PlaceIndex.{Indexes}
 use Rattle.relative_path_moves.specs.Moves.{Move, AreNamed, AreApart, IsTarget}
 

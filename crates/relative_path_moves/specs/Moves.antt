@@ -1,12 +1,12 @@
 -- Moves of files, and where a reference in one of the files has to lead.
 use Rattle.std.specs.Prelude.{◌≡◌, ◌≢◌, ◌⊎◌, ◌<◌, ◌≤◌, ℕ, List, [], ◌++◌, map, length, None, slice_index_or}
 use Rattle.relative_path.specs.Steps.{Step}
-use Rattle.relative_path.specs.Walk.{IsSame}
+use Rattle.relative_path.specs.Walk.{IsSame, place_of}
 use Rattle.relative_path.specs.Naming.{last_name}
 use Rattle.relative_path.specs.Relating.{IsReachable, IsShortestText}
 use Rattle.relative_path.specs.RelativePath.{path_components}
 use Rattle.relative_path.specs.declared.path.RelativePath.{RelativePath}
-use Rattle.relative_path_moves.specs.Places.{place_of, directory}
+use Rattle.relative_path_moves.specs.Places.{directory}
 
 -- a move of a file: the components of its old path and of its new one
 pub record Move : Type 0 where

@@ -2,7 +2,7 @@
 use Rattle.std.specs.Prelude.{◌≡◌, ◌⊎◌, ◌<◌, ◌≤◌, ℕ, List, ◌++◌, map, length, take, slice_index_or, [], Option, Some, None}
 use Rattle.relative_path.specs.Steps.{Step, name}
 use Rattle.relative_path.specs.Normalizing.{IsNormalTextOf}
-use Rattle.relative_path_moves.specs.Places.{place_of}
+use Rattle.relative_path.specs.Walk.{place_of}
 use Rattle.relative_path_moves.specs.PlaceIndex.{IsFirstAt, IsNoneAt}
 use Rattle.relative_path_moves.specs.Moves.{Move, move_at, AreNamed}
 

@@ -117,7 +117,7 @@ impl<'a> MoveTable<'a> {
 
     /// Returns what a reference in the file of move number `i` becomes after all the moves. A reference is
     /// a *path* here, without scheme, query, fragment and percent signs: a percent sign is a byte of a
-    /// name. For the targets of the links of a page call `rewritten` of the crate `relative_path_uses`.
+    /// name. For the targets of the links of a page call `rewrite_links` of the crate `relative_path_links`.
     ///
     /// The result is the shortest path from the file's new directory to the target of the reference. The
     /// target is the place where the reference led before the moves; if that is the old path of a move,
@@ -157,8 +157,8 @@ impl<'a> MoveTable<'a> {
 
     /// Returns what a reference becomes in the page that was at this path before the moves. The page
     /// itself may move or stay. A reference is a *path* here, without scheme, query, fragment and percent
-    /// signs: a percent sign is a byte of a name. For the targets of the links of a page call `rewritten`
-    /// of the crate `relative_path_uses`.
+    /// signs: a percent sign is a byte of a name. For the targets of the links of a page call `rewrite_links`
+    /// of the crate `relative_path_links`.
     ///
     /// Returns `None` if the reference, as it is written, still leads from the page's new directory to
     /// its target. Otherwise the result is the path that [`MoveTable::moved`] describes. So a caller that

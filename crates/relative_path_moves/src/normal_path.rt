@@ -5,11 +5,11 @@ ghost use Rattle.std.specs.Cmp.Lexicographic.{nat_list_eq_equiv, pointwise};
 ghost use Rattle.std.specs.Fmt.{debug_str};
 ghost use Rattle.std.specs.Bool.{nat_eq};
 ghost use Rattle.relative_path.specs.Steps.{components};
-ghost use Rattle.relative_path.specs.Walk.{IsSame};
+ghost use Rattle.relative_path.specs.Walk.{IsSame, place_of};
 ghost use Rattle.relative_path.specs.Editing.{IsPopped};
 ghost use Rattle.relative_path.specs.Normalizing.{AreNames, IsNormalText, IsNormalTextOf};
 ghost use Rattle.relative_path.specs.RelativePath.{path_text, path_components};
-ghost use Rattle.relative_path_moves.specs.Places.{directory, place_of};
+ghost use Rattle.relative_path_moves.specs.Places.{directory};
 
 use crate::places::directory;
 use relative_path::{RelativePath, RelativePathBuf};

@@ -2,7 +2,8 @@
 ghost use Rattle.std.specs.Prelude.{◌≡◌, ◌↔◌, IfOk, IsSome, IsTrue};
 ghost use Rattle.relative_path.specs.Editing.{IsPopped};
 ghost use Rattle.relative_path.specs.RelativePath.{path_text, path_components};
-ghost use Rattle.relative_path_moves.specs.Places.{directory, place_of};
+ghost use Rattle.relative_path.specs.Walk.{place_of};
+ghost use Rattle.relative_path_moves.specs.Places.{directory};
 
 use relative_path::RelativePath;
 use std::alloc::{AllocError, Global};

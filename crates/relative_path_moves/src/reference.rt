@@ -22,7 +22,7 @@ use std::alloc::Global;
 
 /// Returns what a reference in a file that moved becomes after all the moves. A reference is a *path*
 /// here, without scheme, query, fragment and percent signs: a percent sign is a byte of a name. For the
-/// targets of the links of a page call `rewritten` of the crate `relative_path_uses`.
+/// targets of the links of a page call `rewrite_links` of the crate `relative_path_links`.
 ///
 /// A move is the old and the new path of a file, both relative to one root. The reference is in
 /// the file of move number `i`. The result is the shortest path from that file's new directory to the

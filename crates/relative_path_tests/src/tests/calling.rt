@@ -60,11 +60,11 @@ pub fn depth(path: RelativePath<'_>) -> usize
     path.components().count()
 }
 
-/// Whether a path stays below its base. If so, one list of names leads, from every base, from the base to
-/// where the path leads.
+/// Whether a path stays below its base. If so, there is one list of names, the same for all bases. From each
+/// base, the path leads to the base followed by these names.
 pub fn stays_below(path: RelativePath<'_>) -> bool
-    ensures answer { IsTrue result ↔ IsSome (walk [] (path_components path.entry)) }
-    ensures place { IsTrue result → (place : List (List ℕ)) × LeadsBelow [] place (path_components path.entry) }
+    ensures from_top { IsTrue result ↔ IsSome (walk [] (path_components path.entry)) }
+    ensures names { IsTrue result → (names : List (List ℕ)) × LeadsBelow [] names (path_components path.entry) }
 {
     path.climb() == 0
 }
@@ -153,7 +153,7 @@ pub fn link(
 }
 
 /// The normal form of a path. If the path leads from the top to a place that has a name, the result's
-/// file name is the place's last name, and the result's directory has the names before it.
+/// file name is the place's last name, and the result's parent has the names before it.
 pub fn place_of(alloc: Global, path: RelativePath<'_>) -> Result<RelativePathBuf, AllocError>
     ensures file_name { IfOk result (λ normal. (place : List (List ℕ)) (n : List ℕ)
         → walk [] (path_components path.entry) ≡ Some (place ++ n ∷ [])

@@ -4,5 +4,5 @@ use Rattle.relative_path.proofs.ForCallers.{IsReachable-from_top}
 use Rattle.relative_path_tests.proofs.tests.calling.link_from.Goals as goal
 
 pub returns : goal.returns
-returns c = λ inside. true_from_ne_false _ (λ none.
-    c.in_ok-found.ensures.none.0 none (IsReachable-from_top _ _ inside))
+returns c = λ inside. true_from_ne_false _ (λ is_none.
+    c.in_ok-found.ensures.none.0 is_none (IsReachable-from_top _ _ inside))

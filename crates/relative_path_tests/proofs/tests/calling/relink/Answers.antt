@@ -1,4 +1,4 @@
--- The directory of a page has the page's components and one step up.
+-- The directory in which a page is has the page's components and one step up.
 use Rattle.std.proofs.Common.{◌≡◌, [], ◌∷◌, ◌++◌, refl}
 use Rattle.relative_path.specs.RelativePath.{path_text, path_components}
 use Rattle.relative_path.specs.Steps.{up}
@@ -8,7 +8,7 @@ use Rattle.relative_path_tests.proofs.tests.calling.relink.Goals as goal
 pub returns : goal.returns
 returns c =
     let ups = components-up (path_text c.new.result) c.new.ensures in
-    let target : path_components c.as_relative_path-2.result
+    let target_is : path_components c.as_relative_path-2.result
     ≡ (path_components c.args.page ++ up ∷ []) ++ path_components c.args.link =
     rw (
       c.as_relative_path-2.ensures,
@@ -17,4 +17,4 @@ returns c =
       c.in_ok-directory.ensures.components,
       ups,
     ) refl in
-    rw target at c.in_ok-copied.ensures.way.shortest
+    rw target_is at c.in_ok-copied.ensures.way.shortest

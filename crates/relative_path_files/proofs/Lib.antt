@@ -1,0 +1,3 @@
+pub mod FromTopLemmas
+pub mod NamesLemmas
+pub mod RouterLemmas

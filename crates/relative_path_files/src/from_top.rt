@@ -1,0 +1,26 @@
+//! The places that paths lead to from the top.
+ghost use Rattle.std.specs.Prelude.{◌≡◌, ◌↔◌, IfOk, IfSome, IsNone, None};
+ghost use Rattle.relative_path.specs.RelativePath.{path_components};
+ghost use Rattle.relative_path.specs.Walk.{place_of};
+ghost use Rattle.relative_path_files.specs.FromTop.{SpellsPlace};
+
+use relative_path::{RelativePath, RelativePathBuf};
+use std::alloc::{AllocError, Global};
+
+// The place where a path leads from the top, as a path of its names. `None` if the path climbs above the
+// top. Allocates once, unless the path climbs or is empty.
+pub fn place_from_top(
+    alloc: Global,
+    path: RelativePath<'_>,
+) -> Result<Option<RelativePathBuf>, AllocError>
+    ensures none { IfOk result (λ found. IsNone found ↔ (place_of (path_components path.entry) ≡ None)) }
+    ensures some { IfOk result (λ found. IfSome found
+        (λ place. SpellsPlace (path_components path.entry) place.text)) }
+{
+    if path.climb() > 0 {
+        return Ok(None);
+    }
+    let mut place = RelativePathBuf::with_capacity(alloc, path.as_str().len())?;
+    path.normalize_into(&mut place);
+    Ok(Some(place))
+}

@@ -1,0 +1,5 @@
+pub mod UrlPathLemmas
+pub mod SiteMapLemmas
+pub mod TargetsLemmas
+pub mod RewriterLemmas
+pub mod SiteLemmas

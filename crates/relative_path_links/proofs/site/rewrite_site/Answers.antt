@@ -1,0 +1,16 @@
+-- After the last page all are rewritten, and so keep their links.
+use Rattle.std.proofs.Common.{drop, arith}
+use Rattle.std.proofs.lemmas.List.{drop_all}
+use Rattle.relative_path_links.proofs.SiteLemmas.{SiteSoFar-end, KeepTheirLinks-rewritten}
+use Rattle.relative_path_links.proofs.site.rewrite_site.Goals as goal
+
+pub returns-clause-rewritten : goal.returns-clause-rewritten
+returns-clause-rewritten c =
+    SiteSoFar-end c.args.tree.now c.args.pages.now (drop c.loop-page.page-index c.args.pages.now) c.loop-page.moved.items
+    (drop_all c.loop-page.page-index c.args.pages.now (grind (arith, c.loop-page-test.false))) c.loop-page.invariant
+
+pub returns-clause-links : goal.returns-clause-links
+returns-clause-links c =
+    KeepTheirLinks-rewritten c.args.tree.now c.args.pages.now c.loop-page.moved.items c.requires
+    (SiteSoFar-end c.args.tree.now c.args.pages.now (drop c.loop-page.page-index c.args.pages.now) c.loop-page.moved.items
+    (drop_all c.loop-page.page-index c.args.pages.now (grind (arith, c.loop-page-test.false))) c.loop-page.invariant)

@@ -1,0 +1,54 @@
+//! The targets of a page's links that moves can change.
+ghost use Rattle.std.specs.Prelude.{◌≡◌, map, IfOk};
+ghost use Rattle.relative_path_links.specs.Targets.{HasTargets, span_of};
+
+use crate::target::Target;
+use markdown_targets::{LinkTarget, Span, TargetKind, link_targets};
+use std::alloc::{AllocError, Global};
+use target_paths::TargetSyntax;
+
+/// Returns the targets of a page's links in the order of the page, each with the syntax of its text.
+///
+/// These are the targets that [`link_targets`] finds: of links, images and definitions in Markdown, and of
+/// the attributes `href` and `src` in HTML. In a page with a `<base href>` no target leads on from the page's
+/// directory, so the result is empty. Tests show which targets are found; no clause does.
+///
+/// Allocates what [`link_targets`] does, and a list of the targets. Time is linear in the page.
+///
+/// ```
+/// let page = "[a](b.md#top) `[g](h)` <img src='c.png'>";
+/// let found = targets(alloc, page)?;
+/// let link = Target { syntax: TargetSyntax::Markdown, start: 4, end: 12 };
+/// let image = Target { syntax: TargetSyntax::Attribute, start: 33, end: 38 };
+/// assert_eq!(rt; found.as_slice(), [link, image].as_slice());
+/// ```
+pub fn targets(alloc: Global, page: &str) -> Result<Vec<Target>, AllocError>
+    ensures in_order { IfOk result (λ targets. HasTargets page.now 0 targets.items) }
+{
+    let found = link_targets(alloc, page)?;
+    if found.has_base {
+        return Ok(Vec::new(alloc));
+    }
+    with_syntax(alloc, &found.targets)
+}
+
+// The targets, each with the syntax of its text.
+fn with_syntax(alloc: Global, links: &[LinkTarget]) -> Result<Vec<Target>, AllocError>
+    ensures { IfOk result (λ targets. map span_of targets.items ≡ map (λ link. link.span) links.now) }
+{
+    let mut targets = Vec::with_capacity(alloc, links.len())?;
+    for link in links {
+        let Span { start, end } = link.span;
+        let syntax = syntax_of(link.kind);
+        targets.push(Target { syntax, start, end })?;
+    }
+    Ok(targets)
+}
+
+// The syntax of a target's text.
+fn syntax_of(kind: TargetKind) -> TargetSyntax {
+    match kind {
+        TargetKind::Inline | TargetKind::Definition => TargetSyntax::Markdown,
+        TargetKind::Attribute(_) => TargetSyntax::Attribute,
+    }
+}

@@ -1,0 +1,23 @@
+//! The links of a site's pages: what they become when files move, and the links from page to page. Proved from
+//! the public contracts of the crates that it uses.
+//!
+//! A module uses modules of the layer below, and those to its left in its own layer.
+//!
+//! ```text
+//! pages of a site       site
+//! pages and links       site_map  finder  rewriter
+//! targets               target
+//! ```
+#![tactic(auto)]
+
+pub use self::finder::targets;
+pub use self::rewriter::{RewrittenPage, Unchanged, rewrite_links};
+pub use self::site::{MovedSitePage, SitePage, rewrite_site};
+pub use self::site_map::{SiteMap, SiteMapError};
+pub use self::target::{Target, are_in_order};
+
+mod finder;
+mod rewriter;
+mod site;
+mod site_map;
+mod target;

@@ -1,0 +1,43 @@
+//! Vectors of `relative_path_links`.
+use relative_path::RelativePathBuf;
+use std::alloc::Global;
+use std::fmt::{Debug, Display};
+use std::test::Fail;
+
+mod calling;
+mod finder;
+mod pages;
+mod refusals;
+mod rewriter;
+mod site_map;
+
+fn text_of(buf: &RelativePathBuf) -> &str {
+    buf.as_relative_path().as_str()
+}
+
+// Fails in the words of this case where another value was found than is expected. A call of it costs
+// a proof a fourth of what `assert_eq!` with a message does.
+fn same<T: PartialEq + Debug>(case: &str, found: &T, expected: &T) -> Result<(), Fail> {
+    if found == expected {
+        Ok(())
+    } else {
+        Err(Fail::new(format_args!("{case:?}: {found:?}, not {expected:?}")))
+    }
+}
+
+// Fails where a value prints other words than these, as it is and in a width and a precision that
+// hold them.
+fn prints<T: Display>(alloc: Global, value: &T, words: &str) -> Result<(), Fail> {
+    let printed = format!(in alloc; "{value}|{value:5.99}")?;
+    let expected = format!(in alloc; "{words}|{words}")?;
+    same(words, &printed, &expected)
+}
+
+// Fails where other files are there than are expected.
+fn are(files: &[RelativePathBuf], expected: &[&str]) -> Result<(), Fail> {
+    same("files", &files.len(), &expected.len())?;
+    for (file, text) in files.iter().zip(expected) {
+        same("a file", &text_of(file), text)?;
+    }
+    Ok(())
+}

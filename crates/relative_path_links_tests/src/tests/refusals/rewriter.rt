@@ -1,0 +1,104 @@
+//! The finder and the rewriter of links.
+use super::long_text;
+use super::marks::{begin, end};
+use crate::tests::same;
+use relative_path::RelativePath;
+use relative_path_links::{SitePage, rewrite_links, rewrite_site, targets};
+use relative_path_moves::TreeMoves;
+use std::alloc::Global;
+use std::test::Fail;
+
+// The rewriter's call between two marks, on a page that moves into a directory. It fails where memory
+// was there and the page becomes another text than is expected.
+fn moved_down(alloc: Global, page: &str, expected: &str) -> Result<(), Fail> {
+    let moves = [(RelativePath::new("a.md"), RelativePath::new("b/a.md"))];
+    let tree = TreeMoves::new(alloc, &moves)?;
+    let found = targets(alloc, page)?;
+    let moved = tree.moved_page(alloc, RelativePath::new("a.md"))?;
+    begin(alloc);
+    let answer = rewrite_links(alloc, page, &found, &tree, &moved);
+    end(alloc, answer.is_err())?;
+    match answer {
+        Ok(new) => same(page, &new.text.as_str(), &expected),
+        Err(_) => Ok(()),
+    }
+}
+
+// Requests: 19 4 4 1s 4 1s 1s 7 7 4 4 1s 4 1s 1s 7 7 38 = 1
+#[test]
+fn two_links(rt: HostRuntime) -> Result<(), Fail> {
+    moved_down(
+        rt.alloc(),
+        "[c](c.md) [d](d.md)",
+        "[c](../c.md) [d](../d.md)",
+    )
+}
+
+// Requests: 1048581 1048576 1048576 524288s 1048576 1s 524288s 1048579 1048579 2097162 = 1
+#[test]
+fn a_long_link(rt: HostRuntime) -> Result<(), Fail> {
+    let long = long_text(rt.alloc())?;
+    let page = format!(in rt.alloc(); "[c]({long})")?;
+    let expected = format!(in rt.alloc(); "[c](../{long})")?;
+    moved_down(rt.alloc(), page.as_str(), expected.as_str())
+}
+
+// Requests: 12 7 7 2s 7 64 = 2
+#[test]
+fn a_link_that_is_left(rt: HostRuntime) -> Result<(), Fail> {
+    moved_down(rt.alloc(), "[c](../c.md)", "[c](../c.md)")
+}
+
+// Requests: 9 = 1, = 0
+#[test]
+fn a_page_without_links(rt: HostRuntime) -> Result<(), Fail> {
+    moved_down(rt.alloc(), "no link](", "no link](")?;
+    moved_down(rt.alloc(), "", "")
+}
+
+// A site of one page, which moves into a directory.
+fn site_moved_down(alloc: Global, text: &str, expected: &str) -> Result<(), Fail> {
+    let moves = [(RelativePath::new("a.md"), RelativePath::new("b/a.md"))];
+    let tree = TreeMoves::new(alloc, &moves)?;
+    let found = targets(alloc, text)?;
+    let path = RelativePath::new("a.md");
+    let page = SitePage {
+        path,
+        text,
+        targets: &found,
+    };
+    begin(alloc);
+    let answer = rewrite_site(alloc, &[page], &tree);
+    end(alloc, answer.is_err())?;
+    match answer {
+        Ok(pages) => {
+            let new = pages.first().ok_or("a page")?;
+            same(text, &new.path.as_relative_path().as_str(), &"b/a.md")?;
+            same(text, &new.page.text.as_str(), &expected)
+        }
+        Err(_) => Ok(()),
+    }
+}
+
+// Requests: 72 1s 4 7 1s 1 9 4 4 1s 4 1s 1s 7 7 18 = 3
+#[test]
+fn a_site(rt: HostRuntime) -> Result<(), Fail> {
+    site_moved_down(rt.alloc(), "[c](c.md)", "[c](../c.md)")
+}
+
+fn finds(alloc: Global, page: &str, count: usize) -> Result<(), Fail> {
+    begin(alloc);
+    let answer = targets(alloc, page);
+    end(alloc, answer.is_err())?;
+    match answer {
+        Ok(found) => same(page, &found.len(), &count),
+        Err(_) => Ok(()),
+    }
+}
+
+// Requests: 21 96 648 64 96 96 48 = 1, 648 = 0
+#[test]
+fn links_of_a_page(rt: HostRuntime) -> Result<(), Fail> {
+    finds(rt.alloc(), "[c](c.md) ![d](d.png)", 2)?;
+    finds(rt.alloc(), "", 0)
+}

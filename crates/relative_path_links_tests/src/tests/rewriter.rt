@@ -1,0 +1,300 @@
+use super::pages::PAGE;
+use super::same;
+use relative_path::RelativePath;
+use relative_path_links::{RewrittenPage, Unchanged, rewrite_links, targets};
+use relative_path_moves::TreeMoves;
+use std::alloc::Global;
+use std::test::Fail;
+use target_paths::WhyUnknown;
+
+fn as_paths<'a>((old, new): (&'a str, &'a str)) -> (RelativePath<'a>, RelativePath<'a>) {
+    (RelativePath::new(old), RelativePath::new(new))
+}
+
+// Moves of three pages and an image; the page is the first.
+const MOVES: [(&str, &str); 4] = [
+    ("docs/a.md", "docs/sub/b.md"),
+    ("docs/c.md", "e/f.md"),
+    ("img/x.png", "art/y.png"),
+    ("docs/über.md", "docs/sub/日本.md"),
+];
+
+// Pages with links, and what they become.
+const LINKED: [(&str, &str); 11] = [
+    ("[c](c.md)", "[c](../../e/f.md)"),
+    ("![x](../img/x.png)\n", "![x](../../art/y.png)\n"),
+    (
+        "[d](d.md#top) [c](c.md?q#f)",
+        "[d](../d.md#top) [c](../../e/f.md?q#f)",
+    ),
+    (
+        "[c](./c.md \"A title\") (c.md)",
+        "[c](../../e/f.md \"A title\") (c.md)",
+    ),
+    (
+        "[c](c.md)\r\n[d]( <d.md> )\r\n",
+        "[c](../../e/f.md)\r\n[d]( <../d.md> )\r\n",
+    ),
+    (
+        "[ü](über.md) [z](zürich/日.png)",
+        "[ü](日本.md) [z](../zürich/日.png)",
+    ),
+    ("[no](c.md\n[c](c.md) ](", "[no](c.md\n[c](../../e/f.md) ]("),
+    ("[self](a.md) [here](.)", "[self](b.md) [here](..)"),
+    (
+        "[up](sub) [in](sub/x:y.md) [g](g/)",
+        "[up](./) [in](x%3Ay.md) [g](../g/)",
+    ),
+    ("[c][c]\n\n[c]: c.md\n", "[c][c]\n\n[c]: ../../e/f.md\n"),
+    (
+        "`[c](c.md)` [g](<g h.md>)",
+        "`[c](c.md)` [g](<../g%20h.md>)",
+    ),
+];
+
+// Pages that stay as they are.
+const KEPT: [&str; 7] = [
+    "",
+    "no link: a](b and [c] (d\n",
+    "a) b) c)\n\n)",
+    "[a](#a) [q](?q) [none]()",
+    "[h](https://x.org/c.md) [m](mailto:x) [w](C:\\c.md)",
+    "[r](/c.md) [s](//x.org/c.md)",
+    "] (c.md) [c]\n(c.md)\r\n",
+];
+
+// What a page at a path becomes after these moves.
+fn after(
+    alloc: Global,
+    moves: &[(RelativePath<'_>, RelativePath<'_>)],
+    from: &str,
+    page: &str,
+) -> Result<RewrittenPage, Fail> {
+    let tree = TreeMoves::new(alloc, moves)?;
+    let found = targets(alloc, page)?;
+    let moved = tree.moved_page(alloc, RelativePath::new(from))?;
+    Ok(rewrite_links(alloc, page, &found, &tree, &moved)?)
+}
+
+// Fails where it becomes another text than is expected, or a link is reported as unchanged.
+fn becomes(
+    alloc: Global,
+    moves: &[(RelativePath<'_>, RelativePath<'_>)],
+    from: &str,
+    page: &str,
+    expected: &str,
+) -> Result<(), Fail> {
+    let new = after(alloc, moves, from, page)?;
+    same(page, &new.text.as_str(), &expected)?;
+    same(page, &new.unchanged.as_slice(), &[].as_slice())
+}
+
+#[test]
+fn moves_the_targets_of_links(rt: HostRuntime) -> Result<(), Fail> {
+    let moves = MOVES.map(as_paths);
+    for (page, expected) in &LINKED {
+        becomes(rt.alloc(), &moves, "docs/a.md", page, expected)?;
+    }
+    Ok(())
+}
+
+#[test]
+fn leaves_the_rest_as_it_is(rt: HostRuntime) -> Result<(), Fail> {
+    let moves = MOVES.map(as_paths);
+    for page in &KEPT {
+        becomes(rt.alloc(), &moves, "docs/a.md", page, page)?;
+    }
+    Ok(())
+}
+
+#[test]
+fn moves_a_page_that_stays(rt: HostRuntime) -> Result<(), Fail> {
+    let moves = MOVES.map(as_paths);
+    let page = "[c](./../docs/c.md) [d](./d.md)";
+    let expected = "[c](../e/f.md) [d](./d.md)";
+    becomes(rt.alloc(), &moves, "docs/d.md", page, expected)
+}
+
+// Old and new paths of a page, the page with one unchanged link, and where and why.
+const UNCHANGED: [(&str, &str, &str, usize, Unchanged); 6] = [
+    ("a.md", "b/a.md", "[e](../e.md)", 4, Unchanged::AboveRoot),
+    ("d.md", "../x/d.md", "[e](e.md)", 4, Unchanged::NoPath),
+    ("a\0/a.md", "b/a.md", "[x](x.md)", 4, Unchanged::Nul),
+    (
+        "a.md",
+        "b.md",
+        "[x](a%2Fb)",
+        4,
+        Unchanged::Unknown(WhyUnknown::EncodedSlash),
+    ),
+    (
+        "a.md",
+        "b.md",
+        "<img src='&T;'>",
+        10,
+        Unchanged::Unknown(WhyUnknown::CharacterReference),
+    ),
+    (
+        "a.md",
+        "b.md",
+        "[x](<%ff>)",
+        5,
+        Unchanged::Unknown(WhyUnknown::NotUtf8),
+    ),
+];
+
+// Fails where the link isn't left so.
+fn leaves(
+    alloc: Global,
+    (old, new, page, at, why): (&str, &str, &str, usize, Unchanged),
+) -> Result<(), Fail> {
+    let moves = [(RelativePath::new(old), RelativePath::new(new))];
+    let moved = after(alloc, &moves, old, page)?;
+    same(old, &moved.text.as_str(), &page)?;
+    same(old, &moved.unchanged.as_slice(), &[(at, why)].as_slice())
+}
+
+#[test]
+fn leaves_a_link_that_it_cant_move(rt: HostRuntime) -> Result<(), Fail> {
+    for row in &UNCHANGED {
+        leaves(rt.alloc(), *row)?;
+    }
+    Ok(())
+}
+
+#[test]
+fn moves_the_others_beside_a_link_that_is_left(rt: HostRuntime) -> Result<(), Fail> {
+    let moves = [("My Docs/a.md", "b/a.md")].map(as_paths);
+    let page = "[x](%2f) [y](<y.md#z>) [z](../../z.md)";
+    let moved = after(rt.alloc(), &moves, "My Docs/a.md", page)?;
+    let expected = "[x](%2f) [y](<../My%20Docs/y.md#z>) [z](../../z.md)";
+    same(page, &moved.text.as_str(), &expected)?;
+    let slash = Unchanged::Unknown(WhyUnknown::EncodedSlash);
+    same(page, &moved.unchanged.as_slice(), &[(4, slash)].as_slice())
+}
+
+// Moves of files with awkward names, and of directories.
+const AWKWARD: [(&str, &str); 9] = [
+    ("my file.md", "docs/my file.md"),
+    ("a_b.md", "docs/a_b.md"),
+    ("img/x.png", "art/x.png"),
+    ("c.md", "d%20e.md"),
+    ("b.md", "b/c#d.md"),
+    ("old", "new"),
+    ("(a)", "a`|&"),
+    ("g\n", "g>"),
+    ("old/in", "in:"),
+];
+
+// Links of a page that stays at the root, and what they become.
+const SPELLED: [(&str, &str); 12] = [
+    (
+        "[x](my%20file.md) [z](a\\_b.md) [w](c.md) <img src=\"img/x.png\">",
+        "[x](docs/my%20file.md) [z](docs/a_b.md) [w](d%2520e.md) <img src=\"art/x.png\">",
+    ),
+    ("[b](b.md#top) [t](#top)", "[b](b/c%23d.md#top) [t](#top)"),
+    (
+        "[o](old/a.md) [o](old) [o](old/) [p](old2/a.md)",
+        "[o](new/a.md) [o](new) [o](new/) [p](old2/a.md)",
+    ),
+    ("[o](old/in/x.md)", "[o](in%3A/x.md)"),
+    ("[a](%28a%29/x.md)", "[a](a%60%7C%26/x.md)"),
+    ("[g](<g%0a/x.md>)", "[g](<g%3E/x.md>)"),
+    ("<a href=c.md?q>c</a>", "<a href=d%2520e.md?q>c</a>"),
+    (
+        "<a href='&#99;.md&#38;'>c</a> <a href=' c.md '>c</a>",
+        "<a href='&#99;.md&#38;'>c</a> <a href='d%2520e.md'>c</a>",
+    ),
+    ("[i](../../issues)", "[i](../../issues)"),
+    (
+        "[c](./c.md) [d](x/../d.md)",
+        "[c](d%2520e.md) [d](x/../d.md)",
+    ),
+    (
+        "[c](c.md\\#c) [d](c.md&#35;d)",
+        "[c](d%2520e.md\\#c) [d](d%2520e.md&#35;d)",
+    ),
+    ("[h](http://h/x) [r](/c.md)", "[h](http://h/x) [r](/c.md)"),
+];
+
+#[test]
+fn reads_and_writes_targets_as_a_browser_does(rt: HostRuntime) -> Result<(), Fail> {
+    let moves = AWKWARD.map(as_paths);
+    for (page, expected) in &SPELLED {
+        becomes(rt.alloc(), &moves, "index.md", page, expected)?;
+    }
+    Ok(())
+}
+
+#[test]
+fn reports_nothing_where_nothing_moves(rt: HostRuntime) -> Result<(), Fail> {
+    let page = "[x](a%2Fb) <img src='&T;'> [y](../../y)";
+    becomes(rt.alloc(), &[], "docs/a.md", page, page)
+}
+
+#[test]
+fn keeps_links_within_a_directory_that_moves(rt: HostRuntime) -> Result<(), Fail> {
+    let moves = [("docs", "guide"), ("img", "docs")].map(as_paths);
+    let page = "[b](b.md) [b](../docs/b.md) [c](./sub/../c.md) [i](../img/i.png) [o](../../o)";
+    let expected = "[b](b.md) [b](b.md) [c](./sub/../c.md) [i](../docs/i.png) [o](../../o)";
+    becomes(rt.alloc(), &moves, "docs/a.md", page, expected)
+}
+
+#[test]
+fn moves_a_link_in_each_line(rt: HostRuntime) -> Result<(), Fail> {
+    let page = "- [c](c.md)\n".repeat(rt.alloc(), 500)?;
+    let expected = "- [c](../../e/f.md)\n".repeat(rt.alloc(), 500)?;
+    let moves = MOVES.map(as_paths);
+    becomes(rt.alloc(), &moves, "docs/a.md", &page, &expected)
+}
+
+// Fails where a page that moves lacks one of these parts then, or isn't this text after it moves back.
+fn moves_and_back(
+    alloc: Global,
+    there: &[(RelativePath<'_>, RelativePath<'_>)],
+    page: &str,
+    parts: &[&str],
+    expected: &str,
+) -> Result<(), Fail> {
+    let mut back = Vec::new(alloc);
+    for (old, new) in there {
+        back.push((*new, *old))?;
+    }
+    let (from, now) = there.first().ok_or("a move")?;
+    let moved = after(alloc, there, from.as_str(), page)?;
+    for part in parts {
+        same(part, &moved.text.contains(*part), &true)?;
+    }
+    becomes(alloc, &back, now.as_str(), &moved.text, expected)
+}
+
+// Parts of the page, as it is after its moves.
+const PARTS: [&str; 8] = [
+    "[the callers](calling.md), which move too",
+    "[the errors](calling.md#errors), with a fragment",
+    "[the decisions](../docs/DECISIONS.md \"why it is made so\")",
+    "[the contracts](../docs/contracts/)",
+    "[this page](links.md)",
+    "[the front page](../README.md), [a part of this page](#links-of-a-page-that-moves)",
+    "`[the callers](CALLING.md)`, in code",
+    "[calling]: calling.md\n",
+];
+
+// The page with the two links that still lead to their targets from where it was, which
+// are written as it had them between.
+fn as_moved_back(alloc: Global) -> Result<String, Fail> {
+    let (before, rest) = PAGE.split_once("(DECISIONS.md ").ok_or("decisions")?;
+    let (between, after) = rest.split_once("(contracts/)").ok_or("contracts")?;
+    Ok(format!(in alloc; "{before}(../docs/DECISIONS.md {between}(../docs/contracts/){after}")?)
+}
+
+#[test]
+fn moves_a_page_and_back(rt: HostRuntime) -> Result<(), Fail> {
+    let there = [
+        ("docs/PAGE.md", "guide/links.md"),
+        ("docs/CALLING.md", "guide/calling.md"),
+    ]
+    .map(as_paths);
+    let expected = as_moved_back(rt.alloc())?;
+    moves_and_back(rt.alloc(), &there, PAGE, &PARTS, expected.as_str())
+}

@@ -1,0 +1,248 @@
+use super::{prints, same};
+use relative_path::RelativePath;
+use relative_path_links::{SiteMap, SiteMapError};
+use std::alloc::Global;
+use std::test::Fail;
+
+// The pages of a site: two of them spelt alike, one above the others, one named like a directory,
+// and some whose names hold colons.
+const PAGES: [&str; 20] = [
+    "index.html",
+    "guide/index.html",
+    "guide/start.html",
+    "guide/install/linux.html",
+    "guide/install/mac.html",
+    "./guide//start.html",
+    "guide",
+    "blog/index.html",
+    "blog/2024/a.html",
+    "blog/2024/b: again.html",
+    "blog/2025/index.html",
+    "blog/2025/12/01/x.html",
+    "api/v1/paths.html",
+    "api/v2/paths.html",
+    "api/v2/../v1/../v2/errors.html",
+    "a:b/c.html",
+    "img/logo.svg",
+    "über/日本.html",
+    "../legal.html",
+    "404.html/.",
+];
+
+// Paths, and the page that each finds.
+const FOUND: [(&str, Option<usize>); 12] = [
+    ("guide/../index.html", Some(0)),
+    ("guide/start.html", Some(2)),
+    ("./guide//start.html", Some(2)),
+    ("guide/.", Some(6)),
+    ("blog/2023/../2024/./a.html", Some(8)),
+    ("api/v2/errors.html", Some(14)),
+    ("über/x/../日本.html", Some(17)),
+    ("a/../../legal.html", Some(18)),
+    ("404.html", Some(19)),
+    ("blog", None),
+    ("../site/index.html", None),
+    ("", None),
+];
+
+#[test]
+fn finds_a_page_by_any_spelling(rt: HostRuntime) -> Result<(), Fail> {
+    let pages = PAGES.map(RelativePath::new);
+    let site = SiteMap::new(rt.alloc(), &pages)?;
+    for (path, page) in &FOUND {
+        let found = site.find(rt.alloc(), RelativePath::new(path))?;
+        same(path, &found, page)?;
+    }
+    Ok(())
+}
+
+// The numbers of two pages, and the reference from the first to the second.
+const HREFS: [(usize, usize, &str); 16] = [
+    (0, 1, "guide/index.html"),
+    (1, 0, "../index.html"),
+    (1, 5, "start.html"),
+    (5, 8, "../blog/2024/a.html"),
+    (2, 6, "../guide"),
+    (3, 6, "../../guide"),
+    (6, 6, "guide"),
+    (6, 2, "guide/start.html"),
+    (11, 19, "../../../../404.html"),
+    (14, 12, "../v1/paths.html"),
+    (8, 9, "b%3A%20again.html"),
+    (0, 9, "blog/2024/b:%20again.html"),
+    (0, 15, "a%3Ab/c.html"),
+    (1, 15, "../a:b/c.html"),
+    (8, 18, "../../../legal.html"),
+    (19, 17, "über/日本.html"),
+];
+
+// Fails where the first of these pages refers to the second by another reference than is expected.
+fn refers(
+    alloc: Global,
+    site: &SiteMap<'_>,
+    from: usize,
+    to: usize,
+    expected: Option<&str>,
+) -> Result<(), Fail> {
+    if from >= site.len() || to >= site.len() {
+        return Err(Fail::new("no such page"));
+    }
+    let href = site.href(alloc, from, to)?;
+    let found = href.as_ref().map(String::as_str);
+    same("a reference", &(from, to, found), &(from, to, expected))
+}
+
+#[test]
+fn refers_from_a_page_to_another(rt: HostRuntime) -> Result<(), Fail> {
+    let pages = PAGES.map(RelativePath::new);
+    let site = SiteMap::new(rt.alloc(), &pages)?;
+    for (from, to, href) in &HREFS {
+        refers(rt.alloc(), &site, *from, *to, Some(*href))?;
+    }
+    Ok(())
+}
+
+#[test]
+fn no_reference_leads_down_to_a_page_of_unknown_names(rt: HostRuntime) -> Result<(), Fail> {
+    let pages = PAGES.map(RelativePath::new);
+    let site = SiteMap::new(rt.alloc(), &pages)?;
+    refers(rt.alloc(), &site, 18, 0, None)
+}
+
+// Pages whose names have bytes that mean something else in a URL or in HTML.
+const AWKWARD: [&str; 11] = [
+    "index.html",
+    "docs/a b.html",
+    "docs/a?b.html",
+    "docs/a%20b.html",
+    "docs/a#b.html",
+    "\\\\evil.com",
+    "docs/\"q\"&'s'<i>.html",
+    "a:b/c:d.html",
+    "docs/tab\t\r\n.html",
+    "docs/%2e%2e/..%2f.html",
+    "100%/über%.html",
+];
+
+const AWKWARD_HREFS: [(usize, usize, &str); 14] = [
+    (0, 1, "docs/a%20b.html"),
+    (0, 2, "docs/a%3Fb.html"),
+    (0, 3, "docs/a%2520b.html"),
+    (0, 4, "docs/a%23b.html"),
+    (4, 2, "a%3Fb.html"),
+    (0, 5, "%5C%5Cevil.com"),
+    (1, 5, "../%5C%5Cevil.com"),
+    (0, 6, "docs/%22q%22%26%27s%27%3Ci%3E.html"),
+    (0, 7, "a%3Ab/c:d.html"),
+    (7, 7, "c%3Ad.html"),
+    (1, 8, "tab%09%0D%0A.html"),
+    (1, 9, "%252e%252e/..%252f.html"),
+    (9, 1, "../a%20b.html"),
+    (5, 10, "100%25/über%25.html"),
+];
+
+#[test]
+fn encodes_the_names(rt: HostRuntime) -> Result<(), Fail> {
+    let pages = AWKWARD.map(RelativePath::new);
+    let site = SiteMap::new(rt.alloc(), &pages)?;
+    for (from, to, href) in &AWKWARD_HREFS {
+        refers(rt.alloc(), &site, *from, *to, Some(*href))?;
+    }
+    Ok(())
+}
+
+// Directories' pages, whose paths end in a slash, and other pages.
+const DIRECTORIES: [&str; 8] = [
+    "index.html",
+    "guide/",
+    "guide/a.html",
+    "./guide/x/../b//",
+    "guide/b/c/d.html",
+    "guide",
+    "a:b/",
+    "../above/",
+];
+
+const DIRECTORY_HREFS: [(usize, usize, &str); 18] = [
+    (0, 1, "guide/"),
+    (1, 0, "../index.html"),
+    (1, 2, "a.html"),
+    (2, 1, "./"),
+    (1, 1, "./"),
+    (1, 3, "b/"),
+    (3, 1, "../"),
+    (3, 4, "c/d.html"),
+    (4, 3, "../"),
+    (4, 1, "../../"),
+    (5, 1, "guide/"),
+    (1, 5, "../guide"),
+    (0, 6, "a%3Ab/"),
+    (1, 6, "../a:b/"),
+    (6, 6, "./"),
+    (6, 3, "../guide/b/"),
+    (1, 7, "../../above/"),
+    (7, 7, "./"),
+];
+
+#[test]
+fn refers_from_and_to_directories(rt: HostRuntime) -> Result<(), Fail> {
+    let pages = DIRECTORIES.map(RelativePath::new);
+    let site = SiteMap::new(rt.alloc(), &pages)?;
+    for (from, to, href) in &DIRECTORY_HREFS {
+        refers(rt.alloc(), &site, *from, *to, Some(*href))?;
+    }
+    refers(rt.alloc(), &site, 7, 1, None)
+}
+
+#[test]
+fn finds_a_directory_with_and_without_a_slash(rt: HostRuntime) -> Result<(), Fail> {
+    let pages = DIRECTORIES.map(RelativePath::new);
+    let site = SiteMap::new(rt.alloc(), &pages)?;
+    for (path, page) in &[
+        ("guide", Some(1)),
+        ("guide/", Some(1)),
+        ("guide/b", Some(3)),
+        ("a:b/.", Some(6)),
+        ("/", None),
+    ] {
+        let found = site.find(rt.alloc(), RelativePath::new(path))?;
+        same(path, &found, page)?;
+    }
+    Ok(())
+}
+
+#[test]
+fn refuses_a_page_without_a_file_name(rt: HostRuntime) -> Result<(), Fail> {
+    for (texts, refusal) in &[
+        (["a.html", "b/.."], SiteMapError::NoFileName(1)),
+        (["", "b.html"], SiteMapError::NoFileName(0)),
+        (["b/", "/"], SiteMapError::NoFileName(1)),
+        (["/.", ".."], SiteMapError::NoFileName(0)),
+    ] {
+        let pages = texts.map(RelativePath::new);
+        let site = SiteMap::new(rt.alloc(), &pages);
+        let found = (*texts, site.err());
+        same("pages", &found, &(*texts, Some(*refusal)))?;
+    }
+    Ok(())
+}
+
+#[test]
+fn takes_no_pages(rt: HostRuntime) -> Result<(), Fail> {
+    let site = SiteMap::new(rt.alloc(), &[])?;
+    same("no pages", &site.len(), &0)
+}
+
+#[test]
+fn refusals_print_their_words(rt: HostRuntime) -> Result<(), Fail> {
+    for (refusal, words) in &[
+        (
+            SiteMapError::NoFileName(1_000),
+            "page 1000 lacks a file name",
+        ),
+        (SiteMapError::OutOfMemory, "out of memory"),
+    ] {
+        prints(rt.alloc(), refusal, words)?;
+    }
+    Ok(())
+}

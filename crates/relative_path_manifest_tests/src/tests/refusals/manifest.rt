@@ -1,0 +1,74 @@
+//! The manifest reader.
+use super::long_text;
+use super::marks::{begin, end};
+use crate::tests::{are, same};
+use relative_path::RelativePathBuf;
+use relative_path_manifest::{ManifestError, manifest_files};
+use serde_json::Value;
+use std::alloc::Global;
+use std::test::Fail;
+
+// The result of the reader for a manifest, between two marks.
+fn marked(
+    alloc: Global,
+    manifest: &Value,
+) -> Result<Result<Vec<RelativePathBuf>, ManifestError>, Fail> {
+    begin(alloc);
+    let answer = manifest_files(alloc, manifest);
+    let error = answer.as_ref().err();
+    end(alloc, error == Some(&ManifestError::OutOfMemory))?;
+    Ok(answer)
+}
+
+// Requests: 4 3s 5 96 3 3s 3 = 3
+#[test]
+fn two_files(rt: HostRuntime) -> Result<(), Fail> {
+    let manifest = Value::from_str(rt.alloc(), r#"{"base": "a", "files": ["b//c", "./d"]}"#)?;
+    match marked(rt.alloc(), &manifest)? {
+        Ok(files) => are(&files, &["a/b/c", "a/d"]),
+        Err(error) => same("a refusal", &error, &ManifestError::OutOfMemory),
+    }
+}
+
+// Requests: 1048576 524288s 1048576 96 = 2
+#[test]
+fn a_long_file(rt: HostRuntime) -> Result<(), Fail> {
+    let long = long_text(rt.alloc())?;
+    let json = format!(in rt.alloc(); r#"{{"base": "", "files": ["{long}"]}}"#)?;
+    let manifest = Value::from_str(rt.alloc(), json.as_str())?;
+    match marked(rt.alloc(), &manifest)? {
+        Ok(files) => are(&files, &[long.as_str()]),
+        Err(error) => same("a refusal", &error, &ManifestError::OutOfMemory),
+    }
+}
+
+// Requests: = 0, = 0
+#[test]
+fn a_manifest_of_no_file(rt: HostRuntime) -> Result<(), Fail> {
+    let manifest = Value::from_str(rt.alloc(), r#"{"base": "", "files": []}"#)?;
+    match marked(rt.alloc(), &manifest)? {
+        Ok(files) => are(&files, &[])?,
+        Err(error) => same("no file", &error, &ManifestError::OutOfMemory)?,
+    }
+    let manifest = Value::from_str(rt.alloc(), r#"{"base": "", "files": [""]}"#)?;
+    let error = marked(rt.alloc(), &manifest)?.err();
+    same("a file", &error, &Some(ManifestError::LeadsToBase(0)))
+}
+
+// Requests: = 0
+#[test]
+fn a_manifest_without_a_base(rt: HostRuntime) -> Result<(), Fail> {
+    let manifest = Value::from_str(rt.alloc(), r#"{"files": ["b"]}"#)?;
+    let error = marked(rt.alloc(), &manifest)?.err();
+    same("a base", &error, &Some(ManifestError::NoBase))
+}
+
+// Requests: 1 2s 3 96 = 0
+#[test]
+fn a_file_that_climbs(rt: HostRuntime) -> Result<(), Fail> {
+    let manifest = Value::from_str(rt.alloc(), r#"{"base": "a", "files": ["b", "../c"]}"#)?;
+    match marked(rt.alloc(), &manifest)?.err() {
+        Some(ManifestError::OutOfMemory) => Ok(()),
+        error => same("a file", &error, &Some(ManifestError::ClimbsAbove(1))),
+    }
+}

@@ -1,9 +1,0 @@
-pub mod FromTopLemmas
-pub mod NamesLemmas
-pub mod RouterLemmas
-pub mod ManifestLemmas
-pub mod UrlPathLemmas
-pub mod SiteMapLemmas
-pub mod TargetsLemmas
-pub mod RewriterLemmas
-pub mod SiteLemmas

@@ -1,9 +1,0 @@
-pub mod Names
-pub mod FromTop
-pub mod Router
-pub mod Manifest
-pub mod UrlPath
-pub mod SiteMap
-pub mod Targets
-pub mod Rewriter
-pub mod Site

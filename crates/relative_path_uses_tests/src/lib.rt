@@ -1,5 +1,0 @@
-//! The tests of `relative_path_uses`, in a crate of their own: so the gate proves its functions once.
-#![tactic(auto)]
-
-#[cfg(test)]
-mod tests;
