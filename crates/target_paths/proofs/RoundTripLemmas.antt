@@ -11,12 +11,12 @@ use Rattle.target_paths.specs.declared.target.TargetSyntax.TheVariants.{Markdown
 use Rattle.target_paths.specs.declared.target.WhyUnknown.{WhyUnknown}
 use Rattle.target_paths.specs.declared.target.WhyUnknown.TheVariants.{EncodedNul, EncodedSlash}
 use Rattle.target_paths.specs.declared.place.Place.{Place}
-use Rattle.target_paths.specs.declared.place.Place.TheVariants.{Start, FirstSegment, AfterSlash}
+use Rattle.target_paths.specs.declared.place.Place.TheVariants.{Start, Mark, FirstSegment, AfterSlash}
 use Rattle.target_paths.specs.Pieces.{plain, pieces, followed, joined, total_size}
 use Rattle.target_paths.specs.Reading.{is_tail_byte, before_tail, path_pieces, trimmed, path_before, unknown, meaning_decoded, meaning_of_url, meaning, IsTail, BeginsRelative}
 use Rattle.target_paths.specs.Source.{source_piece, is_escape, reference_piece, reference_character, byte_piece, byte_read, character_read, is_tab_or_line_end}
 use Rattle.target_paths.specs.Url.{is_blank, before_text, without_leading, without_trailing, is_slash, is_colon, is_scheme_byte, has_scheme, is_not_relative, decoded_byte, has_digits, digits_byte, url_piece}
-use Rattle.target_paths.specs.Writing.{is_reserved, is_escaped, place_after, hexadecimal, percent_text, written_byte, written, without_slashes, some_path, path_written, target_of, is_nul, IsTakenAs, ends_target}
+use Rattle.target_paths.specs.Writing.{is_reserved, is_template_byte, is_block_byte, is_line_byte, is_digit_byte, last_byte, is_mark, begins_mark, is_escaped_at_start, is_escaped, start_of, place_after, hexadecimal, percent_text, written_byte, written, without_slashes, some_path, path_written, spelled, target_of, is_nul, IsTakenAs, ends_target, begins_template, begins_block}
 use Rattle.target_paths.proofs.ReadingLemmas.{meaning-read, meaning-decoded, meaning-utf8}
 
 -- ---- what is written is calm: it has no reserved byte but percent signs
@@ -46,14 +46,31 @@ percent_text-calm : (b : ℕ) → b < 256 → AreCalm (percent_text b)
 percent_text-calm b byte =
     (refl, (hexadecimal-calm (b / 16) (high_digit b byte), (hexadecimal-calm (b % 16) (low_digit b), tt)))
 
-kept-calm : (place : Place) (b : ℕ) → is_escaped place b ≡ false → is_calm b ≡ true
-kept-calm Start b keeps = grind (arith, nat_tests)
-kept-calm FirstSegment b keeps = grind (arith, nat_tests)
-kept-calm AfterSlash b keeps = grind (arith, nat_tests)
+or_none : (a b : Bool) → (a || b) ≡ false → a ≡ false
+or_none true b none = absurd cc
+or_none false b none = refl
+
+-- a byte that isn't escaped at the start of a mark isn't escaped at another start
+kept-start : (b : ℕ) → is_escaped Mark b ≡ false → is_escaped Start b ≡ false
+kept-start b keeps = or_none (is_escaped_at_start b) (begins_mark b) keeps
+
+kept_at_start-plain : (b : ℕ) → is_escaped_at_start b ≡ false → is_reserved b ≡ false
+kept_at_start-plain b keeps = grind (arith, nat_tests)
+
+-- no byte that stays is reserved
+kept-plain : (place : Place) (b : ℕ) → is_escaped place b ≡ false → is_reserved b ≡ false
+kept-plain Start b keeps = kept_at_start-plain b keeps
+kept-plain Mark b keeps = kept_at_start-plain b (kept-start b keeps)
+kept-plain FirstSegment b keeps = or_none (is_reserved b) (is_colon b) keeps
+kept-plain AfterSlash b keeps = keeps
+
+plain-calm : (b : ℕ) → is_reserved b ≡ false → is_calm b ≡ true
+plain-calm b plain = ap (λ t. not t || b == 37) plain
 
 -- an escaped byte is ASCII
 escaped-ascii : (place : Place) (b : ℕ) → is_escaped place b ≡ true → b < 128
 escaped-ascii Start b escaped = grind (arith, nat_tests)
+escaped-ascii Mark b escaped = grind (arith, nat_tests)
 escaped-ascii FirstSegment b escaped = grind (arith, nat_tests)
 escaped-ascii AfterSlash b escaped = grind (arith, nat_tests)
 
@@ -66,7 +83,7 @@ written_byte-calm : (place : Place) (b : ℕ) → AreCalm (written_byte (is_esca
 written_byte-calm place b =
     by_escape (λ t. AreCalm (written_byte t b)) (is_escaped place b)
     (λ escaped. let ascii = escaped-ascii place b escaped in percent_text-calm b (omega (arith, ascii)))
-    (λ keeps. (kept-calm place b keeps, tt))
+    (λ keeps. (plain-calm b (kept-plain place b keeps), tt))
 
 pub written-calm : (place : Place) (bs : List ℕ) → AreCalm (written place bs)
 written-calm place [] = tt
@@ -252,8 +269,20 @@ segment-no_scheme [] = refl
 segment-no_scheme (b ∷ bs) =
     written-no_scheme (is_escaped FirstSegment b) b bs (colon-escaped b) (segment-no_scheme bs)
 
-colon-escaped_start : (b : ℕ) → is_escaped Start b ≡ false → is_colon b ≡ false
-colon-escaped_start b keeps = grind (arith, nat_tests)
+-- the place at the start of a path
+abbrev start : Bool → Place
+start mark = if mark then Mark else Start
+
+colon-kept_at_start : (b : ℕ) → is_escaped_at_start b ≡ false → is_colon b ≡ false
+colon-kept_at_start b keeps = grind (arith, nat_tests)
+
+colon-escaped_start : (mark : Bool) (b : ℕ) → is_escaped (start mark) b ≡ false → is_colon b ≡ false
+colon-escaped_start true b keeps = colon-kept_at_start b (kept-start b keeps)
+colon-escaped_start false b keeps = colon-kept_at_start b keeps
+
+after_start : (mark : Bool) (b : ℕ) → place_after (start mark) b ≡ place_after FirstSegment b
+after_start true b = refl
+after_start false b = refl
 
 relative-by_first : (b : ℕ) (rest : List ℕ) → is_slash b ≡ false → has_scheme (b ∷ rest) ≡ false
     → is_not_relative (b ∷ rest) ≡ false
@@ -269,11 +298,14 @@ start-relative true b rest other scheme =
     relative-by_first 37 (hexadecimal (b / 16) ∷ hexadecimal (b % 16) ∷ rest) refl scheme
 start-relative false b rest other scheme = relative-by_first b rest other scheme
 
-written-relative : (b : ℕ) (bs : List ℕ) → is_slash b ≡ false → is_not_relative (written Start (b ∷ bs)) ≡ false
-written-relative b bs other =
-    start-relative (is_escaped Start b) b (written (place_after Start b) bs) other
-    (no_scheme (written Start (b ∷ bs))
-    (written-no_scheme (is_escaped Start b) b bs (colon-escaped_start b) (segment-no_scheme bs)))
+written-relative : (mark : Bool) (b : ℕ) (bs : List ℕ) → is_slash b ≡ false
+    → is_not_relative (written (start mark) (b ∷ bs)) ≡ false
+written-relative mark b bs other =
+    let escaped = is_escaped (start mark) b in
+    start-relative escaped b (written (place_after (start mark) b) bs) other
+    (no_scheme (written (start mark) (b ∷ bs))
+    (ap (λ place. ends_scheme (written_byte escaped b ++ written place bs)) (after_start mark b)
+    ∙ written-no_scheme escaped b bs (colon-escaped_start mark b) (segment-no_scheme bs)))
 
 -- ---- what is written is decoded to the path
 
@@ -288,18 +320,15 @@ decoded-byte b bs some =
       of true = refl
       of false = refl
 
-kept-no_percent : (place : Place) (b : ℕ) → is_escaped place b ≡ false → (b == 37) ≡ false
-kept-no_percent Start b keeps = grind (arith, nat_tests)
-kept-no_percent FirstSegment b keeps = grind (arith, nat_tests)
-kept-no_percent AfterSlash b keeps = grind (arith, nat_tests)
+plain-no_percent : (b : ℕ) → is_reserved b ≡ false → (b == 37) ≡ false
+plain-no_percent b plain = grind (arith, nat_tests)
 
-kept-some : (place : Place) (b : ℕ) → is_escaped place b ≡ false → is_nul b ≡ false
-kept-some Start b keeps = grind (arith, nat_tests)
-kept-some FirstSegment b keeps = grind (arith, nat_tests)
-kept-some AfterSlash b keeps = grind (arith, nat_tests)
+plain-some : (b : ℕ) → is_reserved b ≡ false → is_nul b ≡ false
+plain-some b plain = grind (arith, nat_tests)
 
 escaped-no_slash : (place : Place) (b : ℕ) → is_escaped place b ≡ true → is_slash b ≡ false
 escaped-no_slash Start b escaped = grind (arith, nat_tests)
+escaped-no_slash Mark b escaped = grind (arith, nat_tests)
 escaped-no_slash FirstSegment b escaped = grind (arith, nat_tests)
 escaped-no_slash AfterSlash b escaped = grind (arith, nat_tests)
 
@@ -363,21 +392,22 @@ written-decoded place (b ∷ bs) =
     by_escape (λ t. joined (pieces url_piece 0 (written_byte t b ++ rest)) ≡ decoded (b ∷ bs)) (is_escaped place b)
     (λ escaped. let ascii = escaped-ascii place b escaped in
     decoded-escaped b rest bs (omega (arith, ascii)) (escaped-no_slash place b escaped) is)
-    (λ keeps. decoded-kept b rest bs (kept-no_percent place b keeps) (kept-some place b keeps) is)
+    (λ keeps. let plain = kept-plain place b keeps in
+    decoded-kept b rest bs (plain-no_percent b plain) (plain-some b plain) is)
 
 -- ---- the whole target
 
-pub meaning-written : (syntax : TargetSyntax) (b : ℕ) (bs tail : List ℕ) → is_slash b ≡ false → IsTail syntax tail
-    → meaning syntax (written Start (b ∷ bs) ++ tail)
-    ≡ meaning_decoded (decoded (b ∷ bs)) (length (written Start (b ∷ bs)))
-meaning-written syntax b bs tail other is =
-    let ws = written Start (b ∷ bs) in
-    let calm = written-calm Start (b ∷ bs) in
+pub meaning-spelled : (syntax : TargetSyntax) (b : ℕ) (bs tail : List ℕ) → is_slash b ≡ false → IsTail syntax tail
+    → meaning syntax (spelled (b ∷ bs) ++ tail) ≡ meaning_decoded (decoded (b ∷ bs)) (length (spelled (b ∷ bs)))
+meaning-spelled syntax b bs tail other is =
+    let ws = spelled (b ∷ bs) in
+    let calm = written-calm (start_of (b ∷ bs)) (b ∷ bs) in
     let parts = path_pieces-calm syntax ws tail calm is in
     meaning-read syntax (ws ++ tail) (Ok ws) (length ws) (ap joined parts ∙ joined-plain ws)
     (sym (ap total_size parts ∙ total_size-plain ws))
     ∙ ap (λ text. meaning_of_url text (length ws)) (trimmed-calm syntax (nat_lt (length ws) (length (ws ++ tail))) ws calm)
-    ∙ meaning-decoded ws (decoded (b ∷ bs)) (length ws) (written-relative b bs other) (written-decoded Start (b ∷ bs))
+    ∙ meaning-decoded ws (decoded (b ∷ bs)) (length ws) (written-relative (is_mark (b ∷ bs)) b bs other)
+    (written-decoded (start_of (b ∷ bs)) (b ∷ bs))
 
 path_written-relative : (path : List ℕ) → BeginsRelative (path_written path)
 path_written-relative [] = refl
@@ -398,9 +428,9 @@ path_written-nul (b ∷ bs) =
 
 -- a text that begins as a relative path is read back
 meaning-relative : (path : List ℕ) → BeginsRelative path
-    → IsTakenAs (written Start path) (meaning_decoded (decoded path) (length (written Start path)))
+    → IsTakenAs (spelled path) (meaning_decoded (decoded path) (length (spelled path)))
 meaning-relative [] none syntax tail is = absurd none
-meaning-relative (b ∷ bs) other syntax tail is = meaning-written syntax b bs tail other is
+meaning-relative (b ∷ bs) other syntax tail is = meaning-spelled syntax b bs tail other is
 
 -- a path without NUL is read back
 pub target_of-read : (path : List ℕ) → IsUtf8 (path_written path) → list_any is_nul path ≡ false
@@ -428,7 +458,131 @@ AreCalm-whole (w ∷ ws) (first, others) =
     ap (λ t. t || list_any ends_target ws) (calm-whole w first) ∙ AreCalm-whole ws others
 
 pub target_of-whole : (path : List ℕ) → list_any ends_target (target_of path) ≡ false
-target_of-whole path = AreCalm-whole (target_of path) (written-calm Start (path_written path))
+target_of-whole path = AreCalm-whole (target_of path) (written-calm (start_of (path_written path)) (path_written path))
+
+-- ---- what is written begins no template and no block
+
+-- the text ends in a dot
+abbrev ends_in_dot : List ℕ → Bool
+ends_in_dot [] = false
+ends_in_dot (b ∷ []) = b == 46
+ends_in_dot (b ∷ c ∷ cs) = ends_in_dot (c ∷ cs)
+
+last_byte-dot : (bs : List ℕ) → (last_byte bs == 46) ≡ ends_in_dot bs
+last_byte-dot [] = refl
+last_byte-dot (b ∷ []) = refl
+last_byte-dot (b ∷ c ∷ cs) =
+    let at : length (b ∷ c ∷ cs) - 1 ≡ suc (length (c ∷ cs) - 1) = omega arith in
+    ap (λ k. get_or (b ∷ c ∷ cs) k 0 == 46) at ∙ last_byte-dot (c ∷ cs)
+
+ends_in_dot-next : (b : ℕ) (bs : List ℕ) → 0 < length bs → ends_in_dot (b ∷ bs) ≡ ends_in_dot bs
+ends_in_dot-next b [] some = absurd (omega (arith, some))
+ends_in_dot-next b (c ∷ cs) some = refl
+
+written-some : (place : Place) (b : ℕ) (bs : List ℕ) → 0 < length (written place (b ∷ bs))
+written-some place b bs =
+    by_escape (λ t. 0 < length (written_byte t b ++ written (place_after place b) bs)) (is_escaped place b)
+    (λ _. omega arith) (λ _. omega arith)
+
+hexadecimal-no_dot : (d : ℕ) → (hexadecimal d == 46) ≡ false
+hexadecimal-no_dot d = grind (arith, nat_tests)
+
+dot-kept : (place : Place) (b : ℕ) → is_escaped place b ≡ true → (b == 46) ≡ false
+dot-kept Start b escaped = grind (arith, nat_tests)
+dot-kept Mark b escaped = grind (arith, nat_tests)
+dot-kept FirstSegment b escaped = grind (arith, nat_tests)
+dot-kept AfterSlash b escaped = grind (arith, nat_tests)
+
+ends_in_dot-written : (place : Place) (bs : List ℕ) → ends_in_dot (written place bs) ≡ ends_in_dot bs
+ends_in_dot-written place [] = refl
+ends_in_dot-written place (b ∷ []) =
+    by_escape (λ t. ends_in_dot (written_byte t b ++ []) ≡ (b == 46)) (is_escaped place b)
+    (λ escaped. hexadecimal-no_dot (b % 16) ∙ sym (dot-kept place b escaped)) (λ keeps. refl)
+ends_in_dot-written place (b ∷ c ∷ cs) =
+    let rest = written (place_after place b) (c ∷ cs) in
+    let some = written-some (place_after place b) c cs in
+    let is = ends_in_dot-written (place_after place b) (c ∷ cs) in
+    by_escape (λ t. ends_in_dot (written_byte t b ++ rest) ≡ ends_in_dot (c ∷ cs)) (is_escaped place b)
+    (λ escaped. ends_in_dot-next (hexadecimal (b % 16)) rest some ∙ is) (λ keeps. ends_in_dot-next b rest some ∙ is)
+
+-- a text that isn't a line of dashes and underscores
+written-no_line : (place : Place) (bs : List ℕ) → list_all is_line_byte bs ≡ false
+    → list_all is_line_byte (written place bs) ≡ false
+written-no_line place [] none = none
+written-no_line place (b ∷ bs) none =
+    let rest = written (place_after place b) bs in
+    by_escape (λ t. list_all is_line_byte (written_byte t b ++ rest) ≡ false) (is_escaped place b) (λ escaped. refl)
+    (λ keeps.
+    by_escape
+    (λ t. (t && list_all is_line_byte bs) ≡ false → (t && list_all is_line_byte rest) ≡ false)
+    (is_line_byte b)
+    (λ line others. written-no_line (place_after place b) bs others)
+    (λ other _. refl)
+    none)
+
+by_dot : (line digit : Bool) (dot other : Bool) → (line || digit && dot) ≡ false → other ≡ dot → (digit && other) ≡ false
+by_dot true digit dot other none same = absurd cc
+by_dot false digit dot other none same = ap (λ t. digit && t) same ∙ none
+
+-- a first byte that stays, and what is written after it
+kept-no_mark : (place : Place) (b : ℕ) (bs : List ℕ) → is_mark (b ∷ bs) ≡ false → is_escaped place b ≡ false
+    → is_mark (written place (b ∷ bs)) ≡ false
+kept-no_mark place b bs none keeps =
+    let line = list_all is_line_byte (b ∷ bs) in
+    let dot = last_byte (b ∷ bs) == 46 in
+    let first : written place (b ∷ bs) ≡ b ∷ written (place_after place b) bs =
+    ap (λ t. written_byte t b ++ written (place_after place b) bs) keeps in
+    let same : (last_byte (written place (b ∷ bs)) == 46) ≡ dot =
+    last_byte-dot (written place (b ∷ bs)) ∙ ends_in_dot-written place (b ∷ bs) ∙ sym (last_byte-dot (b ∷ bs)) in
+    ap (λ t. t || is_digit_byte (get_or (written place (b ∷ bs)) 0 0) && (last_byte (written place (b ∷ bs)) == 46))
+    (written-no_line place (b ∷ bs) (or_none line (is_digit_byte b && dot) none))
+    ∙ ap (λ text. is_digit_byte (get_or text 0 0) && (last_byte (written place (b ∷ bs)) == 46)) first
+    ∙ by_dot line (is_digit_byte b) dot (last_byte (written place (b ∷ bs)) == 46) none same
+
+start-kept : (b : ℕ) → is_escaped Start b ≡ false → (is_template_byte b ≡ false) × (is_block_byte b ≡ false)
+start-kept b keeps = (grind (arith, nat_tests), grind (arith, nat_tests))
+
+mark-first : (b : ℕ) (bs : List ℕ) → is_mark (b ∷ bs) ≡ true → is_escaped Mark b ≡ true
+mark-first b bs mark = grind (arith, nat_tests)
+
+-- the text begins no template and no block
+abbrev BeginsNothing : List ℕ → Type 0
+BeginsNothing text = (begins_template text ≡ false) × (begins_block text ≡ false)
+
+spelled-begins : (b : ℕ) (bs : List ℕ) → BeginsNothing (spelled (b ∷ bs))
+spelled-begins b bs =
+    by_escape (λ t. is_mark (b ∷ bs) ≡ t → BeginsNothing (written (start t) (b ∷ bs))) (is_mark (b ∷ bs))
+    (λ _ mark.
+    subst (λ t. BeginsNothing (written_byte t b ++ written (place_after Mark b) bs)) (sym (mark-first b bs mark))
+    (refl, refl))
+    (λ _ none.
+    by_escape
+    (λ t. is_escaped Start b ≡ t → BeginsNothing (written_byte t b ++ written (place_after Start b) bs))
+    (is_escaped Start b)
+    (λ _ _. (refl, refl))
+    (λ _ keeps.
+    let rest = b ∷ written (place_after Start b) bs in
+    let first : written Start (b ∷ bs) ≡ rest =
+    ap (λ t. written_byte t b ++ written (place_after Start b) bs) keeps in
+    let (template, block) = start-kept b keeps in (
+      template,
+      ap (λ t. t || is_mark rest) block ∙ sym (ap is_mark first) ∙ kept-no_mark Start b bs none keeps,
+    ))
+    refl)
+    refl
+
+BeginsNothing-relative : (path : List ℕ) → BeginsRelative path → BeginsNothing (spelled path)
+BeginsNothing-relative [] none = absurd none
+BeginsNothing-relative (b ∷ bs) other = spelled-begins b bs
+
+target_of-begins : (path : List ℕ) → BeginsNothing (target_of path)
+target_of-begins path = BeginsNothing-relative (path_written path) (path_written-relative path)
+
+pub target_of-no_template : (path : List ℕ) → begins_template (target_of path) ≡ false
+target_of-no_template path = (target_of-begins path).0
+
+pub target_of-no_block : (path : List ℕ) → begins_block (target_of path) ≡ false
+target_of-no_block path = (target_of-begins path).1
 
 -- ---- tails
 

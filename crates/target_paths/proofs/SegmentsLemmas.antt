@@ -4,11 +4,11 @@ use Rattle.std.specs.List.{slice_split, list_any, onto_first, AllByRecursion, Al
 use Rattle.std.proofs.lemmas.Bool.Decides.{nat_tests}
 use Rattle.std.proofs.lemmas.List.Splits.{slice_split-cons_no}
 use Rattle.target_paths.specs.declared.place.Place.{Place}
-use Rattle.target_paths.specs.declared.place.Place.TheVariants.{Start, FirstSegment, AfterSlash}
+use Rattle.target_paths.specs.declared.place.Place.TheVariants.{Start, Mark, FirstSegment, AfterSlash}
 use Rattle.target_paths.specs.declared.target.WhyUnknown.TheVariants.{EncodedNul}
 use Rattle.target_paths.specs.Pieces.{pieces, joined}
 use Rattle.target_paths.specs.Url.{slash, is_slash, url_piece}
-use Rattle.target_paths.specs.Writing.{is_escaped, place_after, hexadecimal, written_byte, written, path_written, target_of, is_nul}
+use Rattle.target_paths.specs.Writing.{is_escaped, start_of, place_after, hexadecimal, written_byte, written, path_written, target_of, is_nul}
 use Rattle.target_paths.proofs.RoundTripLemmas.{by_escape, written-decoded}
 
 -- ---- where slashes cut
@@ -71,6 +71,7 @@ segments_written-byte place b (n ∷ ns) = refl
 -- a slash is written as it is
 written-slash : (place : Place) (rest : List ℕ) → written place (slash ∷ rest) ≡ slash ∷ written AfterSlash rest
 written-slash Start rest = refl
+written-slash Mark rest = refl
 written-slash FirstSegment rest = refl
 written-slash AfterSlash rest = refl
 
@@ -107,11 +108,13 @@ pub record IsWrittenAs (text segment : List ℕ) : Type 0 where
 
 written-dot : (place : Place) → written place (codes ".") ≡ codes "."
 written-dot Start = refl
+written-dot Mark = refl
 written-dot FirstSegment = refl
 written-dot AfterSlash = refl
 
 written-dots : (place : Place) → written place (codes "..") ≡ codes ".."
 written-dots Start = refl
+written-dots Mark = refl
 written-dots FirstSegment = refl
 written-dots AfterSlash = refl
 
@@ -133,6 +136,7 @@ AreWrittenAs-segments place (n ∷ ns) = (IsWrittenAs-written place n, AreWritte
 pub target_of-segments : (path : List ℕ)
     → AllZip IsWrittenAs (slice_split is_slash (target_of path)) (slice_split is_slash (path_written path))
 target_of-segments path =
+    let start = start_of (path_written path) in
     subst (λ texts. AllZip IsWrittenAs texts (slice_split is_slash (path_written path)))
-    (sym (slice_split-written Start (path_written path)))
-    (AreWrittenAs-segments Start (slice_split is_slash (path_written path)))
+    (sym (slice_split-written start (path_written path)))
+    (AreWrittenAs-segments start (slice_split is_slash (path_written path)))

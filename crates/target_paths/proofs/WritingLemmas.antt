@@ -8,7 +8,7 @@ use Rattle.std.specs.Char.{encode_utf8}
 use Rattle.std.specs.Str.{encode_utf8_all}
 use Rattle.std.specs.Str.Pattern.{FindsCharPrefix, IsTrimStartMatches, CutsPrefixes, IsFullyTrimmed}
 use Rattle.target_paths.specs.declared.place.Place.{Place}
-use Rattle.target_paths.specs.declared.place.Place.TheVariants.{Start, FirstSegment, AfterSlash}
+use Rattle.target_paths.specs.declared.place.Place.TheVariants.{Start, Mark, FirstSegment, AfterSlash}
 use Rattle.target_paths.specs.Url.{slash}
 use Rattle.target_paths.specs.Writing.{is_escaped, place_after, percent_text, written_byte, written_character, written, without_slashes}
 
@@ -38,18 +38,21 @@ encode-past_ascii c past = from_reads (encode_utf8 c) reads where
 
 past_ascii-kept : (place : Place) (b : ℕ) → 128 ≤ b → is_escaped place b ≡ false
 past_ascii-kept Start b past = grind (arith, nat_tests)
+past_ascii-kept Mark b past = grind (arith, nat_tests)
 past_ascii-kept FirstSegment b past = grind (arith, nat_tests)
 past_ascii-kept AfterSlash b past = grind (arith, nat_tests)
 
 -- no byte past ASCII is escaped
 place_after-past : (place : Place) (b c : ℕ) → 128 ≤ b → 128 ≤ c → place_after place b ≡ place_after place c
 place_after-past Start b c past beyond = grind (arith, nat_tests)
+place_after-past Mark b c past beyond = grind (arith, nat_tests)
 place_after-past FirstSegment b c past beyond = grind (arith, nat_tests)
 place_after-past AfterSlash b c past beyond = refl
 
 place_after-twice : (place : Place) (b c : ℕ) → 128 ≤ b → 128 ≤ c
     → place_after (place_after place b) c ≡ place_after place c
 place_after-twice Start b c past beyond = grind (arith, nat_tests)
+place_after-twice Mark b c past beyond = grind (arith, nat_tests)
 place_after-twice FirstSegment b c past beyond = grind (arith, nat_tests)
 place_after-twice AfterSlash b c past beyond = refl
 

@@ -1,11 +1,12 @@
 -- How a path is written as a target, so that a reader of each syntax takes it as that path: RFC 3986, sections 2.1
--- (percent signs) and 4.2 (a colon in the first segment); CommonMark 0.31.2, sections 6.3 (destinations) and 6.6 (values
--- of attributes).
-use Rattle.std.specs.Prelude.{◌≡◌, ℕ, ◌+◌, ◌/◌, ◌%◌, Bool, ◌==◌, ◌||◌, nat_lt, List, [], ◌∷◌, ◌++◌, codes, if◌then◌else◌, slice_index}
+-- (percent signs) and 4.2 (a colon in the first segment); CommonMark 0.31.2, sections 6.3 (destinations), 6.6 (values of
+-- attributes), and 4 and 5 (what begins a block).
+use Rattle.std.specs.Prelude.{◌≡◌, ℕ, ◌+◌, ◌/◌, ◌%◌, ◌-◌, Bool, ◌==◌, ◌&&◌, ◌||◌, nat_lt, List, [], ◌∷◌, ◌++◌, codes, length, if◌then◌else◌, slice_index}
 use Rattle.std.specs.Char.{encode_utf8}
 use Rattle.std.specs.Int.{is_in_range}
+use Rattle.std.specs.List.{list_all}
 use Rattle.target_paths.specs.declared.place.Place.{Place}
-use Rattle.target_paths.specs.declared.place.Place.TheVariants.{Start, FirstSegment, AfterSlash}
+use Rattle.target_paths.specs.declared.place.Place.TheVariants.{Start, Mark, FirstSegment, AfterSlash}
 use Rattle.target_paths.specs.declared.target.TargetSyntax.{TargetSyntax}
 use Rattle.target_paths.specs.Reading.{IsTail, Meaning, meaning}
 use Rattle.target_paths.specs.Url.{is_slash, is_colon}
@@ -16,16 +17,55 @@ is_reserved b =
     nat_lt b 33 || is_in_range 34 35 b || is_in_range 37 41 b || is_in_range 60 63 b
     || b == 92 || b == 96 || b == 124 || b == 127
 
--- the byte is escaped at this place: in the first segment a colon too, and at the start `{` and `$`, where a template may
--- begin
+-- a template may begin with the byte: `{` or `$`
+abbrev pub is_template_byte : ℕ → Bool
+is_template_byte b = b == 36 || b == 123
+
+-- a block may begin with the byte: `!` (after `<`), `*`, `+` or `~`
+abbrev pub is_block_byte : ℕ → Bool
+is_block_byte b = b == 33 || b == 42 || b == 43 || b == 126
+
+-- the byte is a dash or an underscore
+abbrev pub is_line_byte : ℕ → Bool
+is_line_byte b = b == 45 || b == 95
+
+-- the byte is a digit
+abbrev pub is_digit_byte : ℕ → Bool
+is_digit_byte b = is_in_range 48 57 b
+
+-- the last byte of a text
+abbrev pub last_byte : List ℕ → ℕ
+last_byte text = slice_index text (length text - 1)
+
+-- the text may be the mark of a block: a thematic break, the underline of a heading or the mark of a list's item. It
+-- consists of dashes and underscores, or begins with a digit and ends in a dot
+abbrev pub is_mark : List ℕ → Bool
+is_mark text = list_all is_line_byte text || is_digit_byte (slice_index text 0) && last_byte text == 46
+
+-- a mark may begin with the byte
+abbrev pub begins_mark : ℕ → Bool
+begins_mark b = is_line_byte b || is_digit_byte b
+
+-- the byte is escaped at the start of each path
+abbrev pub is_escaped_at_start : ℕ → Bool
+is_escaped_at_start b = is_reserved b || is_colon b || is_template_byte b || is_block_byte b
+
+-- the byte is escaped at this place: in the first segment a colon too, at the start what may begin a template or a block,
+-- and at the start of a mark the mark's first byte
 abbrev pub is_escaped : Place → ℕ → Bool
-is_escaped Start b = is_reserved b || is_colon b || b == 36 || b == 123
+is_escaped Start b = is_escaped_at_start b
+is_escaped Mark b = is_escaped_at_start b || begins_mark b
 is_escaped FirstSegment b = is_reserved b || is_colon b
 is_escaped AfterSlash b = is_reserved b
+
+-- the place at the start of a path
+abbrev pub start_of : List ℕ → Place
+start_of path = if is_mark path then Mark else Start
 
 -- the place after a byte
 abbrev pub place_after : Place → ℕ → Place
 place_after Start b = if is_slash b then AfterSlash else FirstSegment
+place_after Mark b = if is_slash b then AfterSlash else FirstSegment
 place_after FirstSegment b = if is_slash b then AfterSlash else FirstSegment
 place_after AfterSlash b = AfterSlash
 
@@ -64,9 +104,13 @@ some_path (b ∷ bs) = b ∷ bs
 abbrev pub path_written : List ℕ → List ℕ
 path_written path = some_path (without_slashes path)
 
+-- the target that spells a path
+abbrev pub spelled : List ℕ → List ℕ
+spelled path = written (start_of path) path
+
 -- the target that is written for a path
 abbrev pub target_of : List ℕ → List ℕ
-target_of path = written Start (path_written path)
+target_of path = spelled (path_written path)
 
 -- the byte is NUL, which no file's path has
 abbrev pub is_nul : ℕ → Bool
@@ -83,4 +127,8 @@ ends_target b =
 
 -- the text begins with `{` or `$`, where a template may begin
 abbrev pub begins_template : List ℕ → Bool
-begins_template text = slice_index text 0 == 123 || slice_index text 0 == 36
+begins_template text = is_template_byte (slice_index text 0)
+
+-- the text may begin a block where it begins a line
+abbrev pub begins_block : List ℕ → Bool
+begins_block text = is_block_byte (slice_index text 0) || is_mark text

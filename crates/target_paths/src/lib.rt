@@ -4,7 +4,7 @@
 //!
 //! ```text
 //! reading     reading - source, reference
-//! writing     writing - place
+//! writing     writing - place - mark
 //! both        url - piece - target
 //! ```
 #![tactic(auto)]
@@ -13,6 +13,7 @@ pub use self::reading::path_of_target;
 pub use self::target::{TargetReading, TargetSyntax, WhyUnknown};
 pub use self::writing::target_of_path;
 
+mod mark;
 mod piece;
 mod place;
 mod reading;

@@ -3,6 +3,7 @@ ghost use Rattle.std.specs.Prelude.{◌≡◌, ◌++◌, ◌<◌, true, false, l
 ghost use Rattle.std.specs.List.{list_any};
 ghost use Rattle.target_paths.specs.Reading.{path_before, unknown};
 ghost use Rattle.target_paths.specs.Writing.{
+  begins_block,
   begins_template,
   ends_target,
   hexadecimal,
@@ -10,9 +11,9 @@ ghost use Rattle.target_paths.specs.Writing.{
   IsTakenAs,
   path_written,
   percent_text,
+  spelled,
   target_of,
   without_slashes,
-  written,
   written_character,
 };
 ghost use Rattle.target_paths.specs.declared.target.WhyUnknown.TheVariants.{EncodedNul};
@@ -41,12 +42,12 @@ fn push_percent(target: &mut String, byte: u8) -> Result<(), AllocError>
     target.push(hexadecimal(byte % 16))
 }
 
-// What is written for a path.
-fn written(alloc: Global, path: &str) -> Result<String, AllocError>
-    ensures { IfOk result (λ target. string_bytes target ≡ written Place.Start path.now) }
+// The target that spells a path.
+fn spelled(alloc: Global, path: &str) -> Result<String, AllocError>
+    ensures { IfOk result (λ target. string_bytes target ≡ spelled path.now) }
 {
     let mut target = String::with_capacity(alloc, path.len())?;
-    let mut place = Place::Start;
+    let mut place = Place::start_of(path);
     for character in path.chars() {
         push_character(&mut target, place, character)?;
         place = place.after(character);
@@ -84,9 +85,12 @@ fn path_written(path: &str) -> &str
 /// back as the path, whatever query or fragment is written after it.
 ///
 /// The call writes a percent sign and two digits for the bytes 0 to 32 and 127, and for `"`, `#`, `%`, `&`,
-/// `'`, `(`, `)`, `<`, `=`, `>`, `?`, `\`, `` ` `` and `|`. It does so for a colon in the first segment, and for
-/// `{` and `$` at the start, where a template may begin. Other bytes stay, also those past ASCII. So the same
-/// text serves with and without angle brackets or quotes around it.
+/// `'`, `(`, `)`, `<`, `=`, `>`, `?`, `\`, `` ` `` and `|`. It does so for a colon in the first segment, and at the
+/// start for `{` and `$`, with which a template may begin, and for `!`, `*`, `+` and `~`, with which a block of
+/// Markdown may begin on a line of the target's own. For the same reason it does so for the first byte of a path
+/// that consists of dashes and underscores, such as `---`, or that begins with a digit and ends in a dot, such as
+/// `1.`. Other bytes stay, also those past ASCII. So the same text serves with and without angle brackets or quotes
+/// around it.
 ///
 /// The call leaves out slashes at the start of the path. The path without them has the same components, but a
 /// reference that begins with a slash leads elsewhere. For an empty path it writes `./`, since an empty
@@ -98,6 +102,7 @@ fn path_written(path: &str) -> &str
 /// ```
 /// assert_eq!(rt; target_of_path(alloc, "docs/my a_b.md")?.as_str(), "docs/my%20a_b.md");
 /// assert_eq!(rt; target_of_path(alloc, "a:b")?.as_str(), "a%3Ab");
+/// assert_eq!(rt; target_of_path(alloc, "---")?.as_str(), "%2D--");
 /// assert_eq!(rt; target_of_path(alloc, "")?.as_str(), "./");
 /// ```
 pub fn target_of_path(alloc: Global, path: &str) -> Result<String, AllocError>
@@ -108,6 +113,7 @@ pub fn target_of_path(alloc: Global, path: &str) -> Result<String, AllocError>
         IsTakenAs (string_bytes target) (unknown EncodedNul)) }
     ensures whole { IfOk result (λ target. list_any ends_target (string_bytes target) ≡ false) }
     ensures start { IfOk result (λ target. begins_template (string_bytes target) ≡ false) }
+    ensures block { IfOk result (λ target. begins_block (string_bytes target) ≡ false) }
 {
-    written(alloc, path_written(path))
+    spelled(alloc, path_written(path))
 }

@@ -44,6 +44,46 @@ fn what_is_escaped(rt: HostRuntime) -> Result<(), Fail> {
     all_written(rt.alloc(), &ESCAPED)
 }
 
+const BLOCKS: [(&str, &str); 12] = [
+    ("~~~", "%7E~~"),
+    ("~a/b.md", "%7Ea/b.md"),
+    ("*", "%2A"),
+    ("+", "%2B"),
+    ("!--a", "%21--a"),
+    ("-", "%2D"),
+    ("---", "%2D--"),
+    ("___", "%5F__"),
+    ("/--", "%2D-"),
+    ("1.", "%31."),
+    ("01.", "%301."),
+    ("9a.", "%39a."),
+];
+
+#[test]
+fn what_begins_a_block(rt: HostRuntime) -> Result<(), Fail> {
+    all_written(rt.alloc(), &BLOCKS)
+}
+
+const NO_BLOCKS: [(&str, &str); 12] = [
+    ("_index.md", "_index.md"),
+    ("-a", "-a"),
+    ("--/a", "--/a"),
+    ("1", "1"),
+    ("1.md", "1.md"),
+    ("1.2", "1.2"),
+    ("1./a", "1./a"),
+    ("a.", "a."),
+    ("..", ".."),
+    ("a/~~~", "a/~~~"),
+    ("a/---", "a/---"),
+    ("./1.", "./1."),
+];
+
+#[test]
+fn what_begins_no_block(rt: HostRuntime) -> Result<(), Fail> {
+    all_written(rt.alloc(), &NO_BLOCKS)
+}
+
 const COLONS: [(&str, &str); 6] = [
     ("a:b", "a%3Ab"),
     ("a:b:c", "a%3Ab%3Ac"),

@@ -4,14 +4,15 @@ use Rattle.std.proofs.lemmas.Iterator.Consumers.{YieldsList-turn, YieldsList-end
 use Rattle.std.proofs.lemmas.List.{length_push}
 use Rattle.std.proofs.lemmas.Str.{encodes-chars}
 use Rattle.std.specs.Str.{chars, encode_utf8_all}
-use Rattle.target_paths.specs.Writing.{written}
-use Rattle.target_paths.specs.declared.place.Place.TheVariants.{Start}
+use Rattle.target_paths.specs.Writing.{written, spelled}
 use Rattle.target_paths.proofs.WritingLemmas.{written-next, written-end}
-use Rattle.target_paths.proofs.writing.written.Goals as goal
+use Rattle.target_paths.proofs.writing.spelled.Goals as goal
 
 pub loop-character-init : goal.loop-character-init
 loop-character-init c =
-    ap₂ (λ bs text. bs ++ written Start text) c.in_ok-target.ensures.bytes (encodes-chars c.args.path.now c.utf8.path)
+    ap₂ (λ bs text. bs ++ written c.start_of-place.result text) c.in_ok-target.ensures.bytes
+    (encodes-chars c.args.path.now c.utf8.path)
+    ∙ ap (λ place. written place c.args.path.now) c.start_of-place.ensures
 
 pub loop-character-preserved : goal.loop-character-preserved
 loop-character-preserved c =
@@ -32,4 +33,4 @@ returns c =
     let end = YieldsList-end (YieldsList-from_chars c.args.path.now c.utf8.path cc) c.loop-character.yielded _
     c.loop-character.yielded_by _ _ c.in-None.is c.next.ensures.steps in
     written-end c.loop-character.place (chars c.args.path.now) (length c.loop-character.yielded)
-    (string_bytes c.loop-character.target) (written Start c.args.path.now) end.1 c.loop-character.invariant
+    (string_bytes c.loop-character.target) (spelled c.args.path.now) end.1 c.loop-character.invariant
