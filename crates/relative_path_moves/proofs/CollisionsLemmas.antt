@@ -1,5 +1,5 @@
 -- Paths that stay below others, found from a path upwards, and the first two paths that collide.
-use Rattle.std.proofs.Common.{◌≡◌, ◌≢◌, ◌↔◌, ℕ, ◌<◌, ◌≤◌, ◌+◌, ◌⊎◌, IsTrue, List, [], ◌∷◌, ◌++◌, length, map, take, drop, get_or, Option, Some, None, IsSome, option_and_then, option_map, inl, inr, refl, sym, ap, ◌∙◌, subst, arith, append_assoc, append-nil, take_at, eqb-true, eq-eqb}
+use Rattle.std.proofs.Common.{◌≡◌, ◌≢◌, ◌↔◌, ℕ, ◌<◌, ◌≤◌, ◌+◌, ◌⊎◌, IsTrue, List, [], ◌∷◌, ◌++◌, length, map, take, drop, get_or, Option, Some, None, IsSome, option_and_then, option_map, inl, inr, refl, sym, ap, ◌∙◌, subst, arith, append_assoc, append-nil, take_at, eqb-true, eq-eqb, true≢false, is_some, false}
 use Rattle.std.proofs.lemmas.Bool.{cases_lt, cases_order}
 use Rattle.std.proofs.lemmas.List.{append_cancel_left, get_or-map, get_or_append_left, get_or_push, length-append, length-map, map-append, take_more}
 use lib.Dec.{eqb}
@@ -12,15 +12,15 @@ use Rattle.relative_path.specs.declared.path.RelativePath.{RelativePath}
 use Rattle.relative_path.proofs.ForCallers.{walk-append, walk-names, IsSame-refl, IsSame-sym, IsSame-trans, IsSame-append_right, IsNormal-append_left, IsNormalForm-some, spelled-front}
 use Rattle.relative_path_moves.specs.declared.place_index.PlaceIndex.{PlaceIndex}
 use Rattle.relative_path_moves.specs.PlaceIndex.{path_at, IsFirstAt, IsFoundAt, Indexes}
-use Rattle.relative_path_moves.specs.Moves.{Move, AreApart}
+use Rattle.relative_path_moves.specs.Moves.{Move, move_at, AreApart, IsUnmoved}
 use Rattle.relative_path_moves.specs.TreeMoves.{IsTreeTarget, AtTreePath, HaveNewTexts}
-use Rattle.relative_path_moves.specs.Collisions.{news_of, Collide, CollideAt, CollideAfter, HavePathsAfter, IsLeast, IsLesser, IsFoundPair, CollidesWithAnother, IsOtherAt, IsOtherAbove, AreNormal}
+use Rattle.relative_path_moves.specs.Collisions.{news_of, Collide, CollideAt, CollideAfter, CollideWithFile, HavePathsAfter, CollidesWithOne, IsOverOne, IsBelowOne, IsMetAt, IsStaying, HaveStaying, IsLeast, IsLesser, IsFoundPair, CollidesWithAnother, IsOtherAt, IsOtherAbove, AreNormal}
 use Rattle.relative_path_moves.proofs.MovesLemmas.{get_or-within}
 use Rattle.relative_path_moves.proofs.NormalPathLemmas.{AreNames-names, normal_unique, IsNormalTextOf-same}
 use Rattle.relative_path_moves.proofs.FrontTextLemmas.{IsNormal-append_names}
 use Rattle.relative_path_moves.proofs.LeadingLemmas.{last_name_of}
 use Rattle.relative_path_moves.proofs.TreeMovesLemmas.{AreNames-map, IsTreeTarget-only}
-use Rattle.relative_path_moves.proofs.LeastLemmas.{IsLeast-iff, IsLeast-lesser, IsFoundPair-iff}
+use Rattle.relative_path_moves.proofs.LeastLemmas.{IsLeast-iff, IsLeast-below, IsLeast-lesser, IsFoundPair-iff}
 
 -- ---- lists that stay below others
 
@@ -313,6 +313,51 @@ IsOtherFrom-end paths passed cs text found normal over none least =
     })
     least
 
+-- ---- texts
+
+-- the components of a text by its number
+pub text_at : (texts : List (List ℕ)) (k : ℕ) (text none : List ℕ) → k < length texts → text ≡ get_or texts k none
+    → path_at (map components texts) k ≡ components text
+text_at texts k text none within is = get_or-map components texts k none [] within ∙ ap components (sym is)
+
+-- the paths up to the next
+pub take_more-texts : (texts : List (List ℕ)) (k : ℕ) (text none : List ℕ) → k < length texts
+    → text ≡ get_or texts k none
+    → take (k + 1) (map components texts) ≡ take k (map components texts) ++ components text ∷ []
+take_more-texts texts k text none within is =
+    take_more (map components texts) k [] (omega (arith, within, length-map texts components))
+    ∙ ap (λ path. take k (map components texts) ++ path ∷ []) (text_at texts k text none within is)
+
+-- the first n texts are normal
+abbrev pub AreNormalUpTo : List (List ℕ) → ℕ → Type 0
+AreNormalUpTo texts n = (k : ℕ) → k < n → IsNormalText (get_or texts k [])
+
+pub AreNormalUpTo-next : (texts : List (List ℕ)) (n : ℕ) (text none : List ℕ) → n < length texts → AreNormalUpTo texts n
+    → text ≡ get_or texts n none → IsNormalText text → AreNormalUpTo texts (n + 1)
+AreNormalUpTo-next texts n text none within normal is next k less = elim (cases_lt k n) [
+  | inl before ↦ normal k before
+  | inr no_less ↦
+      let here : k ≡ n = omega (arith, less, no_less) in
+      subst (λ i. IsNormalText (get_or texts i [])) (sym here)
+      (subst IsNormalText (is ∙ sym (get_or-within texts n [] none within)) next)
+]
+
+-- so for a number within
+text_of : (texts : List (List ℕ)) (k : ℕ) → k < length texts
+    → path_at (map components texts) k ≡ components (get_or texts k [])
+text_of texts k within = text_at texts k (get_or texts k []) [] within refl
+
+-- each of some paths has a normal text
+textual : (texts : List (List ℕ)) → AreNormal texts → (k : ℕ) → k < length (map components texts)
+    → (text : List ℕ) × IsNormalTextOf (path_at (map components texts) k) text
+textual texts normal k within =
+    let less : k < length texts = omega (arith, within, length-map texts components) in (
+      get_or texts k [],
+      rw (text_of texts k less)
+          (IsNormalTextOf-same (components (get_or texts k [])) (get_or texts k []) (normal k less)
+          (IsSame-refl (components (get_or texts k [])))),
+    )
+
 -- ---- the least number of a path that collides
 
 -- a is one of the first n numbers, or of the numbers above its path
@@ -495,16 +540,7 @@ IsLeast-colliding texts index n found normal indexes all least =
     let paths = map components texts in
     let count : n ≡ length paths = all ∙ sym (length-map texts components) in
     IsLeast-iff (IsOfPair paths (length paths)) (CollidesWithAnother paths) found (CollidesWithAnother-pair paths)
-    (IsOfPair-found paths index textual indexes) (rw count at least) where
-      textual : (k : ℕ) → k < length (map components texts)
-          → (text : List ℕ) × IsNormalTextOf (path_at (map components texts) k) text
-      textual k within =
-          let less : k < length texts = omega (arith, within, length-map texts components) in (
-            get_or texts k [],
-            rw (get_or-map components texts k [] [] less)
-                (IsNormalTextOf-same (components (get_or texts k [])) (get_or texts k []) (normal k less)
-                (IsSame-refl (components (get_or texts k [])))),
-          )
+    (IsOfPair-found paths index (textual texts normal) indexes) (rw count at least)
 
 -- ---- the first two
 
@@ -561,35 +597,6 @@ IsFoundPair-none_colliding paths none j k pair = none j (record {
   collide = pair.collide;
 })
 
--- ---- texts
-
--- the components of a text by its number
-pub text_at : (texts : List (List ℕ)) (k : ℕ) (text none : List ℕ) → k < length texts → text ≡ get_or texts k none
-    → path_at (map components texts) k ≡ components text
-text_at texts k text none within is = get_or-map components texts k none [] within ∙ ap components (sym is)
-
--- the paths up to the next
-pub take_more-texts : (texts : List (List ℕ)) (k : ℕ) (text none : List ℕ) → k < length texts
-    → text ≡ get_or texts k none
-    → take (k + 1) (map components texts) ≡ take k (map components texts) ++ components text ∷ []
-take_more-texts texts k text none within is =
-    take_more (map components texts) k [] (omega (arith, within, length-map texts components))
-    ∙ ap (λ path. take k (map components texts) ++ path ∷ []) (text_at texts k text none within is)
-
--- the first n texts are normal
-abbrev pub AreNormalUpTo : List (List ℕ) → ℕ → Type 0
-AreNormalUpTo texts n = (k : ℕ) → k < n → IsNormalText (get_or texts k [])
-
-pub AreNormalUpTo-next : (texts : List (List ℕ)) (n : ℕ) (text none : List ℕ) → n < length texts → AreNormalUpTo texts n
-    → text ≡ get_or texts n none → IsNormalText text → AreNormalUpTo texts (n + 1)
-AreNormalUpTo-next texts n text none within normal is next k less = elim (cases_lt k n) [
-  | inl before ↦ normal k before
-  | inr no_less ↦
-      let here : k ≡ n = omega (arith, less, no_less) in
-      subst (λ i. IsNormalText (get_or texts i [])) (sym here)
-      (subst IsNormalText (is ∙ sym (get_or-within texts n [] none within)) next)
-]
-
 -- ---- paths and their normal texts
 
 -- what leads to the same as each of some texts collides as the texts do
@@ -605,10 +612,6 @@ HaveSamePlaces-new moves texts news = record {
       let less : k < length moves = omega (arith, within, length-map moves (λ move. move.new)) in
       rw (get_or-map (λ move. move.new) moves k (record { old = []; new = [] }) [] less) (news.each k less).same;
 }
-
-text_of : (texts : List (List ℕ)) (k : ℕ) → k < length texts
-    → path_at (map components texts) k ≡ components (get_or texts k [])
-text_of texts k within = text_at texts k (get_or texts k []) [] within refl
 
 CollideAt-texts : (paths : List (List Step)) (texts : List (List ℕ)) (j k : ℕ) → HaveSamePlaces paths texts
     → CollideAt (map components texts) j k ↔ CollideAt paths j k
@@ -738,4 +741,325 @@ pub HavePathsAfter-all : (moves : List Move) (files : List (List Step)) (n : ℕ
 HavePathsAfter-all moves files n texts all have = record {
   count = have.count ∙ all;
   each = λ k less. have.each k (omega (arith, all, less));
+}
+
+-- ---- the least number of a path that collides with one of others
+
+-- the first path at the place of a path
+first_at : (texts : List (List ℕ)) (index : PlaceIndex) (k : ℕ) → AreNormal texts → Indexes (map components texts) index
+    → k < length (map components texts) → (j : ℕ) × IsFirstAt (map components texts) (path_at (map components texts) k) j
+first_at texts index k normal indexes within =
+    let (text, is) = textual texts normal k within in first_of (map components texts) index k text indexes within is
+
+-- the first of equal paths comes no later
+first_no_later : (paths : List (List Step)) (j k : ℕ) → IsFirstAt paths (path_at paths k) j → j ≤ k
+first_no_later paths j k is = elim (cases_lt k j) [
+  | inl less ↦ absurd (is.first k less (IsSame-refl (path_at paths k)))
+  | inr no_less ↦ no_less
+]
+
+-- the lesser of the first path over one of the others and the first path below one of the others
+pub IsLeast-meeting : (texts others : List (List ℕ)) (index : PlaceIndex) (over below result : Option ℕ)
+    → AreNormal texts → Indexes (map components texts) index → IsLesser over below result
+    → IsLeast (IsOverOne (map components texts) (map components others)) over
+    → IsLeast (IsBelowOne (map components texts) (map components others)) below
+    → IsLeast (CollidesWithOne (map components texts) (map components others)) result
+IsLeast-meeting texts others index over below result normal indexes lesser is_over is_below =
+    let paths = map components texts in
+    let rest = map components others in
+    IsLeast-below (λ k. IsOverOne paths rest k ⊎ IsBelowOne paths rest k) (CollidesWithOne paths rest) result
+    (λ k either. elim either [
+      | inl one ↦ record {
+        within = one.first.within;
+        other = one.other;
+        other_within = one.other_within;
+        collide = inl one.below;
+      }
+      | inr one ↦ record {
+        within = one.within;
+        other = one.other;
+        other_within = one.other_within;
+        collide = inr one.below;
+      }
+    ])
+    (λ k pair. elim pair.collide [
+      | inl top ↦
+          let (j, first) = first_at texts index k normal indexes pair.within in (
+            j,
+            first_no_later paths j k first,
+            inl (record {
+              first = IsFirstAt-same paths (path_at paths k) (path_at paths j) j first.same first;
+              other = pair.other;
+              other_within = pair.other_within;
+              below = StaysBelow-same (path_at paths k) (path_at rest pair.other) (path_at paths j)
+                  (path_at rest pair.other) first.same (IsSame-refl (path_at rest pair.other)) top;
+            }),
+          )
+      | inr top ↦ (
+        k,
+        omega arith,
+        inr (record { within = pair.within; other = pair.other; other_within = pair.other_within; below = top }),
+      )
+    ])
+    (IsLeast-lesser (IsOverOne paths rest) (IsBelowOne paths rest) over below result lesser is_over is_below)
+
+-- path k is the first at its place, and one of the first n others stays below that place
+pub record IsOverUpTo (paths others : List (List Step)) (n k : ℕ) : Type 0 where
+  pub first : IsFirstAt paths (path_at paths k) k
+  pub other : ℕ
+  pub before : other < n
+  pub below : StaysBelow (path_at paths k) (path_at others other)
+
+pub IsOverUpTo-start : (paths others : List (List Step)) → IsLeast (IsOverUpTo paths others 0) None
+IsOverUpTo-start paths others k is = omega (arith, is.before)
+
+pub IsOverUpTo-next : (texts others : List (List ℕ)) (n passed : ℕ) (other none : List ℕ) (least new result : Option ℕ)
+    → n < length others → passed ≡ length texts → other ≡ get_or others n none
+    → IsLeast (IsOverUpTo (map components texts) (map components others) n) least
+    → IsLeast (IsOtherAbove (map components texts) passed (components other)) new → IsLesser least new result
+    → IsLeast (IsOverUpTo (map components texts) (map components others) (n + 1)) result
+IsOverUpTo-next texts others n passed other none least new result within all is is_least is_new lesser =
+    let paths = map components texts in
+    let rest = map components others in
+    let here = text_at others n other none within is in
+    IsLeast-iff (λ k. IsOverUpTo paths rest n k ⊎ IsOtherAbove paths passed (components other) k)
+    (IsOverUpTo paths rest (n + 1)) result
+    (λ k either. elim either [
+      | inl one ↦ record { first = one.first; other = one.other; before = omega (arith, one.before); below = one.below }
+      | inr one ↦ record { first = one.first; other = n; before = omega arith; below = rw here one.above }
+    ])
+    (λ k one. elim (cases_lt one.other n) [
+      | inl before ↦ inl (record { first = one.first; other = one.other; before = before; below = one.below })
+      | inr no_less ↦
+          let last : one.other ≡ n = omega (arith, no_less, one.before) in
+          inr (record {
+            differs = λ same. omega (arith, same, all, one.first.within, length-map texts components);
+            first = one.first;
+            above = rw (last, here) at one.below;
+          })
+    ])
+    (IsLeast-lesser (IsOverUpTo paths rest n) (IsOtherAbove paths passed (components other)) least new result lesser is_least
+    is_new)
+
+pub IsOverOne-all : (paths others : List (List Step)) (n : ℕ) (least : Option ℕ) → n ≡ length others
+    → IsLeast (IsOverUpTo paths others n) least → IsLeast (IsOverOne paths others) least
+IsOverOne-all paths others n least all is =
+    IsLeast-iff (IsOverUpTo paths others n) (IsOverOne paths others) least
+    (λ k one. record {
+      first = one.first;
+      other = one.other;
+      other_within = omega (arith, all, one.before);
+      below = one.below;
+    })
+    (λ k one. record {
+      first = one.first;
+      other = one.other;
+      before = omega (arith, all, one.other_within);
+      below = one.below;
+    }) is
+
+-- a path of the others is above the path
+pub IsBelowOne-here : (texts others : List (List ℕ)) (k passed : ℕ) (path none : List ℕ) (found : Option ℕ)
+    → k < length texts → path ≡ get_or texts k none
+    → IsLeast (IsOtherAbove (map components others) passed (components path)) found → IsSome found
+    → IsBelowOne (map components texts) (map components others) k
+IsBelowOne-here texts others k passed path none None within is least some = absurd (true≢false (sym some))
+IsBelowOne-here texts others k passed path none (Some j) within is (other, least) some = record {
+  within = omega (arith, within, length-map texts components);
+  other = j;
+  other_within = other.first.within;
+  below = rw (text_at texts k path none within is) other.above;
+}
+
+-- no path of the others is above the path
+pub IsBelowOne-none : (texts others : List (List ℕ)) (index : PlaceIndex) (k passed : ℕ) (path none : List ℕ)
+    (found : Option ℕ) → AreNormal others → Indexes (map components others) index → passed ≡ length others
+    → k < length texts → path ≡ get_or texts k none
+    → IsLeast (IsOtherAbove (map components others) passed (components path)) found → is_some found ≡ false
+    → ¬ IsBelowOne (map components texts) (map components others) k
+IsBelowOne-none texts others index k passed path none (Some j) normal indexes all within is least absent one =
+    absurd (true≢false absent)
+IsBelowOne-none texts others index k passed path none None normal indexes all within is least absent one =
+    let rest = map components others in
+    let (j, first) = first_at others index one.other normal indexes one.other_within in
+    least j
+    (IsOtherAbove-first rest passed j one.other (components path) first
+    (rw (text_at texts k path none within is) at one.below)
+    (λ same. omega (arith, same, all, first.within, length-map others components)))
+
+-- ---- a move and a file that stays
+
+-- the new path of such a move collides with one of the files that stay
+CollidesWithOne-pair : (moves : List Move) (files : List (List Step)) (news staying : List (List ℕ)) (a b : ℕ)
+    → HaveNewTexts moves news → HaveStaying moves files staying → CollideWithFile moves files a b
+    → CollidesWithOne (map components news) (map components staying) a
+CollidesWithOne-pair moves files news staying a b have stay pair =
+    let (s, less, is) = stay.all b pair.file pair.stays in
+    let count : a < length news = omega (arith, pair.move, have.count) in
+    record {
+      within = omega (arith, count, length-map news components);
+      other = s;
+      other_within = omega (arith, less, length-map staying components);
+      collide = rw (text_of news a count, text_of staying s less)
+          (Collide-same (move_at moves a).new (path_at files b) (components (get_or news a []))
+          (components (get_or staying s [])) (have.each a pair.move).same is.normal.same pair.collide);
+    }
+
+-- the least move that meets a file, and the first file that it meets
+pub IsFoundPair-met : (moves : List Move) (files : List (List Step)) (news staying : List (List ℕ)) (k : ℕ)
+    (met : Option ℕ) → HaveNewTexts moves news → HaveStaying moves files staying
+    → IsLeast (CollidesWithOne (map components news) (map components staying)) (Some k)
+    → IsLeast (IsMetAt moves files (components (get_or news k []))) met
+    → IsFoundPair (CollideWithFile moves files) (option_map (λ f. (k, f)) met)
+IsFoundPair-met moves files news staying k met have stay least is_met = tell met is_met where
+  count : k < length news
+  count = omega (arith, least.0.within, length-map news components)
+
+  tell : (met : Option ℕ) → IsLeast (IsMetAt moves files (components (get_or news k []))) met
+      → IsFoundPair (CollideWithFile moves files) (option_map (λ f. (k, f)) met)
+  tell None none =
+      let one = least.0 in
+      let less : one.other < length staying = omega (arith, one.other_within, length-map staying components) in
+      let (f, is) = stay.only one.other less in
+      absurd (none f (record {
+        within = is.within;
+        stays = is.stays;
+        collide = Collide-same (components (get_or news k [])) (components (get_or staying one.other []))
+            (components (get_or news k [])) (path_at files f) (IsSame-refl (components (get_or news k [])))
+            (IsSame-sym is.normal.same) (rw (text_of news k count, text_of staying one.other less) at one.collide);
+      }))
+  tell (Some f) (here, first) = record {
+    holds = record {
+      move = omega (arith, count, have.count);
+      file = here.within;
+      stays = here.stays;
+      collide = Collide-same (components (get_or news k [])) (path_at files f) (move_at moves k).new (path_at files f)
+          (IsSame-sym (have.each k (omega (arith, count, have.count))).same) (IsSame-refl (path_at files f)) here.collide;
+    };
+    least = λ a b pair. elim (cases_lt k a) [
+      | inl less ↦ inl less
+      | inr no_less ↦
+          let same : k ≡ a = omega (arith, no_less, least.1 a (CollidesWithOne-pair moves files news staying a b have stay pair)) in
+          inr (
+            same,
+            first b (record {
+              within = pair.file;
+              stays = pair.stays;
+              collide = Collide-same (move_at moves k).new (path_at files b) (components (get_or news k []))
+                  (path_at files b) (have.each k (omega (arith, count, have.count))).same (IsSame-refl (path_at files b))
+                  (rw (sym same) at pair.collide);
+            }),
+          )
+    ];
+  }
+
+-- so for the new path as it is read
+pub IsFoundPair-met_at : (moves : List Move) (files : List (List Step)) (news staying : List (List ℕ)) (k : ℕ)
+    (path none : List ℕ) (met : Option ℕ) → HaveNewTexts moves news → HaveStaying moves files staying
+    → IsLeast (CollidesWithOne (map components news) (map components staying)) (Some k) → path ≡ get_or news k none
+    → IsLeast (IsMetAt moves files (components path)) met
+    → IsFoundPair (CollideWithFile moves files) (option_map (λ f. (k, f)) met)
+IsFoundPair-met_at moves files news staying k path none met have stay least is is_met =
+    let count : k < length news = omega (arith, least.0.within, length-map news components) in
+    IsFoundPair-met moves files news staying k met have stay least
+    (subst (λ path. IsLeast (IsMetAt moves files (components path)) met) (is ∙ sym (get_or-within news k [] none count)) is_met)
+
+-- the next file moves, or doesn't collide with the path
+pub IsMetAt-next : (moves : List Move) (files : List RelativePath) (none : RelativePath) (path : List Step) (n : ℕ)
+    (text : List ℕ) → n < length files → ((a : ℕ) → a < n → ¬ IsMetAt moves (map path_components files) path a)
+    → IsNormalTextOf (path_components (get_or files n none)) text
+    → (IsUnmoved moves (path_components (get_or files n none)) → ¬ Collide path (components text))
+    → (a : ℕ) → a < n + 1 → ¬ IsMetAt moves (map path_components files) path a
+IsMetAt-next moves files none path n text within before normal other a less met = elim (cases_lt a n) [
+  | inl earlier ↦ before a earlier met
+  | inr no_less ↦
+      let here : a ≡ n = omega (arith, less, no_less) in
+      let is = get_or-map path_components files n none [] within in
+      other (rw (here, is) at met.stays)
+      (Collide-same path (path_components (get_or files n none)) path (components text) (IsSame-refl path) normal.same
+      (rw (here, is) at met.collide))
+]
+
+-- no move meets a file
+pub IsFoundPair-unmet : (moves : List Move) (files : List (List Step)) (news staying : List (List ℕ))
+    → HaveNewTexts moves news → HaveStaying moves files staying
+    → IsLeast (CollidesWithOne (map components news) (map components staying)) None
+    → IsFoundPair (CollideWithFile moves files) None
+IsFoundPair-unmet moves files news staying have stay none a b pair =
+    none a (CollidesWithOne-pair moves files news staying a b have stay pair)
+
+-- the first n files are found in the texts if they don't move
+pub record HaveStayingUpTo (moves : List Move) (files : List (List Step)) (n : ℕ) (texts : List (List ℕ)) : Type 0 where
+  pub only : (s : ℕ) → s < length texts → (f : ℕ) × IsStaying moves files (get_or texts s []) f
+  pub all : (f : ℕ) → f < n → IsUnmoved moves (path_at files f)
+      → (s : ℕ) × (s < length texts) × IsStaying moves files (get_or texts s []) f
+
+pub HaveStayingUpTo-start : (moves : List Move) (files : List (List Step)) (texts : List (List ℕ)) → texts ≡ []
+    → HaveStayingUpTo moves files 0 texts
+HaveStayingUpTo-start moves files texts none = record {
+  only = λ s less. absurd (omega (arith, less, ap length none));
+  all = λ f less. absurd (omega arith);
+}
+
+-- the next file moves
+pub HaveStayingUpTo-kept : (moves : List Move) (files : List RelativePath) (none : RelativePath) (n : ℕ)
+    (texts : List (List ℕ)) → n < length files → HaveStayingUpTo moves (map path_components files) n texts
+    → (¬ IsUnmoved moves (path_components (get_or files n none)))
+    → HaveStayingUpTo moves (map path_components files) (n + 1) texts
+HaveStayingUpTo-kept moves files none n texts within have moved = record {
+  only = have.only;
+  all = λ f less unmoved. elim (cases_lt f n) [
+    | inl before ↦ have.all f before unmoved
+    | inr no_less ↦
+        let here : f ≡ n = omega (arith, less, no_less) in
+        absurd (moved (rw (here, get_or-map path_components files n none [] within) at unmoved))
+  ];
+}
+
+-- the next file stays
+pub HaveStayingUpTo-next : (moves : List Move) (files : List RelativePath) (none : RelativePath) (n : ℕ)
+    (texts : List (List ℕ)) (text : List ℕ) → n < length files
+    → HaveStayingUpTo moves (map path_components files) n texts
+    → IsUnmoved moves (path_components (get_or files n none))
+    → IsNormalTextOf (path_components (get_or files n none)) text
+    → HaveStayingUpTo moves (map path_components files) (n + 1) (texts ++ text ∷ [])
+HaveStayingUpTo-next moves files none n texts text within have unmoved normal = record {
+  only = λ s less. elim (cases_lt s (length texts)) [
+    | inl before ↦ let (f, is) = have.only s before in (f, subst (λ text. P text f) (kept s before) is)
+    | inr no_less ↦
+        let last : length texts ≡ s = omega (arith, less, no_less, length-append texts (text ∷ [])) in
+        (n, subst (λ text. P text n) (sym (get_or_push texts text [] s last)) next)
+  ];
+  all = λ f less stays. elim (cases_lt f n) [
+    | inl before ↦
+        let (s, at_most, is) = have.all f before stays in
+        (s, omega (arith, at_most, length-append texts (text ∷ [])), subst (λ text. P text f) (kept s at_most) is)
+    | inr no_less ↦
+        let here : n ≡ f = omega (arith, less, no_less) in (
+          length texts,
+          omega (arith, length-append texts (text ∷ [])),
+          subst (λ text. P text f) (sym (get_or_push texts text [] (length texts) refl)) (subst (P text) here next),
+        )
+  ];
+} where
+  P : List ℕ → ℕ → Type 0
+  P text f = IsStaying moves (map path_components files) text f
+
+  kept : (s : ℕ) → s < length texts → get_or texts s [] ≡ get_or (texts ++ text ∷ []) s []
+  kept s less = sym (get_or_append_left texts (text ∷ []) [] s less)
+
+  next : P text n
+  next =
+      let is = get_or-map path_components files n none [] within in
+      record {
+        within = omega (arith, within, length-map files path_components);
+        stays = rw is unmoved;
+        normal = rw is normal;
+      }
+
+pub HaveStaying-all : (moves : List Move) (files : List (List Step)) (n : ℕ) (texts : List (List ℕ)) → n ≡ length files
+    → HaveStayingUpTo moves files n texts → HaveStaying moves files texts
+HaveStaying-all moves files n texts all have = record {
+  only = have.only;
+  all = λ f less unmoved. have.all f (omega (arith, all, less)) unmoved;
 }

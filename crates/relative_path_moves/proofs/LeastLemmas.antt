@@ -9,6 +9,13 @@ pub IsLeast-iff : (P Q : ℕ → Type 0) (found : Option ℕ) → ((k : ℕ) →
 IsLeast-iff P Q None to from none = λ k holds. none k (from k holds)
 IsLeast-iff P Q (Some j) to from (here, least) = (to j here, λ k holds. least k (from k holds))
 
+-- so has what holds of fewer numbers, if one of them is at most each number of which the other holds
+pub IsLeast-below : (P Q : ℕ → Type 0) (found : Option ℕ) → ((k : ℕ) → P k → Q k)
+    → ((k : ℕ) → Q k → (j : ℕ) × (j ≤ k) × P j) → IsLeast P found → IsLeast Q found
+IsLeast-below P Q None to from none = λ k holds. let (j, le, here) = from k holds in none j here
+IsLeast-below P Q (Some i) to from (here, least) =
+    (to i here, λ k holds. let (j, le, there) = from k holds in omega (arith, le, least j there))
+
 -- the lesser of two least numbers is the least of both
 pub IsLeast-lesser : (P Q : ℕ → Type 0) (one other result : Option ℕ) → IsLesser one other result → IsLeast P one
     → IsLeast Q other → IsLeast (λ k. P k ⊎ Q k) result

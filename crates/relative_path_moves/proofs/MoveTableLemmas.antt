@@ -1,5 +1,6 @@
 -- The one target of a reference, and the shortest path to it or the error.
-use Rattle.std.proofs.Common.{◌≡◌, ◌≢◌, ◌↔◌, ℕ, ◌<◌, List, length, Option, Some, None, IsNone, IfSome, Result, Ok, Err, IfOk, inl, inr, [], ◌++◌, refl, sym, ap, ◌∙◌, arith}
+use Rattle.std.proofs.Common.{◌≡◌, ◌≢◌, ◌↔◌, ℕ, ◌<◌, List, length, Option, Some, None, IsNone, IfSome, Result, Ok, Err, IfOk, inl, inr, [], ◌++◌, refl, sym, ap, ◌∙◌, arith, Bool, IsTrue, is_some, not, true≢false}
+use Rattle.std.proofs.lemmas.Bool.{not-false}
 use Rattle.std.proofs.lemmas.List.{length-map}
 use Rattle.relative_path.specs.Steps.{Step}
 use Rattle.relative_path.specs.Walk.{walk, IsSame, place_of}
@@ -9,7 +10,7 @@ use Rattle.relative_path.proofs.ForCallers.{IsSame-refl, IsSame-sym, IsSame-tran
 use Rattle.relative_path_moves.specs.declared.move_error.ReferenceError.{ReferenceError}
 use Rattle.relative_path_moves.specs.declared.move_error.ReferenceError.TheVariants.{AboveRoot, NoPath, OutOfMemory}
 use Rattle.relative_path_moves.specs.Places.{directory}
-use Rattle.relative_path_moves.specs.PlaceIndex.{IsFirstAt, IsNoneAt}
+use Rattle.relative_path_moves.specs.PlaceIndex.{IsFirstAt, IsNoneAt, IsFoundAt}
 use Rattle.relative_path_moves.specs.Moves.{Move, move_at, MovesFrom, AreApart, IsUnmoved, IsTarget, AtNewPath, ForTargetOfLink, ClimbsAbove, BelowTop}
 use Rattle.relative_path_moves.specs.MoveError.{Refuses}
 use Rattle.relative_path_moves.specs.MoveTable.{olds_of, LeadToTarget, IsWay, IsShortestBuffer, IsLink}
@@ -50,12 +51,22 @@ LeadToTarget-found moves place cs j apart first new =
     (record { everywhere = λ base. ap (walk base) (sym new) })
 
 -- if the index has no number for a place, the file there is unmoved
+pub IsUnmoved-kept : (moves : List Move) (place : List Step) → IsNoneAt (olds_of moves) place → IsUnmoved moves place
+IsUnmoved-kept moves place none j from =
+    none j (omega (arith, from.within, length-map moves (λ move. move.old)))
+    (rw (old_at moves j from.within) from.same)
+
 pub IsTarget-kept : (moves : List Move) (place : List Step) → IsNoneAt (olds_of moves) place → IsTarget moves place place
-IsTarget-kept moves place none = inr (stays, refl) where
-  stays : IsUnmoved moves place
-  stays j from =
-      none j (omega (arith, from.within, length-map moves (λ move. move.old)))
-      (rw (old_at moves j from.within) from.same)
+IsTarget-kept moves place none = inr (IsUnmoved-kept moves place none, refl)
+
+-- a file is unmoved exactly if the index has no number for it
+pub IsUnmoved-none : (moves : List Move) (place : List Step) (found : Option ℕ) (none : Bool)
+    → IsFoundAt (olds_of moves) place found → is_some found ≡ not none → IsTrue none ↔ IsUnmoved moves place
+IsUnmoved-none moves place None none absent is = (λ _. IsUnmoved-kept moves place absent, λ _. not-false none (sym is))
+IsUnmoved-none moves place (Some j) none first is = (
+  λ yes. absurd (true≢false (is ∙ ap not yes)),
+  λ unmoved. absurd (IsUnmoved-found moves place j first unmoved),
+)
 
 pub LeadToTarget-kept : (moves : List Move) (place cs : List Step) → AreApart moves → IsNoneAt (olds_of moves) place
     → IsSame place cs → LeadToTarget moves place cs

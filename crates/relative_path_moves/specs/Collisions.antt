@@ -3,7 +3,7 @@ use Rattle.std.specs.Prelude.{◌≡◌, ◌≢◌, ◌⊎◌, ◌<◌, ◌≤�
 use Rattle.relative_path.specs.Steps.{Step}
 use Rattle.relative_path.specs.Walk.{StaysBelow}
 use Rattle.relative_path.specs.Normalizing.{IsNormalText, IsNormalTextOf}
-use Rattle.relative_path_moves.specs.Moves.{Move}
+use Rattle.relative_path_moves.specs.Moves.{Move, move_at, IsUnmoved}
 use Rattle.relative_path_moves.specs.PlaceIndex.{path_at, IsFirstAt}
 use Rattle.relative_path_moves.specs.TreeMoves.{AtTreePath}
 
@@ -22,6 +22,13 @@ pub record CollideAfter (moves : List Move) (files : List (List Step)) (j k : �
   pub before : j < k
   pub within : k < length files
   pub collide : AtTreePath moves (path_at files j) (λ one. AtTreePath moves (path_at files k) (Collide one))
+
+-- file f doesn't move, and the new path of move k collides with it
+pub record CollideWithFile (moves : List Move) (files : List (List Step)) (k f : ℕ) : Type 0 where
+  pub move : k < length moves
+  pub file : f < length files
+  pub stays : IsUnmoved moves (path_at files f)
+  pub collide : Collide (move_at moves k).new (path_at files f)
 
 -- the new paths of the moves
 abbrev pub news_of : List Move → List (List Step)
@@ -79,3 +86,42 @@ pub record HavePathsAfter (moves : List Move) (files : List (List Step)) (texts 
   pub count : length texts ≡ length files
   pub each : (k : ℕ) → k < length files
       → AtTreePath moves (path_at files k) (λ target. IsNormalTextOf target (slice_index_or texts k []))
+
+-- path k collides with one of the other paths
+pub record CollidesWithOne (paths others : List (List Step)) (k : ℕ) : Type 0 where
+  pub within : k < length paths
+  pub other : ℕ
+  pub other_within : other < length others
+  pub collide : Collide (path_at paths k) (path_at others other)
+
+-- path k is the first that leads to its place, and one of the other paths stays below that place
+pub record IsOverOne (paths others : List (List Step)) (k : ℕ) : Type 0 where
+  pub first : IsFirstAt paths (path_at paths k) k
+  pub other : ℕ
+  pub other_within : other < length others
+  pub below : StaysBelow (path_at paths k) (path_at others other)
+
+-- path k stays below one of the other paths
+pub record IsBelowOne (paths others : List (List Step)) (k : ℕ) : Type 0 where
+  pub within : k < length paths
+  pub other : ℕ
+  pub other_within : other < length others
+  pub below : StaysBelow (path_at others other) (path_at paths k)
+
+-- file f doesn't move, and collides with the path
+pub record IsMetAt (moves : List Move) (files : List (List Step)) (path : List Step) (f : ℕ) : Type 0 where
+  pub within : f < length files
+  pub stays : IsUnmoved moves (path_at files f)
+  pub collide : Collide path (path_at files f)
+
+-- the text is the normal text of file f, which doesn't move
+pub record IsStaying (moves : List Move) (files : List (List Step)) (text : List ℕ) (f : ℕ) : Type 0 where
+  pub within : f < length files
+  pub stays : IsUnmoved moves (path_at files f)
+  pub normal : IsNormalTextOf (path_at files f) text
+
+-- the texts are the normal texts of the files that don't move
+pub record HaveStaying (moves : List Move) (files : List (List Step)) (texts : List (List ℕ)) : Type 0 where
+  pub only : (s : ℕ) → s < length texts → (f : ℕ) × IsStaying moves files (slice_index_or texts s []) f
+  pub all : (f : ℕ) → f < length files → IsUnmoved moves (path_at files f)
+      → (s : ℕ) × (s < length texts) × IsStaying moves files (slice_index_or texts s []) f

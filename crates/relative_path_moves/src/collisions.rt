@@ -12,6 +12,9 @@ ghost use Rattle.relative_path_moves.specs.Collisions.{
   IsLeast,
   AreNormal,
   CollidesWithAnother,
+  CollidesWithOne,
+  IsOverOne,
+  IsBelowOne,
   IsOtherAt,
   IsOtherAbove,
   IsLesser,
@@ -34,6 +37,49 @@ pub(crate) fn first_collision(
         Some(j) => Ok(next_colliding(paths, j).map(|k| (j, k))),
         None => Ok(None),
     }
+}
+
+// The least number of a path that collides with one of the others.
+pub(crate) fn first_meeting(
+    alloc: Global,
+    paths: &[NormalPath],
+    others: &[NormalPath],
+) -> Result<Option<usize>, AllocError>
+    ensures { IfOk result
+        (IsLeast (CollidesWithOne (map components paths.now) (map components others.now))) }
+{
+    let by_path = index_of(alloc, paths)?;
+    let by_other = index_of(alloc, others)?;
+    let over = first_over(&by_path, paths, others);
+    Ok(lesser(over, first_below(&by_other, others, paths)))
+}
+
+// The least number of a path that leads to where one of the others leads, or to a place above. The index is
+// that of the paths.
+fn first_over(index: &PlaceIndex, paths: &[NormalPath], others: &[NormalPath]) -> Option<usize>
+    requires { Indexes (map components paths.now) index.now }
+    ensures { IsLeast (IsOverOne (map components paths.now) (map components others.now)) result }
+{
+    let mut least = None;
+    for other in others {
+        least = lesser(least, least_above(index, other, paths.len()));
+    }
+    least
+}
+
+// The number of the first path that leads to where one of the others leads, or to a place below. The index is
+// that of the others.
+fn first_below(index: &PlaceIndex, others: &[NormalPath], paths: &[NormalPath]) -> Option<usize>
+    requires indexes { Indexes (map components others.now) index.now }
+    requires normal { AreNormal others.now }
+    ensures { IsLeast (IsBelowOne (map components paths.now) (map components others.now)) result }
+{
+    for (k, path) in paths.iter().enumerate() {
+        if least_above(index, path, others.len()).is_some() {
+            return Some(k);
+        }
+    }
+    None
 }
 
 // The index of the paths.
@@ -135,7 +181,7 @@ fn lesser(one: Option<usize>, other: Option<usize>) -> Option<usize>
 }
 
 // Whether two paths lead to one place, or one below the other.
-fn collide(one: &NormalPath, other: &NormalPath) -> bool
+pub(crate) fn collide(one: &NormalPath, other: &NormalPath) -> bool
     ensures { IsTrue result ↔ Collide (components one.now) (components other.now) }
 {
     stays_below(one, other) || stays_below(other, one)
