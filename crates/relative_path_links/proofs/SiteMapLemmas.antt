@@ -1,5 +1,6 @@
 -- References between pages, however the pages are spelled, and pages without file names.
 use Rattle.std.proofs.Common.{◌≡◌, ◌≢◌, inl, inr, ℕ, ◌<◌, ◌+◌, List, [], ◌∷◌, ◌++◌, length, take, map, append_assoc, length-append, get_or, Bool, true, false, not, ◌↔◌, Option, Some, None, is_some, IsSome, IsNone, IfSome, Bor, below_more, true≢false, codes, if◌then◌else◌, refl, sym, ap, ap₂, ◌∙◌, subst, arith}
+use Rattle.std.proofs.lemmas.Bool.{cases_lt}
 use Rattle.std.proofs.lemmas.List.{append_cancel_left, append_cancel_right, get_or-map, length-map, take_more, length-take-le}
 use Rattle.std.proofs.lemmas.Option.{none-some, same_Some}
 use Rattle.std.proofs.lemmas.Simd.{map-map}
@@ -324,3 +325,13 @@ IsFirstOtherPage-here pages none k within before other = record {
   other = λ plain. other (rw (page_at-map pages none k within) at plain);
   first = before;
 }
+
+-- a list of pages has one such page
+pub IsFirstOtherPage-only : (pages : List Page) (k j : ℕ) → IsFirstOtherPage pages k → IsFirstOtherPage pages j → k ≡ j
+IsFirstOtherPage-only pages k j one other = elim (cases_lt k j) [
+  | inl before ↦ absurd (one.other (other.first k before))
+  | inr past ↦ elim (cases_lt j k) [
+    | inl after ↦ absurd (other.other (one.first j after))
+    | inr most ↦ omega (arith, past, most)
+  ]
+]

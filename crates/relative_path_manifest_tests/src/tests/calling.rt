@@ -1,6 +1,5 @@
 //! The caller that the page of `relative_path_manifest` shows.
-ghost use Rattle.std.specs.Prelude.{◌≢◌, map, IfOk, IfSome, None};
-ghost use Rattle.relative_path.specs.Walk.{place_of};
+ghost use Rattle.std.specs.Prelude.{map, IfOk, IfSome};
 ghost use Rattle.serde_json.specs.View.{view};
 ghost use Rattle.relative_path_files.specs.Names.{IsPlainName};
 ghost use Rattle.relative_path_manifest.specs.Manifest.{AreFiles, OfManifest, file_text};
