@@ -1,8 +1,10 @@
 //! Vectors of `relative_path_files`.
-use std::fmt::Debug;
+use std::alloc::Global;
+use std::fmt::{Debug, Display};
 use std::test::Fail;
 
 mod calling;
+mod names;
 mod refusals;
 mod router;
 
@@ -14,4 +16,12 @@ fn same<T: PartialEq + Debug>(case: &str, found: &T, expected: &T) -> Result<(),
     } else {
         Err(Fail::new(format_args!("{case:?}: {found:?}, not {expected:?}")))
     }
+}
+
+// Fails where a value prints other words than these, as it is and in a width and a precision that
+// hold them.
+fn prints<T: Display>(alloc: Global, value: &T, words: &str) -> Result<(), Fail> {
+    let printed = format!(in alloc; "{value}|{value:5.99}")?;
+    let expected = format!(in alloc; "{words}|{words}")?;
+    same(words, &printed, &expected)
 }

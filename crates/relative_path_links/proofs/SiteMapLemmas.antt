@@ -1,8 +1,10 @@
 -- References between pages, however the pages are spelled, and pages without file names.
 use Rattle.std.proofs.Common.{◌≡◌, ◌≢◌, inl, inr, ℕ, ◌<◌, ◌+◌, List, [], ◌∷◌, ◌++◌, length, take, map, append_assoc, length-append, get_or, Bool, true, false, not, ◌↔◌, Option, Some, None, is_some, IsSome, IsNone, IfSome, Bor, below_more, true≢false, codes, if◌then◌else◌, refl, sym, ap, ap₂, ◌∙◌, subst, arith}
+use Rattle.std.proofs.lemmas.Bool.{cases_lt}
 use Rattle.std.proofs.lemmas.List.{append_cancel_left, append_cancel_right, get_or-map, length-map, take_more, length-take-le}
 use Rattle.std.proofs.lemmas.Option.{none-some, same_Some}
 use Rattle.std.proofs.lemmas.Simd.{map-map}
+use Rattle.std.specs.List.{All}
 use Rattle.std.specs.Option.{option_and_then, option_copied}
 use Rattle.relative_path.specs.Steps.{Step, up, name, slash, step_text, components, spell, SpellsItself, SpellThemselves}
 use Rattle.relative_path.specs.Walk.{walk, IsSame}
@@ -19,7 +21,8 @@ use Rattle.relative_path_moves.specs.PlaceIndex.{Indexes}
 use Rattle.relative_path_moves.specs.declared.place_index.PlaceIndex.{PlaceIndex}
 use Rattle.target_paths.specs.Writing.{target_of}
 use Rattle.relative_path_links.specs.UrlPath.{Page, page_of, url_steps, segments_of, resolved, decoded, Resolves}
-use Rattle.relative_path_links.specs.SiteMap.{page_at, paths_of, AreNamedPages, IsSamePage, start_of, IsShortestNamed, IsFirstNamelessPage, IsHref}
+use Rattle.relative_path_links.specs.SiteMap.{page_at, paths_of, AreNamedPages, IsSamePage, start_of, IsShortestNamed, IsFirstNamelessPage, IsFirstOtherPage, IsPlainPage, IsHref}
+use Rattle.relative_path_files.specs.Names.{IfName, IsPlainName}
 use Rattle.relative_path_links.proofs.UrlPathLemmas.{IsSegment, IsSegment-empty, IsSegment-proper, AreSegments, AreSegments-proper, AreSegments-push, Segments-walk, without_last-up, resolved-walk, path_written-spell}
 
 -- ---- pages by other spellings
@@ -302,3 +305,33 @@ Indexes-next pages none k old new l inserted index =
     ap (λ paths. get_or paths k []) same ∙ get_or-map path_components pages k none [] l in
     rw (take_more paths k [] within, page)
     (inserted (take k paths) index (length-take-le k paths (omega (arith, within))))
+
+-- ---- pages with plain names
+
+-- if the next page's names are plain, so are those of the pages up to it
+pub plain-next : (pages : List RelativePath) (none : RelativePath) (k : ℕ) → k < length pages
+    → ((j : ℕ) → j < k → IsPlainPage (page_at (map page_of pages) j))
+    → All (IfName IsPlainName) (path_components (get_or pages k none))
+    → (j : ℕ) → j < k + 1 → IsPlainPage (page_at (map page_of pages) j)
+plain-next pages none k within before plain = below_more _ _ before (rw (page_at-map pages none k within) plain)
+
+-- the first page with a name that isn't plain
+pub IsFirstOtherPage-here : (pages : List RelativePath) (none : RelativePath) (k : ℕ) → k < length pages
+    → ((j : ℕ) → j < k → IsPlainPage (page_at (map page_of pages) j))
+    → (¬ All (IfName IsPlainName) (path_components (get_or pages k none)))
+    → IsFirstOtherPage (map page_of pages) k
+IsFirstOtherPage-here pages none k within before other = record {
+  within = rw (length-map pages page_of) within;
+  other = λ plain. other (rw (page_at-map pages none k within) at plain);
+  first = before;
+}
+
+-- a list of pages has one such page
+pub IsFirstOtherPage-only : (pages : List Page) (k j : ℕ) → IsFirstOtherPage pages k → IsFirstOtherPage pages j → k ≡ j
+IsFirstOtherPage-only pages k j one other = elim (cases_lt k j) [
+  | inl before ↦ absurd (one.other (other.first k before))
+  | inr past ↦ elim (cases_lt j k) [
+    | inl after ↦ absurd (other.other (one.first j after))
+    | inr most ↦ omega (arith, past, most)
+  ]
+]

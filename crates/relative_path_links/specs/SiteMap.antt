@@ -7,7 +7,9 @@ use Rattle.relative_path.specs.Relating.{Leads, IsReachable}
 use Rattle.target_paths.specs.Writing.{target_of}
 use Rattle.relative_path_links.specs.UrlPath.{Page, url_steps}
 use Rattle.relative_path_links.specs.declared.site_map.SiteMapError.{SiteMapError}
-use Rattle.relative_path_links.specs.declared.site_map.SiteMapError.TheVariants.{NoFileName, OutOfMemory}
+use Rattle.relative_path_links.specs.declared.site_map.SiteMapError.TheVariants.{NoFileName, NotPlain, OutOfMemory}
+use Rattle.relative_path_files.specs.Names.{IfName, IsPlainName}
+use Rattle.std.specs.List.{All}
 
 -- page number k, counted from 0
 abbrev pub page_at : List Page → ℕ → Page
@@ -32,6 +34,20 @@ pub record IsFirstNamelessPage (pages : List Page) (k : ℕ) : Type 0 where
   pub nameless : last_name (page_at pages k).path ≡ None
   pub first : (j : ℕ) → j < k → last_name (page_at pages j).path ≢ None
 
+-- the names among the page's components are plain
+abbrev pub IsPlainPage : Page → Type 0
+IsPlainPage page = All (IfName IsPlainName) page.path
+
+-- each page's names are plain
+abbrev pub ArePlainPages : List Page → Type 0
+ArePlainPages pages = (k : ℕ) → k < length pages → IsPlainPage (page_at pages k)
+
+-- k is the number of the first page with a name that isn't plain
+pub record IsFirstOtherPage (pages : List Page) (k : ℕ) : Type 0 where
+  pub within : k < length pages
+  pub other : ¬ IsPlainPage (page_at pages k)
+  pub first : (j : ℕ) → j < k → IsPlainPage (page_at pages j)
+
 -- where references on a page start: one step up from the end of its URL path, so at a directory's page the directory
 abbrev pub start_of : Page → List Step
 start_of page = url_steps page ++ up ∷ []
@@ -55,4 +71,5 @@ IsHref from to found = MatchOption found (¬ IsReachable (start_of from) (url_st
 -- what an error prints
 abbrev pub site_map_error_text : SiteMapError → List ℕ
 site_map_error_text (NoFileName k) = codes "page " ++ decimal k ++ codes " lacks a file name"
+site_map_error_text (NotPlain k) = codes "page " ++ decimal k ++ codes " has a name that isn't plain"
 site_map_error_text OutOfMemory = codes "out of memory"

@@ -9,12 +9,13 @@ ghost use Rattle.relative_path.specs.RelativePath.{path_text, path_components};
 ghost use Rattle.relative_path_moves.specs.PlaceIndex.{Indexes, IsFirstAt, IsFoundAt};
 ghost use Rattle.relative_path_moves.specs.Places.{directory};
 ghost use Rattle.target_paths.specs.Writing.{ends_target};
-ghost use Rattle.relative_path_links.specs.SiteMap.{page_at, paths_of, AreNamedPages, IsFirstNamelessPage, IsSamePage, IsHref};
+ghost use Rattle.relative_path_links.specs.SiteMap.{page_at, paths_of, AreNamedPages, ArePlainPages, IsFirstNamelessPage, IsFirstOtherPage, IsSamePage, IsHref};
 ghost use Rattle.relative_path_links.specs.UrlPath.{Page, page_of, ends_in_slash, url_steps, Resolves};
 
 use relative_path::RelativePath;
+use relative_path_files::has_plain_names;
 use relative_path_moves::{NormalPath, PlaceIndex, directory};
-use std::alloc::{AllocError, Global};
+use std::alloc::{AllocError, AllocFailed, Global};
 use std::error::Error;
 use std::fmt;
 use std::marker::Model;
@@ -30,7 +31,9 @@ use target_paths::target_of_path;
 pub enum SiteMapError {
     /// The first page whose path has no file name.
     NoFileName(usize),
-    /// An allocation failed. By then each page was seen to have a file name.
+    /// Each page has a file name, and this is the first page that has a name that isn't plain.
+    NotPlain(usize),
+    /// An allocation failed. By then each page was seen to have a file name, and only plain names.
     OutOfMemory,
 }
 
@@ -42,6 +45,7 @@ impl fmt::Display for SiteMapError {
     fn fmt<W: fmt::Write>(&self, f: &mut fmt::Formatter<W>) -> fmt::Result {
         match self {
             SiteMapError::NoFileName(k) => write!(f, "page {k} lacks a file name"),
+            SiteMapError::NotPlain(k) => write!(f, "page {k} has a name that isn't plain"),
             SiteMapError::OutOfMemory => f.write_str("out of memory"),
         }
     }
@@ -55,6 +59,16 @@ impl From<AllocError> for SiteMapError {
     ghost from_gives = { λ _ refusal. refusal ≡ OutOfMemory };
 
     fn from(_: AllocError) -> SiteMapError {
+        SiteMapError::OutOfMemory
+    }
+}
+
+impl<T: Drop> From<AllocFailed<T>> for SiteMapError {
+    ghost use Rattle.relative_path_links.specs.declared.site_map.SiteMapError.TheVariants.{OutOfMemory};
+
+    ghost from_gives = { λ _ refusal. refusal ≡ OutOfMemory };
+
+    fn from(_: AllocFailed<T>) -> SiteMapError {
         SiteMapError::OutOfMemory
     }
 }
@@ -80,15 +94,20 @@ impl<'a> Model for SiteMap<'a> {
     ghost view = { λ site. map page_of site.pages.now };
 
     ghost invariant = { λ site. Indexes (paths_of (map page_of site.pages.now)) site.by_place
-        × AreNamedPages (map page_of site.pages.now) };
+        × AreNamedPages (map page_of site.pages.now) × ArePlainPages (map page_of site.pages.now) };
 }
 
 impl<'a> SiteMap<'a> {
     /// Makes the map of these pages. Fails if a page has no file name. So the page of the top, `""` or `"/"`,
-    /// can't be in a map. If several pages lead to the same place, a search finds the first of them.
+    /// can't be in a map. Also fails if a page has a name that isn't plain, as `is_plain_name` of
+    /// `relative_path_files` says: a browser reads `\` in a URL as `/`. If several pages lead to the same
+    /// place, a search finds the first of them.
     ///
-    /// The call looks for file names before it allocates. It then allocates for each page: the normal
-    /// form, and an entry of the map.
+    /// The call looks for file names first, then for names that aren't plain, and then allocates for each
+    /// page: the normal form, and an entry of the map.
+    ///
+    /// The map borrows the paths. So a function that makes paths can't return a map of them: it uses the map
+    /// itself, or passes the map on.
     ///
     /// ```
     /// let pages = ["a.html", "./a.html", "b/.."].map(RelativePath::new);
@@ -96,14 +115,39 @@ impl<'a> SiteMap<'a> {
     /// assert_eq!(rt; site.find(alloc, RelativePath::new("./a.html"))?, Some(0));
     /// assert_eq!(rt; SiteMap::new(alloc, &pages).err(), Some(SiteMapError::NoFileName(2)));
     /// ```
+    ///
+    /// A function that makes the paths and uses the map:
+    ///
+    /// ```
+    /// /// The number of a page among the lines of a list.
+    /// fn number_in_list(alloc: Global, list: &str, page: &str) -> Result<Option<usize>, SiteMapError> {
+    ///     let mut pages = Vec::new(alloc);
+    ///     for line in list.split('\n') {
+    ///         pages.push(RelativePath::new(line))?;
+    ///     }
+    ///     let site = SiteMap::new(alloc, &pages)?;
+    ///     Ok(site.find(alloc, RelativePath::new(page))?)
+    /// }
+    /// ```
+    ///
+    /// ```
+    /// let found = number_in_list(alloc, "index.html\nguide/a.html", "guide/./a.html")?;
+    /// assert_eq!(rt; found, Some(1));
+    /// ```
     pub fn new(alloc: Global, pages: &'a [RelativePath<'a>]) -> Result<SiteMap<'a>, SiteMapError>
         ensures pages { IfOk result (λ site. site ≡ map page_of pages.now) }
         ensures named { OnOk result (AreNamedPages (map page_of pages.now)) }
+        ensures plain { OnOk result (ArePlainPages (map page_of pages.now)) }
         ensures no_file_name { (k : ℕ) → IsErrOf result (SiteMapError.NoFileName k)
             ↔ IsFirstNamelessPage (map page_of pages.now) k }
+        ensures not_plain { (k : ℕ) → IsErrOf result (SiteMapError.NotPlain k)
+            ↔ (AreNamedPages (map page_of pages.now) × IsFirstOtherPage (map page_of pages.now) k) }
     {
         if let Some(k) = first_nameless(pages) {
             return Err(SiteMapError::NoFileName(k));
+        }
+        if let Some(k) = first_not_plain(pages) {
+            return Err(SiteMapError::NotPlain(k));
         }
         let mut by_place = PlaceIndex::new(alloc);
         for (k, page) in pages.iter().enumerate() {
@@ -154,18 +198,16 @@ impl<'a> SiteMap<'a> {
     ///
     /// The result is the shortest path that ends in the second page's file name, or in a slash if the second
     /// page is a directory's page. [`target_of_path`] writes that path. So the caller encodes nothing: percent
-    /// signs stand for a space, `%`, `?`, `#`, `\` and the like, and for a colon in the first segment. The result
+    /// signs stand for a space, `%`, `#` and the like. The result
     /// can come between quotes in an attribute of HTML as it is, since it has no quote and no `&`.
-    ///
-    /// If a name has a NUL, no reference leads to the page: servers and browsers refuse `%00`.
     ///
     /// Allocates at most six times.
     ///
     /// ```
-    /// let pages = ["docs/install", "docs/", "docs/a b?.html"].map(RelativePath::new);
+    /// let pages = ["docs/install", "docs/", "docs/a b%.html"].map(RelativePath::new);
     /// let site = SiteMap::new(alloc, &pages)?;
     /// assert!(rt; site.href(alloc, 0, 1)?.is_some_and(|href| href.as_str() == "./"));
-    /// assert!(rt; site.href(alloc, 0, 2)?.is_some_and(|href| href.as_str() == "a%20b%3F.html"));
+    /// assert!(rt; site.href(alloc, 0, 2)?.is_some_and(|href| href.as_str() == "a%20b%25.html"));
     /// assert!(rt; site.href(alloc, 1, 0)?.is_some_and(|href| href.as_str() == "install"));
     /// ```
     pub fn href(&self, alloc: Global, from: usize, to: usize) -> Result<Option<String>, AllocError>
@@ -232,6 +274,19 @@ fn first_nameless(pages: &[RelativePath<'_>]) -> Option<usize>
 {
     for (k, page) in pages.iter().enumerate() {
         if page.file_name().is_none() {
+            return Some(k);
+        }
+    }
+    None
+}
+
+// The number of the first page with a name that isn't plain.
+fn first_not_plain(pages: &[RelativePath<'_>]) -> Option<usize>
+    ensures { MatchOption result (ArePlainPages (map page_of pages.now))
+        (IsFirstOtherPage (map page_of pages.now)) }
+{
+    for (k, page) in pages.iter().enumerate() {
+        if !has_plain_names(*page) {
             return Some(k);
         }
     }

@@ -1,13 +1,13 @@
 -- An index of texts in lower case, of which no two clash, and the next text.
 use Rattle.std.proofs.Common.{◌≡◌, ◌≢◌, ◌<◌, ◌+◌, ℕ, Bool, true, false, cond, inl, inr, List, [], map, length, get_or, Option, Some, None, unwrap_or, refl, sym, ap, ◌∙◌, subst, arith, true≢false}
 use Rattle.std.proofs.lemmas.Bool.{cases_lt}
-use Rattle.std.proofs.lemmas.List.{get_or-map, length-map}
+use Rattle.std.proofs.lemmas.List.{get_or-map}
 use Rattle.std.proofs.lemmas.Option.{same_Some, none-some}
 use Rattle.std.proofs.lemmas.Slice.Eq.{bytes_eq-Decides}
 use Rattle.std.specs.Map.{update}
 use Rattle.std.specs.Str.{bytes_eq, str_to_ascii_lowercase}
 use Rattle.relative_path.specs.RelativePathBuf.{Buffer}
-use Rattle.relative_path_manifest.specs.Clash.{text_at, IsClash, IsApartBefore, IsFirstClash}
+use Rattle.relative_path_manifest.specs.Clash.{text_at, IsApartBefore, IsFirstClash}
 use Rattle.relative_path_manifest.specs.Manifest.{file_text}
 
 -- the index has the first n texts in lower case, each with its number, and no two of them clash
@@ -56,9 +56,11 @@ module _ (texts : List (List ℕ)) (n : ℕ) (old : List ℕ → Option ℕ) (te
     found other k has = tell (bytes_eq text other) refl where
       tell : (b : Bool) → bytes_eq text other ≡ b → (k < n + 1) × (str_to_ascii_lowercase (text_at texts k) ≡ other)
       tell true same =
-          let number : n ≡ k = same_Some n k (sym (here true other same) ∙ has) in
-          (omega (arith, number), subst (λ k. str_to_ascii_lowercase (text_at texts k) ≡ other) number
-          (is ∙ (bytes_eq-Decides text other).0 same))
+          let number : n ≡ k = same_Some n k (sym (here true other same) ∙ has) in (
+            omega (arith, number),
+            subst (λ k. str_to_ascii_lowercase (text_at texts k) ≡ other) number
+                (is ∙ (bytes_eq-Decides text other).0 same),
+          )
       tell false same =
           let (within, lower) = index.found other k (sym (here false other same) ∙ has) in
           (omega (arith, within), lower)

@@ -1,5 +1,5 @@
 -- Files that a disk may take for one.
-use Rattle.std.specs.Prelude.{◌≡◌, ◌≢◌, ◌<◌, ℕ, List, [], length, Option, MatchOption, slice_index_or}
+use Rattle.std.specs.Prelude.{◌≡◌, ◌<◌, ℕ, List, [], length, Option, MatchOption, slice_index_or}
 use Rattle.std.specs.Str.{str_to_ascii_lowercase}
 
 -- text number k, counted from 0

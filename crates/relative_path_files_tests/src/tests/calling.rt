@@ -1,28 +1,37 @@
 //! The caller that the page of `relative_path_files` shows.
-ghost use Rattle.std.specs.Prelude.{◌≡◌, ℕ, List, Some, IfOk, IfSome, string_bytes};
-ghost use Rattle.std.specs.List.{All};
+ghost use Rattle.std.specs.Prelude.{◌≡◌, ◌⊎◌, ◌++◌, ℕ, List, IfOk, codes, string_bytes};
 ghost use Rattle.relative_path.specs.Steps.{components};
-ghost use Rattle.relative_path.specs.Walk.{place_of};
-ghost use Rattle.relative_path_files.specs.Names.{IsPlainName};
-ghost use Rattle.relative_path_files.specs.Router.{below};
+ghost use Rattle.relative_path_files.specs.Router.{HasPlainPlace, IsBelowRoot};
 
-use relative_path_files::resolve_request;
-use std::alloc::{AllocError, Global};
+use relative_path_files::{RequestError, resolve_request};
+use std::alloc::Global;
 use std::test::Fail;
 
-/// The file below `assets` that a request names. Each of its names from there on is plain.
-pub fn asset(alloc: Global, request: &str) -> Result<Option<String>, AllocError>
-    ensures { IfOk result (λ found. IfSome found (λ file. (place : List (List ℕ))
-        × (place_of (components request.now) ≡ Some place) × All IsPlainName place
-        × (string_bytes file ≡ below "assets".now place))) }
+/// The page that a request names below `root`. If the request means a directory, that is the directory's
+/// `index.html`.
+pub fn page(alloc: Global, root: &str, request: &str) -> Result<String, RequestError>
+    ensures plain { IfOk result (λ _. HasPlainPlace (components request.now)) }
+    ensures page { IfOk result (λ page. (path : List ℕ) × IsBelowRoot root.now (components request.now) path
+        × ((string_bytes page ≡ path) ⊎ (string_bytes page ≡ path ++ codes "/index.html"))) }
 {
-    resolve_request(alloc, "assets", request)
+    let found = resolve_request(alloc, root, request)?;
+    let mut page = found.path;
+    if found.is_directory {
+        page.push_str("/index.html")?;
+    }
+    Ok(page)
 }
 
 #[test]
 fn the_caller_of_the_page(rt: HostRuntime) -> Result<(), Fail> {
-    let file = asset(rt.alloc(), "/img/../css/a.css")?;
-    assert!(rt; file.is_some_and(|file| file.as_str() == "assets/css/a.css"));
-    assert!(rt; asset(rt.alloc(), "/aux.css")?.is_none());
+    let alloc = rt.alloc();
+    let file = page(alloc, "web", "/img/../css/a.css")?;
+    assert_eq!(rt; file.as_str(), "web/css/a.css");
+    let index = page(alloc, "web", "/guide/")?;
+    assert_eq!(rt; index.as_str(), "web/guide/index.html");
+    assert_eq!(rt;
+        page(alloc, "web", "/aux.css").err(),
+        Some(RequestError::NotPlain)
+    );
     Ok(())
 }

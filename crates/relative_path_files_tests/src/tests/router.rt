@@ -1,20 +1,17 @@
-use super::same;
-use relative_path_files::resolve_request;
+use super::{prints, same};
+use relative_path_files::{RequestError, resolve_request, resolve_request_on_unix};
 use std::alloc::Global;
 use std::test::Fail;
 
-// Paths of requests, and the files that they name below `site/public`.
-const SERVED: [(&str, &str); 21] = [
-    ("", "site/public"),
-    ("/", "site/public"),
+// Requests that end in a name, and the files that they name below `site/public`.
+const FILES: [(&str, &str); 18] = [
     ("/index.html", "site/public/index.html"),
     ("//x", "site/public/x"),
     ("/css//./site.css", "site/public/css/site.css"),
     ("/a/../b/c.png", "site/public/b/c.png"),
-    ("/a/b/../..", "site/public"),
     ("/%2e%2e/secrets", "site/public/%2e%2e/secrets"),
     ("/a\\b/../c", "site/public/c"),
-    ("/a:b/../aux/..", "site/public"),
+    ("/a?b/../aux/../x", "site/public/x"),
     ("/.hidden/.a", "site/public/.hidden/.a"),
     ("/com10/COMX", "site/public/com10/COMX"),
     (
@@ -27,48 +24,86 @@ const SERVED: [(&str, &str); 21] = [
     ("/a aux.txt", "site/public/a aux.txt"),
     ("/com¹0", "site/public/com¹0"),
     ("/conin", "site/public/conin"),
-    ("/a b/c~1", "site/public/a b/c~1"),
+    ("/a b/PROGRA~1", "site/public/a b/PROGRA~1"),
     ("/über/日本.html", "site/public/über/日本.html"),
 ];
 
-// Fails if the result for a request below this root isn't the expected one.
-fn serves(alloc: Global, root: &str, request: &str, expected: Option<&str>) -> Result<(), Fail> {
-    let file = resolve_request(alloc, root, request)?;
-    let found = file.as_ref().map(String::as_str);
-    same(root, &(request, found), &(request, expected))
+// Requests that mean a directory, and the directories that they name below `site/public`.
+const DIRECTORIES: [(&str, &str); 9] = [
+    ("", "site/public"),
+    ("/", "site/public"),
+    ("/.", "site/public"),
+    ("/a/b/../..", "site/public"),
+    ("/a:b/../aux/..", "site/public"),
+    ("/a/", "site/public/a"),
+    ("/a/.", "site/public/a"),
+    ("/a/./", "site/public/a"),
+    ("/a/b/..", "site/public/a"),
+];
+
+// Fails if the request names another path below this root than is expected, or doesn't mean a directory
+// although it should, or the other way round.
+fn names(
+    alloc: Global,
+    root: &str,
+    request: &str,
+    path: &str,
+    is_directory: bool,
+) -> Result<(), Fail> {
+    let found = resolve_request(alloc, root, request)?;
+    same(
+        request,
+        &(found.path.as_str(), found.is_directory),
+        &(path, is_directory),
+    )?;
+    let found = resolve_request_on_unix(alloc, root, request)?;
+    same(
+        request,
+        &(found.path.as_str(), found.is_directory),
+        &(path, is_directory),
+    )
+}
+
+// Fails if the request isn't refused with this error.
+fn refuses(alloc: Global, request: &str, error: RequestError) -> Result<(), Fail> {
+    let found = resolve_request(alloc, "/srv/www", request).err();
+    same(request, &found, &Some(error))
 }
 
 #[test]
-fn serves_what_is_below_the_root(rt: HostRuntime) -> Result<(), Fail> {
-    for (request, file) in &SERVED {
-        serves(rt.alloc(), "site/public", request, Some(*file))?;
+fn names_what_is_below_the_root(rt: HostRuntime) -> Result<(), Fail> {
+    for (request, file) in &FILES {
+        names(rt.alloc(), "site/public", request, file, false)?;
+    }
+    for (request, directory) in &DIRECTORIES {
+        names(rt.alloc(), "site/public", request, directory, true)?;
     }
     Ok(())
 }
 
 // Roots, requests, and the files that these name.
-const ROOTS: [(&str, &str, &str); 13] = [
+const ROOTS: [(&str, &str, &str); 11] = [
     ("/srv/www", "/a/b", "/srv/www/a/b"),
-    ("/srv/www", "/a/", "/srv/www/a"),
     ("/srv/www/", "/a/b", "/srv/www/a/b"),
-    ("/srv/www/", "/", "/srv/www/"),
     ("/", "/a/b", "/a/b"),
     ("/", "//server/share/x", "/server/share/x"),
     ("//", "a", "//a"),
-    ("/", "", "/"),
     ("", "/a/b", "a/b"),
-    ("", "/", ""),
     (".", "/a", "./a"),
     ("../public//.", "/a", "../public//./a"),
     ("C:\\www", "/a", "C:\\www/a"),
+    ("C:", "/a", "C:/a"),
+    ("\\\\?\\C:\\www", "/a", "\\\\?\\C:\\www/a"),
 ];
 
 #[test]
 fn leaves_the_root_as_it_is(rt: HostRuntime) -> Result<(), Fail> {
     for (root, request, file) in &ROOTS {
-        serves(rt.alloc(), root, request, Some(*file))?;
+        names(rt.alloc(), root, request, file, false)?;
     }
-    Ok(())
+    names(rt.alloc(), "/srv/www/", "/", "/srv/www/", true)?;
+    names(rt.alloc(), "/", "", "/", true)?;
+    names(rt.alloc(), "", "/", "", true)
 }
 
 #[test]
@@ -80,46 +115,73 @@ fn refuses_what_climbs(rt: HostRuntime) -> Result<(), Fail> {
         "/a/../../x",
         "//..//..//etc/passwd",
         "/a/b/../../../x/../../public/a",
+        "/../aux",
     ] {
-        serves(rt.alloc(), "/srv/www", request, None)?;
+        refuses(rt.alloc(), request, RequestError::ClimbsAbove)?;
+        let found = resolve_request_on_unix(rt.alloc(), "/srv/www", request).err();
+        same(request, &found, &Some(RequestError::ClimbsAbove))?;
     }
     Ok(())
 }
 
 #[test]
-fn refuses_what_some_platform_reads_otherwise(rt: HostRuntime) -> Result<(), Fail> {
+fn refuses_a_name_that_is_not_plain(rt: HostRuntime) -> Result<(), Fail> {
     for request in &[
         "/..\\..\\x",
         "/a\\..\\..\\x",
-        "\\",
-        "/a\0",
         "/a.html\0.png",
-        "\0",
-        "/a\nb",
         "/C:/Windows/win.ini",
         "/index.html::$DATA",
+        "/index.html?x=1",
         "/index.php.",
-        "/index.php ",
         "/.../x",
-        "/a /b",
-        "/aux.txt",
-        "/CON",
-        "/con.tar.gz",
-        "/Prn/x",
-        "/nul",
-        "/nul.",
-        "/COM0",
-        "/com1.log",
-        "/lpt9",
-        "/a/LpT5.b/c",
-        "/aux .txt",
-        "/CON  .a",
-        "/conin$",
-        "/CONOUT$.x",
-        "/com¹",
-        "/LPT³.txt",
+        "/a /b/",
+        "/con.tar.gz/..a",
+        "/x/..namedfork/rsrc",
+        "/x/../aux",
     ] {
-        serves(rt.alloc(), "", request, None)?;
+        refuses(rt.alloc(), request, RequestError::NotPlain)?;
+    }
+    Ok(())
+}
+
+// Requests with names that aren't plain, and the files that they name on Unix.
+const ON_UNIX: [(&str, &str); 6] = [
+    ("/index.html?x=1", "/srv/www/index.html?x=1"),
+    ("/a:b", "/srv/www/a:b"),
+    ("/..\\..\\x", "/srv/www/..\\..\\x"),
+    ("/aux.txt", "/srv/www/aux.txt"),
+    ("/...", "/srv/www/..."),
+    ("/a\0b", "/srv/www/a\0b"),
+];
+
+#[test]
+fn refuses_no_name_on_unix(rt: HostRuntime) -> Result<(), Fail> {
+    for (request, file) in &ON_UNIX {
+        let found = resolve_request_on_unix(rt.alloc(), "/srv/www", request)?;
+        same(
+            request,
+            &(found.path.as_str(), found.is_directory),
+            &(*file, false),
+        )?;
+    }
+    Ok(())
+}
+
+#[test]
+fn errors_print_their_words(rt: HostRuntime) -> Result<(), Fail> {
+    for (error, words) in &[
+        (
+            RequestError::ClimbsAbove,
+            "the request climbs above the top",
+        ),
+        (
+            RequestError::NotPlain,
+            "the request has a name that isn't plain",
+        ),
+        (RequestError::OutOfMemory, "out of memory"),
+    ] {
+        prints(rt.alloc(), error, words)?;
     }
     Ok(())
 }
@@ -127,12 +189,12 @@ fn refuses_what_some_platform_reads_otherwise(rt: HostRuntime) -> Result<(), Fai
 #[test]
 fn refuses_a_very_long_climb(rt: HostRuntime) -> Result<(), Fail> {
     let climbs = "../".repeat(rt.alloc(), 100_000)?;
-    serves(rt.alloc(), "/srv/www", &climbs, None)
+    refuses(rt.alloc(), &climbs, RequestError::ClimbsAbove)
 }
 
 #[test]
-fn serves_a_very_long_name(rt: HostRuntime) -> Result<(), Fail> {
-    let names = "/a".repeat(rt.alloc(), 100_000)?;
-    let file = format!(in rt.alloc(); "/srv/www{names}")?;
-    serves(rt.alloc(), "/srv/www", &names, Some(&file))
+fn names_a_very_long_path(rt: HostRuntime) -> Result<(), Fail> {
+    let path = "/a".repeat(rt.alloc(), 100_000)?;
+    let file = format!(in rt.alloc(); "/srv/www{path}")?;
+    names(rt.alloc(), "/srv/www", &path, &file, false)
 }

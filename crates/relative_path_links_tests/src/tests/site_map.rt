@@ -5,7 +5,7 @@ use std::alloc::Global;
 use std::test::Fail;
 
 // The pages of a site: two of them spelt alike, one above the others, one named like a directory,
-// and some whose names hold colons.
+// and some whose names hold spaces.
 const PAGES: [&str; 20] = [
     "index.html",
     "guide/index.html",
@@ -16,13 +16,13 @@ const PAGES: [&str; 20] = [
     "guide",
     "blog/index.html",
     "blog/2024/a.html",
-    "blog/2024/b: again.html",
+    "blog/2024/b% again.html",
     "blog/2025/index.html",
     "blog/2025/12/01/x.html",
     "api/v1/paths.html",
     "api/v2/paths.html",
     "api/v2/../v1/../v2/errors.html",
-    "a:b/c.html",
+    "a%b/c.html",
     "img/logo.svg",
     "über/日本.html",
     "../legal.html",
@@ -68,10 +68,10 @@ const HREFS: [(usize, usize, &str); 16] = [
     (6, 2, "guide/start.html"),
     (11, 19, "../../../../404.html"),
     (14, 12, "../v1/paths.html"),
-    (8, 9, "b%3A%20again.html"),
-    (0, 9, "blog/2024/b:%20again.html"),
-    (0, 15, "a%3Ab/c.html"),
-    (1, 15, "../a:b/c.html"),
+    (8, 9, "b%25%20again.html"),
+    (0, 9, "blog/2024/b%25%20again.html"),
+    (0, 15, "a%25b/c.html"),
+    (1, 15, "../a%25b/c.html"),
     (8, 18, "../../../legal.html"),
     (19, 17, "über/日本.html"),
 ];
@@ -110,35 +110,27 @@ fn no_reference_leads_down_to_a_page_of_unknown_names(rt: HostRuntime) -> Result
 }
 
 // Pages whose names have bytes that mean something else in a URL or in HTML.
-const AWKWARD: [&str; 11] = [
+const AWKWARD: [&str; 8] = [
     "index.html",
     "docs/a b.html",
-    "docs/a?b.html",
+    "docs/a%3Fb.html",
     "docs/a%20b.html",
     "docs/a#b.html",
-    "\\\\evil.com",
-    "docs/\"q\"&'s'<i>.html",
-    "a:b/c:d.html",
-    "docs/tab\t\r\n.html",
+    "docs/&'s'.html",
     "docs/%2e%2e/..%2f.html",
     "100%/über%.html",
 ];
 
-const AWKWARD_HREFS: [(usize, usize, &str); 14] = [
+const AWKWARD_HREFS: [(usize, usize, &str); 9] = [
     (0, 1, "docs/a%20b.html"),
-    (0, 2, "docs/a%3Fb.html"),
+    (0, 2, "docs/a%253Fb.html"),
     (0, 3, "docs/a%2520b.html"),
     (0, 4, "docs/a%23b.html"),
-    (4, 2, "a%3Fb.html"),
-    (0, 5, "%5C%5Cevil.com"),
-    (1, 5, "../%5C%5Cevil.com"),
-    (0, 6, "docs/%22q%22%26%27s%27%3Ci%3E.html"),
-    (0, 7, "a%3Ab/c:d.html"),
-    (7, 7, "c%3Ad.html"),
-    (1, 8, "tab%09%0D%0A.html"),
-    (1, 9, "%252e%252e/..%252f.html"),
-    (9, 1, "../a%20b.html"),
-    (5, 10, "100%25/über%25.html"),
+    (4, 2, "a%253Fb.html"),
+    (0, 5, "docs/%26%27s%27.html"),
+    (1, 6, "%252e%252e/..%252f.html"),
+    (6, 1, "../a%20b.html"),
+    (5, 7, "../100%25/über%25.html"),
 ];
 
 #[test]
@@ -159,7 +151,7 @@ const DIRECTORIES: [&str; 8] = [
     "./guide/x/../b//",
     "guide/b/c/d.html",
     "guide",
-    "a:b/",
+    "a b/",
     "../above/",
 ];
 
@@ -176,8 +168,8 @@ const DIRECTORY_HREFS: [(usize, usize, &str); 18] = [
     (4, 1, "../../"),
     (5, 1, "guide/"),
     (1, 5, "../guide"),
-    (0, 6, "a%3Ab/"),
-    (1, 6, "../a:b/"),
+    (0, 6, "a%20b/"),
+    (1, 6, "../a%20b/"),
     (6, 6, "./"),
     (6, 3, "../guide/b/"),
     (1, 7, "../../above/"),
@@ -202,7 +194,7 @@ fn finds_a_directory_with_and_without_a_slash(rt: HostRuntime) -> Result<(), Fai
         ("guide", Some(1)),
         ("guide/", Some(1)),
         ("guide/b", Some(3)),
-        ("a:b/.", Some(6)),
+        ("a b/.", Some(6)),
         ("/", None),
     ] {
         let found = site.find(rt.alloc(), RelativePath::new(path))?;
@@ -227,6 +219,33 @@ fn refuses_a_page_without_a_file_name(rt: HostRuntime) -> Result<(), Fail> {
     Ok(())
 }
 
+// Pages of which the second has a name that isn't plain.
+const NOT_PLAIN: [&str; 10] = [
+    "docs/a?b.html",
+    "\\\\evil.com",
+    "docs/\"q\".html",
+    "a:b/c.html",
+    "docs/tab\t.html",
+    "docs/nul\0.html",
+    "aux.html",
+    "a./b.html",
+    "..namedfork/rsrc",
+    "a*/../b.html",
+];
+
+#[test]
+fn refuses_a_name_that_is_not_plain(rt: HostRuntime) -> Result<(), Fail> {
+    for page in &NOT_PLAIN {
+        let pages = ["a.html", page].map(RelativePath::new);
+        let error = SiteMap::new(rt.alloc(), &pages).err();
+        same(page, &error, &Some(SiteMapError::NotPlain(1)))?;
+        let pages = [page, ".."].map(RelativePath::new);
+        let error = SiteMap::new(rt.alloc(), &pages).err();
+        same(page, &error, &Some(SiteMapError::NoFileName(1)))?;
+    }
+    Ok(())
+}
+
 #[test]
 fn takes_no_pages(rt: HostRuntime) -> Result<(), Fail> {
     let site = SiteMap::new(rt.alloc(), &[])?;
@@ -239,6 +258,10 @@ fn refusals_print_their_words(rt: HostRuntime) -> Result<(), Fail> {
         (
             SiteMapError::NoFileName(1_000),
             "page 1000 lacks a file name",
+        ),
+        (
+            SiteMapError::NotPlain(1_000),
+            "page 1000 has a name that isn't plain",
         ),
         (SiteMapError::OutOfMemory, "out of memory"),
     ] {

@@ -1,6 +1,8 @@
 use super::{are, prints, same};
 use relative_path::RelativePathBuf;
-use relative_path_manifest::{ManifestError, manifest_files};
+use relative_path_manifest::{
+    ManifestError, manifest_base, manifest_clash, manifest_files, manifest_files_on_unix,
+};
 use serde_json::Value;
 use std::alloc::Global;
 use std::test::Fail;
@@ -44,7 +46,7 @@ fn reads_a_manifest(rt: HostRuntime) -> Result<(), Fail> {
 }
 
 // Manifests, and why they aren't accepted.
-const REFUSED: [(&str, ManifestError); 17] = [
+const REFUSED: [(&str, ManifestError); 21] = [
     ("[]", ManifestError::NoBase),
     (r#"{"base": 7, "files": []}"#, ManifestError::NoBase),
     (r#"{"base": "a"}"#, ManifestError::NoFiles),
@@ -71,33 +73,49 @@ const REFUSED: [(&str, ManifestError); 17] = [
     ),
     (
         r#"{"base": "a", "files": ["b", "..\\..\\x"]}"#,
-        ManifestError::Foreign(1),
+        ManifestError::NotPlain(1),
     ),
     (
         r#"{"base": "a", "files": ["a\u0000.png"]}"#,
-        ManifestError::Foreign(0),
+        ManifestError::NotPlain(0),
     ),
     (
         r#"{"base": "", "files": ["C:/Windows/win.ini"]}"#,
-        ManifestError::Foreign(0),
+        ManifestError::NotPlain(0),
     ),
     (
         r#"{"base": "a", "files": ["b/aux.txt", ".."]}"#,
-        ManifestError::Foreign(0),
+        ManifestError::NotPlain(0),
     ),
     (
         r#"{"base": "a", "files": ["b", "c.\n"]}"#,
-        ManifestError::Foreign(1),
+        ManifestError::NotPlain(1),
     ),
     (
         r#"{"base": "..\\x", "files": [7]}"#,
-        ManifestError::ForeignBase,
+        ManifestError::BaseNotPlain,
     ),
     (
         r#"{"base": "a/b\u0000/..", "files": []}"#,
-        ManifestError::ForeignBase,
+        ManifestError::BaseNotPlain,
     ),
     (r#"{"base": "a\\b"}"#, ManifestError::NoFiles),
+    (
+        r#"{"base": "a", "files": ["b", "index.html?x=1"]}"#,
+        ManifestError::NotPlain(1),
+    ),
+    (
+        r#"{"base": "a", "files": ["..namedfork/rsrc"]}"#,
+        ManifestError::NotPlain(0),
+    ),
+    (
+        r#"{"base": "a", "files": ["b"], "files": ["../c"]}"#,
+        ManifestError::ClimbsAbove(0),
+    ),
+    (
+        r#"{"base": "a*", "files": []}"#,
+        ManifestError::BaseNotPlain,
+    ),
 ];
 
 #[test]
@@ -105,6 +123,124 @@ fn refuses_a_manifest(rt: HostRuntime) -> Result<(), Fail> {
     for (json, refusal) in &REFUSED {
         let answer = answered(rt.alloc(), json)?;
         same(json, &answer.err(), &Some(*refusal))?;
+    }
+    Ok(())
+}
+
+// Manifests with a name that isn't plain, and the one file that each has on Unix.
+const ON_UNIX: [(&str, &str); 4] = [
+    (r#"{"base": "a", "files": ["b?x=1"]}"#, "a/b?x=1"),
+    (r#"{"base": "a*", "files": ["aux.txt"]}"#, "a*/aux.txt"),
+    (r#"{"base": "", "files": ["..\\x"]}"#, "..\\x"),
+    (r#"{"base": "a", "files": ["b\u0000"]}"#, "a/b\0"),
+];
+
+#[test]
+fn accepts_every_name_on_unix(rt: HostRuntime) -> Result<(), Fail> {
+    for (json, file) in &ON_UNIX {
+        let manifest = Value::from_str(rt.alloc(), json)?;
+        are(&manifest_files_on_unix(rt.alloc(), &manifest)?, &[*file])?;
+    }
+    Ok(())
+}
+
+#[test]
+fn refuses_a_climb_on_unix(rt: HostRuntime) -> Result<(), Fail> {
+    for (json, refusal) in &[
+        ("[]", ManifestError::NoBase),
+        (r#"{"base": "a"}"#, ManifestError::NoFiles),
+        (
+            r#"{"base": "a", "files": [7]}"#,
+            ManifestError::NotAString(0),
+        ),
+        (
+            r#"{"base": "a?", "files": ["b?", "../a?/c"]}"#,
+            ManifestError::ClimbsAbove(1),
+        ),
+        (
+            r#"{"base": "a", "files": ["b?/.."]}"#,
+            ManifestError::LeadsToBase(0),
+        ),
+    ] {
+        let manifest = Value::from_str(rt.alloc(), json)?;
+        let answer = manifest_files_on_unix(rt.alloc(), &manifest);
+        same(json, &answer.err(), &Some(*refusal))?;
+    }
+    Ok(())
+}
+
+// Manifests, and the entry that isn't accepted: its number and its text.
+const ENTRIES: [(&str, Option<usize>, Option<&str>); 7] = [
+    ("[]", None, None),
+    (r#"{"base": "a", "files": 7}"#, None, None),
+    (r#"{"base": "a?", "files": ["b"]}"#, None, None),
+    (r#"{"base": "a", "files": ["b", 7, "../c"]}"#, Some(1), None),
+    (
+        r#"{"base": "a", "files": ["b", "c", "../c\u000a"]}"#,
+        Some(2),
+        Some("../c\n"),
+    ),
+    (r#"{"base": "a", "files": ["b/.."]}"#, Some(0), Some("b/..")),
+    (
+        r#"{"base": "a", "files": ["b", "c:d"]}"#,
+        Some(1),
+        Some("c:d"),
+    ),
+];
+
+#[test]
+fn errors_name_the_entry(rt: HostRuntime) -> Result<(), Fail> {
+    for (json, number, text) in &ENTRIES {
+        let manifest = Value::from_str(rt.alloc(), json)?;
+        let error = manifest_files(rt.alloc(), &manifest).err();
+        let Some(error) = error else {
+            return Err(Fail::new("no error"));
+        };
+        same(json, &error.entry(), number)?;
+        same(json, &error.entry_text(&manifest), text)?;
+    }
+    Ok(())
+}
+
+// Bases, and what they are.
+const BASES: [(&str, Option<&str>); 5] = [
+    (r#"{"base": "../a"}"#, Some("../a")),
+    (r#"{"base": "a", "base": "/b"}"#, Some("/b")),
+    (r#"{"base": ""}"#, Some("")),
+    (r#"{"base": 7}"#, None),
+    ("7", None),
+];
+
+#[test]
+fn reads_the_base(rt: HostRuntime) -> Result<(), Fail> {
+    for (json, base) in &BASES {
+        let manifest = Value::from_str(rt.alloc(), json)?;
+        let found = manifest_base(&manifest);
+        same(json, &found.map(|base| base.as_str()), base)?;
+    }
+    Ok(())
+}
+
+// Files of a manifest, and the numbers of the two that clash first.
+const CLASHES: [(&str, Option<(usize, usize)>); 9] = [
+    (r#"[]"#, None),
+    (r#"["a"]"#, None),
+    (r#"["a", "b", "a/b", "ab"]"#, None),
+    (r#"["a", "b", "./a"]"#, Some((0, 2))),
+    (r#"["img/a.png", "b", "Img/c/../A.PNG"]"#, Some((0, 2))),
+    (r#"["a", "b", "B", "A"]"#, Some((1, 2))),
+    (r#"["a", "a", "a"]"#, Some((0, 1))),
+    (r#"["\u00fc", "\u00dc"]"#, None),
+    (r#"["a/b/..", "a"]"#, Some((0, 1))),
+];
+
+#[test]
+fn finds_the_first_clash(rt: HostRuntime) -> Result<(), Fail> {
+    for (list, clash) in &CLASHES {
+        let json = format!(in rt.alloc(); r#"{{"base": "x", "files": {list}}}"#)?;
+        let files = answered(rt.alloc(), &json)??;
+        let found = manifest_clash(rt.alloc(), &files)?;
+        same(list, &found, clash)?;
     }
     Ok(())
 }
@@ -127,22 +263,25 @@ fn refusals_print_their_words(rt: HostRuntime) -> Result<(), Fail> {
     for (refusal, words) in &[
         (ManifestError::NoBase, "no base directory"),
         (ManifestError::NoFiles, "no list of files"),
-        (ManifestError::NotAString(1_000), "file 1000 is no string"),
+        (
+            ManifestError::NotAString(1_000),
+            "files[1000] isn't a string",
+        ),
         (
             ManifestError::ClimbsAbove(1_000),
-            "file 1000 climbs above the base",
+            "files[1000] climbs above the base",
         ),
         (
             ManifestError::LeadsToBase(1_000),
-            "file 1000 leads to the base",
+            "files[1000] leads to the base",
         ),
         (
-            ManifestError::Foreign(1_000),
-            "file 1000 has a name that isn't portable",
+            ManifestError::NotPlain(1_000),
+            "files[1000] has a name that isn't plain",
         ),
         (
-            ManifestError::ForeignBase,
-            "the base has a name that isn't portable",
+            ManifestError::BaseNotPlain,
+            "the base has a name that isn't plain",
         ),
         (ManifestError::OutOfMemory, "out of memory"),
     ] {

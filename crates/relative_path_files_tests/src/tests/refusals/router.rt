@@ -2,58 +2,80 @@
 use super::long_text;
 use super::marks::{begin, end};
 use crate::tests::same;
-use relative_path_files::resolve_request;
-use std::alloc::{AllocError, Global};
+use relative_path_files::{
+    RequestError, ResolvedRequest, resolve_request, resolve_request_on_unix,
+};
+use std::alloc::Global;
 use std::test::Fail;
 
+// What a request names, or why it is refused.
+type Answer = Result<ResolvedRequest, RequestError>;
+
 // The mark after a call. Fails if no allocation failed and the result is another.
-fn end_with_file(
+fn end_with(
     alloc: Global,
-    answer: Result<Option<String>, AllocError>,
-    expected: Option<&str>,
+    answer: Answer,
+    expected: Result<&str, RequestError>,
 ) -> Result<(), Fail> {
-    end(alloc, answer.is_err())?;
+    let is_refused = answer.as_ref().err() == Some(&RequestError::OutOfMemory);
+    end(alloc, is_refused)?;
     match answer {
-        Ok(file) => same("a file", &file.as_ref().map(String::as_str), &expected),
-        Err(_) => Ok(()),
+        Ok(found) => same("a path", &Ok(found.path.as_str()), &expected),
+        Err(RequestError::OutOfMemory) => Ok(()),
+        Err(error) => same("an error", &Err(error), &expected),
     }
 }
 
-fn served_of(alloc: Global, request: &str, expected: Option<&str>) -> Result<(), Fail> {
-    served_below(alloc, "/srv/www", request, expected)
+fn resolves(
+    alloc: Global,
+    request: &str,
+    expected: Result<&str, RequestError>,
+) -> Result<(), Fail> {
+    resolves_below(alloc, "/srv/www", request, expected)
 }
 
-fn served_below(
+fn resolves_below(
     alloc: Global,
     root: &str,
     request: &str,
-    expected: Option<&str>,
+    expected: Result<&str, RequestError>,
 ) -> Result<(), Fail> {
     begin(alloc);
     let answer = resolve_request(alloc, root, request);
-    end_with_file(alloc, answer, expected)
+    end_with(alloc, answer, expected)
 }
 
 // Requests: 14 14 = 1, 1048576 1048585 = 1
 #[test]
 fn a_file(rt: HostRuntime) -> Result<(), Fail> {
-    served_of(rt.alloc(), "/css//../a.css", Some("/srv/www/a.css"))?;
+    resolves(rt.alloc(), "/css//../a.css", Ok("/srv/www/a.css"))?;
     let long = long_text(rt.alloc())?;
     let file = format!(in rt.alloc(); "/srv/www/{long}")?;
-    served_of(rt.alloc(), long.as_str(), Some(file.as_str()))
+    resolves(rt.alloc(), long.as_str(), Ok(file.as_str()))
 }
 
 // Requests: = 0, 3 = 0
 #[test]
 fn a_refused_request(rt: HostRuntime) -> Result<(), Fail> {
-    served_of(rt.alloc(), "/../secrets", None)?;
-    served_of(rt.alloc(), r"a\b", None)
+    resolves(rt.alloc(), "/../secrets", Err(RequestError::ClimbsAbove))?;
+    resolves(rt.alloc(), r"a\b", Err(RequestError::NotPlain))
 }
 
 // Requests: 8 = 1, = 0, 1 1 = 1
 #[test]
 fn an_empty_request(rt: HostRuntime) -> Result<(), Fail> {
-    served_of(rt.alloc(), "", Some("/srv/www"))?;
-    served_below(rt.alloc(), "", "", Some(""))?;
-    served_below(rt.alloc(), "", "a", Some("a"))
+    resolves(rt.alloc(), "", Ok("/srv/www"))?;
+    resolves_below(rt.alloc(), "", "", Ok(""))?;
+    resolves_below(rt.alloc(), "", "a", Ok("a"))
+}
+
+// Requests: 15 15 = 1, = 0
+#[test]
+fn a_request_on_unix(rt: HostRuntime) -> Result<(), Fail> {
+    begin(rt.alloc());
+    let answer = resolve_request_on_unix(rt.alloc(), "/srv/www", "/css//../a?.css");
+    end_with(rt.alloc(), answer, Ok("/srv/www/a?.css"))?;
+    begin(rt.alloc());
+    let answer = resolve_request_on_unix(rt.alloc(), "/srv/www", "..");
+    end_with(rt.alloc(), answer, Err(RequestError::ClimbsAbove))
 }

@@ -7,7 +7,7 @@ use relative_path_links::{SiteMap, SiteMapError};
 use std::alloc::{AllocError, Global};
 use std::test::Fail;
 
-const PAGES: [&str; 3] = ["a/index.html", "a/b:c.html", "d.html"];
+const PAGES: [&str; 3] = ["a/index.html", "a/b%c.html", "d.html"];
 
 fn maps(alloc: Global, pages: &[RelativePath<'_>]) -> Result<(), Fail> {
     begin(alloc);
@@ -37,6 +37,17 @@ fn a_page_without_a_file_name(rt: HostRuntime) -> Result<(), Fail> {
     let error = answer.err();
     end(rt.alloc(), error == Some(SiteMapError::OutOfMemory))?;
     same("a name", &error, &Some(SiteMapError::NoFileName(1)))
+}
+
+// Requests: = 0
+#[test]
+fn a_page_with_a_name_that_is_not_plain(rt: HostRuntime) -> Result<(), Fail> {
+    let pages = ["a", "b?"].map(RelativePath::new);
+    begin(rt.alloc());
+    let answer = SiteMap::new(rt.alloc(), &pages);
+    let error = answer.err();
+    end(rt.alloc(), error == Some(SiteMapError::OutOfMemory))?;
+    same("a name", &error, &Some(SiteMapError::NotPlain(1)))
 }
 
 fn find_of(alloc: Global, page: &str) -> Result<(), Fail> {
@@ -96,9 +107,9 @@ fn long_after(alloc: Global, front: &str) -> Result<String, AllocError> {
 fn href(rt: HostRuntime) -> Result<(), Fail> {
     let pages = PAGES.map(RelativePath::new);
     let site = SiteMap::new(rt.alloc(), &pages)?;
-    refers(rt.alloc(), &site, "b%3Ac.html")?;
-    let page = long_after(rt.alloc(), "a/c:")?;
-    let href = long_after(rt.alloc(), "c%3A")?;
+    refers(rt.alloc(), &site, "b%25c.html")?;
+    let page = long_after(rt.alloc(), "a/c%")?;
+    let href = long_after(rt.alloc(), "c%25")?;
     let pages = ["a/index.html", page.as_str()].map(RelativePath::new);
     let site = SiteMap::new(rt.alloc(), &pages)?;
     refers(rt.alloc(), &site, href.as_str())

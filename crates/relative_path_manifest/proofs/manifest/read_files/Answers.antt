@@ -1,5 +1,5 @@
 -- The manifest has this directory and these entries, and the files are made from both.
-use Rattle.std.proofs.Common.{◌≡◌, rules, map, codes, Some, option_and_then, refl, sym, ◌∙◌}
+use Rattle.std.proofs.Common.{◌≡◌, rules, map, codes, Some, option_and_then, refl}
 use Rattle.std.proofs.lemmas.Bool.{both_ways}
 use Rattle.std.proofs.lemmas.Result.{IfOk-weaker, IfErr-weaker}
 use Rattle.relative_path.specs.RelativePath.{path_text}

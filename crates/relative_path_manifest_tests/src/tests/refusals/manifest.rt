@@ -3,7 +3,9 @@ use super::long_text;
 use super::marks::{begin, end};
 use crate::tests::{are, same};
 use relative_path::RelativePathBuf;
-use relative_path_manifest::{ManifestError, manifest_files};
+use relative_path_manifest::{
+    ManifestError, manifest_clash, manifest_files, manifest_files_on_unix,
+};
 use serde_json::Value;
 use std::alloc::Global;
 use std::test::Fail;
@@ -71,4 +73,33 @@ fn a_file_that_climbs(rt: HostRuntime) -> Result<(), Fail> {
         Some(ManifestError::OutOfMemory) => Ok(()),
         error => same("a file", &error, &Some(ManifestError::ClimbsAbove(1))),
     }
+}
+
+// Requests: 5 3s 6 96 3 3s 3 = 3
+#[test]
+fn two_files_on_unix(rt: HostRuntime) -> Result<(), Fail> {
+    let manifest = Value::from_str(rt.alloc(), r#"{"base": "a", "files": ["b//c?", "./d"]}"#)?;
+    begin(rt.alloc());
+    let answer = manifest_files_on_unix(rt.alloc(), &manifest);
+    let error = answer.as_ref().err();
+    end(rt.alloc(), error == Some(&ManifestError::OutOfMemory))?;
+    match answer {
+        Ok(files) => are(&files, &["a/b/c?", "a/d"]),
+        Err(error) => same("a refusal", &error, &ManifestError::OutOfMemory),
+    }
+}
+
+// Requests: 3 488 3 3 = 0, = 0
+#[test]
+fn a_clash(rt: HostRuntime) -> Result<(), Fail> {
+    let manifest = Value::from_str(rt.alloc(), r#"{"base": "x", "files": ["a", "b", "A"]}"#)?;
+    let files = manifest_files(rt.alloc(), &manifest)?;
+    begin(rt.alloc());
+    let answer = manifest_clash(rt.alloc(), &files);
+    end(rt.alloc(), answer.is_err())?;
+    same("a clash", &answer.unwrap_or(Some((0, 2))), &Some((0, 2)))?;
+    begin(rt.alloc());
+    let answer = manifest_clash(rt.alloc(), &[]);
+    end(rt.alloc(), answer.is_err())?;
+    same("no files", &answer.unwrap_or(None), &None)
 }
