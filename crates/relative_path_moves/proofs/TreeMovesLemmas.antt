@@ -9,7 +9,7 @@ use Rattle.relative_path.specs.Components.{step_of, TakesLast}
 use Rattle.relative_path.specs.declared.component.Component.{Component}
 use Rattle.relative_path.specs.Naming.{last_name}
 use Rattle.relative_path.specs.Normalizing.{AreNames, IsNormal, IsNormalText, IsNormalTextOf}
-use Rattle.relative_path.proofs.ForCallers.{IsSame-trans, IsSame-append_right, IsSame-last_name, last_name-name, kept-name, IsNormal-append_left, spelled-front, walk-names, components-place, IsSame-sym, IsSame-place}
+use Rattle.relative_path.proofs.ForCallers.{IsSame-refl, IsSame-trans, IsSame-append_right, IsSame-last_name, last_name-name, kept-name, IsNormal-append_left, spelled-front, walk-names, components-place, IsSame-sym, IsSame-place}
 use Rattle.relative_path_moves.specs.Places.{directory}
 use Rattle.relative_path_moves.specs.PlaceIndex.{path_at, IsFirstAt, IsNoneAt}
 use Rattle.relative_path_moves.specs.Moves.{Move, move_at, AreNamed, AreApart}
@@ -322,11 +322,32 @@ pub AtTreePath-left : (moves : List Move) (file : List Step) {P : List Step → 
     → AtTreePath moves file P
 AtTreePath-left moves file left holds = (file, inr (left, refl), holds)
 
+-- what holds of the target of a list, and of each list that leads to the same, holds of the target of such a list
+pub AtTreePath-same : (moves : List Move) (f g : List Step) (P Q : List Step → Type 0) → IsSame f g
+    → ((t u : List Step) → IsSame t u → P t → Q u) → AtTreePath moves f P → AtTreePath moves g Q
+AtTreePath-same moves f g P Q same goes_over (target, inl taken, holds) = (
+  target,
+  inl (record {
+    place = taken.place;
+    leads = sym (same.everywhere []) ∙ taken.leads;
+    move = taken.move;
+    below = taken.below;
+    nearest = taken.nearest;
+    new = taken.new;
+  }),
+  goes_over target target (IsSame-refl target) holds,
+)
+AtTreePath-same moves f g P Q same goes_over (target, inr (left, is), holds) = (
+  g,
+  inr (λ place j below leads takes. left place j below (same.everywhere [] ∙ leads) takes, refl),
+  goes_over f g same (subst P is holds),
+)
+
 -- what holds of every list that leads where the normal text of the target leads holds of the target
-pub AtTreePath-same : (moves : List Move) (file : List Step) (text : List ℕ) {P : List Step → Type 0}
+pub AtTreePath-text : (moves : List Move) (file : List Step) (text : List ℕ) {P : List Step → Type 0}
     → AtTreePath moves file (λ target. IsNormalTextOf target text)
     → ((target : List Step) → IsSame target (components text) → P target) → AtTreePath moves file P
-AtTreePath-same moves file text (target, is, normal) all = (target, is, all target normal.same)
+AtTreePath-text moves file text (target, is, normal) all = (target, is, all target normal.same)
 
 pub IfSome-all : {T : Type 0} {P Q : T → Type 0} (found : Option T) → ((x : T) → P x → Q x) → IfSome found P
     → IfSome found Q

@@ -1,15 +1,14 @@
 //! What references become when files move.
 //!
+//! A module uses modules of the layers below its own.
+//!
 //! ```text
-//! reference    tree_moves       one reference, with a table made for it alone; moves of directories
-//!     │         │      │
-//! move_table ───┘   leading      many references, with one table; whether a reference leads to a target
-//!     │                │
-//! move_error   place_index       errors of moves and of references; paths by the places they lead to
-//!                  │   │
-//!             normal_path        a path that is known to be normal
-//!                  │
-//!               places           a file's directory; whether a path has a place from the top
+//! one reference, moves of directories     reference  tree_moves
+//! moves of files                          move_table
+//! paths that collide, ways to a target    collisions  leading
+//! paths by the places they lead to        place_index
+//! a path that is known to be normal       normal_path
+//! places, errors                          places  move_error
 //! ```
 #![tactic(auto)]
 

@@ -50,7 +50,8 @@ use std::marker::Model;
 ///
 /// A move is the old and the new path of a file, both relative to one root. In a table both paths of
 /// each move have a file name, and no two moves have the same old path. Two moves may have the same new
-/// path, and a new path may be that of a file that stays: a caller that writes files checks for that.
+/// path, and a new path may be that of a file that stays: [`MoveTable::same_new`] and
+/// [`MoveTable::same_new_as`] find both.
 ///
 /// A reference is a *path* here: it has no scheme, no query and no fragment, and a percent sign is a
 /// byte of a name.

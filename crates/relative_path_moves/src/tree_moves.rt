@@ -42,6 +42,8 @@ use std::marker::Model;
 ///
 /// Old and new paths are relative to one root. A path that climbs above the root doesn't move.
 ///
+/// Two files may end in one place: [`TreeMoves::same_place`] finds the first two that do.
+///
 /// ```
 /// let moves = [("docs", "guide"), ("docs/a.md", "b.md")]
 ///     .map(|(old, new)| (RelativePath::new(old), RelativePath::new(new)));

@@ -1,5 +1,6 @@
 //! Tests of what no contract says.
 mod calling;
+mod collisions;
 mod large;
 mod many_moves;
 mod one_move;

@@ -4,7 +4,7 @@ use super::marks::{begin, end};
 use crate::tests::{as_paths, same, text_of};
 use relative_path::{RelativePath, RelativePathBuf};
 use relative_path_moves::{MoveError, MoveTable, MoveTableError, ReferenceError, TreeMoves, moved};
-use std::alloc::Global;
+use std::alloc::{AllocError, Global};
 use std::test::Fail;
 
 // The mark after a call. Fails if no allocation failed and the result has another text.
@@ -156,6 +156,54 @@ fn the_path_of_a_file(rt: HostRuntime) -> Result<(), Fail> {
     ask_of_a_file(rt.alloc(), &table, "", "")?;
     let long = long_text(rt.alloc())?;
     ask_of_a_file(rt.alloc(), &table, long.as_str(), long.as_str())
+}
+
+// The first two numbers that collide.
+fn end_with_pair(
+    alloc: Global,
+    answer: Result<Option<(usize, usize)>, AllocError>,
+    pair: Option<(usize, usize)>,
+) -> Result<(), Fail> {
+    end(alloc, answer.is_err())?;
+    match answer {
+        Ok(found) => same("a pair", &found, &pair),
+        Err(_) => Ok(()),
+    }
+}
+
+// Requests: 2s 1 1s 3 488 1 3 = 0
+#[test]
+fn two_new_paths(rt: HostRuntime) -> Result<(), Fail> {
+    let moves = [("a", "x"), ("b", "x/y")].map(as_paths);
+    let table = MoveTable::new(rt.alloc(), &moves)?;
+    begin(rt.alloc());
+    let answer = table.same_new(rt.alloc());
+    end_with_pair(rt.alloc(), answer, Some((0, 1)))
+}
+
+// Requests: 1 = 0
+#[test]
+fn a_new_path_and_a_file(rt: HostRuntime) -> Result<(), Fail> {
+    let moves = [("a", "x")].map(as_paths);
+    let table = MoveTable::new(rt.alloc(), &moves)?;
+    let files = ["a", "x/y"].map(RelativePath::new);
+    begin(rt.alloc());
+    let answer = table.same_new_as(rt.alloc(), &files);
+    end_with_pair(rt.alloc(), answer, Some((0, 1)))
+}
+
+// Requests: 1 = 0
+#[test]
+fn two_files_in_a_tree(rt: HostRuntime) -> Result<(), Fail> {
+    let moves = [("docs", "guide")].map(as_paths);
+    let tree = TreeMoves::new(rt.alloc(), &moves)?;
+    let files = ["docs/a", "guide/a"].map(RelativePath::new);
+    begin(rt.alloc());
+    let answer = tree.same_place(rt.alloc(), &files);
+    end_with_pair(rt.alloc(), answer, Some((0, 1)))?;
+    begin(rt.alloc());
+    let answer = tree.same_place(rt.alloc(), &[]);
+    end_with_pair(rt.alloc(), answer, None)
 }
 
 fn plants(alloc: Global, moves: &[(RelativePath<'_>, RelativePath<'_>)]) -> Result<(), Fail> {

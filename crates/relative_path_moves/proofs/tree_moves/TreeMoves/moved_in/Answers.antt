@@ -3,7 +3,7 @@ use Rattle.std.proofs.Common.{[], ◌++◌, ◌∙◌}
 use Rattle.relative_path.specs.Steps.{components}
 use Rattle.relative_path.specs.RelativePath.{path_components}
 use Rattle.relative_path.proofs.ForCallers.{IsSame-refl, IsSame-sym, IsSame-trans, IsShortestText-same}
-use Rattle.relative_path_moves.proofs.TreeMovesLemmas.{IfOk-all, IfSome-all, AtTreePath-same}
+use Rattle.relative_path_moves.proofs.TreeMovesLemmas.{IfOk-all, IfSome-all, AtTreePath-text}
 use Rattle.relative_path_moves.proofs.tree_moves.TreeMoves.moved_in.Goals as goal
 
 pub returns-clause-shortest : goal.returns-clause-shortest
@@ -13,7 +13,7 @@ returns-clause-shortest c =
     (λ found some.
     IfSome-all found
     (λ way is.
-    AtTreePath-same c.args.self.now (components c.args.page.now.before ++ path_components c.args.reference)
+    AtTreePath-text c.args.self.now (components c.args.page.now.before ++ path_components c.args.reference)
     c.in_ok-target.target c.in_ok-target.ensures
     (λ target same. (
       λ leads. is.0 (IsSame-trans leads same),
