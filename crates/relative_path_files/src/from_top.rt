@@ -7,8 +7,16 @@ ghost use Rattle.relative_path_files.specs.FromTop.{SpellsPlace};
 use relative_path::{RelativePath, RelativePathBuf};
 use std::alloc::{AllocError, Global};
 
-// The place where a path leads from the top, as a path of its names. `None` if the path climbs above the
-// top. Allocates once, unless the path climbs or is empty.
+/// Returns the place where a path leads from the top, as a path of the place's names. Returns `None` if the
+/// path climbs above the top, even if it comes back. It looks at no name: [`crate::has_plain_names`] does.
+///
+/// Allocates once, unless the path climbs or is empty.
+///
+/// ```
+/// let place = place_from_top(alloc, RelativePath::new("/a/./../b//c/"))?;
+/// assert!(rt; place.is_some_and(|place| place.as_relative_path().as_str() == "b/c"));
+/// assert!(rt; place_from_top(alloc, RelativePath::new("../a"))?.is_none());
+/// ```
 pub fn place_from_top(
     alloc: Global,
     path: RelativePath<'_>,

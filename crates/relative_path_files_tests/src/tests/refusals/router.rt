@@ -2,8 +2,9 @@
 use super::long_text;
 use super::marks::{begin, end};
 use crate::tests::same;
+use relative_path::RelativePath;
 use relative_path_files::{
-    RequestError, ResolvedRequest, resolve_request, resolve_request_on_unix,
+    RequestError, ResolvedRequest, place_from_top, resolve_request, resolve_request_on_unix,
 };
 use std::alloc::Global;
 use std::test::Fail;
@@ -78,4 +79,27 @@ fn a_request_on_unix(rt: HostRuntime) -> Result<(), Fail> {
     begin(rt.alloc());
     let answer = resolve_request_on_unix(rt.alloc(), "/srv/www", "..");
     end_with(rt.alloc(), answer, Err(RequestError::ClimbsAbove))
+}
+
+fn places(alloc: Global, path: &str, expected: Option<&str>) -> Result<(), Fail> {
+    begin(alloc);
+    let answer = place_from_top(alloc, RelativePath::new(path));
+    end(alloc, answer.is_err())?;
+    match answer {
+        Ok(place) => {
+            let found = place
+                .as_ref()
+                .map(|place| place.as_relative_path().as_str());
+            same(path, &found, &expected)
+        }
+        Err(_) => Ok(()),
+    }
+}
+
+// Requests: 7 = 1, = 0, = 0
+#[test]
+fn a_place(rt: HostRuntime) -> Result<(), Fail> {
+    places(rt.alloc(), "/a/../b", Some("b"))?;
+    places(rt.alloc(), "a/../..", None)?;
+    places(rt.alloc(), "", Some(""))
 }
