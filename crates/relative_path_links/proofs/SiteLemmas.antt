@@ -16,7 +16,8 @@ use Rattle.relative_path.proofs.OnLiterals.{relative_path_on_literals}
 use Rattle.relative_path_moves.specs.Places.{directory}
 use Rattle.relative_path_moves.specs.declared.tree_moves.MovedPage.{MovedPage}
 use Rattle.relative_path_moves.specs.Moves.{Move, ClimbsAbove, BelowTop}
-use Rattle.relative_path_moves.specs.TreeMoves.{IsTakenTo, IsLeftInPlace, IsTreeTarget, AtTreePath}
+use Rattle.relative_path_moves.specs.TreeMoves.{IsLeftInPlace, AtTreePath}
+use Rattle.relative_path_moves.proofs.ForCallers.{AtTreePath-same}
 use Rattle.target_paths.specs.declared.target.TargetSyntax.{TargetSyntax}
 use Rattle.target_paths.specs.Reading.{Meaning, not_relative, path_before, unknown, meaning}
 use Rattle.target_paths.specs.Writing.{path_written, target_of}
@@ -26,7 +27,7 @@ use Rattle.relative_path_links.specs.declared.rewriter.Unchanged.TheVariants.{Ab
 use Rattle.relative_path_links.specs.declared.site.MovedSitePage.{MovedSitePage}
 use Rattle.relative_path_links.specs.declared.site.SitePage.{SitePage}
 use Rattle.relative_path_links.specs.Targets.{target_text, HasTargets}
-use Rattle.relative_path_links.specs.Rewriter.{Moving, moving, AtFile, StillLeads, AtLostFile, ends_in_slash, with_slash, IsNewPath, StaysUnchanged, Part, IsMovedTarget, unknown_report, BecomesBy, Becomes, with_parts, unchanged_of, IsRewritten}
+use Rattle.relative_path_links.specs.Rewriter.{Moving, moving, AtFile, StillLeads, AtLostFile, with_slash, IsNewPath, StaysUnchanged, Part, IsMovedTarget, unknown_report, BecomesBy, Becomes, with_parts, unchanged_of, IsRewritten}
 use Rattle.relative_path_links.specs.Site.{LeadsOn, KeepsLinkBy, KeepsLink, StaysInPlace, StayInPlace, NothingMoves, KeepsLinks, moved_to, ForMovedPage, AreRewritten, KeepTheirLinks, HaveTargets}
 
 MatchOption-map : {T A C : Type 0} {B D : T → Type 0} (found : Option T) → (A → C) → ((x : T) → B x → D x)
@@ -53,31 +54,6 @@ between-two text i j k first second within =
 
 place_of-same : (f g : List Step) → IsSame f g → place_of g ≡ place_of f
 place_of-same f g same = sym (same.everywhere [])
-
-IsLeftInPlace-same : (moves : List Move) (f g : List Step) → IsSame f g → IsLeftInPlace moves f → IsLeftInPlace moves g
-IsLeftInPlace-same moves f g same left = λ place j below leads takes.
-    left place j below (same.everywhere [] ∙ leads) takes
-
--- what holds of the target of a list, and of each list that leads to the same, holds of the target of such a list
-pub AtTreePath-same : (moves : List Move) (f g : List Step) (P Q : List Step → Type 0) → IsSame f g
-    → ((t u : List Step) → IsSame t u → P t → Q u) → AtTreePath moves f P → AtTreePath moves g Q
-AtTreePath-same moves f g P Q same goes_over (target, inl taken, holds) = (
-  target,
-  inl (record {
-    place = taken.place;
-    leads = place_of-same f g same ∙ taken.leads;
-    move = taken.move;
-    below = taken.below;
-    nearest = taken.nearest;
-    new = taken.new;
-  }),
-  goes_over target target (IsSame-refl target) holds,
-)
-AtTreePath-same moves f g P Q same goes_over (target, inr (left, is), holds) = (
-  g,
-  inr (IsLeftInPlace-same moves f g same left, refl),
-  goes_over f g same (subst P is holds),
-)
 
 -- the directories lead to the same places
 pub record HaveSame (m n : Moving) : Type 0 where

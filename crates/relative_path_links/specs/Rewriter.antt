@@ -1,7 +1,7 @@
 -- What becomes of the targets of a page when files move, and of the page.
-use Rattle.std.specs.Prelude.{◌≡◌, ◌⊎◌, ℕ, Bool, true, ◌==◌, ◌&&◌, not, List, [], ◌∷◌, ◌++◌, length, drop, get_or, ◌-◌, Option, None, Some, MatchOption, if◌then◌else◌, ⊤}
+use Rattle.std.specs.Prelude.{◌≡◌, ◌⊎◌, ℕ, Bool, true, ◌==◌, ◌&&◌, not, List, [], ◌∷◌, ◌++◌, length, drop, Option, None, Some, MatchOption, if◌then◌else◌, ⊤}
 use Rattle.std.specs.List.{AllZip, list_any, between}
-use Rattle.relative_path.specs.Steps.{Step, slash, is_slash, components}
+use Rattle.relative_path.specs.Steps.{Step, slash, components}
 use Rattle.relative_path.specs.Relating.{Leads, IsReachable, IsShortestText}
 use Rattle.relative_path_moves.specs.Moves.{Move, ClimbsAbove, BelowTop}
 use Rattle.relative_path_moves.specs.TreeMoves.{AtTreeTarget}
@@ -10,6 +10,7 @@ use Rattle.target_paths.specs.declared.target.TargetSyntax.{TargetSyntax}
 use Rattle.target_paths.specs.declared.target.WhyUnknown.{WhyUnknown}
 use Rattle.target_paths.specs.Reading.{Meaning, not_relative, path_before, unknown, meaning}
 use Rattle.target_paths.specs.Writing.{is_nul, path_written, target_of, IsTakenAs}
+use Rattle.relative_path_links.specs.UrlPath.{ends_in_slash}
 use Rattle.relative_path_links.specs.Targets.{target_text}
 use Rattle.relative_path_links.specs.declared.target.Target.{Target}
 use Rattle.relative_path_links.specs.declared.rewriter.RewriteError.{RewriteError}
@@ -38,10 +39,6 @@ StillLeads m path = AtFile m path (λ file. Leads m.after (components path) file
 -- the path no longer leads to the file, and P holds of where the file is
 abbrev pub AtLostFile : Moving → List ℕ → (List Step → Type 0) → Type 0
 AtLostFile m path P = AtFile m path (λ file. (¬ Leads m.after (components path) file) × P file)
-
--- the text ends in a slash
-abbrev pub ends_in_slash : List ℕ → Bool
-ends_in_slash text = is_slash (get_or text (length text - 1) 0)
 
 -- the way, with a slash at its end if the path has one
 abbrev pub with_slash : List ℕ → List ℕ → List ℕ
