@@ -1,0 +1,52 @@
+//! Where the entries of a tree are after the moves.
+use crate::entry::Entry;
+use crate::refusal::Refusal;
+use relative_path::RelativePath;
+use relative_path_moves::{NormalPath, PlaceIndex, TreeMoves};
+use std::alloc::{AllocError, Global};
+
+// The paths of the entries, by number.
+pub(crate) fn entry_index(alloc: Global, entries: &[Entry<'_>]) -> Result<PlaceIndex, AllocError> {
+    let mut index = PlaceIndex::new(alloc);
+    for (number, entry) in entries.iter().enumerate() {
+        index.insert(alloc, entry.path, number)?;
+    }
+    Ok(index)
+}
+
+// The paths of the entries after the moves.
+pub(crate) fn paths_after(
+    alloc: Global,
+    entries: &[Entry<'_>],
+    tree: &TreeMoves<'_>,
+) -> Result<Vec<NormalPath>, AllocError> {
+    let mut paths = Vec::with_capacity(alloc, entries.len())?;
+    for entry in entries {
+        paths.push(tree.path_after(alloc, entry.path)?)?;
+    }
+    Ok(paths)
+}
+
+// These paths, by number. Fails if two of them are equal.
+pub(crate) fn index_after(alloc: Global, paths: &[NormalPath]) -> Result<PlaceIndex, Refusal> {
+    let mut index = PlaceIndex::new(alloc);
+    for (number, path) in paths.iter().enumerate() {
+        let first = index.insert(alloc, path.as_relative_path(), number)?;
+        if first < number {
+            return Err(Refusal::Collision(first, number));
+        }
+    }
+    Ok(index)
+}
+
+// The old paths of the moves, by number.
+pub(crate) fn index_of(
+    alloc: Global,
+    moves: &[(RelativePath<'_>, RelativePath<'_>)],
+) -> Result<PlaceIndex, AllocError> {
+    let mut index = PlaceIndex::new(alloc);
+    for (number, (old, _)) in moves.iter().enumerate() {
+        index.insert(alloc, *old, number)?;
+    }
+    Ok(index)
+}
