@@ -6,7 +6,7 @@
 //! ```text
 //! the plan              plan
 //! its parts             pages  symbolic  renames  directories
-//! what a move may not   refused  after
+//! what moves may not    allowed  refused  after
 //! what they need        between  above
 //! what all share        entry  refusal  steps
 //! ```
@@ -21,6 +21,7 @@ pub use self::symbolic::LinkNotice;
 
 mod above;
 mod after;
+mod allowed;
 mod between;
 mod directories;
 mod entry;

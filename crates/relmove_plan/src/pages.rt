@@ -1,4 +1,7 @@
 //! Which pages change.
+ghost use Rattle.std.specs.Prelude.{◌≡◌, IfOk, length, map};
+ghost use Rattle.relmove_plan.specs.Pages.{changed_from};
+
 use relative_path_links::{MovedSitePage, SitePage, Target, are_in_order, rewrite_links};
 use relative_path_moves::{MovedPage, PlaceIndex, TreeMoves};
 use std::alloc::{AllocError, Global};
@@ -18,13 +21,18 @@ pub(crate) fn changed_pages(
     pages: &[SitePage<'_>],
     news: &[MovedSitePage],
     tree: &TreeMoves<'_>,
-) -> Result<Vec<ChangedPage>, AllocError> {
+) -> Result<Vec<ChangedPage>, AllocError>
+    requires { length news.now ≡ length pages.now }
+    ensures { IfOk result (λ changed. map (λ page. page.number) changed.items
+        ≡ changed_from 0 pages.now news.now) }
+{
     let mut changed = Vec::new(alloc);
-    for (number, (page, new)) in pages.iter().zip(news).enumerate() {
-        if page.text != new.page.text.as_str() {
-            let links = changed_links(alloc, *page, tree)?;
-            changed.push(ChangedPage { number, links })?;
+    for (number, page) in pages.iter().enumerate() {
+        if page.text == news[number].page.text.as_str() {
+            continue;
         }
+        let links = changed_links(alloc, *page, tree)?;
+        changed.push(ChangedPage { number, links })?;
     }
     Ok(changed)
 }

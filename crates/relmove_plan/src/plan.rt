@@ -1,15 +1,18 @@
 //! The plan of a run.
-ghost use Rattle.relative_path_links.specs.Site.{HaveTargets};
+ghost use Rattle.std.specs.Prelude.{◌≡◌, IfErr, IfOk, OnOk, map};
+ghost use Rattle.relative_path_links.specs.Site.{HaveTargets, KeepTheirLinks};
+ghost use Rattle.relative_path_moves.specs.Moves.{moves_of};
+ghost use Rattle.relmove_plan.specs.Pages.{changed_from};
+ghost use Rattle.relmove_plan.specs.Plan.{IsAccepted, IsRefused};
+ghost use Rattle.relmove_plan.specs.Refusals.{IsStepsRefusal};
 
-use crate::after::{entry_index, index_after, index_of, paths_after};
+use crate::after::{entry_index, index_of};
+use crate::allowed::{coming_index, leaving_table};
 use crate::between::FreeNames;
 use crate::directories::{directories_emptied, directories_to_make};
 use crate::entry::Entry;
 use crate::pages::{ChangedPage, changed_index, changed_pages};
 use crate::refusal::Refusal;
-use crate::refused::{
-    check_above, check_news, check_olds, check_paths, of_new_paths, of_old_paths,
-};
 use crate::renames::{
     MovedOlds, Renames, above_first, add_moves, add_pages, below_first, names_between, news_between,
 };
@@ -17,8 +20,8 @@ use crate::steps::Steps;
 use crate::symbolic::{LinkNotice, link_notices};
 use relative_path::RelativePath;
 use relative_path_links::{MovedSitePage, SitePage, rewrite_site};
-use relative_path_moves::TreeMoves;
-use std::alloc::Global;
+use relative_path_moves::{PlaceIndex, TreeMoves};
+use std::alloc::{AllocError, Global};
 
 /// A tree of files, and the pages among them.
 #[derive(Clone, Copy, Debug)]
@@ -52,22 +55,76 @@ pub fn make_plan(
     any_name: bool,
 ) -> Result<Plan, Refusal>
     requires { HaveTargets tree.pages.now }
+    ensures links { IfOk result
+        (λ plan. KeepTheirLinks (moves_of moves.now) tree.entry.pages.now plan.pages.items) }
+    ensures changed { IfOk result (λ plan. map (λ page. page.number) plan.changed.items
+        ≡ changed_from 0 tree.entry.pages.now plan.pages.items) }
+    ensures accepted { OnOk result (IsAccepted tree.entry.entries.now (moves_of moves.now) any_name) }
+    ensures refused { IfErr result (IsRefused tree.entry.entries.now (moves_of moves.now) any_name) }
 {
-    check_paths(alloc, moves, any_name)?;
-    let table = TreeMoves::new(alloc, moves).map_err(of_old_paths)?;
     let index = entry_index(alloc, tree.entries)?;
-    check_olds(alloc, tree.entries, &index, moves)?;
-    let mut names = FreeNames::new(&index);
+    let table = leaving_table(alloc, tree.entries, &index, moves, any_name)?;
+    let after = coming_index(alloc, tree.entries, &index, &table, moves)?;
+    let (pages, changed) = rewritten_pages(alloc, tree.pages, &table)?;
+    let links = link_notices(alloc, tree.entries, &table)?;
+    let now = After {
+        index: &index,
+        table: &table,
+        after: &after,
+        pages: &pages,
+        changed: &changed,
+    };
+    let steps = steps_of(alloc, tree.pages, moves, now)?;
+    Ok(Plan {
+        pages,
+        changed,
+        links,
+        steps,
+    })
+}
+
+// The pages after the moves, and which of them change.
+fn rewritten_pages(
+    alloc: Global,
+    pages: &[SitePage<'_>],
+    table: &TreeMoves<'_>,
+) -> Result<(Vec<MovedSitePage>, Vec<ChangedPage>), AllocError>
+    requires { HaveTargets pages.now }
+    ensures links { IfOk result (λ found. KeepTheirLinks table.now pages.now found.0.items) }
+    ensures changed { IfOk result (λ found. map (λ page. page.number) found.1.items
+        ≡ changed_from 0 pages.now found.0.items) }
+{
+    let news = rewrite_site(alloc, pages, table)?;
+    let changed = changed_pages(alloc, pages, &news, table)?;
+    Ok((news, changed))
+}
+
+// What is known of a tree after the moves.
+#[derive(Clone, Copy)]
+struct After<'a, 'b> {
+    // The paths of the entries, before the moves and after them.
+    index: &'a PlaceIndex,
+    after: &'a PlaceIndex,
+    // The moves.
+    table: &'a TreeMoves<'b>,
+    // The pages after the moves, and which of them change.
+    pages: &'a [MovedSitePage],
+    changed: &'a [ChangedPage],
+}
+
+// The steps that move the files and change the pages.
+fn steps_of(
+    alloc: Global,
+    pages: &[SitePage<'_>],
+    moves: &[(RelativePath<'_>, RelativePath<'_>)],
+    now: After<'_, '_>,
+) -> Result<Steps, Refusal>
+    ensures { IfErr result IsStepsRefusal }
+{
+    let mut names = FreeNames::new(now.index);
     let between = names_between(alloc, &mut names, moves.len())?;
-    let pairs = news_between(alloc, moves, &between)?;
-    let news = TreeMoves::new(alloc, &pairs).map_err(of_new_paths)?;
-    check_news(alloc, &index, &table, moves)?;
-    let after = index_after(alloc, &paths_after(alloc, tree.entries, &table)?)?;
-    check_above(alloc, tree.entries, &after, moves)?;
-    let pages = rewrite_site(alloc, tree.pages, &table)?;
-    let changed = changed_pages(alloc, tree.pages, &pages, &table)?;
     let mut renames = Renames::new(alloc);
-    let rewritten = changed_index(alloc, tree.pages, &changed)?;
+    let rewritten = changed_index(alloc, pages, now.changed)?;
     add_moves(alloc, &mut renames, moves, &between, &rewritten)?;
     let olds = index_of(alloc, moves)?;
     let moved = MovedOlds {
@@ -78,24 +135,34 @@ pub fn make_plan(
         alloc,
         &mut renames,
         &mut names,
-        tree.pages,
-        &pages,
-        &changed,
+        pages,
+        now.pages,
+        now.changed,
         &moved,
     )?;
-    let steps = Steps {
+    Ok(Steps {
         texts: renames.texts,
-        apart: below_first(renames.apart)?,
-        made: directories_to_make(alloc, moves, &after, &news)?,
+        apart: below_first(alloc, renames.leaving)?,
+        made: directories_made(alloc, moves, &between, now.after)?,
         together: above_first(alloc, renames.arrivals)?,
         removed: renames.removed,
-        emptied: directories_emptied(alloc, moves, &table)?,
-    };
-    let links = link_notices(alloc, tree.entries, &table)?;
-    Ok(Plan {
-        pages,
-        changed,
-        links,
-        steps,
+        emptied: directories_emptied(alloc, moves, now.table)?,
     })
+}
+
+// The directories to make, each where it can be made.
+fn directories_made(
+    alloc: Global,
+    moves: &[(RelativePath<'_>, RelativePath<'_>)],
+    between: &[String],
+    after: &PlaceIndex,
+) -> Result<Vec<String>, Refusal>
+    ensures { IfErr result IsStepsRefusal }
+{
+    let pairs = news_between(alloc, moves, between)?;
+    // All new paths and names in between have a file name, and no two new paths are equal.
+    let Ok(news) = TreeMoves::new(alloc, &pairs) else {
+        return Err(Refusal::OutOfMemory);
+    };
+    Ok(directories_to_make(alloc, moves, after, &news)?)
 }

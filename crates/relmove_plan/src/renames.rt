@@ -39,7 +39,7 @@ pub(crate) fn news_between<'a>(
 #[derive(Drop)]
 pub(crate) struct Renames {
     // What leaves: each path, and its name in between.
-    pub(crate) apart: Vec<Rename>,
+    pub(crate) leaving: Vec<(String, String)>,
     // What comes: each new path, and the name in between.
     pub(crate) arrivals: Vec<(String, String)>,
     // The new texts, each in its own file.
@@ -52,7 +52,7 @@ impl Renames {
     // No renames.
     pub(crate) fn new(alloc: Global) -> Renames {
         Renames {
-            apart: Vec::new(alloc),
+            leaving: Vec::new(alloc),
             arrivals: Vec::new(alloc),
             texts: Vec::new(alloc),
             removed: Vec::new(alloc),
@@ -87,10 +87,10 @@ fn add_leaving(
     from: NormalPath,
     name: &str,
 ) -> Result<(), AllocError> {
-    renames.apart.push(Rename {
-        from: from.into_relative_path_buf().into_string(),
-        to: String::from_str(alloc, name)?,
-    })?;
+    let from = from.into_relative_path_buf().into_string();
+    renames
+        .leaving
+        .push((from, String::from_str(alloc, name)?))?;
     Ok(())
 }
 
@@ -153,10 +153,7 @@ fn add_page(
     let name = names.in_root(alloc)?;
     let to = NormalPath::of(alloc, new.path.as_relative_path())?;
     add_arrival(alloc, renames, to, &name)?;
-    renames.apart.push(Rename {
-        from: file,
-        to: name,
-    })?;
+    renames.leaving.push((file, name))?;
     Ok(())
 }
 
@@ -181,9 +178,16 @@ fn add_old_text(
 }
 
 // The renames of what leaves: what is below a directory before the directory.
-pub(crate) fn below_first(mut apart: Vec<Rename>) -> Result<Vec<Rename>, AllocError> {
-    apart.sort()?;
-    apart.reverse();
+pub(crate) fn below_first(
+    alloc: Global,
+    mut leaving: Vec<(String, String)>,
+) -> Result<Vec<Rename>, AllocError> {
+    leaving.sort()?;
+    leaving.reverse();
+    let mut apart = Vec::with_capacity(alloc, leaving.len())?;
+    for (from, to) in leaving {
+        apart.push(Rename { from, to })?;
+    }
     Ok(apart)
 }
 

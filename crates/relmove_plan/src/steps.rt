@@ -1,7 +1,7 @@
 //! What a run does to the files below its root, in order.
 
 /// A file or directory gets another path.
-#[derive(Debug, PartialEq, Eq, PartialOrd, Ord, Drop)]
+#[derive(Debug, PartialEq, Eq, Drop)]
 pub struct Rename {
     /// Its path before.
     pub from: String,
