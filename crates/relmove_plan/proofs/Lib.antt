@@ -1,0 +1,4 @@
+pub mod MovesLemmas
+pub mod TreesLemmas
+pub mod PagesLemmas
+pub mod PlanLemmas

@@ -1,0 +1,9 @@
+-- There are as many pages after the moves as before.
+use Rattle.std.proofs.lemmas.Slice.Zip.{AllZip-long}
+use Rattle.relative_path_links.specs.Site.{ForMovedPage, KeepsLinks}
+use Rattle.relmove_plan.proofs.plan.rewritten_pages.Goals as goal
+
+pub changed_pages-requires : goal.changed_pages-requires
+changed_pages-requires c =
+    rw c.deref.ensures.value
+    (AllZip-long (ForMovedPage KeepsLinks c.args.table.now) c.args.pages.now c.in_ok-news.news.items c.in_ok-news.ensures.links)

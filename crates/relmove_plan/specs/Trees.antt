@@ -1,0 +1,94 @@
+-- The entries of a tree, before the moves and after them.
+use Rattle.std.specs.Prelude.{◌≡◌, ◌⊎◌, ◌<◌, ◌≤◌, ℕ, Bool, true, false, List, [], map, length, slice_index_or, take}
+use Rattle.std.specs.List.{All, AllZip, Any}
+use Rattle.relative_path.specs.Steps.{Step, components}
+use Rattle.relative_path.specs.Walk.{IsSame}
+use Rattle.relative_path.specs.Normalizing.{IsNormalTextOf}
+use Rattle.relative_path.specs.Prefixing.{StartsWith}
+use Rattle.relative_path.specs.RelativePath.{path_components}
+use Rattle.relative_path_moves.specs.Moves.{Move}
+use Rattle.relative_path_moves.specs.PlaceIndex.{IsFirstAt, IsNoneAt, path_at}
+use Rattle.relative_path_moves.specs.TreeMoves.{AtTreePath}
+use Rattle.relmove_plan.specs.declared.entry.Entry.{Entry}
+use Rattle.relmove_plan.specs.declared.entry.Kind.{Kind}
+use Rattle.relmove_plan.specs.declared.entry.Kind.TheVariants.{File, Directory, Link}
+
+-- the components of the paths of the entries
+abbrev pub entry_paths : List Entry → List (List Step)
+entry_paths = map (λ entry. path_components entry.path)
+
+-- an entry is where the components lead
+abbrev pub IsThere : List Entry → List Step → Type 0
+IsThere entries cs = (e : ℕ) × IsFirstAt (entry_paths entries) cs e
+
+-- no entry is there
+abbrev pub IsNotThere : List Entry → List Step → Type 0
+IsNotThere entries cs = IsNoneAt (entry_paths entries) cs
+
+-- the entry is a directory that holds a name that isn't UTF-8
+abbrev pub is_foreign : Kind → Bool
+is_foreign File = false
+is_foreign (Directory foreign) = foreign
+is_foreign (Link target) = false
+
+-- the entry is a directory
+abbrev pub is_directory : Kind → Bool
+is_directory File = false
+is_directory (Directory foreign) = true
+is_directory (Link target) = false
+
+-- the entry is at the components or below them, and holds a name that isn't UTF-8
+pub record IsForeignBelow (cs : List Step) (entry : Entry) : Type 0 where
+  pub foreign : is_foreign entry.kind ≡ true
+  pub below : StartsWith (path_components entry.path) cs
+
+-- an entry at the components or below them holds a name that isn't UTF-8
+abbrev pub HoldsForeignName : List Entry → List Step → Type 0
+HoldsForeignName entries cs = Any (IsForeignBelow cs) entries
+
+-- no such entry holds a name that isn't UTF-8
+abbrev pub HoldsNoForeignName : List Entry → List Step → Type 0
+HoldsNoForeignName entries cs = All (λ entry. ¬ IsForeignBelow cs entry) entries
+
+-- the text is the normal text of where the entry is after the moves
+abbrev pub IsAfter : List Move → Entry → List ℕ → Type 0
+IsAfter moves entry text = AtTreePath moves (path_components entry.path) (λ target. IsNormalTextOf target text)
+
+-- the texts are the normal paths of the entries after the moves
+abbrev pub AreAfter : List Move → List Entry → List (List ℕ) → Type 0
+AreAfter moves entries texts = AllZip (IsAfter moves) entries texts
+
+-- an entry is at the components, and is there after the moves too
+pub record IsTaken (moves : List Move) (entries : List Entry) (cs : List Step) : Type 0 where
+  pub there : IsThere entries cs
+  pub stays : AtTreePath moves cs (λ target. IsSame target cs)
+
+-- no entry is at the components, or the one that is there moves away
+abbrev pub IsFree : List Move → List Entry → List Step → Type 0
+IsFree moves entries cs = IsNotThere entries cs ⊎ AtTreePath moves cs (λ target. ¬ IsSame target cs)
+
+-- d is the number of the first path that leads where path number e leads, an earlier one; each path before e leads
+-- elsewhere than those before it
+pub record IsFirstCollision (paths : List (List Step)) (d e : ℕ) : Type 0 where
+  pub earlier : d < e
+  pub within : e < length paths
+  pub same : IsFirstAt paths (path_at paths e) d
+  pub first : (f : ℕ) → f < e → IsFirstAt paths (path_at paths f) f
+
+-- no two of the paths lead to the same place
+abbrev pub AreDistinct : List (List Step) → Type 0
+AreDistinct paths = (e : ℕ) → e < length paths → IsFirstAt paths (path_at paths e) e
+
+-- an entry is at the old path, and no entry at it or below it holds a name that isn't UTF-8
+pub record IsOldFine (entries : List Entry) (old : List Step) : Type 0 where
+  pub there : IsThere entries old
+  pub normal : List ℕ
+  pub normal_of : IsNormalTextOf old normal
+  pub plain : HoldsNoForeignName entries (components normal)
+
+-- an entry is at the old path, and one at it or below it holds a name that isn't UTF-8
+pub record IsOldForeign (entries : List Entry) (old : List Step) : Type 0 where
+  pub there : IsThere entries old
+  pub normal : List ℕ
+  pub normal_of : IsNormalTextOf old normal
+  pub foreign : HoldsForeignName entries (components normal)

@@ -1,0 +1,51 @@
+//! Names for what moves, while it moves.
+use crate::refusal::Refusal;
+use relative_path::RelativePath;
+use relative_path_moves::{NormalPath, PlaceIndex};
+use std::alloc::Global;
+
+// Free names, each with a greater number than those before it.
+#[derive(Drop)]
+pub(crate) struct FreeNames<'a> {
+    // The paths of the entries.
+    entries: &'a PlaceIndex,
+    // The number of the next name.
+    next: u64,
+}
+
+impl<'a> FreeNames<'a> {
+    // Free names beside these entries.
+    pub(crate) fn new(entries: &'a PlaceIndex) -> FreeNames<'a> {
+        FreeNames { entries, next: 1 }
+    }
+
+    // The next name that is free in the root.
+    pub(crate) fn in_root(&mut self, alloc: Global) -> Result<String, Refusal> {
+        for number in self.next..u64::MAX {
+            let name = format!(in alloc; ".relmove-{number}")?;
+            let path = NormalPath::of(alloc, RelativePath::new(&name))?;
+            if self.entries.get(&path).is_none() {
+                self.next = number + 1;
+                return Ok(name);
+            }
+        }
+        Err(Refusal::NoFreeName)
+    }
+
+    // The next name that is free in a directory, as a path.
+    pub(crate) fn in_directory(
+        &mut self,
+        alloc: Global,
+        directory: RelativePath<'_>,
+    ) -> Result<String, Refusal> {
+        for number in self.next..u64::MAX {
+            let name = format!(in alloc; ".relmove-{number}")?;
+            let path = NormalPath::of_joined(alloc, directory, RelativePath::new(&name))?;
+            if self.entries.get(&path).is_none() {
+                self.next = number + 1;
+                return Ok(path.into_relative_path_buf().into_string());
+            }
+        }
+        Err(Refusal::NoFreeName)
+    }
+}

@@ -1,0 +1,28 @@
+//! The entries of a tree of files.
+use relative_path::RelativePath;
+
+/// What an entry of a tree is.
+#[derive(Clone, Copy, Debug)]
+pub enum Kind<'a> {
+    /// A file.
+    File,
+    /// A directory, and whether it holds, itself, a name that isn't UTF-8.
+    Directory {
+        /// It holds such a name, which no entry has.
+        has_foreign_name: bool,
+    },
+    /// A symbolic link, and the path that it has. `None` if that isn't a relative path in UTF-8.
+    Link {
+        /// The path, from the directory of the link.
+        target: Option<RelativePath<'a>>,
+    },
+}
+
+/// An entry of a tree: a file, a directory or a symbolic link below its root.
+#[derive(Clone, Copy, Debug)]
+pub struct Entry<'a> {
+    /// Its normal path from the root.
+    pub path: RelativePath<'a>,
+    /// What it is.
+    pub kind: Kind<'a>,
+}

@@ -1,0 +1,34 @@
+//! The plan of a run of `relmove`: which files and directories move, what becomes of the pages, and the steps that
+//! take the files of a tree there. It touches no file. Proved from the public contracts of the crates that it uses.
+//!
+//! A module uses modules of the layers below, and those to its left in its own layer.
+//!
+//! ```text
+//! the plan              plan
+//! its parts             pages  symbolic  renames  directories
+//! what moves may not    allowed  refused  after
+//! what they need        between  above
+//! what all share        entry  refusal  steps
+//! ```
+#![tactic(auto)]
+
+pub use self::entry::{Entry, Kind};
+pub use self::pages::ChangedPage;
+pub use self::plan::{Plan, Tree, make_plan};
+pub use self::refusal::Refusal;
+pub use self::steps::{NewText, Rename, Steps};
+pub use self::symbolic::LinkNotice;
+
+mod above;
+mod after;
+mod allowed;
+mod between;
+mod directories;
+mod entry;
+mod pages;
+mod plan;
+mod refusal;
+mod refused;
+mod renames;
+mod steps;
+mod symbolic;

@@ -1,0 +1,336 @@
+//! Which moves are refused.
+ghost use Rattle.std.specs.Prelude.{◌≡◌, ◌≢◌, ◌↔◌, ◌<◌, ℕ, Bool, List, Option, None, IsSome, IsTrue, OnOk, IfOk, IfErr, MatchBool, true, false, length};
+ghost use Rattle.std.specs.List.{list_any};
+ghost use Rattle.relative_path.specs.Components.{step_of};
+ghost use Rattle.relative_path.specs.Steps.{Step, components};
+ghost use Rattle.relative_path.specs.Walk.{IsSame, place_of};
+ghost use Rattle.relative_path.specs.Naming.{last_name};
+ghost use Rattle.relative_path.specs.RelativePath.{path_components, path_text};
+ghost use Rattle.relative_path_files.specs.Names.{is_unportable_step};
+ghost use Rattle.relative_path_moves.specs.Moves.{AreApart, moves_of};
+ghost use Rattle.relative_path_moves.specs.PlaceIndex.{Indexes};
+ghost use Rattle.relmove_plan.specs.Moves.{EachMove, HasFinePaths, IsPlaced, StaysOutside, is_own_step, move_of};
+ghost use Rattle.relmove_plan.specs.Trees.{HoldsForeignName, HoldsNoForeignName, IsForeignBelow, IsFree, IsOldFine, IsTaken, entry_paths};
+ghost use Rattle.relmove_plan.specs.Trees as trees;
+ghost use Rattle.relmove_plan.specs.Refusals.{IsAboveRefusal, IsNewRefusal, IsOfFirst, IsOldRefusal, IsPathRefusal};
+
+use crate::above::directories_above;
+use crate::entry::{Entry, Kind};
+use crate::refusal::Refusal;
+use relative_path::{Component, RelativePath};
+use relative_path_files::has_unportable_name;
+use relative_path_moves::{NormalPath, PlaceIndex, TreeMoves};
+use std::alloc::{AllocError, Global};
+
+// Fails at the first move whose paths, by themselves, are refused.
+pub(crate) fn check_paths(
+    alloc: Global,
+    moves: &[(RelativePath<'_>, RelativePath<'_>)],
+    any_name: bool,
+) -> Result<(), Refusal>
+    ensures fine { OnOk result (EachMove (HasFinePaths any_name) (moves_of moves.now)) }
+    ensures refused { IfErr result
+        (IsOfFirst (HasFinePaths any_name) (IsPathRefusal any_name) (moves_of moves.now)) }
+{
+    for (number, (old, new)) in moves.iter().enumerate() {
+        check_move(alloc, number, *old, *new, any_name)?;
+    }
+    Ok(())
+}
+
+// Fails if the paths of a move, by themselves, are refused.
+fn check_move(
+    alloc: Global,
+    number: usize,
+    old: RelativePath<'_>,
+    new: RelativePath<'_>,
+    any_name: bool,
+) -> Result<(), Refusal>
+    ensures fine { OnOk result
+        (HasFinePaths any_name (move_of (path_components old.entry) (path_components new.entry))) }
+    ensures refused { IfErr result (IsPathRefusal any_name number
+        (move_of (path_components old.entry) (path_components new.entry))) }
+{
+    check_placed(number, old, new)?;
+    check_outside(alloc, number, old, new)?;
+    check_names(number, new, any_name)
+}
+
+// Fails if a path of a move has no file name, or leads above the root.
+fn check_placed(number: usize, old: RelativePath<'_>, new: RelativePath<'_>) -> Result<(), Refusal>
+    ensures fine { OnOk result
+        (IsPlaced (move_of (path_components old.entry) (path_components new.entry))) }
+    ensures refused { IfErr result (λ refusal. (any_name : Bool) → IsPathRefusal any_name number
+        (move_of (path_components old.entry) (path_components new.entry)) refusal) }
+{
+    if lacks_file_name(old) {
+        return Err(Refusal::NoFileName(number));
+    }
+    if lacks_file_name(new) {
+        return Err(Refusal::NoFileName(number));
+    }
+    if leaves_root(old) {
+        return Err(Refusal::LeavesRoot(number));
+    }
+    if leaves_root(new) {
+        return Err(Refusal::LeavesRoot(number));
+    }
+    Ok(())
+}
+
+// Whether a path has no file name.
+fn lacks_file_name(path: RelativePath<'_>) -> bool
+    ensures { MatchBool result (last_name (path_components path.entry) ≡ None)
+        (last_name (path_components path.entry) ≢ None) }
+{
+    path.file_name().is_none()
+}
+
+// Whether a path leads above the root.
+fn leaves_root(path: RelativePath<'_>) -> bool
+    ensures { MatchBool result (place_of (path_components path.entry) ≡ None)
+        (IsSome (place_of (path_components path.entry))) }
+{
+    path.climb() > 0
+}
+
+// Fails if the new path is the old one, or below it.
+fn check_outside(
+    alloc: Global,
+    number: usize,
+    old: RelativePath<'_>,
+    new: RelativePath<'_>,
+) -> Result<(), Refusal>
+    ensures fine { OnOk result
+        (StaysOutside (move_of (path_components old.entry) (path_components new.entry))) }
+    ensures refused { IfErr result (λ refusal. (any_name : Bool)
+        → IsPlaced (move_of (path_components old.entry) (path_components new.entry))
+        → IsPathRefusal any_name number
+        (move_of (path_components old.entry) (path_components new.entry)) refusal) }
+{
+    let old = NormalPath::of(alloc, old)?;
+    let new = NormalPath::of(alloc, new)?;
+    if new.as_relative_path().starts_with(old.as_relative_path()) {
+        return Err(Refusal::IntoItself(number));
+    }
+    Ok(())
+}
+
+// Fails if the new path has a name that isn't plain on every platform, or one of a run's own.
+fn check_names(number: usize, new: RelativePath<'_>, any_name: bool) -> Result<(), Refusal>
+    ensures fine { OnOk result ((old : List Step) → IsPlaced (move_of old (path_components new.entry))
+        → StaysOutside (move_of old (path_components new.entry))
+        → HasFinePaths any_name (move_of old (path_components new.entry))) }
+    ensures refused { IfErr result (λ refusal. (old : List Step)
+        → IsPlaced (move_of old (path_components new.entry))
+        → StaysOutside (move_of old (path_components new.entry))
+        → IsPathRefusal any_name number (move_of old (path_components new.entry)) refusal) }
+{
+    if !any_name {
+        if has_unportable_name(new) {
+            return Err(Refusal::NotPlain(number));
+        }
+    }
+    if has_own_name(new) {
+        return Err(Refusal::OwnName(number));
+    }
+    Ok(())
+}
+
+// Whether a path has a name that begins as those of a run's own files.
+fn has_own_name(path: RelativePath<'_>) -> bool
+    ensures { result ≡ list_any is_own_step (path_components path.entry) }
+{
+    for component in path.components() {
+        if is_own_step(component) {
+            return true;
+        }
+    }
+    false
+}
+
+// Whether a component is a name that begins as those of a run's own files.
+fn is_own_step(component: Component<'_>) -> bool
+    ensures { result ≡ is_own_step (step_of component.entry) }
+{
+    match component {
+        Component::Normal(name) => name.as_bytes().starts_with(b".relmove"),
+        Component::CurDir | Component::ParentDir => false,
+    }
+}
+
+// Fails at the first move whose old path isn't there, or whose entries have a name that isn't UTF-8.
+pub(crate) fn check_olds(
+    alloc: Global,
+    entries: &[Entry<'_>],
+    index: &PlaceIndex,
+    moves: &[(RelativePath<'_>, RelativePath<'_>)],
+) -> Result<(), Refusal>
+    requires { Indexes (entry_paths entries.now) index.now }
+    ensures fine { OnOk result (EachMove (λ move. IsOldFine entries.now move.old) (moves_of moves.now)) }
+    ensures refused { IfErr result (IsOfFirst (λ move. IsOldFine entries.now move.old)
+        (IsOldRefusal entries.now) (moves_of moves.now)) }
+{
+    for (number, (old, _)) in moves.iter().enumerate() {
+        check_old(alloc, entries, index, number, *old)?;
+    }
+    Ok(())
+}
+
+// Fails if nothing is at the old path of a move, or an entry there has a name that isn't UTF-8.
+fn check_old(
+    alloc: Global,
+    entries: &[Entry<'_>],
+    index: &PlaceIndex,
+    number: usize,
+    old: RelativePath<'_>,
+) -> Result<(), Refusal>
+    requires { Indexes (entry_paths entries.now) index.now }
+    ensures fine { OnOk result (IsOldFine entries.now (path_components old.entry)) }
+    ensures refused { IfErr result (λ refusal. (new : List Step)
+        → IsOldRefusal entries.now number (move_of (path_components old.entry) new) refusal) }
+{
+    let old = NormalPath::of(alloc, old)?;
+    if index.get(&old).is_none() {
+        return Err(Refusal::NotThere(number));
+    }
+    if holds_foreign_name(entries, old.as_relative_path()) {
+        return Err(Refusal::ForeignName(number));
+    }
+    Ok(())
+}
+
+// Whether a directory at or below a path holds a name that isn't UTF-8.
+fn holds_foreign_name(entries: &[Entry<'_>], path: RelativePath<'_>) -> bool
+    ensures { MatchBool result (HoldsForeignName entries.now (path_components path.entry))
+        (HoldsNoForeignName entries.now (path_components path.entry)) }
+{
+    for entry in entries {
+        if is_foreign_below(*entry, path) {
+            return true;
+        }
+    }
+    false
+}
+
+// Whether an entry is a directory at or below a path, and holds a name that isn't UTF-8.
+fn is_foreign_below(entry: Entry<'_>, path: RelativePath<'_>) -> bool
+    ensures { IsTrue result ↔ IsForeignBelow (path_components path.entry) entry.entry }
+{
+    is_foreign(entry.kind) && entry.path.starts_with(path)
+}
+
+// Whether an entry is a directory that holds a name that isn't UTF-8.
+fn is_foreign(kind: Kind<'_>) -> bool
+    ensures { result ≡ trees.is_foreign kind.entry }
+{
+    match kind {
+        Kind::Directory { has_foreign_name } => has_foreign_name,
+        Kind::File => false,
+        Kind::Link { .. } => false,
+    }
+}
+
+// Fails at the first move to whose new path an entry is, and stays.
+pub(crate) fn check_news(
+    alloc: Global,
+    entries: &[Entry<'_>],
+    index: &PlaceIndex,
+    tree: &TreeMoves<'_>,
+    moves: &[(RelativePath<'_>, RelativePath<'_>)],
+) -> Result<(), Refusal>
+    requires { Indexes (entry_paths entries.now) index.now }
+    ensures fine { OnOk result (EachMove (λ move. IsFree tree.now entries.now move.new) (moves_of moves.now)) }
+    ensures refused { IfErr result (IsOfFirst (λ move. IsFree tree.now entries.now move.new)
+        (IsNewRefusal tree.now entries.now) (moves_of moves.now)) }
+{
+    for (number, (_, new)) in moves.iter().enumerate() {
+        check_new(alloc, entries, index, tree, number, *new)?;
+    }
+    Ok(())
+}
+
+// Fails if an entry is at the new path of a move, and is there after the moves too.
+fn check_new(
+    alloc: Global,
+    entries: &[Entry<'_>],
+    index: &PlaceIndex,
+    tree: &TreeMoves<'_>,
+    number: usize,
+    new: RelativePath<'_>,
+) -> Result<(), Refusal>
+    requires { Indexes (entry_paths entries.now) index.now }
+    ensures fine { OnOk result (IsFree tree.now entries.now (path_components new.entry)) }
+    ensures refused { IfErr result (λ refusal. (old : List Step)
+        → IsNewRefusal tree.now entries.now number (move_of old (path_components new.entry)) refusal) }
+{
+    let place = NormalPath::of(alloc, new)?;
+    if index.get(&place).is_none() {
+        return Ok(());
+    }
+    let after = tree.path_after(alloc, new)?;
+    if after == place {
+        return Err(Refusal::Taken(number));
+    }
+    Ok(())
+}
+
+// Fails at the first move whose new path is below what is, after the moves, no directory.
+pub(crate) fn check_above(
+    alloc: Global,
+    entries: &[Entry<'_>],
+    after: &PlaceIndex,
+    moves: &[(RelativePath<'_>, RelativePath<'_>)],
+) -> Result<(), Refusal>
+    ensures { IfErr result IsAboveRefusal }
+{
+    for (number, (_, new)) in moves.iter().enumerate() {
+        let new = NormalPath::of(alloc, *new)?;
+        if is_below_file(alloc, entries, after, &new)? {
+            return Err(Refusal::BelowFile(number));
+        }
+    }
+    Ok(())
+}
+
+// Whether what is above a path, after the moves, has no directory.
+fn is_below_file(
+    alloc: Global,
+    entries: &[Entry<'_>],
+    after: &PlaceIndex,
+    path: &NormalPath,
+) -> Result<bool, AllocError> {
+    let directories = directories_above(alloc, path.as_relative_path())?;
+    for directory in &directories {
+        if is_no_directory(alloc, entries, after, *directory)? {
+            return Ok(true);
+        }
+    }
+    Ok(false)
+}
+
+// Whether the entry that is at a path after the moves, if there is one, is no directory.
+fn is_no_directory(
+    alloc: Global,
+    entries: &[Entry<'_>],
+    after: &PlaceIndex,
+    path: RelativePath<'_>,
+) -> Result<bool, AllocError> {
+    let place = NormalPath::of(alloc, path)?;
+    let Some(number) = after.get(&place) else {
+        return Ok(false);
+    };
+    match entries.get(number) {
+        Some(entry) => Ok(!is_directory(entry.kind)),
+        None => Ok(false),
+    }
+}
+
+// Whether an entry is a directory.
+fn is_directory(kind: Kind<'_>) -> bool {
+    match kind {
+        Kind::Directory { .. } => true,
+        Kind::File => false,
+        Kind::Link { .. } => false,
+    }
+}

@@ -1,0 +1,67 @@
+//! Plans for the trees of the vectors.
+use super::model::DIRECTORY;
+use relative_path::RelativePath;
+use relative_path_links::{SitePage, Target, targets};
+use relmove_plan::{Entry, Kind, Plan, Refusal, Tree, make_plan};
+use std::alloc::Global;
+use std::test::Fail;
+
+fn as_paths<'a>((old, new): (&'a str, &'a str)) -> (RelativePath<'a>, RelativePath<'a>) {
+    (RelativePath::new(old), RelativePath::new(new))
+}
+
+// An entry of a row: a directory, a directory with a name that isn't UTF-8, a symbolic link, or a file.
+fn entry_of<'a>((path, text): (&'a str, &'a str)) -> Entry<'a> {
+    let kind = match text {
+        DIRECTORY => Kind::Directory {
+            has_foreign_name: false,
+        },
+        "/?" => Kind::Directory {
+            has_foreign_name: true,
+        },
+        _ => match text.strip_prefix("-> ") {
+            Some(target) => Kind::Link {
+                target: Some(RelativePath::new(target)),
+            },
+            None => Kind::File,
+        },
+    };
+    Entry {
+        path: RelativePath::new(path),
+        kind,
+    }
+}
+
+/// The plan for a tree of these rows and these moves.
+pub fn planned(
+    alloc: Global,
+    rows: &[(&str, &str)],
+    moves: &[(&str, &str)],
+    any_name: bool,
+) -> Result<Result<Plan, Refusal>, Fail> {
+    let mut entries = Vec::new(alloc);
+    let mut found: Vec<Vec<Target>> = Vec::new(alloc);
+    for row in rows {
+        entries.push(entry_of(*row))?;
+        found.push(targets(alloc, row.1)?)?;
+    }
+    let mut pages = Vec::new(alloc);
+    for ((path, text), list) in rows.iter().zip(&found) {
+        if path.ends_with(".md") {
+            pages.push(SitePage {
+                path: RelativePath::new(path),
+                text: *text,
+                targets: list,
+            })?;
+        }
+    }
+    let mut pairs = Vec::new(alloc);
+    for pair in moves {
+        pairs.push(as_paths(*pair))?;
+    }
+    let tree = Tree {
+        entries: &entries,
+        pages: &pages,
+    };
+    Ok(make_plan(alloc, tree, &pairs, any_name))
+}

@@ -1,0 +1,221 @@
+//! Whole runs of plans, over a tree in memory.
+use super::model::Files;
+use super::planned::planned;
+use super::same;
+use std::alloc::Global;
+use std::test::Fail;
+
+type Rows<'a> = &'a [(&'a str, &'a str)];
+
+// Fails where the steps of the plan for these moves lead to another tree than is expected.
+fn leads(
+    alloc: Global,
+    case: &str,
+    before: Rows<'_>,
+    moves: Rows<'_>,
+    after: Rows<'_>,
+) -> Result<(), Fail> {
+    let plan = match planned(alloc, before, moves, false)? {
+        Ok(plan) => plan,
+        Err(refusal) => return Err(Fail::new(format_args!("{case:?}: {refusal}"))),
+    };
+    let mut files = Files::of(alloc, before)?;
+    files.run(alloc, &plan.steps)?;
+    same(case, &files, &Files::of(alloc, after)?)
+}
+
+#[test]
+fn a_swap(rt: HostRuntime) -> Result<(), Fail> {
+    leads(
+        rt.alloc(),
+        "a swap of files",
+        &[("a", "1"), ("b", "2")],
+        &[("a", "b"), ("b", "a")],
+        &[("a", "2"), ("b", "1")],
+    )
+}
+
+#[test]
+fn a_chain(rt: HostRuntime) -> Result<(), Fail> {
+    leads(
+        rt.alloc(),
+        "a chain",
+        &[("a", "1"), ("b", "2"), ("c", "3")],
+        &[("b", "c"), ("a", "b"), ("c", "d/e/f")],
+        &[
+            ("b", "1"),
+            ("c", "2"),
+            ("d", "/"),
+            ("d/e", "/"),
+            ("d/e/f", "3"),
+        ],
+    )
+}
+
+#[test]
+fn a_file_out_of_a_directory_that_moves(rt: HostRuntime) -> Result<(), Fail> {
+    leads(
+        rt.alloc(),
+        "a file out of a directory that moves",
+        &[("d", "/"), ("d/a.md", "[b](b.md)"), ("d/b.md", "[a](a.md)")],
+        &[("d", "e"), ("d/a.md", "a.md")],
+        &[
+            ("a.md", "[b](e/b.md)"),
+            ("e", "/"),
+            ("e/b.md", "[a](../a.md)"),
+        ],
+    )
+}
+
+#[test]
+fn a_page_inside_a_directory_that_moves(rt: HostRuntime) -> Result<(), Fail> {
+    leads(
+        rt.alloc(),
+        "a page inside a directory that moves",
+        &[
+            ("d", "/"),
+            ("d/a.md", "[x](../x)"),
+            ("i.md", "[a](d/a.md)"),
+            ("x", "x"),
+        ],
+        &[("d", "e/f")],
+        &[
+            ("e", "/"),
+            ("e/f", "/"),
+            ("e/f/a.md", "[x](../../x)"),
+            ("i.md", "[a](e/f/a.md)"),
+            ("x", "x"),
+        ],
+    )
+}
+
+#[test]
+fn a_directory_for_another(rt: HostRuntime) -> Result<(), Fail> {
+    leads(
+        rt.alloc(),
+        "a directory to the place of another that moves",
+        &[("d", "/"), ("d/a", "1"), ("e", "/"), ("e/b", "2")],
+        &[("d", "e"), ("e", "d/e")],
+        &[
+            ("d", "/"),
+            ("d/e", "/"),
+            ("d/e/b", "2"),
+            ("e", "/"),
+            ("e/a", "1"),
+        ],
+    )
+}
+
+#[test]
+fn a_new_directory_inside_one_that_moves(rt: HostRuntime) -> Result<(), Fail> {
+    leads(
+        rt.alloc(),
+        "a new directory inside one that moves",
+        &[
+            ("d", "/"),
+            ("d/a", "1"),
+            ("d/s", "/"),
+            ("d/s/t", "3"),
+            ("x", "2"),
+        ],
+        &[("d", "e"), ("x", "e/s/u/v/x"), ("d/s/t", "e/w/t")],
+        &[
+            ("e", "/"),
+            ("e/a", "1"),
+            ("e/s", "/"),
+            ("e/s/u", "/"),
+            ("e/s/u/v", "/"),
+            ("e/s/u/v/x", "2"),
+            ("e/w", "/"),
+            ("e/w/t", "3"),
+        ],
+    )
+}
+
+#[test]
+fn directories_that_are_left_empty(rt: HostRuntime) -> Result<(), Fail> {
+    leads(
+        rt.alloc(),
+        "directories that are left empty",
+        &[
+            ("d", "/"),
+            ("d/s", "/"),
+            ("d/s/a", "1"),
+            ("e", "/"),
+            ("e/b", "2"),
+            ("e/t", "/"),
+        ],
+        &[("d/s/a", "a"), ("e/b", "b")],
+        &[("a", "1"), ("b", "2"), ("e", "/"), ("e/t", "/")],
+    )
+}
+
+#[test]
+fn names_that_are_taken(rt: HostRuntime) -> Result<(), Fail> {
+    leads(
+        rt.alloc(),
+        "names in between that are taken",
+        &[
+            (".relmove-1", "x"),
+            ("a.md", "[b](d/b.md)"),
+            ("d", "/"),
+            ("d/.relmove-3", "y"),
+            ("d/b.md", "[a](../a.md)"),
+        ],
+        &[("a.md", "c.md")],
+        &[
+            (".relmove-1", "x"),
+            ("c.md", "[b](d/b.md)"),
+            ("d", "/"),
+            ("d/.relmove-3", "y"),
+            ("d/b.md", "[a](../c.md)"),
+        ],
+    )
+}
+
+#[test]
+fn a_page_that_moves_and_changes(rt: HostRuntime) -> Result<(), Fail> {
+    leads(
+        rt.alloc(),
+        "pages that swap and change",
+        &[
+            ("a.md", "[b](b.md) 1"),
+            ("b.md", "[a](a.md) 2"),
+            ("c.md", "[a](a.md) [c](c.md)"),
+        ],
+        &[("a.md", "b.md"), ("b.md", "a.md")],
+        &[
+            ("a.md", "[a](b.md) 2"),
+            ("b.md", "[b](a.md) 1"),
+            ("c.md", "[a](b.md) [c](c.md)"),
+        ],
+    )
+}
+
+// What a plan says besides its steps.
+#[test]
+fn pages_that_change(rt: HostRuntime) -> Result<(), Fail> {
+    let rows = [
+        ("a.md", "[b](b.md) [b](b.md#x) [up](../x) [c](c.md)"),
+        ("b.md", "[a](a.md)"),
+        ("c.md", "[b](d%2fe)"),
+        ("l", "-> b.md"),
+    ];
+    let plan = planned(rt.alloc(), &rows, &[("b.md", "d/b.md")], false)?;
+    let plan = plan.map_err(|refusal| Fail::new(format_args!("{refusal}")))?;
+    let numbers = [(0, 2), (1, 1)];
+    same("changed", &plan.changed.len(), &2)?;
+    for (page, (number, links)) in plan.changed.iter().zip(&numbers) {
+        same("a page", &page.number, number)?;
+        same("its links", &page.links, links)?;
+    }
+    same("reports", &plan.pages[2].page.unchanged.len(), &1)?;
+    same("links", &plan.links.len(), &1)?;
+    same("a link", &plan.links[0].entry, &3)?;
+    same("it moves", &plan.links[0].moves, &false)?;
+    same(
+        "it leads to what moves",
+        &plan.links[0].leads_to_moved,
+        &true,
+    )
+}
