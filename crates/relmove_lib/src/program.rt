@@ -62,8 +62,14 @@ fn obey<R: Files + AllocGlobal + Clone + Drop, O: Write, E: Write>(
     errors: &mut E,
 ) -> Status {
     match command {
-        Command::Help => printed(write!(out, "{USAGE}{HELP}")),
-        Command::Version => printed(write!(out, "{VERSION}")),
+        Command::Help => {
+            let outcome = write!(out, "{USAGE}{HELP}");
+            printed(outcome, Status::Kept, out)
+        }
+        Command::Version => {
+            let outcome = write!(out, "{VERSION}");
+            printed(outcome, Status::Kept, out)
+        }
         Command::Check { root, json } => check(Root::new(runtime, root), json, out, errors),
         Command::Resume { root } => end(resume(Root::new(runtime, root)), root, out, errors),
         Command::Undo { root } => end(undo(Root::new(runtime, root)), root, out, errors),
@@ -74,12 +80,12 @@ fn obey<R: Files + AllocGlobal + Clone + Drop, O: Write, E: Write>(
     }
 }
 
-// The status of a call that only prints.
-fn printed(outcome: io::Result<()>) -> Status {
-    match outcome {
-        Ok(()) => Status::Kept,
-        Err(_) => Status::Refused,
+// The status of a call that only prints: this one, unless that failed.
+fn printed<O: Write>(outcome: io::Result<()>, status: Status, out: &mut O) -> Status {
+    if outcome.is_err() || out.flush().is_err() {
+        return Status::Refused;
     }
+    status
 }
 
 // Prints the dead links.
@@ -90,11 +96,23 @@ fn check<R: Files + AllocGlobal + Clone + Drop, O: Write, E: Write>(
     errors: &mut E,
 ) -> Status {
     match found(&root, errors) {
-        Ok(links) => print_links(root.runtime().alloc(), root.path(), json, &links, out),
+        Ok(links) => {
+            let outcome = print_links(root.runtime().alloc(), root.path(), json, &links, out);
+            printed(outcome, status_of_links(&links), out)
+        }
         Err(fault) => {
             let _ = writeln!(errors, "relmove: {fault}");
             Status::Refused
         }
+    }
+}
+
+// The status of a check that finds these dead links.
+fn status_of_links(links: &[DeadLink]) -> Status {
+    if links.is_empty() {
+        Status::Kept
+    } else {
+        Status::LinksLeft
     }
 }
 
@@ -128,22 +146,15 @@ fn print_links<O: Write>(
     json: bool,
     links: &[DeadLink],
     out: &mut O,
-) -> Status {
+) -> io::Result<()> {
     for link in links {
-        let outcome = if json {
-            print_dead_link_as_json(alloc, out, link)
+        if json {
+            print_dead_link_as_json(alloc, out, link)?;
         } else {
-            print_dead_link(out, root, link)
-        };
-        if outcome.is_err() {
-            return Status::Refused;
+            print_dead_link(out, root, link)?;
         }
     }
-    if links.is_empty() {
-        Status::Kept
-    } else {
-        Status::LinksLeft
-    }
+    Ok(())
 }
 
 // Prints how `resume` or `undo` ended.
@@ -154,6 +165,7 @@ fn end<O: Write, E: Write>(ended: Ended, root: &str, out: &mut O, errors: &mut E
         Status::Kept | Status::LinksLeft => print_end(out, root, &ended),
         Status::Refused | Status::Stopped => print_end(errors, root, &ended),
     };
+    let _ = out.flush();
     status
 }
 

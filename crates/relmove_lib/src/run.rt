@@ -76,11 +76,13 @@ fn begin<R: Files + AllocGlobal>(root: Root<'_, R>, steps: Steps) -> Result<Work
         Ok(prepared) => prepared,
         Err(fault) => return Err(Ended::Refused(fault)),
     };
-    let written = written(&mut worker, &texts);
-    match written {
-        Ok(()) => Ok(worker),
-        Err(fault) => Err(taken_back(worker, fault)),
+    if let Err(fault) = write_texts(&mut worker, &texts) {
+        return Err(taken_back(worker, fault));
     }
+    if let Err(fault) = worker.enter(Stage::Parting) {
+        return Err(turned_back(worker, fault));
+    }
+    Ok(worker)
 }
 
 // The run, before it writes anything.
@@ -114,26 +116,36 @@ fn parts_of(alloc: Global, steps: Steps) -> Result<(Vec<NewText>, Work), AllocEr
     Ok((steps.texts, work))
 }
 
-// Writes the journal and the new texts, and then in the journal that the texts are written.
-fn written<R: Files + AllocGlobal>(
+// Writes the journal and the new texts.
+fn write_texts<R: Files + AllocGlobal>(
     worker: &mut Worker<'_, R>,
     texts: &[NewText],
 ) -> Result<(), Fault> {
     worker.enter(Stage::Returning)?;
-    worker.write_texts(texts)?;
-    worker.enter(Stage::Parting)
+    worker.write_texts(texts)
 }
 
-// Takes back what was done before anything moved.
-fn taken_back<R: Files + AllocGlobal>(mut worker: Worker<'_, R>, fault: Fault) -> Ended {
-    let stage = worker.stage();
-    match worker.enter(Stage::Returning) {
-        Ok(()) => {}
-        Err(_) => return Ended::Stopped { stage, fault },
+// Takes back what was done, if the journal may say that everything goes apart.
+fn turned_back<R: Files + AllocGlobal>(mut worker: Worker<'_, R>, fault: Fault) -> Ended {
+    if worker.enter(Stage::Returning).is_err() {
+        return stopped(&worker, fault);
     }
+    taken_back(worker, fault)
+}
+
+// Takes back what was done, if the journal says so or isn't there. This needs no room on the disk.
+fn taken_back<R: Files + AllocGlobal>(mut worker: Worker<'_, R>, fault: Fault) -> Ended {
     match worker.go_back() {
         Ok(()) => Ended::Refused(fault),
-        Err(_) => Ended::Stopped { stage, fault },
+        Err(_) => stopped(&worker, fault),
+    }
+}
+
+// The run stopped at its stage.
+fn stopped<R: Files + AllocGlobal>(worker: &Worker<'_, R>, fault: Fault) -> Ended {
+    Ended::Stopped {
+        stage: worker.stage(),
+        fault,
     }
 }
 
@@ -152,10 +164,7 @@ fn open<R: Files + AllocGlobal>(root: Root<'_, R>) -> Result<Worker<'_, R>, Faul
 fn go_on<R: Files + AllocGlobal>(mut worker: Worker<'_, R>) -> Ended {
     match worker.go_on() {
         Ok(()) => Ended::Done,
-        Err(fault) => Ended::Stopped {
-            stage: worker.stage(),
-            fault,
-        },
+        Err(fault) => stopped(&worker, fault),
     }
 }
 
@@ -163,9 +172,6 @@ fn go_on<R: Files + AllocGlobal>(mut worker: Worker<'_, R>) -> Ended {
 fn go_back<R: Files + AllocGlobal>(mut worker: Worker<'_, R>) -> Ended {
     match worker.go_back() {
         Ok(()) => Ended::TakenBack,
-        Err(fault) => Ended::Stopped {
-            stage: worker.stage(),
-            fault,
-        },
+        Err(fault) => stopped(&worker, fault),
     }
 }
