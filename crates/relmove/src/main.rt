@@ -1,0 +1,41 @@
+//! `relmove`: moves files and directories, and changes the links of pages so that each still leads where it led.
+//!
+//! ```console
+//! $ relmove --check docs
+//! docs/index.md:3:8: old.md: nothing is there
+//! ```
+//!
+//! `relmove_lib` does all of it but to take the process's own arguments and output.
+#![tactic(auto)]
+
+use relmove_lib::answer;
+use std::env;
+use std::io::{self, BufWriter};
+use std::process::ExitCode;
+
+// The status of a call that can't begin.
+const REFUSED: u8 = 2;
+
+fn main(rt: HostRuntime) -> ExitCode {
+    match run(&rt) {
+        Ok(status) => ExitCode::from(status),
+        Err(error) => {
+            // If standard error fails too, there is nowhere to report it.
+            let _ = eprintln!(rt;
+                "relmove: the arguments can't be read, or memory ran out: {error}"
+            );
+            ExitCode::from(REFUSED)
+        }
+    }
+}
+
+// Does what the process's arguments ask for.
+fn run(rt: &HostRuntime) -> io::Result<u8> {
+    let arguments = env::args(rt)?.skip(1).collect::<Vec<_>>(rt.alloc())?;
+    let words = arguments
+        .iter()
+        .map(|word| word.as_str())
+        .collect::<Vec<_>>(rt.alloc())?;
+    let mut out = BufWriter::new(rt.alloc(), io::writer(rt))?;
+    Ok(answer(rt, &words, &mut out, &mut rt.stderr()).code())
+}

@@ -1,0 +1,133 @@
+//! Finds the links of pages that lead to nothing.
+use crate::fault::Fault;
+use crate::position::{Position, position_after};
+use crate::root::Root;
+use crate::tree::{Page, Tree};
+use relative_path::RelativePath;
+use relative_path_links::{Target, targets};
+use std::fs;
+use std::rt::Files;
+use target_paths::{TargetReading, path_of_target};
+
+/// Why a link is dead.
+#[derive(Clone, Copy, Debug, PartialEq, Eq)]
+pub enum WhyDead {
+    /// It leads to a path below the root, and nothing is there.
+    Missing,
+    /// It leads above the root.
+    AboveRoot,
+}
+
+impl WhyDead {
+    /// Why, in words.
+    pub fn words(self) -> &'static str {
+        match self {
+            WhyDead::Missing => "nothing is there",
+            WhyDead::AboveRoot => "it leads above the root",
+        }
+    }
+}
+
+/// A link that is dead.
+#[derive(Debug, PartialEq, Eq, Drop)]
+pub struct DeadLink {
+    /// The path of its page from the root.
+    pub page: String,
+    /// Where its target begins in the page.
+    pub position: Position,
+    /// Its target, as it is written.
+    pub target: String,
+    /// Why it is dead.
+    pub why: WhyDead,
+}
+
+/// Returns the relative links of the pages of a tree that lead to nothing below the root, or above it.
+///
+/// What isn't in the tree is asked for: files in directories whose names begin with a dot, and what symbolic links lead
+/// to. Queries and fragments have no influence, and neither has a target whose meaning isn't known.
+pub fn dead_links_of<R: Files + AllocGlobal>(
+    root: &Root<'_, R>,
+    tree: &Tree,
+) -> Result<Vec<DeadLink>, Fault> {
+    let mut dead = Vec::new(root.runtime().alloc());
+    for page in &tree.pages {
+        add_dead_links(root, tree, page, &mut dead)?;
+    }
+    Ok(dead)
+}
+
+// Adds the dead links of a page.
+fn add_dead_links<R: Files + AllocGlobal>(
+    root: &Root<'_, R>,
+    tree: &Tree,
+    page: &Page,
+    dead: &mut Vec<DeadLink>,
+) -> Result<(), Fault> {
+    let found = targets(root.runtime().alloc(), page.text.as_str())?;
+    for target in &found {
+        if let Some(link) = dead_link(root, tree, page, *target)? {
+            dead.push(link)?;
+        }
+    }
+    Ok(())
+}
+
+// The link of a target, if it is dead.
+fn dead_link<R: Files + AllocGlobal>(
+    root: &Root<'_, R>,
+    tree: &Tree,
+    page: &Page,
+    target: Target,
+) -> Result<Option<DeadLink>, Fault> {
+    let text = page.text.as_str();
+    let (Some(before), Some(written)) = (
+        text.get(..target.start),
+        text.get(target.start..target.end),
+    ) else {
+        return Ok(None);
+    };
+    let TargetReading::Path { path, .. } = path_of_target(
+        root.runtime().alloc(),
+        target.syntax,
+        written,
+    )?
+    else {
+        return Ok(None);
+    };
+    let Some(why) = why_dead(root, tree, page.path.as_str(), path.as_str())? else {
+        return Ok(None);
+    };
+    Ok(Some(DeadLink {
+        page: root.copy(page.path.as_str())?,
+        position: position_after(before),
+        target: root.copy(written)?,
+        why,
+    }))
+}
+
+// Why a link with this path is dead, if it is.
+fn why_dead<R: Files + AllocGlobal>(
+    root: &Root<'_, R>,
+    tree: &Tree,
+    page: &str,
+    path: &str,
+) -> Result<Option<WhyDead>, Fault> {
+    let directory = RelativePath::new(page)
+        .parent()
+        .unwrap_or(RelativePath::new(""));
+    let file = directory.join_normalized(root.runtime().alloc(), RelativePath::new(path))?;
+    if file.as_relative_path().climb() > 0 {
+        return Ok(Some(WhyDead::AboveRoot));
+    }
+    let file = file.as_relative_path().as_str();
+    if file.is_empty() || tree.entries.contains_key(file) || leads_somewhere(root, file)? {
+        return Ok(None);
+    }
+    Ok(Some(WhyDead::Missing))
+}
+
+// Whether something is at a path, where symbolic links are followed.
+fn leads_somewhere<R: Files + AllocGlobal>(root: &Root<'_, R>, path: &str) -> Result<bool, Fault> {
+    let full = root.full(path)?;
+    Ok(fs::metadata(root.runtime(), full.as_str()).is_ok())
+}

@@ -1,0 +1,38 @@
+//! What the program `relmove` does: it moves files and directories below a root, and writes pages anew, so that no fault
+//! loses a byte. It also finds the links of pages that lead to nothing.
+//!
+//! A module uses modules of the layers below, and those to its left in its own layer.
+//!
+//! ```text
+//! a call              program
+//! what is printed     report
+//! whole pieces        run  dead_links
+//! the work            journal  worker  tree
+//! files below ROOT    root
+//! what all share      fault  steps  position  arguments
+//! ```
+#![tactic(auto)]
+
+pub use self::arguments::{Command, WrongCall, command_of};
+pub use self::dead_links::{DeadLink, WhyDead, dead_links_of};
+pub use self::fault::{Call, Fault};
+pub use self::journal::{Journal, Stage, Work, journal_of, journal_text};
+pub use self::position::{Position, position_after};
+pub use self::program::{Status, answer};
+pub use self::root::Root;
+pub use self::run::{Ended, carry_out, resume, undo};
+pub use self::steps::{NewText, Rename, Steps};
+pub use self::tree::{EntryKind, Page, Tree, read_tree};
+
+mod arguments;
+mod dead_links;
+mod fault;
+mod journal;
+mod position;
+mod program;
+pub mod report;
+mod root;
+mod run;
+mod steps;
+mod tree;
+mod worker;
