@@ -258,6 +258,7 @@ impl<'a> MoveTable<'a> {
     /// The call sees only files of the list, and only what [`MoveTable::same_new`] sees of a path.
     ///
     /// Allocates the normal form of each new path and of each file, lists of them, and an index of each list.
+    /// If there is such a pair, allocates the normal forms of the files again, up to the file of the pair.
     /// Searches an index once for each path and for each directory above it. Fails only if an allocation fails.
     ///
     /// ```

@@ -171,7 +171,7 @@ fn end_with_pair(
     }
 }
 
-// Requests: 2s 1 1s 3 488 1 3 = 0
+// Requests: 48 1s 1 2s 3 1s 1 488 2s 3 = 0
 #[test]
 fn two_new_paths(rt: HostRuntime) -> Result<(), Fail> {
     let moves = [("a", "x"), ("b", "x/y")].map(as_paths);
@@ -181,7 +181,7 @@ fn two_new_paths(rt: HostRuntime) -> Result<(), Fail> {
     end_with_pair(rt.alloc(), answer, Some((0, 1)))
 }
 
-// Requests: 1 = 0
+// Requests: 24 1s 1 1s 1 2s 3 96 1s 1 488 2s 3 488 1s 1 2s 3 = 0
 #[test]
 fn a_new_path_and_a_file(rt: HostRuntime) -> Result<(), Fail> {
     let moves = [("a", "x")].map(as_paths);
@@ -192,7 +192,7 @@ fn a_new_path_and_a_file(rt: HostRuntime) -> Result<(), Fail> {
     end_with_pair(rt.alloc(), answer, Some((0, 1)))
 }
 
-// Requests: 1 = 0
+// Requests: 48 2s 6 7 2s 7 2s 7 488 2s 7 = 0, = 0
 #[test]
 fn two_files_in_a_tree(rt: HostRuntime) -> Result<(), Fail> {
     let moves = [("docs", "guide")].map(as_paths);
