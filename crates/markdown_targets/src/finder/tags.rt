@@ -9,6 +9,8 @@ use crate::target::Quote;
 // The names of elements whose content is text without tags.
 const TEXT_ELEMENTS: [&[u8]; 4] = [b"script", b"style", b"textarea", b"title"];
 
+const FORM_FEED: u8 = b'\x0C';
+
 // The value of an attribute.
 #[derive(Clone, Copy)]
 pub(crate) struct Value {
@@ -168,15 +170,18 @@ fn read_unquoted_value(text: &[u8], start: usize) -> Option<Value>
     requires { start ≤ length text.now }
     ensures { IfSome result (λ value. Advances text.now start value.after) }
 {
-    let end = run_end(text, start, is_of_value);
-    if end == start {
+    let after = run_end(text, start, is_of_value);
+    if after == start {
         return None;
     }
+    // CommonMark takes a form feed for a part of the value, and a browser takes it for a space.
+    let start = run_end(text, start, |byte| byte == FORM_FEED);
+    let end = run_end(text, start, |byte| is_of_value(byte) && byte != FORM_FEED);
     let span = Span { start, end };
     Some(Value {
         quote: Quote::Unquoted,
         span,
-        after: end,
+        after,
     })
 }
 

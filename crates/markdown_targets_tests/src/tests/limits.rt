@@ -16,7 +16,10 @@ const ODD: &str = "\u{feff}    [a](b.md) ⇒ none\n\
     #\u{a0}a¶    [b](c.md) ⇒ c.md\n\
     a¶\u{c}¶    [b](c.md) ⇒ c.md\n\
     a <b\u{b}c=\"[d](e.md)\"> ⇒ e.md\n\
-    <b\u{c}c>¶[d](e.md) ⇒ e.md";
+    <b\u{c}c>¶[d](e.md) ⇒ e.md\n\
+    <a href=b.md\u{c}c> ⇒ b.md\n\
+    <a href=\u{c}b.md> ⇒ b.md\n\
+    <a href='b\u{c}c.md'> ⇒ b\u{c}c.md";
 
 #[test]
 fn reads_odd_bytes(rt: HostRuntime) -> Result<(), Fail> {
