@@ -2,3 +2,4 @@ pub mod MovesLemmas
 pub mod TreesLemmas
 pub mod PagesLemmas
 pub mod PlanLemmas
+pub mod OrderLemmas

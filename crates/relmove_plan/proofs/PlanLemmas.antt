@@ -1,5 +1,5 @@
 -- Refusals after all tests but the last.
-use Rattle.std.proofs.Common.{◌≡◌, Bool, List, refl}
+use Rattle.std.proofs.Common.{Bool, List, refl}
 use Rattle.relative_path_moves.specs.Moves.{Move}
 use Rattle.relmove_plan.specs.declared.entry.Entry.{Entry}
 use Rattle.relmove_plan.specs.declared.refusal.Refusal.{Refusal}

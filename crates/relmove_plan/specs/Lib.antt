@@ -3,3 +3,4 @@ pub mod Trees
 pub mod Refusals
 pub mod Pages
 pub mod Plan
+pub mod Steps

@@ -1,5 +1,5 @@
 -- Moves whose paths may not be taken, whatever the tree is.
-use Rattle.std.specs.Prelude.{◌≡◌, ◌⊎◌, ◌<◌, ℕ, nat_eq, Bool, true, false, List, [], ◌∷◌, length, codes, None, IsSome}
+use Rattle.std.specs.Prelude.{◌≡◌, ◌⊎◌, ◌<◌, ℕ, nat_eq, Bool, true, false, List, length, codes, None, IsSome}
 use Rattle.std.specs.List.{list_any, starts_with}
 use Rattle.relative_path.specs.Steps.{Step, cur, up, name, components}
 use Rattle.relative_path.specs.Walk.{place_of}

@@ -1,6 +1,6 @@
 -- When moves are accepted, and why they are refused.
 use Rattle.std.specs.Prelude.{◌≡◌, ℕ, Bool, List, map}
-use Rattle.relative_path.specs.Steps.{Step, components}
+use Rattle.relative_path.specs.Steps.{components}
 use Rattle.relative_path_moves.specs.Moves.{Move, AreApart}
 use Rattle.relmove_plan.specs.declared.entry.Entry.{Entry}
 use Rattle.relmove_plan.specs.declared.refusal.Refusal.{Refusal}

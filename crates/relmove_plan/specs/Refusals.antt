@@ -2,7 +2,7 @@
 use Rattle.std.specs.Prelude.{◌≡◌, ◌<◌, ℕ, Bool, true, false, List, map, length, ⊤}
 use Rattle.std.specs.List.{list_any}
 use Rattle.relative_path_files.specs.Names.{is_unportable_step}
-use Rattle.relative_path_moves.specs.Moves.{Move, move_at, LacksFileName, AreApart, IsFirstPair}
+use Rattle.relative_path_moves.specs.Moves.{Move, move_at, LacksFileName, IsFirstPair}
 use Rattle.relative_path.specs.Steps.{Step}
 use Rattle.relmove_plan.specs.declared.entry.Entry.{Entry}
 use Rattle.relmove_plan.specs.declared.refusal.Refusal.{Refusal}

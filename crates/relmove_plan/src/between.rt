@@ -1,4 +1,7 @@
 //! Names for what moves, while it moves.
+ghost use Rattle.std.specs.Prelude.{IfErr};
+ghost use Rattle.relmove_plan.specs.Refusals.{IsStepsRefusal};
+
 use crate::refusal::Refusal;
 use relative_path::RelativePath;
 use relative_path_moves::{NormalPath, PlaceIndex};
@@ -20,7 +23,9 @@ impl<'a> FreeNames<'a> {
     }
 
     // The next name that is free in the root.
-    pub(crate) fn in_root(&mut self, alloc: Global) -> Result<String, Refusal> {
+    pub(crate) fn in_root(&mut self, alloc: Global) -> Result<String, Refusal>
+        ensures { IfErr result IsStepsRefusal }
+    {
         for number in self.next..u64::MAX {
             let name = format!(in alloc; ".relmove-{number}")?;
             let path = NormalPath::of(alloc, RelativePath::new(&name))?;
@@ -37,7 +42,9 @@ impl<'a> FreeNames<'a> {
         &mut self,
         alloc: Global,
         directory: RelativePath<'_>,
-    ) -> Result<String, Refusal> {
+    ) -> Result<String, Refusal>
+        ensures { IfErr result IsStepsRefusal }
+    {
         for number in self.next..u64::MAX {
             let name = format!(in alloc; ".relmove-{number}")?;
             let path = NormalPath::of_joined(alloc, directory, RelativePath::new(&name))?;

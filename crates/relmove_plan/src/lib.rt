@@ -5,7 +5,7 @@
 //!
 //! ```text
 //! the plan              plan
-//! its parts             pages  symbolic  renames  directories
+//! its parts             pages  symbolic  renames  directories  order
 //! what moves may not    allowed  refused  after
 //! what they need        between  above
 //! what all share        entry  refusal  steps
@@ -25,6 +25,7 @@ mod allowed;
 mod between;
 mod directories;
 mod entry;
+mod order;
 mod pages;
 mod plan;
 mod refusal;

@@ -1,21 +1,21 @@
 //! The plan of a run.
-ghost use Rattle.std.specs.Prelude.{◌≡◌, IfErr, IfOk, OnOk, map};
+ghost use Rattle.std.specs.Prelude.{◌≡◌, IfErr, IfOk, OnOk, map, string_bytes};
 ghost use Rattle.relative_path_links.specs.Site.{HaveTargets, KeepTheirLinks};
 ghost use Rattle.relative_path_moves.specs.Moves.{moves_of};
 ghost use Rattle.relmove_plan.specs.Pages.{changed_from};
 ghost use Rattle.relmove_plan.specs.Plan.{IsAccepted, IsRefused};
 ghost use Rattle.relmove_plan.specs.Refusals.{IsStepsRefusal};
+ghost use Rattle.relmove_plan.specs.Steps.{AboveFirst, BelowFirst};
 
 use crate::after::{entry_index, index_of};
 use crate::allowed::{coming_index, leaving_table};
 use crate::between::FreeNames;
 use crate::directories::{directories_emptied, directories_to_make};
 use crate::entry::Entry;
+use crate::order::{above_first, below_first};
 use crate::pages::{ChangedPage, changed_index, changed_pages};
 use crate::refusal::Refusal;
-use crate::renames::{
-    MovedOlds, Renames, above_first, add_moves, add_pages, below_first, names_between, news_between,
-};
+use crate::renames::{MovedOlds, Renames, add_moves, add_pages, names_between, news_between};
 use crate::steps::Steps;
 use crate::symbolic::{LinkNotice, link_notices};
 use relative_path::RelativePath;
@@ -60,6 +60,10 @@ pub fn make_plan(
     ensures changed { IfOk result (λ plan. map (λ page. page.number) plan.changed.items
         ≡ changed_from 0 tree.entry.pages.now plan.pages.items) }
     ensures accepted { OnOk result (IsAccepted tree.entry.entries.now (moves_of moves.now) any_name) }
+    ensures apart { IfOk result
+        (λ plan. BelowFirst (map (λ step. string_bytes step.from) plan.steps.apart.items)) }
+    ensures together { IfOk result
+        (λ plan. AboveFirst (map (λ step. string_bytes step.to) plan.steps.together.items)) }
     ensures refused { IfErr result (IsRefused tree.entry.entries.now (moves_of moves.now) any_name) }
 {
     let index = entry_index(alloc, tree.entries)?;
@@ -119,7 +123,11 @@ fn steps_of(
     moves: &[(RelativePath<'_>, RelativePath<'_>)],
     now: After<'_, '_>,
 ) -> Result<Steps, Refusal>
-    ensures { IfErr result IsStepsRefusal }
+    ensures apart { IfOk result
+        (λ steps. BelowFirst (map (λ step. string_bytes step.from) steps.apart.items)) }
+    ensures together { IfOk result
+        (λ steps. AboveFirst (map (λ step. string_bytes step.to) steps.together.items)) }
+    ensures refused { IfErr result IsStepsRefusal }
 {
     let mut names = FreeNames::new(now.index);
     let between = names_between(alloc, &mut names, moves.len())?;

@@ -1,5 +1,8 @@
 //! The renames of a run: everything that moves, and each page that changes, to a name in between, and from there to
 //! its new path.
+ghost use Rattle.std.specs.Prelude.{IfErr};
+ghost use Rattle.relmove_plan.specs.Refusals.{IsStepsRefusal};
+
 use crate::between::FreeNames;
 use crate::pages::ChangedPage;
 use crate::refusal::Refusal;
@@ -14,7 +17,9 @@ pub(crate) fn names_between(
     alloc: Global,
     names: &mut FreeNames<'_>,
     count: usize,
-) -> Result<Vec<String>, Refusal> {
+) -> Result<Vec<String>, Refusal>
+    ensures { IfErr result IsStepsRefusal }
+{
     let mut between = Vec::with_capacity(alloc, count)?;
     for _ in 0..count {
         between.push(names.in_root(alloc)?)?;
@@ -68,7 +73,9 @@ pub(crate) fn add_moves(
     moves: &[(RelativePath<'_>, RelativePath<'_>)],
     between: &[String],
     changed: &PlaceIndex,
-) -> Result<(), Refusal> {
+) -> Result<(), Refusal>
+    ensures { IfErr result IsStepsRefusal }
+{
     for ((old, new), name) in moves.iter().zip(between) {
         let old = NormalPath::of(alloc, *old)?;
         if changed.get(&old).is_none() {
@@ -115,7 +122,9 @@ pub(crate) fn add_pages(
     news: &[MovedSitePage],
     changed: &[ChangedPage],
     moved: &MovedOlds<'_>,
-) -> Result<(), Refusal> {
+) -> Result<(), Refusal>
+    ensures { IfErr result IsStepsRefusal }
+{
     for page in changed {
         if let (Some(old), Some(new)) = (pages.get(page.number), news.get(page.number)) {
             add_page(alloc, renames, names, *old, new, moved)?;
@@ -140,7 +149,9 @@ fn add_page(
     page: SitePage<'_>,
     new: &MovedSitePage,
     moved: &MovedOlds<'_>,
-) -> Result<(), Refusal> {
+) -> Result<(), Refusal>
+    ensures { IfErr result IsStepsRefusal }
+{
     let old = NormalPath::of(alloc, page.path)?;
     let file = names.in_directory(alloc, old.directory())?;
     let text = String::from_str(alloc, &new.page.text)?;
@@ -164,7 +175,9 @@ fn add_old_text(
     names: &mut FreeNames<'_>,
     page: NormalPath,
     moved: &MovedOlds<'_>,
-) -> Result<(), Refusal> {
+) -> Result<(), Refusal>
+    ensures { IfErr result IsStepsRefusal }
+{
     if let Some(number) = moved.olds.get(&page) {
         if let Some(name) = moved.between.get(number) {
             renames.removed.push(String::from_str(alloc, name)?)?;
@@ -175,31 +188,4 @@ fn add_old_text(
     add_leaving(alloc, renames, page, &name)?;
     renames.removed.push(name)?;
     Ok(())
-}
-
-// The renames of what leaves: what is below a directory before the directory.
-pub(crate) fn below_first(
-    alloc: Global,
-    mut leaving: Vec<(String, String)>,
-) -> Result<Vec<Rename>, AllocError> {
-    leaving.sort()?;
-    leaving.reverse();
-    let mut apart = Vec::with_capacity(alloc, leaving.len())?;
-    for (from, to) in leaving {
-        apart.push(Rename { from, to })?;
-    }
-    Ok(apart)
-}
-
-// The renames of what comes: a directory before what is below it.
-pub(crate) fn above_first(
-    alloc: Global,
-    mut arrivals: Vec<(String, String)>,
-) -> Result<Vec<Rename>, AllocError> {
-    arrivals.sort()?;
-    let mut together = Vec::with_capacity(alloc, arrivals.len())?;
-    for (to, from) in arrivals {
-        together.push(Rename { from, to })?;
-    }
-    Ok(together)
 }

@@ -1,6 +1,5 @@
 -- The new paths have file names too.
-use Rattle.std.proofs.Common.{sym, subst}
-use Rattle.relative_path_moves.specs.Moves.{moves_of, AreNamed}
+use Rattle.relative_path_moves.specs.Moves.{moves_of}
 use Rattle.relmove_plan.proofs.MovesLemmas.{AreNamed-turned}
 use Rattle.relmove_plan.proofs.allowed.check_turned.Goals as goal
 

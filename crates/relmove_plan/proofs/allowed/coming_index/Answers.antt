@@ -1,7 +1,6 @@
 -- The tests of the new paths, one after another.
-use Rattle.std.proofs.Common.{Bool}
 use Rattle.relative_path_moves.specs.Moves.{moves_of}
-use Rattle.relmove_plan.specs.Plan.{MayLeave, MayCome, IsAccepted, news, collision}
+use Rattle.relmove_plan.specs.Plan.{news, collision}
 use Rattle.relmove_plan.proofs.MovesLemmas.{IfErr-error}
 use Rattle.relmove_plan.proofs.PlanLemmas.{IsRefused-above}
 use Rattle.relmove_plan.proofs.allowed.coming_index.Goals as goal

@@ -1,0 +1,11 @@
+-- What is accepted, or refused, of moves that may leave.
+use Rattle.relmove_plan.proofs.MovesLemmas.{IfErr-error}
+use Rattle.relmove_plan.proofs.plan.make_plan.Goals as goal
+
+pub returns-in_err-after-clause-refused : goal.returns-in_err-after-clause-refused
+returns-in_err-after-clause-refused c =
+    IfErr-error c.from_residual-in_err-after.result c.in_err-after.field-0.0 _ c.from_residual-in_err-after.ensures.1
+    (c.in_err-after.ensures.refused c.args.any_name c.in_ok-table.ensures.fine)
+
+pub returns-clause-accepted : goal.returns-clause-accepted
+returns-clause-accepted c = c.in_ok-after.ensures.fine c.args.any_name c.in_ok-table.ensures.fine

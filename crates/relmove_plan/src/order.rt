@@ -1,0 +1,62 @@
+//! The order of a run's renames.
+ghost use Rattle.std.specs.Prelude.{◌≡◌, IfOk, map, string_bytes};
+ghost use mathlib.Core.List.{reverse};
+ghost use Rattle.relmove_plan.specs.Steps.{AboveFirst, BelowFirst};
+
+use crate::steps::Rename;
+use std::alloc::{AllocError, Global};
+
+// The renames of what leaves: what is below a directory before the directory.
+pub(crate) fn below_first(
+    alloc: Global,
+    mut leaving: Vec<(String, String)>,
+) -> Result<Vec<Rename>, AllocError>
+    ensures { IfOk result
+        (λ apart. BelowFirst (map (λ step. string_bytes step.from) apart.items)) }
+{
+    leaving.sort()?;
+    leaving_from_last(alloc, leaving)
+}
+
+// The renames of what leaves, from the last to the first.
+fn leaving_from_last(
+    alloc: Global,
+    mut leaving: Vec<(String, String)>,
+) -> Result<Vec<Rename>, AllocError>
+    ensures { IfOk result (λ apart. map (λ step. string_bytes step.from) apart.items
+        ≡ reverse (map (λ pair. string_bytes pair.0) leaving.items)) }
+{
+    let mut apart = Vec::with_capacity(alloc, leaving.len())?;
+    while let Some((from, to)) = leaving.pop() {
+        apart.push(Rename { from, to })?;
+    }
+    Ok(apart)
+}
+
+// The renames of what comes: a directory before what is below it.
+pub(crate) fn above_first(
+    alloc: Global,
+    mut arrivals: Vec<(String, String)>,
+) -> Result<Vec<Rename>, AllocError>
+    ensures { IfOk result
+        (λ together. AboveFirst (map (λ step. string_bytes step.to) together.items)) }
+{
+    arrivals.sort()?;
+    arrivals.reverse();
+    arrivals_from_last(alloc, arrivals)
+}
+
+// The renames of what comes, from the last to the first.
+fn arrivals_from_last(
+    alloc: Global,
+    mut arrivals: Vec<(String, String)>,
+) -> Result<Vec<Rename>, AllocError>
+    ensures { IfOk result (λ together. map (λ step. string_bytes step.to) together.items
+        ≡ reverse (map (λ pair. string_bytes pair.0) arrivals.items)) }
+{
+    let mut together = Vec::with_capacity(alloc, arrivals.len())?;
+    while let Some((to, from)) = arrivals.pop() {
+        together.push(Rename { from, to })?;
+    }
+    Ok(together)
+}
