@@ -1,0 +1,140 @@
+//! What is read below a root, and which links lead to nothing.
+use crate::tests::disk::{Content, Disk, Machine};
+use crate::tests::same;
+use relmove_lib::{
+    EntryKind, Fault, Position, Root, Status, answer, dead_links_of, position_after, read_tree,
+};
+use std::alloc::Global;
+use std::io;
+use std::test::Fail;
+
+// Adds a file.
+fn add_file(disk: &Disk, alloc: Global, path: &str, text: &[u8]) -> io::Result<()> {
+    disk.add(path, Content::File(Vec::from_slice(alloc, text)?))
+}
+
+const INDEX: &[u8] =
+    b"# Start\n\n\xc3\xa9 [a](a.md#top) [b](b.md)\n[c](../c) [d](.d/e) [up](../site/a.md) <x>\n[s](s/f) [t](t/f) [m](mailto:x) [g](guide/) [h](guide/%20h.md?x) [](#y)\n";
+
+const HIDDEN: &[u8] = b"[x](nothing.md)";
+
+const GUIDE: &[u8] = b"[a](../a.md)\n![i](i.png)";
+
+// A site with a page of links, names with dots, symbolic links, and what isn't UTF-8.
+fn site(alloc: Global) -> io::Result<Disk> {
+    let disk = Disk::new(alloc);
+    disk.add("site", Content::Directory)?;
+    add_file(&disk, alloc, "site/index.md", INDEX)?;
+    add_file(&disk, alloc, "site/a.md", b"")?;
+    add_file(&disk, alloc, "site/no.md", b"\xff")?;
+    add_file(&disk, alloc, "site/.h.md", HIDDEN)?;
+    disk.add("site/.d", Content::Directory)?;
+    add_file(&disk, alloc, "site/.d/e", b"")?;
+    add_file(&disk, alloc, "site/.d/f.md", HIDDEN)?;
+    disk.add("site/guide", Content::Directory)?;
+    add_file(&disk, alloc, "site/guide/ h.md", b"")?;
+    add_file(&disk, alloc, "site/guide/i.markdown", GUIDE)?;
+    add_file(&disk, alloc, "site/guide/NOT-UTF-8", b"")?;
+    disk.add("site/s", Content::Link(String::from_str(alloc, "guide")?))?;
+    Ok(disk)
+}
+
+#[test]
+fn reads_a_tree(rt: HostRuntime) -> Result<(), Fail> {
+    let disk = site(rt.alloc())?;
+    let machine = Machine(&disk);
+    let tree = read_tree(&Root::new(&machine, "site"))?;
+    let entries = tree.entries.keys().map(|path| path.as_str());
+    let entries = entries.collect::<Vec<_>>(rt.alloc())?;
+    let expected = [
+        ".d",
+        ".h.md",
+        "a.md",
+        "guide",
+        "guide/ h.md",
+        "guide/i.markdown",
+        "index.md",
+        "no.md",
+        "s",
+    ];
+    same("entries", &entries.as_slice(), &expected.as_slice())?;
+    let pages = tree.pages.iter().map(|page| page.path.as_str());
+    let pages = pages.collect::<Vec<_>>(rt.alloc())?;
+    let expected = ["a.md", "guide/ h.md", "guide/i.markdown", "index.md"];
+    same("pages", &pages.as_slice(), &expected.as_slice())?;
+    same("pages that aren't UTF-8", &tree.not_text.len(), &1)?;
+    same("directories", &tree.unreadable_names.len(), &1)
+}
+
+#[test]
+fn reads_where_links_lead(rt: HostRuntime) -> Result<(), Fail> {
+    let disk = site(rt.alloc())?;
+    let machine = Machine(&disk);
+    let tree = read_tree(&Root::new(&machine, "site"))?;
+    let guide = EntryKind::Link(String::from_str(rt.alloc(), "guide")?);
+    same("a link", &tree.entries.get("s"), &Some(&guide))?;
+    let directory = EntryKind::Directory;
+    same("a directory", &tree.entries.get("guide"), &Some(&directory))
+}
+
+#[test]
+fn fails_if_a_call_fails(rt: HostRuntime) -> Result<(), Fail> {
+    let disk = site(rt.alloc())?;
+    let machine = Machine(&disk);
+    read_tree(&Root::new(&machine, "site"))?;
+    for number in 1..=disk.calls() {
+        disk.fail_at(number, crate::tests::disk::Way::Refused);
+        let read = read_tree(&Root::new(&machine, "site"));
+        let failed = matches!(&read, Err(Fault::System { .. }));
+        same("a call fails", &failed, &true)?;
+    }
+    Ok(())
+}
+
+const PRINTED: &str =
+    "site/guide/i.markdown:2:6: i.png: nothing is there\nsite/index.md:3:21: b.md: nothing is there\nsite/index.md:4:5: ../c: it leads above the root\nsite/index.md:4:26: ../site/a.md: it leads above the root\nsite/index.md:5:14: t/f: nothing is there\n";
+
+const UNREAD: &str =
+    "relmove: no.md isn't UTF-8, and isn't read\nrelmove: a name in the directory guide isn't UTF-8\n";
+
+// Whether a call has this status and prints this.
+fn answers(
+    alloc: Global,
+    disk: &Disk,
+    words: &[&str],
+    expected: (Status, &str, &str),
+) -> Result<(), Fail> {
+    let (mut out, mut errors) = (Vec::new(alloc), Vec::new(alloc));
+    let status = answer(&Machine(disk), words, &mut out, &mut errors);
+    let (out, errors) = (String::from_utf8(out)?, String::from_utf8(errors)?);
+    same(
+        "a call",
+        &(status, out.as_str(), errors.as_str()),
+        &expected,
+    )
+}
+
+#[test]
+fn prints_dead_links(rt: HostRuntime) -> Result<(), Fail> {
+    let disk = site(rt.alloc())?;
+    disk.add("site/guide/f", Content::Directory)?;
+    let expected = (Status::LinksLeft, PRINTED, UNREAD);
+    answers(rt.alloc(), &disk, &["--check", "site"], expected)
+}
+
+const POSITIONS: [(&str, Position); 6] = [
+    ("", Position { line: 1, column: 1 }),
+    ("a", Position { line: 1, column: 2 }),
+    ("a\n", Position { line: 2, column: 1 }),
+    ("a\r\nb", Position { line: 2, column: 2 }),
+    ("\u{e9}\u{1d11e}", Position { line: 1, column: 3 }),
+    ("\n\n\u{20ac}", Position { line: 3, column: 2 }),
+];
+
+#[test]
+fn counts_lines_and_characters(rt: HostRuntime) -> Result<(), Fail> {
+    for (text, position) in &POSITIONS {
+        same(text, &position_after(text), position)?;
+    }
+    Ok(())
+}
