@@ -67,6 +67,30 @@ use std::marker::Model;
 /// let way = table.moved(alloc, 0, RelativePath::new("../img/x.png"))?;
 /// assert_eq!(rt; way.as_relative_path().as_str(), "../../art/y.png");
 /// ```
+///
+/// The table borrows the list of moves. So a function can't make this list and return the table. A function
+/// that makes the list and uses the table:
+///
+/// ```
+/// /// Where a file is after the moves that the lines of a list say: an old path, a space and a new path.
+/// fn path_by_list(alloc: Global, list: &str, file: &str) -> Result<RelativePathBuf, MoveTableError> {
+///     let mut moves = Vec::new(alloc);
+///     for line in list.split('\n') {
+///         if let Some((old, new)) = line.split_once(' ') {
+///             let paths = (RelativePath::new(old), RelativePath::new(new));
+///             moves.push(paths).map_err(AllocError::from)?;
+///         }
+///     }
+///     let table = MoveTable::new(alloc, &moves)?;
+///     let now = table.path_after(alloc, RelativePath::new(file))?;
+///     Ok(now.to_relative_path_buf(alloc)?)
+/// }
+/// ```
+///
+/// ```
+/// let now = path_by_list(alloc, "a.md docs/a.md\nb.md docs/b.md", "./b.md")?;
+/// assert_eq!(rt; now.as_relative_path().as_str(), "docs/b.md");
+/// ```
 #[derive(Drop)]
 pub struct MoveTable<'a> {
     moves: &'a [(RelativePath<'a>, RelativePath<'a>)],

@@ -1,6 +1,6 @@
 //! `relmove`: moves files and directories, and changes the links of pages so that each still leads where it led.
 //!
-//! ```console
+//! ```text
 //! $ relmove --check docs
 //! docs/index.md:3:8: old.md: nothing is there
 //! ```

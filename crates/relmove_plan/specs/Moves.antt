@@ -1,11 +1,11 @@
 -- Moves whose paths may not be taken, whatever the tree is.
 use Rattle.std.specs.Prelude.{◌≡◌, ◌⊎◌, ◌<◌, ℕ, nat_eq, Bool, true, false, List, length, codes, None, IsSome}
-use Rattle.std.specs.List.{list_any, starts_with}
+use Rattle.std.specs.List.{All, list_any, starts_with}
 use Rattle.relative_path.specs.Steps.{Step, cur, up, name, components}
 use Rattle.relative_path.specs.Walk.{place_of}
 use Rattle.relative_path.specs.Normalizing.{IsNormalTextOf}
 use Rattle.relative_path.specs.Prefixing.{StartsWith}
-use Rattle.relative_path_files.specs.Names.{is_unportable_step}
+use Rattle.relative_path_files.specs.Names.{IfName, IsPlainName}
 use Rattle.relative_path_moves.specs.Moves.{Move, move_at, LacksFileName}
 
 -- the move of a file from the old components to the new ones
@@ -49,5 +49,5 @@ is_own_step (name n) = starts_with nat_eq n (codes ".relmove")
 pub record HasFinePaths (any_name : Bool) (move : Move) : Type 0 where
   pub placed : IsPlaced move
   pub outside : StaysOutside move
-  pub plain : (any_name ≡ true) ⊎ (list_any is_unportable_step move.new ≡ false)
+  pub plain : (any_name ≡ true) ⊎ All (IfName IsPlainName) move.new
   pub foreign_to_run : list_any is_own_step move.new ≡ false

@@ -1,7 +1,7 @@
 -- Why moves are refused: the first move that isn't fine, in the first of the tests that it doesn't pass.
 use Rattle.std.specs.Prelude.{◌≡◌, ◌<◌, ℕ, Bool, true, false, List, map, length, ⊤}
-use Rattle.std.specs.List.{list_any}
-use Rattle.relative_path_files.specs.Names.{is_unportable_step}
+use Rattle.std.specs.List.{All, list_any}
+use Rattle.relative_path_files.specs.Names.{IfName, IsPlainName}
 use Rattle.relative_path_moves.specs.Moves.{Move, move_at, LacksFileName, IsFirstPair}
 use Rattle.relative_path.specs.Steps.{Step}
 use Rattle.relmove_plan.specs.declared.entry.Entry.{Entry}
@@ -25,7 +25,7 @@ abbrev pub IsPathRefusal : Bool → ℕ → Move → Refusal → Type 0
 IsPathRefusal any_name k move (NoFileName j) = (j ≡ k) × LacksFileName move
 IsPathRefusal any_name k move (LeavesRoot j) = (j ≡ k) × (¬ LacksFileName move) × paths.LeavesRoot move
 IsPathRefusal any_name k move (IntoItself j) = (j ≡ k) × IsPlaced move × LeadsIntoItself move
-IsPathRefusal any_name k move (NotPlain j) = (j ≡ k) × IsPlaced move × StaysOutside move × (any_name ≡ false) × (list_any is_unportable_step move.new ≡ true)
+IsPathRefusal any_name k move (NotPlain j) = (j ≡ k) × IsPlaced move × StaysOutside move × (any_name ≡ false) × (¬ All (IfName IsPlainName) move.new)
 IsPathRefusal any_name k move (OwnName j) = (j ≡ k) × IsPlaced move × StaysOutside move × (list_any is_own_step move.new ≡ true)
 IsPathRefusal any_name k move (SameOld i j) = ⊥
 IsPathRefusal any_name k move (NotThere j) = ⊥

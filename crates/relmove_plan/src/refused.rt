@@ -6,7 +6,7 @@ ghost use Rattle.relative_path.specs.Steps.{Step, components};
 ghost use Rattle.relative_path.specs.Walk.{IsSame, place_of};
 ghost use Rattle.relative_path.specs.Naming.{last_name};
 ghost use Rattle.relative_path.specs.RelativePath.{path_components, path_text};
-ghost use Rattle.relative_path_files.specs.Names.{is_unportable_step};
+ghost use Rattle.relative_path_files.specs.Names.{IfName, IsPlainName};
 ghost use Rattle.relative_path_moves.specs.Moves.{AreApart, moves_of};
 ghost use Rattle.relative_path_moves.specs.PlaceIndex.{Indexes};
 ghost use Rattle.relmove_plan.specs.Moves.{EachMove, HasFinePaths, IsPlaced, StaysOutside, is_own_step, move_of};
@@ -18,7 +18,7 @@ use crate::above::directories_above;
 use crate::entry::{Entry, Kind};
 use crate::refusal::Refusal;
 use relative_path::{Component, RelativePath};
-use relative_path_files::has_unportable_name;
+use relative_path_files::has_plain_names;
 use relative_path_moves::{NormalPath, PlaceIndex, TreeMoves};
 use std::alloc::{AllocError, Global};
 
@@ -127,7 +127,7 @@ fn check_names(number: usize, new: RelativePath<'_>, any_name: bool) -> Result<(
         → IsPathRefusal any_name number (move_of old (path_components new.entry)) refusal) }
 {
     if !any_name {
-        if has_unportable_name(new) {
+        if !has_plain_names(new) {
             return Err(Refusal::NotPlain(number));
         }
     }
