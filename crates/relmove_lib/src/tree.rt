@@ -73,7 +73,12 @@ fn list<R: Files + AllocGlobal + Clone + Drop>(
 ) -> Result<(), Fault> {
     let listed = fs::read_dir(root.runtime(), root.full(directory)?.as_str());
     let mut has_other_names = false;
-    for entry in at(root.runtime().alloc(), Call::List, directory, listed)? {
+    for entry in at(
+        root.runtime().alloc(),
+        Call::List,
+        shown(root, directory),
+        listed,
+    )? {
         match entry {
             Ok(entry) => add(root, directory, &entry, tree, waiting)?,
             Err(error) if error.kind() == ErrorKind::InvalidFilename => has_other_names = true,
@@ -92,7 +97,21 @@ fn failed_to_list<R: Files + AllocGlobal>(
     directory: &str,
     error: io::Error,
 ) -> Result<(), Fault> {
-    at(root.runtime().alloc(), Call::List, directory, Err(error))
+    at(
+        root.runtime().alloc(),
+        Call::List,
+        shown(root, directory),
+        Err(error),
+    )
+}
+
+// The path of a directory in a fault. The root has the path that it was given.
+fn shown<'a, R: Files + AllocGlobal>(root: &Root<'a, R>, directory: &'a str) -> &'a str {
+    if directory.is_empty() {
+        root.path()
+    } else {
+        directory
+    }
 }
 
 // Adds an entry of a directory to the tree. A directory whose name doesn't begin with a dot is one to list.
