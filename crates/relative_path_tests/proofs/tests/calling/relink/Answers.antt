@@ -1,4 +1,4 @@
--- The directory in which a page is has the page's components and one step up.
+-- A page's directory has the page's components, followed by one step up.
 use Rattle.std.proofs.Common.{◌≡◌, [], ◌∷◌, ◌++◌, refl}
 use Rattle.relative_path.specs.RelativePath.{path_text, path_components}
 use Rattle.relative_path.specs.Steps.{up}
