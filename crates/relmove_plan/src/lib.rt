@@ -13,7 +13,7 @@
 #![tactic(auto)]
 
 pub use self::entry::{Entry, Kind};
-pub use self::pages::ChangedPage;
+pub use self::pages::{ChangedPage, have_targets};
 pub use self::plan::{Plan, Tree, make_plan};
 pub use self::refusal::Refusal;
 pub use self::steps::{NewText, Rename, Steps};

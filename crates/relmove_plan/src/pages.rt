@@ -1,5 +1,6 @@
 //! Which pages change.
-ghost use Rattle.std.specs.Prelude.{◌≡◌, IfOk, length, map};
+ghost use Rattle.std.specs.Prelude.{◌≡◌, ◌↔◌, IfOk, IsTrue, length, map};
+ghost use Rattle.relative_path_links.specs.Site.{HaveTargets};
 ghost use Rattle.relmove_plan.specs.Pages.{changed_from};
 
 use relative_path_links::{MovedSitePage, SitePage, Target, are_in_order, rewrite_links};
@@ -13,6 +14,26 @@ pub struct ChangedPage {
     pub number: usize,
     /// How many of its links change.
     pub links: usize,
+}
+
+/// Returns whether each page has its targets, in order: what [`make_plan`](crate::make_plan) needs of the pages.
+/// Allocates nothing; time is linear in the targets.
+///
+/// ```
+/// let text = "[b](b.md)";
+/// let found = targets(alloc, text)?;
+/// let page = SitePage { path: RelativePath::new("a.md"), text, targets: &found };
+/// assert!(rt; have_targets(&[page]));
+/// ```
+pub fn have_targets(pages: &[SitePage<'_>]) -> bool
+    ensures { IsTrue result ↔ HaveTargets pages.now }
+{
+    for page in pages {
+        if !are_in_order(page.text, page.targets) {
+            return false;
+        }
+    }
+    true
 }
 
 // The pages whose text changes.

@@ -2,7 +2,7 @@
 use super::model::DIRECTORY;
 use relative_path::RelativePath;
 use relative_path_links::{SitePage, Target, targets};
-use relmove_plan::{Entry, Kind, Plan, Refusal, Tree, make_plan};
+use relmove_plan::{Entry, Kind, Plan, Refusal, Tree, have_targets, make_plan};
 use std::alloc::Global;
 use std::test::Fail;
 
@@ -58,6 +58,9 @@ pub fn planned(
     let mut pairs = Vec::new(alloc);
     for pair in moves {
         pairs.push(as_paths(*pair))?;
+    }
+    if !have_targets(&pages) {
+        return Err(Fail::new("targets that aren't in order"));
     }
     let tree = Tree {
         entries: &entries,

@@ -209,13 +209,11 @@ fn pages_that_change(rt: HostRuntime) -> Result<(), Fail> {
         same("a page", &page.number, number)?;
         same("its links", &page.links, links)?;
     }
-    same("reports", &plan.pages[2].page.unchanged.len(), &1)?;
+    let page = plan.pages.get(2).ok_or("a page")?;
+    same("reports", &page.page.unchanged.len(), &1)?;
     same("links", &plan.links.len(), &1)?;
-    same("a link", &plan.links[0].entry, &3)?;
-    same("it moves", &plan.links[0].moves, &false)?;
-    same(
-        "it leads to what moves",
-        &plan.links[0].leads_to_moved,
-        &true,
-    )
+    let link = plan.links.first().ok_or("a link")?;
+    same("a link", &link.entry, &3)?;
+    same("it moves", &link.moves, &false)?;
+    same("it leads to what moves", &link.leads_to_moved, &true)
 }
