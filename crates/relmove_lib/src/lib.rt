@@ -9,7 +9,7 @@
 //! whole pieces        run  dead_links
 //! the work            journal  worker  tree
 //! files below ROOT    root
-//! what all share      fault  steps  position  arguments
+//! what all share      fault  position  arguments
 //! ```
 #![tactic(auto)]
 
@@ -21,7 +21,6 @@ pub use self::position::{Position, position_after};
 pub use self::program::{Status, answer};
 pub use self::root::Root;
 pub use self::run::{Ended, carry_out, resume, undo};
-pub use self::steps::{NewText, Rename, Steps};
 pub use self::tree::{EntryKind, Page, Tree, read_tree};
 
 mod arguments;
@@ -33,6 +32,5 @@ mod program;
 pub mod report;
 mod root;
 mod run;
-mod steps;
 mod tree;
 mod worker;
