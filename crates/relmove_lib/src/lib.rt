@@ -5,8 +5,8 @@
 //!
 //! ```text
 //! a call              program
-//! what is printed     report
-//! whole pieces        run  dead_links
+//! what is printed     report  summary
+//! whole pieces        run  dead_links  moving
 //! the work            journal  worker  tree
 //! files below ROOT    root
 //! what all share      fault  position  arguments
@@ -17,6 +17,7 @@ pub use self::arguments::{Command, WrongCall, command_of};
 pub use self::dead_links::{DeadLink, WhyDead, dead_links_of};
 pub use self::fault::{Call, Fault};
 pub use self::journal::{Journal, Stage, Work, journal_of, journal_text};
+pub use self::moving::{ChangedLink, LeftLink, Moving, WhyRefused, is_directory, moving_of};
 pub use self::position::{Position, position_after};
 pub use self::program::{Status, answer};
 pub use self::root::Root;
@@ -27,10 +28,12 @@ mod arguments;
 mod dead_links;
 mod fault;
 mod journal;
+mod moving;
 mod position;
 mod program;
 pub mod report;
 mod root;
 mod run;
+mod summary;
 mod tree;
 mod worker;
