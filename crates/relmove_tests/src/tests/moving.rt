@@ -69,7 +69,7 @@ fn prints_json(rt: HostRuntime) -> Result<(), Fail> {
         before: SITE,
         after: SITE,
         status: Status::Kept,
-        printed: "{\"page\":\"guide/o.md\",\"line\":1,\"column\":5,\"target\":\"../index.md\",\"new\":\"index.md\"}\n{\"page\":\"index.md\",\"line\":1,\"column\":5,\"target\":\"guide/o.md#a\",\"new\":\"n.md#a\"}\n{\"page\":\"index.md\",\"line\":1,\"column\":23,\"target\":\"guide/o.md\",\"new\":\"n.md\"}\n",
+        printed: "{\"column\":5,\"line\":1,\"new\":\"index.md\",\"page\":\"guide/o.md\",\"target\":\"../index.md\"}\n{\"column\":5,\"line\":1,\"new\":\"n.md#a\",\"page\":\"index.md\",\"target\":\"guide/o.md#a\"}\n{\"column\":23,\"line\":1,\"new\":\"n.md\",\"page\":\"index.md\",\"target\":\"guide/o.md\"}\n",
     };
     does(rt.alloc(), &row)
 }
