@@ -127,7 +127,10 @@ fn why_dead<R: Files + AllocGlobal>(
 }
 
 // Whether something is at a path, where symbolic links are followed.
-fn leads_somewhere<R: Files + AllocGlobal>(root: &Root<'_, R>, path: &str) -> Result<bool, Fault> {
+pub(crate) fn leads_somewhere<R: Files + AllocGlobal>(
+    root: &Root<'_, R>,
+    path: &str,
+) -> Result<bool, Fault> {
     let full = root.full(path)?;
     Ok(fs::metadata(root.runtime(), full.as_str()).is_ok())
 }

@@ -87,7 +87,9 @@ impl fmt::Display for Fault {
             }
             Fault::Taken(path) => write!(f, "{path} is there already"),
             Fault::Missing(path) => write!(f, "{path} isn't there"),
-            Fault::HasJournal => f.write_str("a run before this one didn't end"),
+            Fault::HasJournal => f.write_str(
+                "a run before this one didn't end: run relmove --resume or relmove --undo",
+            ),
             Fault::NoJournal => f.write_str("there is no run that didn't end"),
             Fault::NotAJournal => f.write_str(".relmove isn't a journal of relmove"),
             Fault::TooLate => f.write_str("everything is at its new path already"),

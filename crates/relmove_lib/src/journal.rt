@@ -11,7 +11,7 @@
 //! end
 //! ```
 use crate::fault::Fault;
-use crate::steps::Rename;
+use relmove_plan::Rename;
 use std::alloc::{AllocError, Global};
 
 /// How far a run is: what is to be done next.

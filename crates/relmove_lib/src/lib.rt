@@ -5,11 +5,11 @@
 //!
 //! ```text
 //! a call              program
-//! what is printed     report
-//! whole pieces        run  dead_links
+//! what is printed     report  summary
+//! whole pieces        run  dead_links  moving
 //! the work            journal  worker  tree
 //! files below ROOT    root
-//! what all share      fault  steps  position  arguments
+//! what all share      fault  position  arguments
 //! ```
 #![tactic(auto)]
 
@@ -17,22 +17,23 @@ pub use self::arguments::{Command, WrongCall, command_of};
 pub use self::dead_links::{DeadLink, WhyDead, dead_links_of};
 pub use self::fault::{Call, Fault};
 pub use self::journal::{Journal, Stage, Work, journal_of, journal_text};
+pub use self::moving::{ChangedLink, LeftLink, Moving, WhyRefused, is_directory, moving_of};
 pub use self::position::{Position, position_after};
 pub use self::program::{Status, answer};
 pub use self::root::Root;
 pub use self::run::{Ended, carry_out, resume, undo};
-pub use self::steps::{NewText, Rename, Steps};
 pub use self::tree::{EntryKind, Page, Tree, read_tree};
 
 mod arguments;
 mod dead_links;
 mod fault;
 mod journal;
+mod moving;
 mod position;
 mod program;
 pub mod report;
 mod root;
 mod run;
-mod steps;
+mod summary;
 mod tree;
 mod worker;

@@ -2,10 +2,15 @@
 use crate::arguments::{Command, command_of};
 use crate::dead_links::{DeadLink, dead_links_of};
 use crate::fault::Fault;
+use crate::moving::{Moving, moving_of};
 use crate::report::{HELP, USAGE, print_dead_link, print_dead_link_as_json, print_end};
 use crate::root::Root;
-use crate::run::{Ended, resume, undo};
+use crate::run::{Ended, carry_out, resume, undo};
+use crate::summary::{
+    Counts, counts_of, print_did, print_moving, print_moving_as_json, print_refused, print_would,
+};
 use crate::tree::{Tree, read_tree};
+use relmove_plan::Steps;
 use std::alloc::Global;
 use std::io::{self, Write};
 use std::rt::Files;
@@ -73,11 +78,157 @@ fn obey<R: Files + AllocGlobal + Clone + Drop, O: Write, E: Write>(
         Command::Check { root, json } => check(Root::new(runtime, root), json, out, errors),
         Command::Resume { root } => end(resume(Root::new(runtime, root)), root, out, errors),
         Command::Undo { root } => end(undo(Root::new(runtime, root)), root, out, errors),
-        Command::Move { .. } => {
-            let _ = writeln!(errors, "relmove: this version doesn't move files yet");
-            Status::Refused
+        Command::Move {
+            root,
+            moves,
+            write,
+            json,
+            any_name,
+        } => {
+            let options = MoveOptions {
+                write,
+                json,
+                any_name,
+            };
+            move_below(Root::new(runtime, root), &moves, options, out, errors)
         }
     }
+}
+
+// The options of a call that moves files.
+#[derive(Clone, Copy)]
+struct MoveOptions {
+    write: bool,
+    json: bool,
+    any_name: bool,
+}
+
+// Moves files below a root, or prints what would change.
+fn move_below<R: Files + AllocGlobal + Clone + Drop, O: Write, E: Write>(
+    root: Root<'_, R>,
+    moves: &[(&str, &str)],
+    options: MoveOptions,
+    out: &mut O,
+    errors: &mut E,
+) -> Status {
+    match read_whole(&root, errors) {
+        Ok(tree) => move_in(root, &tree, moves, options, out, errors),
+        Err(fault) => refuse(&root, &fault, errors),
+    }
+}
+
+// Prints why a call is refused.
+fn refuse<R: Files + AllocGlobal, E: Write>(
+    root: &Root<'_, R>,
+    fault: &Fault,
+    errors: &mut E,
+) -> Status {
+    let path = root.path();
+    let _ = writeln!(errors, "relmove: {path}: {fault}");
+    Status::Refused
+}
+
+// Moves files of a tree, or prints what would change.
+fn move_in<R: Files + AllocGlobal + Clone + Drop, O: Write, E: Write>(
+    root: Root<'_, R>,
+    tree: &Tree,
+    moves: &[(&str, &str)],
+    options: MoveOptions,
+    out: &mut O,
+    errors: &mut E,
+) -> Status {
+    let moving = match moving_of(&root, tree, moves, options.any_name) {
+        Ok(moving) => moving,
+        Err(why) => {
+            let _ = print_refused(errors, root.path(), tree, moves, &why);
+            return Status::Refused;
+        }
+    };
+    let Ok(counts) = counts_of(root.runtime().alloc(), tree, moves, &moving) else {
+        return refuse(&root, &Fault::OutOfMemory, errors);
+    };
+    let status = status_of_moving(&moving);
+    if print_plan(&root, tree, &moving, options, out).is_err() {
+        return Status::Refused;
+    }
+    if options.write {
+        return carry(
+            root,
+            moving.plan.steps,
+            (counts, status),
+            options,
+            out,
+            errors,
+        );
+    }
+    let outcome = if options.json {
+        Ok(())
+    } else {
+        print_would(out, counts)
+    };
+    printed(outcome, status, out)
+}
+
+// The status of a run that does all of the plan.
+fn status_of_moving(moving: &Moving<'_>) -> Status {
+    if moving.plan.links.is_empty() && !moving.left.iter().any(|link| link.leads) {
+        Status::Kept
+    } else {
+        Status::LinksLeft
+    }
+}
+
+// Prints what moves do.
+fn print_plan<R: Files + AllocGlobal, O: Write>(
+    root: &Root<'_, R>,
+    tree: &Tree,
+    moving: &Moving<'_>,
+    options: MoveOptions,
+    out: &mut O,
+) -> io::Result<()> {
+    if options.json {
+        print_moving_as_json(root.runtime().alloc(), out, tree, moving)?;
+    } else {
+        print_moving(out, root.path(), tree, moving)?;
+    }
+    out.flush()
+}
+
+// Carries out the steps of a plan, and prints how many files it moved, if it is done.
+fn carry<R: Files + AllocGlobal, O: Write, E: Write>(
+    root: Root<'_, R>,
+    steps: Steps,
+    done: (Counts, Status),
+    options: MoveOptions,
+    out: &mut O,
+    errors: &mut E,
+) -> Status {
+    let path = root.path();
+    match carry_out(root, steps) {
+        Ended::Done => {
+            let (counts, status) = done;
+            // The work is done, whether this is printed or not.
+            if !options.json {
+                let _ = print_did(out, counts);
+            }
+            let _ = out.flush();
+            status
+        }
+        ended => end(ended, path, out, errors),
+    }
+}
+
+// The tree below a root. Fails if the root has a journal.
+fn read_whole<R: Files + AllocGlobal + Clone + Drop, E: Write>(
+    root: &Root<'_, R>,
+    errors: &mut E,
+) -> Result<Tree, Fault> {
+    if root.has_journal()? {
+        return Err(Fault::HasJournal);
+    }
+    let tree = read_tree(root)?;
+    print_unread(&tree, errors);
+    Ok(tree)
 }
 
 // The status of a call that only prints: this one, unless that failed.
@@ -121,8 +272,7 @@ fn found<R: Files + AllocGlobal + Clone + Drop, E: Write>(
     root: &Root<'_, R>,
     errors: &mut E,
 ) -> Result<Vec<DeadLink>, Fault> {
-    let tree = read_tree(root)?;
-    print_unread(&tree, errors);
+    let tree = read_whole(root, errors)?;
     dead_links_of(root, &tree)
 }
 

@@ -37,8 +37,8 @@ A run with --write first writes the file ROOT/.relmove, its journal, and removes
 middle, every file is whole, and --resume or --undo ends the run. What isn't safe: a loss of power, and another program
 that puts a file where this one is about to.
 
-Exit status: 0 if all is done, 1 if a link is left that would lead elsewhere (with --check: if a link is dead), 2 if
-nothing was changed, 3 if a run stopped in the middle.
+Exit status: 0 if all is done, 1 if a link is left that led to a file, or may have, or if a symbolic link moves or leads
+to what moves (with --check: if a link is dead), 2 if nothing was changed, 3 if a run stopped in the middle.
 ";
 
 /// Prints a dead link: page, line, column and target.

@@ -2,8 +2,8 @@
 use crate::fault::Fault;
 use crate::journal::{Journal, Stage, Work, journal_of};
 use crate::root::Root;
-use crate::steps::{NewText, Steps};
 use crate::worker::Worker;
+use relmove_plan::{NewText, Steps};
 use std::alloc::{AllocError, Global};
 use std::rt::Files;
 

@@ -2,7 +2,7 @@
 use crate::fault::Fault;
 use crate::journal::{Stage, Work, journal_text};
 use crate::root::Root;
-use crate::steps::{NewText, Rename};
+use relmove_plan::{NewText, Rename};
 use std::rt::Files;
 
 // A run under way.

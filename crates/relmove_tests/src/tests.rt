@@ -7,6 +7,7 @@ mod cases;
 mod disk;
 mod faults;
 mod journal;
+mod moving;
 mod reading;
 
 // Fails in the words of this case where another value was found than is expected. A call of it costs

@@ -1,6 +1,6 @@
 //! Trees and the steps of moves in them, by hand.
 use crate::tests::disk::{Content, Disk};
-use relmove_lib::{NewText, Rename, Steps};
+use relmove_plan::{NewText, Rename, Steps};
 use std::alloc::{AllocError, Global};
 use std::io;
 

@@ -38,8 +38,8 @@ fn runs(alloc: Global, case: &Case, disk: &Disk) -> Result<End, Fail> {
     Ok(end_of(&ended))
 }
 
-// Whether a disk has these places, and nothing else.
-fn holds(alloc: Global, case: &str, disk: &Disk, places: &[Place]) -> Result<(), Fail> {
+/// Whether a disk has these places, and nothing else.
+pub fn holds(alloc: Global, case: &str, disk: &Disk, places: &[Place]) -> Result<(), Fail> {
     let expected = disk_of(alloc, places)?;
     same(case, &disk.listing()?, &expected.listing()?)
 }

@@ -1,6 +1,7 @@
 //! What is read from a journal is what was written.
 use crate::tests::same;
-use relmove_lib::{Fault, Rename, Stage, Work, journal_of, journal_text};
+use relmove_lib::{Fault, Stage, Work, journal_of, journal_text};
+use relmove_plan::Rename;
 use std::alloc::{AllocError, Global};
 use std::test::Fail;
 

@@ -97,8 +97,8 @@ const PRINTED: &str =
 const UNREAD: &str =
     "relmove: no.md isn't UTF-8, and isn't read\nrelmove: a name in the directory guide isn't UTF-8\n";
 
-// Whether a call has this status and prints this.
-fn answers(
+/// Whether a call has this status and prints this.
+pub fn answers(
     alloc: Global,
     disk: &Disk,
     words: &[&str],

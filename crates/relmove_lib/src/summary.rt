@@ -1,0 +1,445 @@
+//! What a call that moves files prints.
+use crate::moving::{ChangedLink, LeftLink, Moving, WhyRefused, is_directory};
+use crate::position::Position;
+use crate::tree::Tree;
+use relative_path_links::{MovedSitePage, Unchanged};
+use relmove_plan::{ChangedPage, LinkNotice, Refusal};
+use serde_json::json;
+use std::alloc::{AllocError, Global};
+use std::fmt;
+use std::io::{self, Write};
+use target_paths::WhyUnknown;
+
+// A path below a root, with the root's path before it.
+#[derive(Clone, Copy)]
+struct Below<'a> {
+    root: &'a str,
+    path: &'a str,
+}
+
+impl fmt::Display for Below<'_> {
+    fn fmt<W: fmt::Write>(&self, f: &mut fmt::Formatter<W>) -> fmt::Result {
+        let (root, path) = (self.root, self.path);
+        if root.is_empty() || root.ends_with('/') {
+            write!(f, "{root}{path}")
+        } else {
+            write!(f, "{root}/{path}")
+        }
+    }
+}
+
+// A number of things: the number, and the word for one thing. More are written with an s.
+#[derive(Clone, Copy)]
+struct Counted {
+    number: usize,
+    word: &'static str,
+}
+
+impl fmt::Display for Counted {
+    fn fmt<W: fmt::Write>(&self, f: &mut fmt::Formatter<W>) -> fmt::Result {
+        let (number, word) = (self.number, self.word);
+        if number == 1 {
+            write!(f, "{number} {word}")
+        } else {
+            write!(f, "{number} {word}s")
+        }
+    }
+}
+
+/// How many pages change, and how many files and directories move.
+#[derive(Clone, Copy, Debug, PartialEq, Eq)]
+pub struct Counts {
+    /// Pages that change.
+    pub pages: usize,
+    /// Files that move, and symbolic links.
+    pub files: usize,
+    /// Directories that move.
+    pub directories: usize,
+}
+
+/// Counts what moves do.
+pub fn counts_of(
+    alloc: Global,
+    tree: &Tree,
+    moves: &[(&str, &str)],
+    moving: &Moving<'_>,
+) -> Result<Counts, AllocError> {
+    let mut directories = 0usize;
+    for (old, _) in moves {
+        if is_directory(alloc, tree, old)? {
+            directories = directories.saturating_add(1);
+        }
+    }
+    Ok(Counts {
+        pages: moving.plan.changed.len(),
+        files: moves.len().saturating_sub(directories),
+        directories,
+    })
+}
+
+/// Prints what moves do: the pages that change, the links that stay, and symbolic links.
+pub fn print_moving<W: Write>(
+    out: &mut W,
+    root: &str,
+    tree: &Tree,
+    moving: &Moving<'_>,
+) -> io::Result<()> {
+    for change in &moving.plan.changed {
+        if let Some(new) = moving.plan.pages.get(change.number)
+            && let Some(page) = tree.pages.get(change.number)
+        {
+            print_changed_page(out, root, page.path.as_str(), new, *change)?;
+        }
+    }
+    for link in &moving.left {
+        print_left_link(out, root, link)?;
+    }
+    for notice in &moving.plan.links {
+        print_notice(out, root, tree, *notice)?;
+    }
+    Ok(())
+}
+
+// Prints a page that changes: its path, its path before the moves if that is another, and how many links change.
+fn print_changed_page<W: Write>(
+    out: &mut W,
+    root: &str,
+    old: &str,
+    new: &MovedSitePage,
+    change: ChangedPage,
+) -> io::Result<()> {
+    let links = Counted {
+        number: change.links,
+        word: "link",
+    };
+    let path = new.path.as_relative_path().as_str();
+    let page = Below { root, path };
+    if path == old {
+        return writeln!(out, "{page}: {links}");
+    }
+    let before = Below { root, path: old };
+    writeln!(out, "{page}, from {before}: {links}")
+}
+
+// Prints a link that stays.
+fn print_left_link<W: Write>(out: &mut W, root: &str, link: &LeftLink<'_>) -> io::Result<()> {
+    let page = Below {
+        root,
+        path: link.page,
+    };
+    let Position { line, column } = link.position;
+    let target = link.target;
+    let why = why_left(link.why);
+    match link.why {
+        Unchanged::AboveRoot => writeln!(
+            out,
+            "{page}:{line}:{column}: {target} leads above {root}, left as it is"
+        ),
+        _ => writeln!(out, "{page}:{line}:{column}: {target} {why}, left as it is"),
+    }
+}
+
+// Why a link stays, in words that follow its target.
+fn why_left(why: Unchanged) -> &'static str {
+    match why {
+        Unchanged::AboveRoot => "leads above the root",
+        Unchanged::NoPath => "leads to a file to which no path leads from the page",
+        Unchanged::Nul => "leads to a path with a NUL",
+        Unchanged::Unknown(why) => why_unknown(why),
+    }
+}
+
+// Why the meaning of a target isn't known, in words that follow it.
+fn why_unknown(why: WhyUnknown) -> &'static str {
+    match why {
+        WhyUnknown::CharacterReference => "has a character reference that isn't known",
+        WhyUnknown::EncodedSlash => "has %2F, a slash that separates no directories",
+        WhyUnknown::EncodedNul => "has %00, a byte that no path has",
+        WhyUnknown::NotUtf8 => "isn't UTF-8 when it is decoded",
+    }
+}
+
+// Prints a symbolic link that moves, or that leads to what moves.
+fn print_notice<W: Write>(
+    out: &mut W,
+    root: &str,
+    tree: &Tree,
+    notice: LinkNotice,
+) -> io::Result<()> {
+    let path = entry_at(tree, notice.entry);
+    let link = Below { root, path };
+    let why = why_noticed(notice);
+    writeln!(out, "{link}: this symbolic link {why}, left as it is")
+}
+
+// Why a symbolic link is printed.
+fn why_noticed(notice: LinkNotice) -> &'static str {
+    match (notice.moves, notice.leads_to_moved) {
+        (true, true) => "moves and leads to what moves",
+        (true, false) => "moves",
+        (false, _) => "leads to what moves",
+    }
+}
+
+// The path of an entry of a tree.
+fn entry_at(tree: &Tree, number: usize) -> &str {
+    for (at, (path, _)) in tree.entries.iter().enumerate() {
+        if at == number {
+            return path.as_str();
+        }
+    }
+    ""
+}
+
+/// Prints what moves do, an object of JSON on each line: the links that change, the links that stay, and symbolic links.
+pub fn print_moving_as_json<W: Write>(
+    alloc: Global,
+    out: &mut W,
+    tree: &Tree,
+    moving: &Moving<'_>,
+) -> io::Result<()> {
+    for link in &moving.changed {
+        print_changed_link_as_json(alloc, out, link)?;
+    }
+    for link in &moving.left {
+        print_left_link_as_json(alloc, out, link)?;
+    }
+    for notice in &moving.plan.links {
+        print_notice_as_json(alloc, out, tree, *notice)?;
+    }
+    Ok(())
+}
+
+// Prints a link that changes.
+fn print_changed_link_as_json<W: Write>(
+    alloc: Global,
+    out: &mut W,
+    link: &ChangedLink<'_>,
+) -> io::Result<()> {
+    let (page, target, new) = (link.page, link.target, link.new.as_str());
+    let Position { line, column } = link.position;
+    let (line, column) = (line as u64, column as u64);
+    let object = json!(in alloc; {
+        "page": page,
+        "line": line,
+        "column": column,
+        "target": target,
+        "new": new
+    })?;
+    let text = object.to_string(alloc)?;
+    writeln!(out, "{text}")
+}
+
+// Prints a link that stays.
+fn print_left_link_as_json<W: Write>(
+    alloc: Global,
+    out: &mut W,
+    link: &LeftLink<'_>,
+) -> io::Result<()> {
+    let (page, target, why) = (link.page, link.target, why_left(link.why));
+    let Position { line, column } = link.position;
+    let (line, column) = (line as u64, column as u64);
+    let object = json!(in alloc; {
+        "page": page,
+        "line": line,
+        "column": column,
+        "target": target,
+        "why": why
+    })?;
+    let text = object.to_string(alloc)?;
+    writeln!(out, "{text}")
+}
+
+// Prints a symbolic link that moves, or that leads to what moves.
+fn print_notice_as_json<W: Write>(
+    alloc: Global,
+    out: &mut W,
+    tree: &Tree,
+    notice: LinkNotice,
+) -> io::Result<()> {
+    let link = entry_at(tree, notice.entry);
+    let why = why_noticed(notice);
+    let object = json!(in alloc; { "link": link, "why": why })?;
+    let text = object.to_string(alloc)?;
+    writeln!(out, "{text}")
+}
+
+/// Prints how many pages and files a run with `--write` would change.
+pub fn print_would<W: Write>(out: &mut W, counts: Counts) -> io::Result<()> {
+    let pages = Counted {
+        number: counts.pages,
+        word: "page",
+    };
+    write!(out, "{pages} would change, ")?;
+    print_moved(out, counts)?;
+    writeln!(out, " would move. Nothing is written: add --write.")
+}
+
+/// Prints how many pages and files a run changed.
+pub fn print_did<W: Write>(out: &mut W, counts: Counts) -> io::Result<()> {
+    let pages = Counted {
+        number: counts.pages,
+        word: "page",
+    };
+    write!(out, "{pages} changed, ")?;
+    print_moved(out, counts)?;
+    writeln!(out, " moved.")
+}
+
+// Prints how many files and directories move.
+fn print_moved<W: Write>(out: &mut W, counts: Counts) -> io::Result<()> {
+    let files = Counted {
+        number: counts.files,
+        word: "file",
+    };
+    let directories = DirectoryCount(counts.directories);
+    match (counts.files, counts.directories) {
+        (_, 0) => write!(out, "{files}"),
+        (0, _) => write!(out, "{directories}"),
+        _ => write!(out, "{files} and {directories}"),
+    }
+}
+
+// A number of directories.
+#[derive(Clone, Copy)]
+struct DirectoryCount(usize);
+
+impl fmt::Display for DirectoryCount {
+    fn fmt<W: fmt::Write>(&self, f: &mut fmt::Formatter<W>) -> fmt::Result {
+        let number = self.0;
+        if number == 1 {
+            write!(f, "{number} directory")
+        } else {
+            write!(f, "{number} directories")
+        }
+    }
+}
+
+/// Prints why moves are refused, with OLD and NEW as they were written.
+pub fn print_refused<W: Write>(
+    errors: &mut W,
+    root: &str,
+    tree: &Tree,
+    moves: &[(&str, &str)],
+    why: &WhyRefused,
+) -> io::Result<()> {
+    match why {
+        WhyRefused::Fault(fault) => writeln!(errors, "relmove: {root}: {fault}"),
+        WhyRefused::NoDirectory(number) => print_move_refused(
+            errors,
+            moves,
+            *number,
+            "a path with a slash at its end is a directory's, and no directory moves",
+        ),
+        WhyRefused::DotDirectory(number) => print_move_refused(
+            errors,
+            moves,
+            *number,
+            "directories whose names begin with a dot aren't read",
+        ),
+        WhyRefused::Plan(refusal) => print_refusal(errors, root, tree, moves, *refusal),
+    }
+}
+
+// Prints why the plan refuses moves.
+fn print_refusal<W: Write>(
+    errors: &mut W,
+    root: &str,
+    tree: &Tree,
+    moves: &[(&str, &str)],
+    refusal: Refusal,
+) -> io::Result<()> {
+    if let Some((number, words)) = words_of_move(refusal) {
+        return print_move_refused(errors, moves, number, words);
+    }
+    match refusal {
+        Refusal::SameOld(first, second) => {
+            print_both_refused(errors, moves, first, second, "the old paths are the same")
+        }
+        Refusal::SameNew(first, second) => {
+            print_both_refused(errors, moves, first, second, "the new paths are the same")
+        }
+        Refusal::Collision(first, second) => {
+            let (first, second) = (entry_at(tree, first), entry_at(tree, second));
+            writeln!(
+                errors,
+                "relmove: {first} and {second} would get the same path"
+            )
+        }
+        Refusal::NoFreeName => writeln!(
+            errors,
+            "relmove: {root}: no name .relmove-1, .relmove-2 and so on is free"
+        ),
+        _ => writeln!(errors, "relmove: memory ran out"),
+    }
+}
+
+// The move that is refused, and why, if the refusal is of a move alone.
+fn words_of_move(refusal: Refusal) -> Option<(usize, &'static str)> {
+    match refusal {
+        Refusal::NoFileName(number) => Some((number, "a path is the root, or ends in ..")),
+        Refusal::LeavesRoot(number) => Some((number, "a path leads above the root")),
+        Refusal::IntoItself(number) => {
+            Some((number, "the new path is the old one, or below it"))
+        }
+        Refusal::NotPlain(number) => Some((
+            number,
+            "a name of the new path isn't plain on every platform; --any-name allows it",
+        )),
+        Refusal::OwnName(number) => {
+            Some((number, "a name of the new path begins with .relmove"))
+        }
+        _ => words_in_tree(refusal),
+    }
+}
+
+// The move that is refused, and why, if the refusal is of a move alone and of what is in the tree.
+fn words_in_tree(refusal: Refusal) -> Option<(usize, &'static str)> {
+    match refusal {
+        Refusal::NotThere(number) => Some((number, "nothing is at the old path")),
+        Refusal::ForeignName(number) => {
+            Some((number, "what moves holds a name that isn't UTF-8"))
+        }
+        Refusal::Taken(number) => Some((number, "something is at the new path")),
+        Refusal::BelowFile(number) => Some((
+            number,
+            "the new path is below a file or a symbolic link",
+        )),
+        _ => None,
+    }
+}
+
+// Prints why a move is refused.
+fn print_move_refused<W: Write>(
+    errors: &mut W,
+    moves: &[(&str, &str)],
+    number: usize,
+    words: &str,
+) -> io::Result<()> {
+    let (old, new) = move_at(moves, number);
+    writeln!(errors, "relmove: {old} to {new}: {words}")
+}
+
+// Prints why two moves are refused.
+fn print_both_refused<W: Write>(
+    errors: &mut W,
+    moves: &[(&str, &str)],
+    first: usize,
+    second: usize,
+    words: &str,
+) -> io::Result<()> {
+    let (old, new) = move_at(moves, first);
+    let (other_old, other_new) = move_at(moves, second);
+    writeln!(
+        errors,
+        "relmove: {old} to {new}, and {other_old} to {other_new}: {words}"
+    )
+}
+
+// The move of a number.
+fn move_at<'a>(moves: &[(&'a str, &'a str)], number: usize) -> (&'a str, &'a str) {
+    match moves.get(number) {
+        Some((old, new)) => (*old, *new),
+        None => ("", ""),
+    }
+}

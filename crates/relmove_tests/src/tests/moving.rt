@@ -1,0 +1,315 @@
+//! What a call that moves files prints, its status, and the tree after it.
+use crate::tests::cases::{Place, disk_of};
+use crate::tests::disk::{Content, Disk, Machine, Way};
+use crate::tests::faults::holds;
+use crate::tests::reading::answers;
+use crate::tests::same;
+use relmove_lib::{Ended, Root, Status, answer, resume};
+use std::alloc::Global;
+use std::test::Fail;
+
+// A call, and what it does.
+#[derive(Clone, Copy)]
+struct Row<'a> {
+    words: &'a [&'static str],
+    before: &'a [Place],
+    after: &'a [Place],
+    status: Status,
+    printed: &'a str,
+}
+
+// Whether a call does what its row says, and prints nothing on standard error.
+fn does(alloc: Global, row: &Row<'_>) -> Result<(), Fail> {
+    let disk = disk_of(alloc, row.before)?;
+    answers(alloc, &disk, row.words, (row.status, row.printed, ""))?;
+    holds(alloc, "the tree", &disk, row.after)
+}
+
+const SITE: &[Place] = &[
+    ("index.md", Some("[o](guide/o.md#a) [o](guide/o.md)\n")),
+    ("guide", None),
+    ("guide/o.md", Some("[i](../index.md)\n")),
+];
+
+const MOVED_SITE: &[Place] = &[
+    ("index.md", Some("[o](n.md#a) [o](n.md)\n")),
+    ("n.md", Some("[i](index.md)\n")),
+];
+
+const WRITE: &[&str] = &["--write", "site", "guide/o.md", "n.md"];
+
+#[test]
+fn moves_a_file(rt: HostRuntime) -> Result<(), Fail> {
+    let row = Row {
+        words: WRITE,
+        before: SITE,
+        after: MOVED_SITE,
+        status: Status::Kept,
+        printed: "site/n.md, from site/guide/o.md: 1 link\nsite/index.md: 2 links\n2 pages changed, 1 file moved.\n",
+    };
+    does(rt.alloc(), &row)
+}
+
+#[test]
+fn changes_nothing_without_write(rt: HostRuntime) -> Result<(), Fail> {
+    let row = Row {
+        words: &["site", "guide/o.md", "n.md"],
+        before: SITE,
+        after: SITE,
+        status: Status::Kept,
+        printed: "site/n.md, from site/guide/o.md: 1 link\nsite/index.md: 2 links\n2 pages would change, 1 file would move. Nothing is written: add --write.\n",
+    };
+    does(rt.alloc(), &row)
+}
+
+#[test]
+fn prints_json(rt: HostRuntime) -> Result<(), Fail> {
+    let row = Row {
+        words: &["--json", "site", "guide/o.md", "n.md"],
+        before: SITE,
+        after: SITE,
+        status: Status::Kept,
+        printed: "{\"column\":5,\"line\":1,\"new\":\"index.md\",\"page\":\"guide/o.md\",\"target\":\"../index.md\"}\n{\"column\":5,\"line\":1,\"new\":\"n.md#a\",\"page\":\"index.md\",\"target\":\"guide/o.md#a\"}\n{\"column\":23,\"line\":1,\"new\":\"n.md\",\"page\":\"index.md\",\"target\":\"guide/o.md\"}\n",
+    };
+    does(rt.alloc(), &row)
+}
+
+#[test]
+fn moves_a_directory(rt: HostRuntime) -> Result<(), Fail> {
+    let row = Row {
+        words: &["--write", "site", "d/", "x/y/"],
+        before: &[
+            ("index.md", Some("[a](d/a.md)")),
+            ("d", None),
+            ("d/a.md", Some("[i](../index.md) [b](b.txt)")),
+            ("d/b.txt", Some("bb")),
+        ],
+        after: &[
+            ("index.md", Some("[a](x/y/a.md)")),
+            ("x", None),
+            ("x/y", None),
+            ("x/y/a.md", Some("[i](../../index.md) [b](b.txt)")),
+            ("x/y/b.txt", Some("bb")),
+        ],
+        status: Status::Kept,
+        printed: "site/x/y/a.md, from site/d/a.md: 1 link\nsite/index.md: 1 link\n2 pages changed, 1 directory moved.\n",
+    };
+    does(rt.alloc(), &row)
+}
+
+#[test]
+fn swaps_two_pages(rt: HostRuntime) -> Result<(), Fail> {
+    let row = Row {
+        words: &["--write", "site", "a.md", "b.md", "b.md", "a.md"],
+        before: &[("a.md", Some("[b](b.md)")), ("b.md", Some("bb"))],
+        after: &[("b.md", Some("[b](a.md)")), ("a.md", Some("bb"))],
+        status: Status::Kept,
+        printed: "site/b.md, from site/a.md: 1 link\n1 page changed, 2 files moved.\n",
+    };
+    does(rt.alloc(), &row)
+}
+
+const LEFT: &str =
+    "site/d/a.md:2:5: ../../L leads above site, left as it is\n0 pages changed, 1 file moved.\n";
+
+#[test]
+fn leaves_a_link_above_the_root(rt: HostRuntime) -> Result<(), Fail> {
+    let row = Row {
+        words: &["--write", "site", "d/a.md", "a.md"],
+        before: &[
+            ("d", None),
+            ("d/a.md", Some("\n[l](../../L)")),
+            ("../L", Some("ll")),
+        ],
+        after: &[("a.md", Some("\n[l](../../L)")), ("../L", Some("ll"))],
+        status: Status::LinksLeft,
+        printed: LEFT,
+    };
+    does(rt.alloc(), &row)
+}
+
+#[test]
+fn keeps_its_status_for_a_link_that_was_dead(rt: HostRuntime) -> Result<(), Fail> {
+    let row = Row {
+        words: &["--write", "site", "d/a.md", "a.md"],
+        before: &[("d", None), ("d/a.md", Some("\n[l](../../L)"))],
+        after: &[("a.md", Some("\n[l](../../L)"))],
+        status: Status::Kept,
+        printed: LEFT,
+    };
+    does(rt.alloc(), &row)
+}
+
+#[test]
+fn names_a_symbolic_link(rt: HostRuntime) -> Result<(), Fail> {
+    let disk = disk_of(rt.alloc(), &[("d", None), ("d/f", Some("ff"))])?;
+    let target = String::from_str(rt.alloc(), "d/f")?;
+    disk.add("site/s", Content::Link(target))?;
+    let printed =
+        "site/s: this symbolic link leads to what moves, left as it is\n0 pages would change, 1 directory would move. Nothing is written: add --write.\n";
+    let expected = (Status::LinksLeft, printed, "");
+    answers(rt.alloc(), &disk, &["site", "d", "e"], expected)
+}
+
+const TREE: &[Place] = &[
+    ("a.md", Some("[c](d/c.md)")),
+    ("b.md", Some("bb")),
+    ("d", None),
+    ("d/c.md", Some("cc")),
+];
+
+// Refuses the call of this root: its words after ROOT, and what is printed.
+fn refuses(alloc: Global, moves: &[&str], printed: &str) -> Result<(), Fail> {
+    let disk = disk_of(alloc, TREE)?;
+    let mut words = Vec::new(alloc);
+    words.push("--write")?;
+    words.push("site")?;
+    words.extend_from_slice(moves)?;
+    answers(alloc, &disk, &words, (Status::Refused, "", printed))?;
+    holds(alloc, printed, &disk, TREE)
+}
+
+const REFUSED_PATHS: [(&[&str], &str); 7] = [
+    (
+        &[".", "x"],
+        "relmove: . to x: a path is the root, or ends in ..\n",
+    ),
+    (
+        &["a.md", "../a.md"],
+        "relmove: a.md to ../a.md: a path leads above the root\n",
+    ),
+    (
+        &["d", "d/e"],
+        "relmove: d to d/e: the new path is the old one, or below it\n",
+    ),
+    (
+        &["a.md", "a?.md"],
+        "relmove: a.md to a?.md: a name of the new path isn't plain on every platform; --any-name allows it\n",
+    ),
+    (
+        &["a.md", ".relmove-x"],
+        "relmove: a.md to .relmove-x: a name of the new path begins with .relmove\n",
+    ),
+    (
+        &["a.md", ".d/a.md"],
+        "relmove: a.md to .d/a.md: directories whose names begin with a dot aren't read\n",
+    ),
+    (
+        &["b.md", "x.md", "a.md", "e/"],
+        "relmove: a.md to e/: a path with a slash at its end is a directory's, and no directory moves\n",
+    ),
+];
+
+#[test]
+fn refuses_paths(rt: HostRuntime) -> Result<(), Fail> {
+    for (moves, printed) in &REFUSED_PATHS {
+        refuses(rt.alloc(), moves, printed)?;
+    }
+    Ok(())
+}
+
+const REFUSED_MOVES: [(&[&str], &str); 6] = [
+    (
+        &["b.md", "x.md", "none.md", "y.md"],
+        "relmove: none.md to y.md: nothing is at the old path\n",
+    ),
+    (
+        &["a.md", "b.md"],
+        "relmove: a.md to b.md: something is at the new path\n",
+    ),
+    (
+        &["a.md", "b.md/x.md"],
+        "relmove: a.md to b.md/x.md: the new path is below a file or a symbolic link\n",
+    ),
+    (
+        &["a.md", "x.md", "./a.md", "y.md"],
+        "relmove: a.md to x.md, and ./a.md to y.md: the old paths are the same\n",
+    ),
+    (
+        &["a.md", "x.md", "b.md", "./x.md"],
+        "relmove: a.md to x.md, and b.md to ./x.md: the new paths are the same\n",
+    ),
+    (
+        &["d", "e", "a.md", "e/c.md"],
+        "relmove: a.md and d/c.md would get the same path\n",
+    ),
+];
+
+#[test]
+fn refuses_moves(rt: HostRuntime) -> Result<(), Fail> {
+    for (moves, printed) in &REFUSED_MOVES {
+        refuses(rt.alloc(), moves, printed)?;
+    }
+    Ok(())
+}
+
+#[test]
+fn refuses_a_name_that_is_not_utf_8(rt: HostRuntime) -> Result<(), Fail> {
+    let places: &[Place] = &[("d", None), ("d/NOT-UTF-8", Some("nn"))];
+    let disk = disk_of(rt.alloc(), places)?;
+    let printed =
+        "relmove: a name in the directory d isn't UTF-8\nrelmove: d to e: what moves holds a name that isn't UTF-8\n";
+    let expected = (Status::Refused, "", printed);
+    answers(rt.alloc(), &disk, &["--write", "site", "d", "e"], expected)?;
+    holds(rt.alloc(), "the tree", &disk, places)
+}
+
+#[test]
+fn refuses_all_else_beside_a_journal(rt: HostRuntime) -> Result<(), Fail> {
+    let places: &[Place] = &[("a.md", Some("aa")), (".relmove", Some("jj"))];
+    let disk = disk_of(rt.alloc(), places)?;
+    let moved =
+        "relmove: site: a run before this one didn't end: run relmove --resume or relmove --undo\n";
+    let words = ["--write", "site", "a.md", "b.md"];
+    answers(rt.alloc(), &disk, &words, (Status::Refused, "", moved))?;
+    answers(rt.alloc(), &disk, &words[1..], (Status::Refused, "", moved))?;
+    let checked =
+        "relmove: a run before this one didn't end: run relmove --resume or relmove --undo\n";
+    let expected = (Status::Refused, "", checked);
+    answers(rt.alloc(), &disk, &["--check", "site"], expected)?;
+    holds(rt.alloc(), "the tree", &disk, places)
+}
+
+// The status of the call that writes.
+fn written(alloc: Global, disk: &Disk) -> Status {
+    let (mut out, mut errors) = (Vec::new(alloc), Vec::new(alloc));
+    answer(&Machine(disk), WRITE, &mut out, &mut errors)
+}
+
+// Makes a call of the run fail. Returns its status, after it saw that the tree is as the status says.
+fn fails_at(alloc: Global, number: u32) -> Result<Status, Fail> {
+    let disk = disk_of(alloc, SITE)?;
+    disk.fail_at(number, Way::Refused);
+    let status = written(alloc, &disk);
+    disk.fail_at(0, Way::Refused);
+    match status {
+        Status::Kept | Status::LinksLeft => holds(alloc, "moved", &disk, MOVED_SITE)?,
+        Status::Refused => holds(alloc, "refused", &disk, SITE)?,
+        Status::Stopped => is_resumed(alloc, &disk)?,
+    }
+    Ok(status)
+}
+
+// Whether a run that stopped after its first rename can be resumed.
+fn is_resumed(alloc: Global, disk: &Disk) -> Result<(), Fail> {
+    let ended = resume(Root::new(&Machine(disk), "site"));
+    same("resumed", &matches!(&ended, Ended::Done), &true)?;
+    holds(alloc, "resumed", disk, MOVED_SITE)
+}
+
+#[test]
+fn stops_in_the_middle(rt: HostRuntime) -> Result<(), Fail> {
+    let disk = disk_of(rt.alloc(), SITE)?;
+    same("a run", &written(rt.alloc(), &disk), &Status::Kept)?;
+    let mut stopped = 0u32;
+    let mut refused = 0u32;
+    for number in 1..=disk.calls() {
+        match fails_at(rt.alloc(), number)? {
+            Status::Stopped => stopped = stopped.saturating_add(1),
+            Status::Refused => refused = refused.saturating_add(1),
+            Status::Kept | Status::LinksLeft => {}
+        }
+    }
+    same("some stop", &(stopped > 0), &true)?;
+    same("some are refused", &(refused > 0), &true)
+}
