@@ -1,6 +1,6 @@
 //! Finds the links of pages that lead to nothing.
 use crate::fault::Fault;
-use crate::position::{Position, position_after};
+use crate::position::{Position, Positions};
 use crate::root::Root;
 use crate::tree::{Page, Tree};
 use relative_path::RelativePath;
@@ -64,8 +64,9 @@ fn add_dead_links<R: Files + AllocGlobal>(
     dead: &mut Vec<DeadLink>,
 ) -> Result<(), Fault> {
     let found = targets(root.runtime().alloc(), page.text.as_str())?;
+    let mut positions = Positions::new(page.text.as_str());
     for target in &found {
-        if let Some(link) = dead_link(root, tree, page, *target)? {
+        if let Some(link) = dead_link(root, tree, page, *target, &mut positions)? {
             dead.push(link)?;
         }
     }
@@ -78,12 +79,9 @@ fn dead_link<R: Files + AllocGlobal>(
     tree: &Tree,
     page: &Page,
     target: Target,
+    positions: &mut Positions<'_>,
 ) -> Result<Option<DeadLink>, Fault> {
-    let text = page.text.as_str();
-    let (Some(before), Some(written)) = (
-        text.get(..target.start),
-        text.get(target.start..target.end),
-    ) else {
+    let Some(written) = page.text.get(target.start..target.end) else {
         return Ok(None);
     };
     let TargetReading::Path { path, .. } = path_of_target(
@@ -97,9 +95,12 @@ fn dead_link<R: Files + AllocGlobal>(
     let Some(why) = why_dead(root, tree, page.path.as_str(), path.as_str())? else {
         return Ok(None);
     };
+    let Some(position) = positions.at(target.start) else {
+        return Ok(None);
+    };
     Ok(Some(DeadLink {
         page: root.copy(page.path.as_str())?,
-        position: position_after(before),
+        position,
         target: root.copy(written)?,
         why,
     }))

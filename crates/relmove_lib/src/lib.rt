@@ -17,7 +17,9 @@ pub use self::arguments::{Command, WrongCall, command_of};
 pub use self::dead_links::{DeadLink, WhyDead, dead_links_of};
 pub use self::fault::{Call, Fault};
 pub use self::journal::{Journal, Stage, Work, journal_of, journal_text};
-pub use self::moving::{ChangedLink, LeftLink, Moving, WhyRefused, is_directory, moving_of};
+pub use self::moving::{
+    ChangedLink, LeftLink, Moving, WhyRefused, changed_links_of, is_directory, moving_of,
+};
 pub use self::position::{Position, position_after};
 pub use self::program::{Status, answer};
 pub use self::root::Root;

@@ -4,7 +4,7 @@ ghost use Rattle.std.specs.Prelude.{IsTrue};
 
 use crate::dead_links::leads_somewhere;
 use crate::fault::Fault;
-use crate::position::{Position, position_after};
+use crate::position::{Position, Positions};
 use crate::root::Root;
 use crate::tree::{EntryKind, Page, Tree};
 use relative_path::RelativePath;
@@ -89,8 +89,8 @@ pub struct Moving<'a> {
     pub plan: Plan,
     /// The links that stay, and no longer lead to their file, or may not.
     pub left: Vec<LeftLink<'a>>,
-    /// The links that change.
-    pub changed: Vec<ChangedLink<'a>>,
+    // The targets of each page.
+    found: Vec<Vec<Target>>,
 }
 
 /// Plans the moves of a tree: each OLD with its NEW. Nothing is changed.
@@ -109,12 +109,33 @@ pub fn moving_of<'a, R: Files + AllocGlobal + Clone + Drop>(
     let plan = plan_of(alloc, tree, &found, &pairs, any_name)?;
     need_directories(alloc, tree, moves)?;
     let left = left_links(root, &tree.pages, &found, &plan.pages)?;
-    let changed = changed_links(alloc, &tree.pages, &found, &plan, &pairs)?;
-    Ok(Moving {
-        plan,
-        left,
-        changed,
-    })
+    Ok(Moving { plan, left, found })
+}
+
+/// Returns the links that moves change: those of a plan that [`moving_of`] made of the same moves in the same tree.
+///
+/// The plan has the new texts of the pages. This call writes each new target once more.
+pub fn changed_links_of<'a>(
+    alloc: Global,
+    tree: &'a Tree,
+    moves: &[(&str, &str)],
+    moving: &Moving<'_>,
+) -> Result<Vec<ChangedLink<'a>>, AllocError> {
+    let pairs = pairs_of(alloc, moves)?;
+    // The plan has accepted the moves.
+    let Ok(table) = TreeMoves::new(alloc, &pairs) else {
+        return Err(AllocError);
+    };
+    let mut changed = Vec::new(alloc);
+    for change in &moving.plan.changed {
+        if let (Some(page), Some(targets)) = (
+            tree.pages.get(change.number),
+            moving.found.get(change.number),
+        ) {
+            add_changed_links(alloc, page, targets, &table, &mut changed)?;
+        }
+    }
+    Ok(changed)
 }
 
 // The moves, as paths.
@@ -288,9 +309,12 @@ fn add_left_links<'a, R: Files + AllocGlobal + Clone + Drop>(
     new: &MovedSitePage,
     left: &mut Vec<LeftLink<'a>>,
 ) -> Result<(), Fault> {
+    let mut positions = Positions::new(page.text.as_str());
+    // Both lists are in the order of the page.
+    let mut rest = targets.iter();
     for (start, why) in &new.page.unchanged {
-        if let Some(target) = targets.iter().find(|target| target.start == *start)
-            && let Some(link) = left_link(root, page, *target, *why)?
+        if let Some(target) = rest.find(|target| target.start == *start)
+            && let Some(link) = left_link(root, page, *target, *why, &mut positions)?
         {
             left.push(link)?;
         }
@@ -304,8 +328,9 @@ fn left_link<'a, R: Files + AllocGlobal + Clone + Drop>(
     page: &'a Page,
     target: Target,
     why: Unchanged,
+    positions: &mut Positions<'_>,
 ) -> Result<Option<LeftLink<'a>>, Fault> {
-    let Some((position, written)) = place_of(page, target) else {
+    let Some((position, written)) = place_of(page, target, positions) else {
         return Ok(None);
     };
     let leads = may_lead(root, page.path.as_str(), target, written)?;
@@ -319,11 +344,13 @@ fn left_link<'a, R: Files + AllocGlobal + Clone + Drop>(
 }
 
 // Where a target begins, and its text.
-fn place_of<'a>(page: &'a Page, target: Target) -> Option<(Position, &'a str)> {
-    let text = page.text.as_str();
-    let before = text.get(..target.start)?;
-    let written = text.get(target.start..target.end)?;
-    Some((position_after(before), written))
+fn place_of<'a>(
+    page: &'a Page,
+    target: Target,
+    positions: &mut Positions<'_>,
+) -> Option<(Position, &'a str)> {
+    let written = page.text.get(target.start..target.end)?;
+    Some((positions.at(target.start)?, written))
 }
 
 // Whether a target of a page leads to a file, or may.
@@ -347,27 +374,6 @@ fn may_lead<R: Files + AllocGlobal + Clone + Drop>(
     }
 }
 
-// The links that change.
-fn changed_links<'a>(
-    alloc: Global,
-    pages: &'a [Page],
-    found: &[Vec<Target>],
-    plan: &Plan,
-    moves: &[(RelativePath<'_>, RelativePath<'_>)],
-) -> Result<Vec<ChangedLink<'a>>, AllocError> {
-    let mut changed = Vec::new(alloc);
-    // The plan has accepted the moves.
-    let Ok(table) = TreeMoves::new(alloc, moves) else {
-        return Err(AllocError);
-    };
-    for change in &plan.changed {
-        if let (Some(page), Some(targets)) = (pages.get(change.number), found.get(change.number)) {
-            add_changed_links(alloc, page, targets, &table, &mut changed)?;
-        }
-    }
-    Ok(changed)
-}
-
 // Adds the links of a page that change.
 fn add_changed_links<'a>(
     alloc: Global,
@@ -377,8 +383,9 @@ fn add_changed_links<'a>(
     changed: &mut Vec<ChangedLink<'a>>,
 ) -> Result<(), AllocError> {
     let moved = table.moved_page(alloc, RelativePath::new(page.path.as_str()))?;
+    let mut positions = Positions::new(page.text.as_str());
     for target in targets {
-        if let Some(link) = changed_link(alloc, page, *target, table, &moved)? {
+        if let Some(link) = changed_link(alloc, page, *target, table, &moved, &mut positions)? {
             changed.push(link)?;
         }
     }
@@ -392,8 +399,9 @@ fn changed_link<'a>(
     target: Target,
     table: &TreeMoves<'_>,
     moved: &MovedPage,
+    positions: &mut Positions<'_>,
 ) -> Result<Option<ChangedLink<'a>>, AllocError> {
-    let Some((position, written)) = place_of(page, target) else {
+    let Some((position, written)) = place_of(page, target, positions) else {
         return Ok(None);
     };
     let whole = [Target {

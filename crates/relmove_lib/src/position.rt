@@ -16,14 +16,22 @@ pub struct Position {
 /// assert_eq!(rt; position_after("a\né"), Position { line: 2, column: 2 });
 /// ```
 pub fn position_after(text: &str) -> Position {
-    let mut position = Position { line: 1, column: 1 };
-    for byte in text.as_bytes() {
-        position = position.passed(*byte);
-    }
-    position
+    FIRST.after(text)
 }
 
+// The first place of a text.
+const FIRST: Position = Position { line: 1, column: 1 };
+
 impl Position {
+    // The place after a text that begins here.
+    fn after(self, text: &str) -> Position {
+        let mut position = self;
+        for byte in text.as_bytes() {
+            position = position.passed(*byte);
+        }
+        position
+    }
+
     // The place after one more byte.
     fn passed(self, byte: u8) -> Position {
         if byte == b'\n' {
@@ -39,6 +47,33 @@ impl Position {
             };
         }
         self
+    }
+}
+
+// The places of a text, asked for from its beginning to its end. All questions together take time linear in the text.
+#[derive(Drop)]
+pub(crate) struct Positions<'a> {
+    text: &'a str,
+    offset: usize,
+    position: Position,
+}
+
+impl<'a> Positions<'a> {
+    // The places of a text.
+    pub(crate) fn new(text: &'a str) -> Positions<'a> {
+        Positions {
+            text,
+            offset: 0,
+            position: FIRST,
+        }
+    }
+
+    // The place at an offset. There is none if the offset is before the last one, or within a character.
+    pub(crate) fn at(&mut self, offset: usize) -> Option<Position> {
+        let passed = self.text.get(self.offset..offset)?;
+        self.position = self.position.after(passed);
+        self.offset = offset;
+        Some(self.position)
     }
 }
 

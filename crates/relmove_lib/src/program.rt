@@ -148,7 +148,7 @@ fn move_in<R: Files + AllocGlobal + Clone + Drop, O: Write, E: Write>(
         return refuse(&root, &Fault::OutOfMemory, errors);
     };
     let status = status_of_moving(&moving);
-    if print_plan(&root, tree, &moving, options, out).is_err() {
+    if print_plan(&root, tree, moves, &moving, options, out).is_err() {
         return Status::Refused;
     }
     if options.write {
@@ -182,12 +182,13 @@ fn status_of_moving(moving: &Moving<'_>) -> Status {
 fn print_plan<R: Files + AllocGlobal, O: Write>(
     root: &Root<'_, R>,
     tree: &Tree,
+    moves: &[(&str, &str)],
     moving: &Moving<'_>,
     options: MoveOptions,
     out: &mut O,
 ) -> io::Result<()> {
     if options.json {
-        print_moving_as_json(root.runtime().alloc(), out, tree, moving)?;
+        print_moving_as_json(root.runtime().alloc(), out, tree, moves, moving)?;
     } else {
         print_moving(out, root.path(), tree, moving)?;
     }

@@ -1,5 +1,5 @@
 //! What a call that moves files prints.
-use crate::moving::{ChangedLink, LeftLink, Moving, WhyRefused, is_directory};
+use crate::moving::{ChangedLink, LeftLink, Moving, WhyRefused, changed_links_of, is_directory};
 use crate::position::Position;
 use crate::tree::Tree;
 use relative_path_links::{MovedSitePage, Unchanged};
@@ -196,9 +196,10 @@ pub fn print_moving_as_json<W: Write>(
     alloc: Global,
     out: &mut W,
     tree: &Tree,
+    moves: &[(&str, &str)],
     moving: &Moving<'_>,
 ) -> io::Result<()> {
-    for link in &moving.changed {
+    for link in &changed_links_of(alloc, tree, moves, moving)? {
         print_changed_link_as_json(alloc, out, link)?;
     }
     for link in &moving.left {
