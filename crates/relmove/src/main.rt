@@ -8,9 +8,9 @@
 //! `relmove_lib` does all of it but to take the process's own arguments and output.
 #![tactic(auto)]
 
-use relmove_lib::answer;
+use relmove_lib::{Progress, WithProgress, answer};
 use std::env;
-use std::io::{self, BufWriter};
+use std::io::{self, BufWriter, IsTerminal};
 use std::process::ExitCode;
 
 // The status of a call that can't begin.
@@ -29,7 +29,7 @@ fn main(rt: HostRuntime) -> ExitCode {
     }
 }
 
-// Does what the process's arguments ask for.
+// Does what the process's arguments ask for. On a terminal, a long call prints its progress.
 fn run(rt: &HostRuntime) -> io::Result<u8> {
     let arguments = env::args(rt)?.skip(1).collect::<Vec<_>>(rt.alloc())?;
     let words = arguments
@@ -37,5 +37,13 @@ fn run(rt: &HostRuntime) -> io::Result<u8> {
         .map(|word| word.as_str())
         .collect::<Vec<_>>(rt.alloc())?;
     let mut out = BufWriter::new(rt.alloc(), io::writer(rt))?;
-    Ok(answer(rt, &words, &mut out, &mut rt.stderr()).code())
+    let mut errors = rt.stderr();
+    let status = if errors.is_terminal() {
+        let progress = Progress::new();
+        let watched = WithProgress::new(rt, &progress);
+        answer(&watched, &words, &mut out, &mut errors)
+    } else {
+        answer(rt, &words, &mut out, &mut errors)
+    };
+    Ok(status.code())
 }

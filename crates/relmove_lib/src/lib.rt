@@ -9,7 +9,7 @@
 //! whole pieces        run  dead_links  moving
 //! the work            journal  worker  tree
 //! files below ROOT    root
-//! what all share      fault  position  arguments
+//! what all share      fault  position  arguments  progress
 //! ```
 #![tactic(auto)]
 
@@ -22,6 +22,7 @@ pub use self::moving::{
 };
 pub use self::position::{Position, position_after};
 pub use self::program::{Status, answer};
+pub use self::progress::{Progress, WithProgress};
 pub use self::root::Root;
 pub use self::run::{Ended, carry_out, resume, undo};
 pub use self::tree::{EntryKind, Page, Tree, read_tree};
@@ -33,6 +34,7 @@ mod journal;
 mod moving;
 mod position;
 mod program;
+mod progress;
 pub mod report;
 mod root;
 mod run;

@@ -8,6 +8,7 @@ mod disk;
 mod faults;
 mod journal;
 mod moving;
+mod progress;
 mod reading;
 
 // Fails in the words of this case where another value was found than is expected. A call of it costs

@@ -3,9 +3,11 @@ ghost use Rattle.std.specs.Io.{WritesAtMost};
 
 use std::alloc::{Alloc, AllocError, Global};
 use std::cell::{Cell, RefCell};
+use std::fmt::Display;
 use std::fs::{Files, Metadata, OpenFile, OpenOptions, Permissions};
-use std::io::{self, ErrorKind, Read, Seek, SeekFrom, Write};
+use std::io::{self, Eprint, ErrorKind, Read, Seek, SeekFrom, Write};
 use std::path::PathBuf;
+use std::time::{Clock, Duration};
 
 /// How a call fails.
 #[derive(Clone, Copy, Debug, PartialEq, Eq)]
@@ -34,7 +36,8 @@ struct Node {
     content: Content,
 }
 
-/// The files, the number of calls so far, and the call that fails.
+/// The files, the number of calls so far, and the call that fails. Also the time, in milliseconds, and what was printed
+/// on standard error.
 #[derive(Drop)]
 pub struct Disk {
     alloc: Global,
@@ -42,6 +45,8 @@ pub struct Disk {
     calls: Cell<u32>,
     fails_at: Cell<u32>,
     way: Cell<Way>,
+    time: Cell<u64>,
+    printed: RefCell<Vec<u8>>,
 }
 
 // Whether a call that is done says so.
@@ -69,6 +74,8 @@ impl Disk {
             calls: Cell::new(0),
             fails_at: Cell::new(0),
             way: Cell::new(Way::Refused),
+            time: Cell::new(0),
+            printed: RefCell::new(Vec::new(alloc)),
         }
     }
 
@@ -89,6 +96,11 @@ impl Disk {
     /// How many calls were made.
     pub fn calls(&self) -> u32 {
         self.calls.get()
+    }
+
+    /// Whether exactly this was printed on standard error.
+    pub fn has_printed(&self, text: &str) -> io::Result<bool> {
+        Ok(self.printed.try_borrow()?.as_slice() == text.as_bytes())
     }
 
     /// All that is there, sorted, a line each.
@@ -373,6 +385,29 @@ impl Alloc for Machine<'_> {
 
     fn alloc(&self) -> Global {
         self.0.alloc
+    }
+}
+
+// Each time the clock is read, 200 milliseconds have passed.
+impl Clock for Machine<'_> {
+    fn monotonic(&self) -> io::Result<Duration> {
+        let time = self.0.time.get().saturating_add(200);
+        self.0.time.set(time);
+        Ok(Duration::from_millis(time))
+    }
+
+    fn since_1970(&self) -> io::Result<Duration> {
+        Err(io::Error::from(ErrorKind::Unsupported))
+    }
+}
+
+impl Eprint for Machine<'_> {
+    fn eprint<D: Display + Drop>(&self, value: D) -> io::Result<()> {
+        write!(self.0.printed.try_borrow_mut()?, "{value}")
+    }
+
+    fn eprintln<D: Display + Drop>(&self, value: D) -> io::Result<()> {
+        writeln!(self.0.printed.try_borrow_mut()?, "{value}")
     }
 }
 

@@ -25,18 +25,21 @@ fn does(alloc: Global, row: &Row<'_>) -> Result<(), Fail> {
     holds(alloc, "the tree", &disk, row.after)
 }
 
-const SITE: &[Place] = &[
+/// A site with a page that links to another.
+pub const SITE: &[Place] = &[
     ("index.md", Some("[o](guide/o.md#a) [o](guide/o.md)\n")),
     ("guide", None),
     ("guide/o.md", Some("[i](../index.md)\n")),
 ];
 
-const MOVED_SITE: &[Place] = &[
+/// The site after a call of [`WRITE`].
+pub const MOVED_SITE: &[Place] = &[
     ("index.md", Some("[o](n.md#a) [o](n.md)\n")),
     ("n.md", Some("[i](index.md)\n")),
 ];
 
-const WRITE: &[&str] = &["--write", "site", "guide/o.md", "n.md"];
+/// A call that moves a page.
+pub const WRITE: &[&str] = &["--write", "site", "guide/o.md", "n.md"];
 
 #[test]
 fn moves_a_file(rt: HostRuntime) -> Result<(), Fail> {
@@ -105,6 +108,32 @@ fn swaps_two_pages(rt: HostRuntime) -> Result<(), Fail> {
         after: &[("b.md", Some("[b](a.md)")), ("a.md", Some("bb"))],
         status: Status::Kept,
         printed: "site/b.md, from site/a.md: 1 link\n1 page changed, 2 files moved.\n",
+    };
+    does(rt.alloc(), &row)
+}
+
+#[test]
+fn leaves_two_links_of_a_page(rt: HostRuntime) -> Result<(), Fail> {
+    let row = Row {
+        words: &["site", "d/a.md", "a.md"],
+        before: &[
+            ("d", None),
+            (
+                "d/a.md",
+                Some("\u{e9} [x](b%2Fc) [b](b.md)\n\u{e9} [l](../../L)"),
+            ),
+            ("d/b.md", Some("")),
+        ],
+        after: &[
+            ("d", None),
+            (
+                "d/a.md",
+                Some("\u{e9} [x](b%2Fc) [b](b.md)\n\u{e9} [l](../../L)"),
+            ),
+            ("d/b.md", Some("")),
+        ],
+        status: Status::LinksLeft,
+        printed: "site/a.md, from site/d/a.md: 1 link\nsite/d/a.md:1:7: b%2Fc has %2F, a slash that separates no directories, left as it is\nsite/d/a.md:2:7: ../../L leads above site, left as it is\n1 page would change, 1 file would move. Nothing is written: add --write.\n",
     };
     does(rt.alloc(), &row)
 }

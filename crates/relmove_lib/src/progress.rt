@@ -1,0 +1,135 @@
+//! The progress of a long call: a runtime that prints how many files the call has opened and renamed.
+use std::alloc::{Alloc, Allocator, Global};
+use std::cell::Cell;
+use std::fs::{Metadata, OpenOptions};
+use std::io::{self, Eprint};
+use std::path::PathBuf;
+use std::rt::{Clock, Files};
+use std::time::{Duration, Instant};
+
+// How many milliseconds a call works before each line of progress.
+const INTERVAL: u64 = 500;
+
+/// How many files a call has opened and renamed, and when it last said so.
+#[derive(Drop)]
+pub struct Progress {
+    opened: Cell<usize>,
+    renamed: Cell<usize>,
+    last: Cell<Option<Instant>>,
+}
+
+impl Progress {
+    /// The progress of a call that begins. Allocates nothing.
+    pub fn new() -> Progress {
+        Progress {
+            opened: Cell::new(0),
+            renamed: Cell::new(0),
+            last: Cell::new(None),
+        }
+    }
+
+    // Whether a line is due. The first question begins the time.
+    fn is_due(&self, now: Instant) -> bool {
+        let is_due = match self.last.get() {
+            Some(last) => Duration::from_millis(INTERVAL) <= now.duration_since(last),
+            None => false,
+        };
+        if is_due || self.last.get().is_none() {
+            self.last.set(Some(now));
+        }
+        is_due
+    }
+}
+
+/// A runtime that leaves all work to another one. It counts the files that are opened and renamed, and each half second
+/// it prints the two numbers on standard error.
+///
+/// Nothing is printed if the clock can't be read. A line that can't be printed is left out.
+#[derive(Clone, Copy)]
+pub struct WithProgress<'a, R> {
+    runtime: &'a R,
+    progress: &'a Progress,
+}
+
+impl<'a, R: Clock + Eprint> WithProgress<'a, R> {
+    /// A runtime that works by another one, and prints this progress. Allocates nothing.
+    pub fn new(runtime: &'a R, progress: &'a Progress) -> WithProgress<'a, R> {
+        WithProgress { runtime, progress }
+    }
+
+    // Counts a file.
+    fn count(&self, counter: &Cell<usize>) {
+        counter.set(counter.get().saturating_add(1));
+        if let Ok(now) = Instant::now(self.runtime)
+            && self.progress.is_due(now)
+        {
+            self.print();
+        }
+    }
+
+    // Prints the progress.
+    fn print(&self) {
+        let (opened, renamed) = (self.progress.opened.get(), self.progress.renamed.get());
+        let _ = eprintln!(self.runtime; "relmove: {opened} files opened, {renamed} renamed");
+    }
+}
+
+impl<R: AllocGlobal> Alloc for WithProgress<'_, R> {
+    type A = Global;
+
+    fn alloc(&self) -> Global {
+        self.runtime.alloc()
+    }
+}
+
+impl<R: Files + Clock + Eprint> Files for WithProgress<'_, R> {
+    type File = R::File;
+
+    type Dir = R::Dir;
+
+    fn open_file(&self, how: &OpenOptions, path: &str) -> io::Result<R::File> {
+        self.count(&self.progress.opened);
+        self.runtime.open_file(how, path)
+    }
+
+    fn open_dir(&self, path: &str) -> io::Result<R::Dir> {
+        self.runtime.open_dir(path)
+    }
+
+    fn metadata(&self, path: &str) -> io::Result<Metadata> {
+        self.runtime.metadata(path)
+    }
+
+    fn symlink_metadata(&self, path: &str) -> io::Result<Metadata> {
+        self.runtime.symlink_metadata(path)
+    }
+
+    fn copy(&self, from: &str, to: &str) -> io::Result<u64> {
+        self.runtime.copy(from, to)
+    }
+
+    fn rename(&self, from: &str, to: &str) -> io::Result<()> {
+        self.count(&self.progress.renamed);
+        self.runtime.rename(from, to)
+    }
+
+    fn remove_file(&self, path: &str) -> io::Result<()> {
+        self.runtime.remove_file(path)
+    }
+
+    fn create_dir(&self, path: &str) -> io::Result<()> {
+        self.runtime.create_dir(path)
+    }
+
+    fn remove_dir(&self, path: &str) -> io::Result<()> {
+        self.runtime.remove_dir(path)
+    }
+
+    fn remove_dir_all<B: Allocator>(&self, alloc: B, path: &str) -> io::Result<()> {
+        self.runtime.remove_dir_all(alloc, path)
+    }
+
+    fn read_link<B: Allocator>(&self, alloc: B, path: &str) -> io::Result<PathBuf<B>> {
+        self.runtime.read_link(alloc, path)
+    }
+}
