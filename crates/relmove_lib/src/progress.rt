@@ -1,4 +1,4 @@
-//! The progress of a long call: a runtime that prints how many files the call has opened and renamed.
+//! The progress of a long call: a runtime that prints how many files the call has opened, and how many renames it made.
 use std::alloc::{Alloc, Allocator, Global};
 use std::cell::Cell;
 use std::fs::{Metadata, OpenOptions};

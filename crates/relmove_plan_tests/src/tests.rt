@@ -4,6 +4,7 @@ use std::test::Fail;
 
 mod model;
 mod planned;
+mod refusals;
 mod refused;
 mod runs;
 
