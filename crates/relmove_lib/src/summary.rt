@@ -94,8 +94,12 @@ pub fn print_moving<W: Write>(
     for link in &moving.left {
         print_left_link(out, root, link)?;
     }
+    // Both lists are in the order of the tree.
+    let mut paths = tree.entries.keys().enumerate();
     for notice in &moving.plan.links {
-        print_notice(out, root, tree, *notice)?;
+        if let Some((_, path)) = paths.find(|(number, _)| *number == notice.entry) {
+            print_notice(out, root, path.as_str(), *notice)?;
+        }
     }
     Ok(())
 }
@@ -163,10 +167,9 @@ fn why_unknown(why: WhyUnknown) -> &'static str {
 fn print_notice<W: Write>(
     out: &mut W,
     root: &str,
-    tree: &Tree,
+    path: &str,
     notice: LinkNotice,
 ) -> io::Result<()> {
-    let path = entry_at(tree, notice.entry);
     let link = Below { root, path };
     let why = why_noticed(notice);
     writeln!(out, "{link}: this symbolic link {why}, left as it is")
@@ -205,8 +208,12 @@ pub fn print_moving_as_json<W: Write>(
     for link in &moving.left {
         print_left_link_as_json(alloc, out, link)?;
     }
+    // Both lists are in the order of the tree.
+    let mut paths = tree.entries.keys().enumerate();
     for notice in &moving.plan.links {
-        print_notice_as_json(alloc, out, tree, *notice)?;
+        if let Some((_, path)) = paths.find(|(number, _)| *number == notice.entry) {
+            print_notice_as_json(alloc, out, path.as_str(), *notice)?;
+        }
     }
     Ok(())
 }
@@ -255,10 +262,9 @@ fn print_left_link_as_json<W: Write>(
 fn print_notice_as_json<W: Write>(
     alloc: Global,
     out: &mut W,
-    tree: &Tree,
+    link: &str,
     notice: LinkNotice,
 ) -> io::Result<()> {
-    let link = entry_at(tree, notice.entry);
     let why = why_noticed(notice);
     let object = json!(in alloc; { "link": link, "why": why })?;
     let text = object.to_string(alloc)?;

@@ -170,14 +170,20 @@ fn keeps_its_status_for_a_link_that_was_dead(rt: HostRuntime) -> Result<(), Fail
 }
 
 #[test]
-fn names_a_symbolic_link(rt: HostRuntime) -> Result<(), Fail> {
+fn names_symbolic_links(rt: HostRuntime) -> Result<(), Fail> {
     let disk = disk_of(rt.alloc(), &[("d", None), ("d/f", Some("ff"))])?;
-    let target = String::from_str(rt.alloc(), "d/f")?;
-    disk.add("site/s", Content::Link(target))?;
+    for (path, target) in [("site/d/l", "/x"), ("site/r", "o"), ("site/s", "d/f")] {
+        let target = String::from_str(rt.alloc(), target)?;
+        disk.add(path, Content::Link(target))?;
+    }
     let printed =
-        "site/s: this symbolic link leads to what moves, left as it is\n0 pages would change, 1 directory would move. Nothing is written: add --write.\n";
+        "site/d/l: this symbolic link moves, left as it is\nsite/s: this symbolic link leads to what moves, left as it is\n0 pages would change, 1 directory would move. Nothing is written: add --write.\n";
     let expected = (Status::LinksLeft, printed, "");
-    answers(rt.alloc(), &disk, &["site", "d", "e"], expected)
+    answers(rt.alloc(), &disk, &["site", "d", "e"], expected)?;
+    let printed =
+        "{\"link\":\"d/l\",\"why\":\"moves\"}\n{\"link\":\"s\",\"why\":\"leads to what moves\"}\n";
+    let expected = (Status::LinksLeft, printed, "");
+    answers(rt.alloc(), &disk, &["--json", "site", "d", "e"], expected)
 }
 
 const TREE: &[Place] = &[
