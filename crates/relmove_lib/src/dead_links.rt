@@ -2,7 +2,7 @@
 use crate::fault::Fault;
 use crate::position::{Position, Positions};
 use crate::root::Root;
-use crate::tree::{Page, Tree};
+use crate::tree::{EntryKind, Page, Tree};
 use relative_path::RelativePath;
 use relative_path_links::{Target, targets};
 use std::fs;
@@ -121,10 +121,20 @@ fn why_dead<R: Files + AllocGlobal>(
         return Ok(Some(WhyDead::AboveRoot));
     }
     let file = file.as_relative_path().as_str();
-    if file.is_empty() || tree.entries.contains_key(file) || leads_somewhere(root, file)? {
-        return Ok(None);
-    }
-    Ok(Some(WhyDead::Missing))
+    let is_there = match tree.entries.get(file) {
+        Some(kind) => *kind != EntryKind::File || !is_of_directory(path),
+        None => file.is_empty() || leads_somewhere(root, file)?,
+    };
+    Ok(if is_there {
+        None
+    } else {
+        Some(WhyDead::Missing)
+    })
+}
+
+// Whether a path can only be a directory's.
+fn is_of_directory(path: &str) -> bool {
+    path.ends_with('/') || path.ends_with("/.")
 }
 
 // Whether something is at a path, where symbolic links are followed.

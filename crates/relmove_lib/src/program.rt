@@ -282,6 +282,12 @@ fn print_unread<E: Write>(tree: &Tree, errors: &mut E) {
     for path in &tree.not_text {
         let _ = writeln!(errors, "relmove: {path} isn't UTF-8, and isn't read");
     }
+    for path in &tree.with_base {
+        let _ = writeln!(
+            errors,
+            "relmove: {path} has a <base href>, and its links aren't read"
+        );
+    }
     for path in &tree.unreadable_names {
         let _ = writeln!(
             errors,

@@ -1,6 +1,8 @@
 //! Reads what is below the root: directories, files, links, and the texts of pages.
 use crate::fault::{Call, Fault, at};
 use crate::root::Root;
+use markdown_targets::link_targets;
+use std::alloc::{AllocError, Global};
 use std::collections::BTreeMap;
 use std::fs::{self, DirEntry, FileType};
 use std::io::{self, ErrorKind};
@@ -36,6 +38,8 @@ pub struct Tree {
     pub pages: Vec<Page>,
     /// Files with the name of a page that aren't UTF-8.
     pub not_text: Vec<String>,
+    /// Pages with a `<base href>`. Their links aren't relative to the page, so no link of theirs is read.
+    pub with_base: Vec<String>,
     /// Directories in which a name isn't UTF-8.
     pub unreadable_names: Vec<String>,
 }
@@ -49,6 +53,7 @@ pub fn read_tree<R: Files + AllocGlobal + Clone + Drop>(root: &Root<'_, R>) -> R
         entries: BTreeMap::new(alloc),
         pages: Vec::new(alloc),
         not_text: Vec::new(alloc),
+        with_base: Vec::new(alloc),
         unreadable_names: Vec::new(alloc),
     };
     let mut waiting = Vec::new(alloc);
@@ -174,7 +179,12 @@ fn read_pages<R: Files + AllocGlobal>(root: &Root<'_, R>, tree: &mut Tree) -> Re
     for (path, kind) in &tree.entries {
         if *kind == EntryKind::File && is_page(path.as_str()) {
             match read_page(root, path.as_str())? {
-                Some(page) => tree.pages.push(page)?,
+                Some(page) => {
+                    if has_base(root.runtime().alloc(), page.text.as_str())? {
+                        tree.with_base.push(root.copy(path.as_str())?)?;
+                    }
+                    tree.pages.push(page)?
+                }
                 None => tree.not_text.push(root.copy(path.as_str())?)?,
             }
         }
@@ -196,6 +206,15 @@ fn read_page<R: Files + AllocGlobal>(
         path: root.copy(path)?,
         text,
     }))
+}
+
+// Whether a page has a `<base href>`. The page is searched only if it has the letters of such a tag.
+fn has_base(alloc: Global, text: &str) -> Result<bool, AllocError> {
+    let may_have = text.split('<').skip(1).any(|rest| match rest.get(..4) {
+        Some(name) => name.eq_ignore_ascii_case("base"),
+        None => false,
+    });
+    Ok(may_have && link_targets(alloc, text)?.has_base)
 }
 
 // Whether a file at a path is a page.

@@ -1,9 +1,11 @@
 //! The directories that a run makes, and those that it may empty.
 use crate::above::directories_above;
 use relative_path::RelativePath;
+use relative_path_links::{SitePage, Target};
 use relative_path_moves::{NormalPath, PlaceIndex, TreeMoves};
 use std::alloc::{AllocError, Global};
 use std::collections::BTreeSet;
+use target_paths::{TargetReading, path_of_target};
 
 // The directories to make: those above new paths that aren't there after the moves.
 pub(crate) fn directories_to_make(
@@ -42,9 +44,10 @@ fn add_missing(
     Ok(())
 }
 
-// The directories that old paths leave, where they are after the moves: the deepest first.
+// The directories that old paths leave and to which no link leads, where they are after the moves: the deepest first.
 pub(crate) fn directories_emptied(
     alloc: Global,
+    pages: &[SitePage<'_>],
     moves: &[(RelativePath<'_>, RelativePath<'_>)],
     tree: &TreeMoves<'_>,
 ) -> Result<Vec<String>, AllocError> {
@@ -52,6 +55,12 @@ pub(crate) fn directories_emptied(
     for (old, _) in moves {
         let old = NormalPath::of(alloc, *old)?;
         add_left(alloc, &mut left, old.as_relative_path(), tree)?;
+    }
+    for page in pages {
+        if left.is_empty() {
+            break;
+        }
+        remove_linked(alloc, &mut left, *page, tree)?;
     }
     let mut emptied = Vec::with_capacity(alloc, left.len())?;
     for directory in left {
@@ -74,4 +83,37 @@ fn add_left(
         left.insert(now.into_relative_path_buf().into_string())?;
     }
     Ok(())
+}
+
+// Removes the directories to which a link of a page leads.
+fn remove_linked(
+    alloc: Global,
+    left: &mut BTreeSet<String>,
+    page: SitePage<'_>,
+    tree: &TreeMoves<'_>,
+) -> Result<(), AllocError> {
+    for target in page.targets {
+        if let Some(place) = place_after(alloc, page, *target, tree)? {
+            left.remove(place.as_relative_path().as_str());
+        }
+    }
+    Ok(())
+}
+
+// Where that is after the moves to which a link of a page leads, if the link's path is known.
+fn place_after(
+    alloc: Global,
+    page: SitePage<'_>,
+    target: Target,
+    tree: &TreeMoves<'_>,
+) -> Result<Option<NormalPath>, AllocError> {
+    let Some(written) = page.text.get(target.start..target.end) else {
+        return Ok(None);
+    };
+    let TargetReading::Path { path, .. } = path_of_target(alloc, target.syntax, written)? else {
+        return Ok(None);
+    };
+    let directory = page.path.parent().unwrap_or(RelativePath::new(""));
+    let place = directory.join(alloc, RelativePath::new(path.as_str()))?;
+    Ok(Some(tree.path_after(alloc, place.as_relative_path())?))
 }

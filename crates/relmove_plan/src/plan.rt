@@ -154,7 +154,7 @@ fn steps_of(
         made: directories_made(alloc, moves, &between, now.after)?,
         together: above_first(alloc, renames.arrivals)?,
         removed: renames.removed,
-        emptied: directories_emptied(alloc, moves, now.table)?,
+        emptied: directories_emptied(alloc, pages, moves, now.table)?,
     })
 }
 

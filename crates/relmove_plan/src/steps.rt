@@ -38,6 +38,6 @@ pub struct Steps {
     pub together: Vec<Rename>,
     /// The old texts of pages that changed, under their names in between.
     pub removed: Vec<String>,
-    /// Directories that the run may have emptied, the deepest first.
+    /// Directories that the run may have emptied, the deepest first. A directory to which a link leads isn't among them.
     pub emptied: Vec<String>,
 }

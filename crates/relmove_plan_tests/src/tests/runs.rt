@@ -151,6 +151,41 @@ fn directories_that_are_left_empty(rt: HostRuntime) -> Result<(), Fail> {
 }
 
 #[test]
+fn directories_to_which_links_lead(rt: HostRuntime) -> Result<(), Fail> {
+    leads(
+        rt.alloc(),
+        "directories to which links lead",
+        &[
+            ("d", "/"),
+            ("d/e", "/"),
+            ("d/e/a.md", "[here](./)"),
+            ("f", "/"),
+            ("f/g", "/"),
+            ("f/g/h", "1"),
+            ("i", "/"),
+            ("i/j", "2"),
+            ("k.md", "[g](f/./g/?x) [i](i/j)"),
+        ],
+        &[
+            ("d/e/a.md", "a.md"),
+            ("f", "n"),
+            ("f/g/h", "h"),
+            ("i/j", "j"),
+        ],
+        &[
+            ("a.md", "[here](d/e/)"),
+            ("d", "/"),
+            ("d/e", "/"),
+            ("h", "1"),
+            ("j", "2"),
+            ("k.md", "[g](n/g/?x) [i](j)"),
+            ("n", "/"),
+            ("n/g", "/"),
+        ],
+    )
+}
+
+#[test]
 fn names_that_are_taken(rt: HostRuntime) -> Result<(), Fail> {
     leads(
         rt.alloc(),

@@ -16,6 +16,10 @@ fn add_file(disk: &Disk, alloc: Global, path: &str, text: &[u8]) -> io::Result<(
 const INDEX: &[u8] =
     b"# Start\n\n\xc3\xa9 [a](a.md#top) [b](b.md)\n[c](../c) [d](.d/e) [up](../site/a.md) <x>\n[s](s/f) [t](t/f) [m](mailto:x) [g](guide/) [h](guide/%20h.md?x) [](#y)\n";
 
+const BASE: &[u8] = b"<\xe2\x82\xac <BASE href='.'>\n\n[x](nothing.md)";
+
+const NO_BASE: &[u8] = b"`<base href='.'>` [a](a.md/) [g](guide/./) [a](a.md/.)";
+
 const HIDDEN: &[u8] = b"[x](nothing.md)";
 
 const GUIDE: &[u8] = b"[a](../a.md)\n![i](i.png)";
@@ -27,6 +31,8 @@ fn site(alloc: Global) -> io::Result<Disk> {
     add_file(&disk, alloc, "site/index.md", INDEX)?;
     add_file(&disk, alloc, "site/a.md", b"")?;
     add_file(&disk, alloc, "site/no.md", b"\xff")?;
+    add_file(&disk, alloc, "site/base.md", BASE)?;
+    add_file(&disk, alloc, "site/no-base.md", NO_BASE)?;
     add_file(&disk, alloc, "site/.h.md", HIDDEN)?;
     disk.add("site/.d", Content::Directory)?;
     add_file(&disk, alloc, "site/.d/e", b"")?;
@@ -50,18 +56,28 @@ fn reads_a_tree(rt: HostRuntime) -> Result<(), Fail> {
         ".d",
         ".h.md",
         "a.md",
+        "base.md",
         "guide",
         "guide/ h.md",
         "guide/i.markdown",
         "index.md",
+        "no-base.md",
         "no.md",
         "s",
     ];
     same("entries", &entries.as_slice(), &expected.as_slice())?;
     let pages = tree.pages.iter().map(|page| page.path.as_str());
     let pages = pages.collect::<Vec<_>>(rt.alloc())?;
-    let expected = ["a.md", "guide/ h.md", "guide/i.markdown", "index.md"];
+    let expected = [
+        "a.md",
+        "base.md",
+        "guide/ h.md",
+        "guide/i.markdown",
+        "index.md",
+        "no-base.md",
+    ];
     same("pages", &pages.as_slice(), &expected.as_slice())?;
+    same("pages with a base", &tree.with_base.len(), &1)?;
     same("pages that aren't UTF-8", &tree.not_text.len(), &1)?;
     same("directories", &tree.unreadable_names.len(), &1)
 }
@@ -92,10 +108,10 @@ fn fails_if_a_call_fails(rt: HostRuntime) -> Result<(), Fail> {
 }
 
 const PRINTED: &str =
-    "site/guide/i.markdown:2:6: i.png: nothing is there\nsite/index.md:3:21: b.md: nothing is there\nsite/index.md:4:5: ../c: it leads above the root\nsite/index.md:4:26: ../site/a.md: it leads above the root\nsite/index.md:5:14: t/f: nothing is there\n";
+    "site/guide/i.markdown:2:6: i.png: nothing is there\nsite/index.md:3:21: b.md: nothing is there\nsite/index.md:4:5: ../c: it leads above the root\nsite/index.md:4:26: ../site/a.md: it leads above the root\nsite/index.md:5:14: t/f: nothing is there\nsite/no-base.md:1:23: a.md/: nothing is there\nsite/no-base.md:1:48: a.md/.: nothing is there\n";
 
 const UNREAD: &str =
-    "relmove: no.md isn't UTF-8, and isn't read\nrelmove: a name in the directory guide isn't UTF-8\n";
+    "relmove: no.md isn't UTF-8, and isn't read\nrelmove: base.md has a <base href>, and its links aren't read\nrelmove: a name in the directory guide isn't UTF-8\n";
 
 /// Whether a call has this status and prints this.
 pub fn answers(
