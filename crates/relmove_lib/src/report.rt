@@ -30,15 +30,17 @@ output says what would be changed.
   --          what comes after it is no option
 
 Pages are the files below ROOT whose names end in .md or .markdown, and that are UTF-8. Pages with a name in their path
-that begins with a dot are neither read nor changed. Links in other files, such as HTML, aren't changed. Fragments aren't
-checked. Symbolic links aren't followed.
+that begins with a dot are neither read nor changed. Links are those of Markdown, and the attributes href and src of
+HTML in a page. The links of a page with a <base href> aren't read. Links in other files, such as HTML, aren't changed.
+Fragments aren't checked. Symbolic links aren't followed.
 
-A run with --write first writes the file ROOT/.relmove, its journal, and removes it at its end. If a run stops in the
-middle, every file is whole, and --resume or --undo ends the run. What isn't safe: a loss of power, and another program
-that puts a file where this one is about to.
+A directory that a run leaves empty is removed, unless a link of a page leads to it. A run with --write first writes
+the file ROOT/.relmove, its journal, and removes it at its end. If a run stops in the middle, every file is whole, and
+--resume or --undo ends the run. What isn't safe: a loss of power, and another program that puts a file where this one
+is about to.
 
-Exit status: 0 if all is done, 1 if a link is left that led to a file, or may have, or if a symbolic link moves or leads
-to what moves (with --check: if a link is dead), 2 if nothing was changed, 3 if a run stopped in the middle.
+Exit status: 0 if all is done, 1 if a link is left that led to a file, or may have, or if a symbolic link moves or
+leads to what moves (with --check: if a link is dead), 2 if nothing was changed, 3 if a run stopped in the middle.
 ";
 
 /// Prints a dead link: page, line, column and target.
