@@ -122,7 +122,9 @@ fn why_dead<R: Files + AllocGlobal>(
     }
     let file = file.as_relative_path().as_str();
     let is_there = match tree.entries.get(file) {
-        Some(kind) => *kind != EntryKind::File || !is_of_directory(path),
+        Some(EntryKind::File) => !is_of_directory(path),
+        Some(EntryKind::Directory) => true,
+        Some(EntryKind::Link(_)) => leads_somewhere(root, file)?,
         None => file.is_empty() || leads_somewhere(root, file)?,
     };
     Ok(if is_there {

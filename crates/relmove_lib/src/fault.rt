@@ -36,7 +36,7 @@ impl Call {
     // What the call does, in words.
     fn words(self) -> &'static str {
         match self {
-            Call::Ask => "ask for",
+            Call::Ask => "look up",
             Call::List => "list",
             Call::Read | Call::ReadLink => "read",
             Call::Create | Call::MakeDirectory => "make",
@@ -88,11 +88,15 @@ impl fmt::Display for Fault {
             Fault::Taken(path) => write!(f, "{path} is there already"),
             Fault::Missing(path) => write!(f, "{path} isn't there"),
             Fault::HasJournal => f.write_str(
-                "a run before this one didn't end: run relmove --resume or relmove --undo",
+                "a run before this one didn't end: call relmove --resume ROOT or relmove --undo ROOT",
             ),
             Fault::NoJournal => f.write_str("there is no run that didn't end"),
-            Fault::NotAJournal => f.write_str(".relmove isn't a journal of relmove"),
-            Fault::TooLate => f.write_str("everything is at its new path already"),
+            Fault::NotAJournal => f.write_str(
+                ".relmove isn't a journal of relmove: another program wrote or changed this file",
+            ),
+            Fault::TooLate => f.write_str(
+                "everything is at its new path already: call relmove --resume ROOT to end the run",
+            ),
         }
     }
 }

@@ -228,7 +228,7 @@ fn read_whole<R: Files + AllocGlobal + Clone + Drop, E: Write>(
         return Err(Fault::HasJournal);
     }
     let tree = read_tree(root)?;
-    print_unread(&tree, errors);
+    print_unread(root.path(), &tree, errors);
     Ok(tree)
 }
 
@@ -252,10 +252,7 @@ fn check<R: Files + AllocGlobal + Clone + Drop, O: Write, E: Write>(
             let outcome = print_links(root.runtime().alloc(), root.path(), json, &links, out);
             printed(outcome, status_of_links(&links), out)
         }
-        Err(fault) => {
-            let _ = writeln!(errors, "relmove: {fault}");
-            Status::Refused
-        }
+        Err(fault) => refuse(&root, &fault, errors),
     }
 }
 
@@ -278,7 +275,7 @@ fn found<R: Files + AllocGlobal + Clone + Drop, E: Write>(
 }
 
 // Prints what isn't read.
-fn print_unread<E: Write>(tree: &Tree, errors: &mut E) {
+fn print_unread<E: Write>(root: &str, tree: &Tree, errors: &mut E) {
     for path in &tree.not_text {
         let _ = writeln!(errors, "relmove: {path} isn't UTF-8, and isn't read");
     }
@@ -289,6 +286,7 @@ fn print_unread<E: Write>(tree: &Tree, errors: &mut E) {
         );
     }
     for path in &tree.unreadable_names {
+        let path = if path.is_empty() { root } else { path.as_str() };
         let _ = writeln!(
             errors,
             "relmove: a name in the directory {path} isn't UTF-8"

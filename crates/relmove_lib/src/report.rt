@@ -17,30 +17,34 @@ pub const USAGE: &str = "usage: relmove [--write] [--json] [--any-name] ROOT OLD
 
 /// The help of the program, after its usage.
 pub const HELP: &str = "
-Moves files and directories below the directory ROOT, and changes the links of the pages below ROOT, so that each link
-still leads to the file to which it led. OLD and NEW are relative to ROOT. Without --write nothing is changed, and the
-output says what would be changed.
+Moves files and directories below the directory ROOT, and changes the relative links of the pages below ROOT, so that
+each such link still leads to the file to which it led. OLD and NEW are paths below ROOT. NEW is the whole new path:
+nothing is moved into a directory NEW, and nothing that is there is replaced. Missing directories are made. Without
+--write nothing is changed, and the output says what would be changed.
 
   --write     move the files, and write the pages
   --json      print an object of JSON on each line
   --any-name  allow a NEW that isn't a plain name on every platform
-  --check     print each relative link of a page that leads to nothing below ROOT, or above ROOT
-  --resume    end a run that stopped
-  --undo      take back a run that stopped, as long as not everything is at its new path
-  --          what comes after it is no option
+  --check     print each relative link of a page that leads above ROOT, or to a path below ROOT where nothing is
+  --resume    end a run that stopped: the run goes on, or, if it was going back, it goes back
+  --undo      take back a run that stopped before everything was at its new path
+  --          the words after it are paths, also if they begin with -
 
 Pages are the files below ROOT whose names end in .md or .markdown, and that are UTF-8. Pages with a name in their path
 that begins with a dot are neither read nor changed. Links are those of Markdown, and the attributes href and src of
-HTML in a page. The links of a page with a <base href> aren't read. Links in other files, such as HTML, aren't changed.
-Fragments aren't checked. Symbolic links aren't followed.
+HTML in a page. The links of a page with a <base href> aren't read. A link that begins with a slash isn't relative, and
+isn't changed. Links in other files, such as HTML, aren't changed. Fragments aren't checked. Symbolic links aren't
+followed.
 
 A directory that a run leaves empty is removed, unless a link of a page leads to it. A run with --write first writes
-the file ROOT/.relmove, its journal, and removes it at its end. If a run stops in the middle, every file is whole, and
---resume or --undo ends the run. What isn't safe: a loss of power, and another program that puts a file where this one
-is about to.
+the file ROOT/.relmove, its journal. The run gives all that moves and all pages that change the names .relmove-1,
+.relmove-2 and so on, and then their new paths. At its end the run removes the journal. If a run stops in the middle,
+--resume or --undo ends this run, and no file is lost. Two things aren't safe: a loss of power, and another program
+that puts a file at a path to which relmove is about to rename a file.
 
 Exit status: 0 if all is done, 1 if a link is left that led to a file, or may have, or if a symbolic link moves or
-leads to what moves (with --check: if a link is dead), 2 if nothing was changed, 3 if a run stopped in the middle.
+leads to what moves (with --check: if a link is dead), 2 if the call was wrong or failed and nothing was changed, 3 if
+a run stopped in the middle.
 ";
 
 /// Prints a dead link: page, line, column and target.
@@ -96,35 +100,33 @@ pub fn print_end<W: Write>(out: &mut W, root: &str, ended: &Ended) -> io::Result
         ),
         Ended::Refused(fault) => writeln!(out, "relmove: {root}: {fault}"),
         Ended::Stopped { stage, fault } => {
-            let words = stage_words(*stage);
+            let (state, commands) = (state_at(*stage), commands_at(*stage));
             writeln!(
                 out,
-                "relmove: {root}: {fault}\nrelmove: stopped in the middle: {words}. No file is lost: {root}/.relmove lists the old path, the name in between and the new path of each."
+                "relmove: {root}: {fault}\nrelmove: stopped in the middle: {state}. Call relmove with {commands} and {root}.\nrelmove lost no file: the journal .relmove in {root} has the old paths, the names in between and the new paths."
             )
         }
     }
 }
 
-// How far a run is that stopped at a stage.
-fn stage_words(stage: Stage) -> &'static str {
+// Where everything is if a run stopped at a stage.
+fn state_at(stage: Stage) -> &'static str {
     match stage {
-        Stage::Returning => {
-            "everything was going back to its old path. Run relmove --undo to go on"
-        }
-        Stage::Parting => {
-            "some files have names in between. Run relmove --resume to go on, or relmove --undo"
-        }
-        Stage::Making => {
-            "all that moves has a name in between. Run relmove --resume to go on, or relmove --undo"
-        }
-        Stage::Joining => {
-            "some files are at their new paths. Run relmove --resume to go on, or relmove --undo"
-        }
-        Stage::Cleaning => {
-            "everything is at its new path, and old texts are left. Run relmove --resume to go on"
-        }
-        Stage::Unjoining => {
-            "everything was going back to names in between. Run relmove --undo to go on"
-        }
+        Stage::Returning => "everything is at its old path, or was going back there",
+        Stage::Parting => "some files have names in between",
+        Stage::Making => "all that moves has a name in between",
+        Stage::Joining => "some files are at their new paths",
+        Stage::Cleaning => "everything is at its new path, and what is left over was being removed",
+        Stage::Unjoining => "everything was going back to names in between",
+    }
+}
+
+// The commands that go on after a run stopped at a stage.
+fn commands_at(stage: Stage) -> &'static str {
+    match stage {
+        Stage::Returning | Stage::Unjoining => "--undo",
+        Stage::Parting | Stage::Making | Stage::Joining =>
+            "--resume to go on, or with --undo to go back,",
+        Stage::Cleaning => "--resume",
     }
 }

@@ -336,13 +336,13 @@ pub fn print_refused<W: Write>(
             errors,
             moves,
             *number,
-            "a path with a slash at its end is a directory's, and no directory moves",
+            "a path ends in a slash, and what moves is no directory",
         ),
         WhyRefused::DotDirectory(number) => print_move_refused(
             errors,
             moves,
             *number,
-            "directories whose names begin with a dot aren't read",
+            "a path is in a directory whose name begins with a dot; such directories aren't read",
         ),
         WhyRefused::Plan(refusal) => print_refusal(errors, root, tree, moves, *refusal),
     }

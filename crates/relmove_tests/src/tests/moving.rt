@@ -227,11 +227,11 @@ const REFUSED_PATHS: [(&[&str], &str); 7] = [
     ),
     (
         &["a.md", ".d/a.md"],
-        "relmove: a.md to .d/a.md: directories whose names begin with a dot aren't read\n",
+        "relmove: a.md to .d/a.md: a path is in a directory whose name begins with a dot; such directories aren't read\n",
     ),
     (
         &["b.md", "x.md", "a.md", "e/"],
-        "relmove: a.md to e/: a path with a slash at its end is a directory's, and no directory moves\n",
+        "relmove: a.md to e/: a path ends in a slash, and what moves is no directory\n",
     ),
 ];
 
@@ -293,14 +293,12 @@ fn refuses_a_name_that_is_not_utf_8(rt: HostRuntime) -> Result<(), Fail> {
 fn refuses_all_else_beside_a_journal(rt: HostRuntime) -> Result<(), Fail> {
     let places: &[Place] = &[("a.md", Some("aa")), (".relmove", Some("jj"))];
     let disk = disk_of(rt.alloc(), places)?;
-    let moved =
-        "relmove: site: a run before this one didn't end: run relmove --resume or relmove --undo\n";
+    let printed =
+        "relmove: site: a run before this one didn't end: call relmove --resume ROOT or relmove --undo ROOT\n";
     let words = ["--write", "site", "a.md", "b.md"];
-    answers(rt.alloc(), &disk, &words, (Status::Refused, "", moved))?;
-    answers(rt.alloc(), &disk, &words[1..], (Status::Refused, "", moved))?;
-    let checked =
-        "relmove: a run before this one didn't end: run relmove --resume or relmove --undo\n";
-    let expected = (Status::Refused, "", checked);
+    let expected = (Status::Refused, "", printed);
+    answers(rt.alloc(), &disk, &words, expected)?;
+    answers(rt.alloc(), &disk, &words[1..], expected)?;
     answers(rt.alloc(), &disk, &["--check", "site"], expected)?;
     holds(rt.alloc(), "the tree", &disk, places)
 }

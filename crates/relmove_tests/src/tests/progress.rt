@@ -1,10 +1,11 @@
-//! What a long call prints of its progress.
+//! What a long call prints of its progress, and a run that stopped.
 use crate::tests::cases::disk_of;
 use crate::tests::disk::Machine;
 use crate::tests::faults::holds;
 use crate::tests::moving::{MOVED_SITE, SITE, WRITE};
 use crate::tests::same;
-use relmove_lib::{Progress, Status, WithProgress, answer};
+use relmove_lib::report::print_end;
+use relmove_lib::{Ended, Fault, Progress, Stage, Status, WithProgress, answer};
 use std::test::Fail;
 
 // The call opens the two pages and the journal, and renames the journal. It opens two new texts and the journal, and
@@ -30,4 +31,48 @@ fn prints_progress_each_half_second(rt: HostRuntime) -> Result<(), Fail> {
     same("the status", &status, &Status::Kept)?;
     same("what was printed", &disk.has_printed(LINES)?, &true)?;
     holds(rt.alloc(), "the tree", &disk, MOVED_SITE)
+}
+
+const STOPS: [(Stage, &str); 6] = [
+    (
+        Stage::Returning,
+        "everything is at its old path, or was going back there. Call relmove with --undo and d/",
+    ),
+    (
+        Stage::Parting,
+        "some files have names in between. Call relmove with --resume to go on, or with --undo to go back, and d/",
+    ),
+    (
+        Stage::Making,
+        "all that moves has a name in between. Call relmove with --resume to go on, or with --undo to go back, and d/",
+    ),
+    (
+        Stage::Joining,
+        "some files are at their new paths. Call relmove with --resume to go on, or with --undo to go back, and d/",
+    ),
+    (
+        Stage::Cleaning,
+        "everything is at its new path, and what is left over was being removed. Call relmove with --resume and d/",
+    ),
+    (
+        Stage::Unjoining,
+        "everything was going back to names in between. Call relmove with --undo and d/",
+    ),
+];
+
+#[test]
+fn says_how_to_go_on(rt: HostRuntime) -> Result<(), Fail> {
+    for (stage, words) in &STOPS {
+        let stopped = Ended::Stopped {
+            stage: *stage,
+            fault: Fault::Missing(String::from_str(rt.alloc(), "a.md")?),
+        };
+        let mut out = Vec::new(rt.alloc());
+        print_end(&mut out, "d/", &stopped)?;
+        let expected = format!(in rt.alloc();
+            "relmove: d/: a.md isn't there\nrelmove: stopped in the middle: {words}.\nrelmove lost no file: the journal .relmove in d/ has the old paths, the names in between and the new paths.\n"
+        )?;
+        same("a stop", &out.as_slice(), &expected.as_str().as_bytes())?;
+    }
+    Ok(())
 }

@@ -18,7 +18,7 @@ const INDEX: &[u8] =
 
 const BASE: &[u8] = b"<\xe2\x82\xac <BASE href='.'>\n\n[x](nothing.md)";
 
-const NO_BASE: &[u8] = b"`<base href='.'>` [a](a.md/) [g](guide/./) [a](a.md/.)";
+const NO_BASE: &[u8] = b"`<base href='.'>` [a](a.md/) [g](guide/./) [a](a.md/.) [z](z)";
 
 const HIDDEN: &[u8] = b"[x](nothing.md)";
 
@@ -42,6 +42,8 @@ fn site(alloc: Global) -> io::Result<Disk> {
     add_file(&disk, alloc, "site/guide/i.markdown", GUIDE)?;
     add_file(&disk, alloc, "site/guide/NOT-UTF-8", b"")?;
     disk.add("site/s", Content::Link(String::from_str(alloc, "guide")?))?;
+    disk.add("site/z", Content::Link(String::from_str(alloc, "nowhere")?))?;
+    add_file(&disk, alloc, "site/NOT-UTF-8", b"")?;
     Ok(disk)
 }
 
@@ -64,6 +66,7 @@ fn reads_a_tree(rt: HostRuntime) -> Result<(), Fail> {
         "no-base.md",
         "no.md",
         "s",
+        "z",
     ];
     same("entries", &entries.as_slice(), &expected.as_slice())?;
     let pages = tree.pages.iter().map(|page| page.path.as_str());
@@ -79,7 +82,7 @@ fn reads_a_tree(rt: HostRuntime) -> Result<(), Fail> {
     same("pages", &pages.as_slice(), &expected.as_slice())?;
     same("pages with a base", &tree.with_base.len(), &1)?;
     same("pages that aren't UTF-8", &tree.not_text.len(), &1)?;
-    same("directories", &tree.unreadable_names.len(), &1)
+    same("directories", &tree.unreadable_names.len(), &2)
 }
 
 #[test]
@@ -108,10 +111,10 @@ fn fails_if_a_call_fails(rt: HostRuntime) -> Result<(), Fail> {
 }
 
 const PRINTED: &str =
-    "site/guide/i.markdown:2:6: i.png: nothing is there\nsite/index.md:3:21: b.md: nothing is there\nsite/index.md:4:5: ../c: it leads above the root\nsite/index.md:4:26: ../site/a.md: it leads above the root\nsite/index.md:5:14: t/f: nothing is there\nsite/no-base.md:1:23: a.md/: nothing is there\nsite/no-base.md:1:48: a.md/.: nothing is there\n";
+    "site/guide/i.markdown:2:6: i.png: nothing is there\nsite/index.md:3:21: b.md: nothing is there\nsite/index.md:4:5: ../c: it leads above the root\nsite/index.md:4:26: ../site/a.md: it leads above the root\nsite/index.md:5:14: t/f: nothing is there\nsite/no-base.md:1:23: a.md/: nothing is there\nsite/no-base.md:1:48: a.md/.: nothing is there\nsite/no-base.md:1:60: z: nothing is there\n";
 
 const UNREAD: &str =
-    "relmove: no.md isn't UTF-8, and isn't read\nrelmove: base.md has a <base href>, and its links aren't read\nrelmove: a name in the directory guide isn't UTF-8\n";
+    "relmove: no.md isn't UTF-8, and isn't read\nrelmove: base.md has a <base href>, and its links aren't read\nrelmove: a name in the directory site isn't UTF-8\nrelmove: a name in the directory guide isn't UTF-8\n";
 
 /// Whether a call has this status and prints this.
 pub fn answers(
