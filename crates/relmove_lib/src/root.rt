@@ -2,7 +2,7 @@
 use crate::fault::{Call, Fault, at};
 use std::alloc::AllocError;
 use std::fs::{self, File, OpenFile};
-use std::io::{ErrorKind, Write};
+use std::io::{self, ErrorKind, Write};
 use std::rt::Files;
 
 /// The journal's path from the root.
@@ -118,17 +118,22 @@ impl<'a, R: Files + AllocGlobal> Root<'a, R> {
         at(alloc, Call::Sync, path, file.sync_all())
     }
 
-    // Writes a journal whole to a file of its own, syncs it, and puts it in the place of the one before.
-    pub(crate) fn write_journal(&self, text: &str) -> Result<(), Fault> {
+    // Writes a journal whole to a file of its own, and syncs it.
+    pub(crate) fn write_new_journal(&self, text: &str) -> Result<(), Fault> {
         let alloc = self.runtime.alloc();
-        let (full_new, full) = (self.full(NEW_JOURNAL)?, self.full(JOURNAL)?);
-        let created = File::create(self.runtime, full_new.as_str());
+        let created = File::create(self.runtime, self.full(NEW_JOURNAL)?.as_str());
         let mut file = at(alloc, Call::Create, NEW_JOURNAL, created)?;
         let written = file.write_all(text.as_bytes());
         at(alloc, Call::Write, NEW_JOURNAL, written)?;
-        at(alloc, Call::Sync, NEW_JOURNAL, file.sync_all())?;
+        at(alloc, Call::Sync, NEW_JOURNAL, file.sync_all())
+    }
+
+    // Puts the new journal in the place of the one before. Notes whether a journal may be there.
+    pub(crate) fn put_journal(&self, may_be_there: &mut bool) -> Result<(), Fault> {
+        let (full_new, full) = (self.full(NEW_JOURNAL)?, self.full(JOURNAL)?);
         let renamed = fs::rename(self.runtime, full_new.as_str(), full.as_str());
-        at(alloc, Call::Rename, NEW_JOURNAL, renamed)
+        *may_be_there = *may_be_there || !ran_out_of_memory(&renamed);
+        at(self.runtime.alloc(), Call::Rename, NEW_JOURNAL, renamed)
     }
 
     // Whether the root has a journal.
@@ -153,6 +158,14 @@ impl<'a, R: Files + AllocGlobal> Root<'a, R> {
     pub(crate) fn remove_journal(&self) -> Result<(), Fault> {
         self.remove_new_journal()?;
         self.remove_file(JOURNAL)
+    }
+}
+
+// Whether a call failed for lack of memory. Such a call has done nothing.
+fn ran_out_of_memory(outcome: &io::Result<()>) -> bool {
+    match outcome {
+        Ok(()) => false,
+        Err(error) => error.kind() == ErrorKind::OutOfMemory,
     }
 }
 

@@ -94,7 +94,7 @@ fn prepared<R: Files + AllocGlobal>(
         return Err(Fault::HasJournal);
     }
     let (texts, work) = parts_of(root.runtime().alloc(), steps)?;
-    let worker = Worker::new(root, work, Stage::Returning);
+    let worker = Worker::new(root, work);
     worker.need_names()?;
     Ok((texts, worker))
 }
@@ -136,8 +136,8 @@ fn turned_back<R: Files + AllocGlobal>(mut worker: Worker<'_, R>, fault: Fault) 
 // Takes back what was done, if the journal says so or isn't there. This needs no room on the disk.
 fn taken_back<R: Files + AllocGlobal>(mut worker: Worker<'_, R>, fault: Fault) -> Ended {
     match worker.go_back() {
-        Ok(()) => Ended::Refused(fault),
-        Err(_) => stopped(&worker, fault),
+        Err(_) if worker.may_have_journal() => stopped(&worker, fault),
+        _ => Ended::Refused(fault),
     }
 }
 
@@ -157,7 +157,7 @@ fn open<R: Files + AllocGlobal>(root: Root<'_, R>) -> Result<Worker<'_, R>, Faul
     }
     let text = root.read_journal()?;
     let Journal { stage, work } = journal_of(root.runtime().alloc(), text.as_str())?;
-    Ok(Worker::new(root, work, stage))
+    Ok(Worker::at(root, work, stage))
 }
 
 // Goes on to the end.

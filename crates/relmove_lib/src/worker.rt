@@ -11,12 +11,33 @@ pub(crate) struct Worker<'a, R> {
     root: Root<'a, R>,
     work: Work,
     stage: Stage,
+    may_have_journal: bool,
 }
 
 impl<'a, R: Files + AllocGlobal> Worker<'a, R> {
-    // A run that is at this stage.
-    pub(crate) fn new(root: Root<'a, R>, work: Work, stage: Stage) -> Worker<'a, R> {
-        Worker { root, work, stage }
+    // A run that begins: it has no journal yet.
+    pub(crate) fn new(root: Root<'a, R>, work: Work) -> Worker<'a, R> {
+        Worker {
+            root,
+            work,
+            stage: Stage::Returning,
+            may_have_journal: false,
+        }
+    }
+
+    // A run whose journal says that it is at this stage.
+    pub(crate) fn at(root: Root<'a, R>, work: Work, stage: Stage) -> Worker<'a, R> {
+        Worker {
+            root,
+            work,
+            stage,
+            may_have_journal: true,
+        }
+    }
+
+    // Whether the root may have the run's journal. If it hasn't, the run has changed nothing.
+    pub(crate) fn may_have_journal(&self) -> bool {
+        self.may_have_journal
     }
 
     // How far the run is.
@@ -28,7 +49,8 @@ impl<'a, R: Files + AllocGlobal> Worker<'a, R> {
     // either stage.
     pub(crate) fn enter(&mut self, stage: Stage) -> Result<(), Fault> {
         let text = journal_text(self.root.runtime().alloc(), stage, &self.work)?;
-        self.root.write_journal(text.as_str())?;
+        self.root.write_new_journal(text.as_str())?;
+        self.root.put_journal(&mut self.may_have_journal)?;
         self.stage = stage;
         Ok(())
     }

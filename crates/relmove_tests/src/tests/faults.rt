@@ -109,13 +109,25 @@ fn survives(alloc: Global, case: &Case, number: u32, way: Way) -> Result<(), Fai
     match end {
         End::Done => holds(alloc, "done", &disk, case.after),
         End::TakenBack => same("a run", &end, &End::Done),
-        End::Refused => holds(alloc, "refused", &disk, case.before),
+        End::Refused => {
+            if way == Way::Killed || way == Way::DoneAndKilled {
+                forgets_new_journal(&disk)?;
+            }
+            holds(alloc, "refused", &disk, case.before)
+        }
         End::Stopped(_) => {
             can_be_resumed(alloc, case, &disk)?;
             let (_, disk) = failed(alloc, case, number, way)?;
             can_be_undone(alloc, case, &disk)
         }
     }
+}
+
+// A run that could do nothing more may leave a journal that isn't in its place. `resume` removes it.
+fn forgets_new_journal(disk: &Disk) -> Result<(), Fail> {
+    let ended = resume(Root::new(&Machine(disk), "site"));
+    let is_forgotten = matches!(&ended, Ended::Refused(Fault::NoJournal));
+    same("no journal", &is_forgotten, &true)
 }
 
 // Whether `resume` gives the tree after the moves. If the new texts weren't all written, it gives the tree before them.
