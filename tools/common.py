@@ -1,12 +1,14 @@
 """What the scripts of this folder share."""
 
 import html.parser
+import itertools
 import pathlib
 import re
 import shutil
 import signal
 import subprocess
 import sys
+import tempfile
 
 ROOT = pathlib.Path(__file__).resolve().parent.parent
 CRATES = ROOT / "crates"
@@ -280,3 +282,51 @@ def linked(tag, attributes):
     if tag == "base" and first.get("href") is not None:
         return []
     return [first[it] for it in ("href", "src") if first.get(it)]
+
+
+class Run:
+    """What a program did while requests for memory were refused."""
+
+    def __init__(self, refuser, words, refuse="", marked=False, stdout=subprocess.PIPE, **streams):
+        with tempfile.TemporaryFile() as trace:
+            environment = {"LD_PRELOAD": refuser, "REFUSE": refuse, "REFUSE_TELLS": str(trace.fileno())}
+            if marked:
+                environment["REFUSE_MARKED"] = "yes"
+            streams = {**(streams or {"stdin": subprocess.DEVNULL}), "stdout": stdout, "stderr": subprocess.PIPE}
+            ran = subprocess.run(
+                words, env=environment, pass_fds=[trace.fileno()], timeout=60, check=False, **streams,
+            )
+            trace.seek(0)
+            # `.24` for 24 bytes that were granted, `x24` where they were refused, then `=1` or `!0`
+            # for a call that answered, or that was refused memory, and the blocks that it holds
+            self.trace = trace.read().decode()
+        self.status, self.stdout, self.stderr = ran.returncode, ran.stdout, ran.stderr
+
+    def is_like(self, pattern):
+        return self.status == 0 and re.fullmatch(pattern, self.trace)
+
+
+def build_refuser(folder):
+    """The library that refuses, built by the compiler that comes with `rt`."""
+    page = subprocess.run(["rt", "doc"], capture_output=True, text=True, check=True).stdout.strip()
+    refuser = f"{folder}/refuse.so"
+    words = [pathlib.Path(page).parent / "toolchain/bin/clang", "-O1", "-Wall", "-Wextra", "-Werror"]
+    words += ["-shared", "-fPIC", "-ffreestanding", "-nostdlib", "-fuse-ld=lld"]
+    subprocess.run([*words, "-o", refuser, ROOT / "tools/refuse.c"], check=True)
+    return refuser
+
+
+def each_refusal(number):
+    """Each request up to this number, and whether all after it are refused too."""
+    return itertools.product(range(1, number + 1), [False, True])
+
+
+def named(n, and_on):
+    """How the refuser is told of a refusal."""
+    return f"{n}.." if and_on else f"{n}"
+
+
+def told(ran):
+    """A program's status and last words."""
+    words = (ran.stdout or b"") + ran.stderr
+    return f"status {ran.status}, {words.decode(errors='replace').strip()[-300:]!r}"
