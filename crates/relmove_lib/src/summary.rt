@@ -94,14 +94,7 @@ pub fn print_moving<W: Write>(
     for link in &moving.left {
         print_left_link(out, root, link)?;
     }
-    // Both lists are in the order of the tree.
-    let mut paths = tree.entries.keys().enumerate();
-    for notice in &moving.plan.links {
-        if let Some((_, path)) = paths.find(|(number, _)| *number == notice.entry) {
-            print_notice(out, root, path.as_str(), *notice)?;
-        }
-    }
-    Ok(())
+    print_notices(out, root, tree, &moving.plan.links)
 }
 
 // Prints a page that changes: its path, its path before the moves if that is another, and how many links change.
@@ -163,6 +156,26 @@ fn why_unknown(why: WhyUnknown) -> &'static str {
     }
 }
 
+// Prints the symbolic links that move, or that lead to what moves. They are in the order of the tree.
+fn print_notices<W: Write>(
+    out: &mut W,
+    root: &str,
+    tree: &Tree,
+    notices: &[LinkNotice],
+) -> io::Result<()> {
+    let mut rest = notices.iter();
+    let mut next = rest.next();
+    for (number, (path, _)) in tree.entries.iter().enumerate() {
+        if let Some(notice) = next
+            && notice.entry == number
+        {
+            print_notice(out, root, path.as_str(), *notice)?;
+            next = rest.next();
+        }
+    }
+    Ok(())
+}
+
 // Prints a symbolic link that moves, or that leads to what moves.
 fn print_notice<W: Write>(
     out: &mut W,
@@ -208,14 +221,7 @@ pub fn print_moving_as_json<W: Write>(
     for link in &moving.left {
         print_left_link_as_json(alloc, out, link)?;
     }
-    // Both lists are in the order of the tree.
-    let mut paths = tree.entries.keys().enumerate();
-    for notice in &moving.plan.links {
-        if let Some((_, path)) = paths.find(|(number, _)| *number == notice.entry) {
-            print_notice_as_json(alloc, out, path.as_str(), *notice)?;
-        }
-    }
-    Ok(())
+    print_notices_as_json(alloc, out, tree, &moving.plan.links)
 }
 
 // Prints a link that changes.
@@ -256,6 +262,26 @@ fn print_left_link_as_json<W: Write>(
     })?;
     let text = object.to_string(alloc)?;
     writeln!(out, "{text}")
+}
+
+// Prints the symbolic links that move, or that lead to what moves. They are in the order of the tree.
+fn print_notices_as_json<W: Write>(
+    alloc: Global,
+    out: &mut W,
+    tree: &Tree,
+    notices: &[LinkNotice],
+) -> io::Result<()> {
+    let mut rest = notices.iter();
+    let mut next = rest.next();
+    for (number, (path, _)) in tree.entries.iter().enumerate() {
+        if let Some(notice) = next
+            && notice.entry == number
+        {
+            print_notice_as_json(alloc, out, path.as_str(), *notice)?;
+            next = rest.next();
+        }
+    }
+    Ok(())
 }
 
 // Prints a symbolic link that moves, or that leads to what moves.
