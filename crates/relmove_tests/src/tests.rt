@@ -10,7 +10,6 @@ mod journal;
 mod moving;
 mod progress;
 mod reading;
-mod refusals;
 
 // Fails in the words of this case where another value was found than is expected. A call of it costs
 // a proof a fourth of what `assert_eq!` with a message does.

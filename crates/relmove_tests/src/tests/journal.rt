@@ -5,8 +5,8 @@ use relmove_plan::Rename;
 use std::alloc::{AllocError, Global};
 use std::test::Fail;
 
-/// Work with each kind of step, and paths with all that is escaped.
-pub fn work(alloc: Global) -> Result<Work, AllocError> {
+// Work with each kind of step, and paths with all that is escaped.
+fn work(alloc: Global) -> Result<Work, AllocError> {
     let text = |text: &str| String::from_str(alloc, text);
     Ok(Work {
         texts: vec![in alloc; text(".relmove-2-a b.md")?, text("d/é\\n")?]?,
@@ -28,8 +28,7 @@ pub fn work(alloc: Global) -> Result<Work, AllocError> {
     })
 }
 
-/// The journal of this work at the stage `parting`.
-pub const TEXT: &str =
+const TEXT: &str =
     "relmove journal 1\nstage\tparting\ntext\t.relmove-2-a b.md\ntext\td/é\\\\n\napart\ta\\tb\\nc\\\\\t.relmove-1\nmade\t\r\ntogether\t.relmove-1\t\\\\t/\\\\\\\\n\nremoved\tend\nemptied\t \nemptied\ta/b\nend\n";
 
 #[test]

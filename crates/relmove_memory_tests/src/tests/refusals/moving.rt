@@ -1,0 +1,72 @@
+//! What moves do to a tree.
+use super::marks::{begin, end};
+use crate::tests::same;
+use relmove_lib::{EntryKind, Page, Root, Tree, changed_links_of, is_directory, moving_of};
+use std::alloc::{AllocError, Global};
+use std::collections::BTreeMap;
+use std::test::Fail;
+
+// A tree with a page that links to another one.
+fn tree(alloc: Global) -> Result<Tree, AllocError> {
+    let text = |text: &str| String::from_str(alloc, text);
+    let mut entries = BTreeMap::new(alloc);
+    entries.insert(text("a.md")?, EntryKind::File)?;
+    entries.insert(text("d")?, EntryKind::Directory)?;
+    entries.insert(text("d/b.md")?, EntryKind::File)?;
+    let pages = vec![in alloc;
+        Page {
+            path: text("a.md")?,
+            text: text("[b](d/b.md#b)")?
+        },
+        Page {
+            path: text("d/b.md")?,
+            text: text("[b](b.md)")?
+        },
+    ]?;
+    Ok(Tree {
+        entries,
+        pages,
+        not_text: Vec::new(alloc),
+        with_base: Vec::new(alloc),
+        unreadable_names: Vec::new(alloc),
+    })
+}
+
+// Requests: 0 = 0
+#[test]
+fn a_directory(rt: HostRuntime) -> Result<(), Fail> {
+    let tree = tree(rt.alloc())?;
+    begin(rt.alloc());
+    let answer = is_directory(rt.alloc(), &tree, "./d/");
+    end(rt.alloc(), answer.is_err())?;
+    match answer {
+        Ok(is_there) => same("a directory", &is_there, &true),
+        Err(_) => Ok(()),
+    }
+}
+
+// Requests: 0 = 1
+#[test]
+fn links_that_change(rt: HostRuntime) -> Result<(), Fail> {
+    let tree = tree(rt.alloc())?;
+    let moves = [("d/b.md", "e/c.md")];
+    // No link stays, so no file is asked for.
+    let Ok(moving) = moving_of(&Root::new(&rt, "."), &tree, &moves, false) else {
+        return Err(Fail::new("the moves are refused"));
+    };
+    begin(rt.alloc());
+    let answer = changed_links_of(rt.alloc(), &tree, &moves, &moving);
+    end(rt.alloc(), answer.is_err())?;
+    match answer {
+        Ok(links) => {
+            let news = links.iter().map(|link| link.new.as_str());
+            let news = news.collect::<Vec<_>>(rt.alloc())?;
+            same(
+                "new targets",
+                &news.as_slice(),
+                &["e/c.md#b", "c.md"].as_slice(),
+            )
+        }
+        Err(_) => Ok(()),
+    }
+}
