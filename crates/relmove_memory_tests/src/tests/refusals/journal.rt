@@ -53,8 +53,9 @@ fn the_journal_of_a_text(rt: HostRuntime) -> Result<(), Fail> {
     let answer = journal_of(rt.alloc(), TEXT);
     let is_refused = matches!(&answer, Err(Fault::OutOfMemory));
     end(rt.alloc(), is_refused)?;
-    match answer {
-        Ok(journal) => same("the work", &journal.work, &expected),
-        Err(_) => same("a fault", &is_refused, &true),
-    }
+    let is_read = match &answer {
+        Ok(journal) => journal.work == expected,
+        Err(_) => is_refused,
+    };
+    same("the work", &is_read, &true)
 }
