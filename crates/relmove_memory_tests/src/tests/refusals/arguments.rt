@@ -19,7 +19,7 @@ fn has_root(alloc: Global, words: &[&str]) -> Result<(), Fail> {
     }
 }
 
-// Requests: 0 = 0
+// Requests: 64 64 = 0, 64 64 128 = 1
 #[test]
 fn arguments(rt: HostRuntime) -> Result<(), Fail> {
     has_root(rt.alloc(), &["--check", "docs"])?;

@@ -32,7 +32,7 @@ fn work(alloc: Global) -> Result<Work, AllocError> {
     })
 }
 
-// Requests: 0 = 1
+// Requests: 17 34 68 136 = 1
 #[test]
 fn the_text_of_a_journal(rt: HostRuntime) -> Result<(), Fail> {
     let work = work(rt.alloc())?;
@@ -45,7 +45,7 @@ fn the_text_of_a_journal(rt: HostRuntime) -> Result<(), Fail> {
     }
 }
 
-// Requests: 0 = 1
+// Requests: 8 8 16 192 8 16 8 192 = 6
 #[test]
 fn the_journal_of_a_text(rt: HostRuntime) -> Result<(), Fail> {
     let expected = work(rt.alloc())?;

@@ -5,7 +5,7 @@ use relmove_lib::{DeadLink, Position, WhyDead};
 use std::io;
 use std::test::Fail;
 
-// Requests: 0 = 0
+// Requests: 4 4 848 4 6 4 6 16 3 128 = 0
 #[test]
 fn a_dead_link(rt: HostRuntime) -> Result<(), Fail> {
     let link = DeadLink {
