@@ -197,10 +197,11 @@ impl<'a> MoveTable<'a> {
     /// signs: a percent sign is a byte of a name. For the targets of the links of a page call `rewrite_links`
     /// of the crate `relative_path_links`.
     ///
-    /// Returns `None` if the reference, as it is written, still leads from the page's new directory to
-    /// its target. Otherwise the result is the path that [`MoveTable::moved`] describes. So a caller that
-    /// rewrites a page changes only the references that the moves broke. In a page that stays, these are
-    /// the references to files that moved.
+    /// Fails with `AboveRoot` if the target is above the root, also if the reference still leads there. For
+    /// any other target, returns `None` if the reference, as it is written, still leads from the page's new
+    /// directory to its target. Otherwise the result is the path that [`MoveTable::moved`] describes. So a
+    /// caller that rewrites a page changes only the references that the moves broke. In a page that stays,
+    /// these are the references to files that moved.
     ///
     /// The call allocates the page's normal form, and what `join_normalized`, `join`, `leads_apart` and
     /// `try_relative` do.

@@ -41,10 +41,11 @@ impl Progress {
     }
 }
 
-/// A runtime that leaves all work to another one. It counts the files that are opened and renamed, and each half second
-/// it prints the two numbers on standard error.
+/// A runtime that passes the library's calls on to another one. It counts the files that are opened and renamed. While
+/// that goes on, it prints the two numbers on standard error each half second.
 ///
-/// Nothing is printed if the clock can't be read. A line that can't be printed is left out.
+/// It passes on only the calls that this library makes. Each other call fails with `Unsupported`. Nothing is printed if
+/// the clock can't be read. A line that can't be printed is left out.
 #[derive(Clone, Copy)]
 pub struct WithProgress<'a, R> {
     runtime: &'a R,
