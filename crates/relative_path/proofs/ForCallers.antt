@@ -11,7 +11,7 @@ use Rattle.relative_path.specs.Normalizing.{AreNames, IsNormal, IsNormalForm, Is
 use Rattle.relative_path.specs.Slices.{IsShortestPrefix, IsFront}
 use Rattle.relative_path.specs.Editing.{kept, pushed, unslashed}
 use Rattle.relative_path.specs.Naming.{last_name}
-use Rattle.relative_path.specs.Relating.{Leads, IsReachable, IsShortestText}
+use Rattle.relative_path.specs.Relating.{Leads, IsReachable, IsShortest, IsShortestText}
 use Rattle.relative_path.specs.Unix.{has_root}
 use Rattle.relative_path.proofs.ListsLemmas as lists
 use Rattle.relative_path.proofs.StepsLemmas as steps
@@ -131,6 +131,12 @@ IsReachable-climb = relating.IsReachable-climb
 pub IsShortestText-same : {f g t u : List Step} {text : List ℕ} → IsSame f g → IsSame t u → IsShortestText f t text
     → IsShortestText g u text
 IsShortestText-same from to way = relating.IsShortestText-same _ _ _ _ _ (IsSame-sym from) (IsSame-sym to) way
+
+-- from names to names that begin with the same front, and then with different names: the shortest way is `..` for each
+-- name after the front, and then the other names after it
+pub IsShortest-apart : (front ms ns : List (List ℕ)) → ((n : List ℕ) (ms' ns' : List (List ℕ)) → ms ≡ n ∷ ms' → ns ≡ n ∷ ns' → ⊥)
+    → IsShortest (map name (front ++ ms)) (replicate (length ms) up ++ map name ns) (map name (front ++ ns))
+IsShortest-apart = relating.IsShortest-apart
 
 -- ---- normal lists
 

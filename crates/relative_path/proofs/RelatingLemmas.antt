@@ -113,6 +113,21 @@ way-common (m ∷ ms) (n ∷ ns) = elim (cases_Bool (bytes_eq m n)) [
       rw (cond-false (bytes_eq m n) _ _ e, cond-false (bytes_eq m n) _ _ e) (ap (λ k. ups_then_names k (n ∷ ns)) whole)
 ]
 
+-- names that both places begin with change nothing
+way-append : (front ms ns : List (List ℕ)) → way (front ++ ms) (front ++ ns) ≡ way ms ns
+way-append [] ms ns = refl
+way-append (n ∷ front) ms ns = cond-true (bytes_eq n n) _ _ (bytes_eq-same n) ∙ way-append front ms ns
+
+-- if the places begin with different names, the way goes all the way up, and then down
+way-apart : (ms ns : List (List ℕ)) → ((n : List ℕ) (ms' ns' : List (List ℕ)) → ms ≡ n ∷ ms' → ns ≡ n ∷ ns' → ⊥)
+    → way ms ns ≡ ups_then_names (length ms) ns
+way-apart [] ns apart = refl
+way-apart (m ∷ ms) [] apart = sym (append-nil (replicate (suc (length ms)) up))
+way-apart (m ∷ ms) (n ∷ ns) apart = elim (cases_Bool (bytes_eq m n)) [
+  | inl e ↦ absurd (apart n ms ns (ap (λ x. x ∷ ms) ((bytes_eq-Decides m n).0 e)) refl)
+  | inr e ↦ cond-false (bytes_eq m n) _ _ e
+]
+
 -- a name that differs from the first of these
 abbrev other_name : List (List ℕ) → List ℕ
 other_name [] = []
@@ -368,6 +383,13 @@ pub IsShortest-common : (ups : ℕ) (ms ns : List (List ℕ)) → let common = c
     IsShortest (ups_then_names ups ms) (ups_then_names (length ms - common) (drop common ns)) (ups_then_names ups ns)
 IsShortest-common ups ms ns =
     subst (λ r. IsShortest (ups_then_names ups ms) r (ups_then_names ups ns)) (way-common ms ns) (IsShortest-level ups ms ns)
+
+-- from names to names that begin with the same front, and then with different names
+pub IsShortest-apart : (front ms ns : List (List ℕ)) → ((n : List ℕ) (ms' ns' : List (List ℕ)) → ms ≡ n ∷ ms' → ns ≡ n ∷ ns' → ⊥)
+    → IsShortest (map name (front ++ ms)) (replicate (length ms) up ++ map name ns) (map name (front ++ ns))
+IsShortest-apart front ms ns apart =
+    subst (λ r. IsShortest (map name (front ++ ms)) r (map name (front ++ ns)))
+    (way-append front ms ns ∙ way-apart ms ns apart) (IsShortest-level 0 (front ++ ms) (front ++ ns))
 
 -- two normal lists that differ lead apart at the lower of their climbs
 pub LeadsApart-lower : (ups more : ℕ) (ms ns : List (List ℕ)) → (ups ≡ more → ms ≢ ns)

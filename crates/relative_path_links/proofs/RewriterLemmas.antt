@@ -1,15 +1,16 @@
 -- The targets of a page, moved one after another.
-use Rattle.std.proofs.Common.{◌≡◌, ℕ, List, [], ◌∷◌, ◌++◌, length, drop, None, Some, Result, Ok, Err, IfErr, IsErrAnd, inl, inr, refl, sym, ap, ◌∙◌, subst, append_assoc, append-nil}
+use Rattle.std.proofs.Common.{◌≡◌, ℕ, List, [], ◌∷◌, ◌++◌, length, None, Some, Result, Ok, Err, IfErr, IsErrAnd, inl, inr, refl, sym, ap, ◌∙◌, subst, append_assoc, append-nil}
 use Rattle.std.specs.List.{AllZip, between}
 use Rattle.target_paths.specs.declared.target.TargetReading.{TargetReading}
 use Rattle.target_paths.specs.declared.target.TargetReading.TheVariants.{NotRelative, Path, Unknown}
 use Rattle.target_paths.specs.declared.target.TargetSyntax.{TargetSyntax}
-use Rattle.target_paths.specs.Reading.{Meaning, not_relative, path_before, unknown, meaning, Says, IsTail, IfPath}
+use Rattle.target_paths.specs.Reading.{Meaning, not_relative, path_before, unknown, meaning, Says, IfPath}
+use Rattle.target_paths.specs.Writing.{path_written, target_of, IsTakenAs}
 use Rattle.relative_path_links.specs.declared.target.Target.{Target}
 use Rattle.relative_path_links.specs.declared.rewriter.RewriteError.{RewriteError}
 use Rattle.relative_path_links.specs.declared.rewriter.RewriteError.TheVariants as error
 use Rattle.relative_path_links.specs.declared.rewriter.Unchanged.{Unchanged}
-use Rattle.relative_path_links.specs.Rewriter.{Moving, StillLeads, StaysUnchanged, Part, BecomesPart, Becomes, IsWritten, IsUnchangedPath, IsUnchangedTarget, with_parts, unchanged_of, reported, IsRewritten}
+use Rattle.relative_path_links.specs.Rewriter.{Moving, StillLeads, StaysUnchanged, Part, BecomesPart, Becomes, IsNewTarget, IsUnchangedPath, IsUnchangedTarget, with_parts, unchanged_of, reported, IsRewritten}
 
 -- what holds of an error holds of the error of a result that has it
 pub IfErr-error : {T E : Type 0} (result : Result T E) (error : E) (P : E → Type 0) → IsErrAnd result (λ other. other ≡ error)
@@ -46,15 +47,16 @@ module _ (m : Moving) (syntax : TargetSyntax) (target path : List ℕ) (tail_at 
     IsUnchangedTarget-path (error.Unchanged why) stays = BecomesPart-unchanged why stays
     IsUnchangedTarget-path error.OutOfMemory stays = tt
 
-    -- what is written for the new path, and the tail after it
-    pub BecomesPart-moved : (text : List ℕ) → IsWritten m path text → IsTail syntax (drop tail_at target)
-        → BecomesPart m syntax target (record { text = text ++ drop tail_at target; unchanged = None })
-    BecomesPart-moved text is tail = rw means (inr (record {
-      new = is.new;
-      is_new = is.is_new;
-      whole = ap (λ text. text ++ drop tail_at target) is.written;
-      read = ap (λ text. meaning syntax (text ++ drop tail_at target)) is.written ∙ is.taken syntax (drop tail_at target) tail;
-    }))
+-- what is written for the new path, and the tail after it
+pub BecomesPart-moved : (m : Moving) (syntax : TargetSyntax) (target new tail : List ℕ) → IsNewTarget m syntax target new tail
+    → IsTakenAs (target_of new) (path_before (path_written new) (length (target_of new)))
+    → BecomesPart m syntax target (record { text = target_of new ++ tail; unchanged = None })
+BecomesPart-moved m syntax target new tail is taken = rw is.means (inr (record {
+  new = new;
+  is_new = is.to_write.is_new;
+  whole = ap (λ tail. target_of new ++ tail) is.tail_is;
+  read = taken syntax tail is.is_tail;
+}))
 
 -- ---- all targets
 

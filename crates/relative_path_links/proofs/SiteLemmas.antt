@@ -1,5 +1,5 @@
 -- Links read again after the moves, and the same page by other lists for the same directories.
-use Rattle.std.proofs.Common.{◌≡◌, ◌≢◌, ◌⊎◌, ◌≤◌, ℕ, Bool, true, false, List, [], ◌∷◌, ◌++◌, length, drop, take, Option, None, Some, MatchOption, inl, inr, refl, sym, ap, ◌∙◌, subst, arith, append_assoc, append-nil, take-append-drop, string_bytes}
+use Rattle.std.proofs.Common.{◌≡◌, ◌⊎◌, ◌≤◌, ℕ, false, List, [], ◌∷◌, ◌++◌, length, drop, take, Option, None, Some, MatchOption, inl, inr, refl, sym, ap, ◌∙◌, subst, arith, append_assoc, append-nil, take-append-drop, string_bytes}
 use Rattle.std.proofs.Math.Seq.{drop-append_seam}
 use Rattle.std.proofs.lemmas.Bool.{cond_both}
 use Rattle.std.proofs.lemmas.List.{drop-append-le, length-take-le}
@@ -10,12 +10,12 @@ use Rattle.relative_path.specs.Walk.{IsSame, place_of}
 use Rattle.relative_path.specs.Unix.{has_root}
 use Rattle.relative_path.specs.Normalizing.{IsNormalTextOf}
 use Rattle.relative_path.specs.RelativePath.{path_components}
-use Rattle.relative_path.specs.Relating.{Leads, IsReachable, IsShortestText}
+use Rattle.relative_path.specs.Relating.{Leads}
 use Rattle.relative_path.proofs.ForCallers.{IsSame-refl, IsSame-sym, IsSame-trans, IsSame-append_left, IsSame-append_right, IsReachable-same, IsShortestText-same, Leads-same, SpellThemselves-components, has_root-spell, components-trailing_slash}
 use Rattle.relative_path.proofs.OnLiterals.{relative_path_on_literals}
 use Rattle.relative_path_moves.specs.Places.{directory}
 use Rattle.relative_path_moves.specs.declared.tree_moves.MovedPage.{MovedPage}
-use Rattle.relative_path_moves.specs.Moves.{Move, ClimbsAbove, BelowTop}
+use Rattle.relative_path_moves.specs.Moves.{Move, BelowTop}
 use Rattle.relative_path_moves.specs.TreeMoves.{IsLeftInPlace, AtTreePath}
 use Rattle.relative_path_moves.proofs.ForCallers.{AtTreePath-same}
 use Rattle.target_paths.specs.declared.target.TargetSyntax.{TargetSyntax}
@@ -27,8 +27,8 @@ use Rattle.relative_path_links.specs.declared.rewriter.Unchanged.TheVariants.{Ab
 use Rattle.relative_path_links.specs.declared.site.MovedSitePage.{MovedSitePage}
 use Rattle.relative_path_links.specs.declared.site.SitePage.{SitePage}
 use Rattle.relative_path_links.specs.Targets.{target_text, HasTargets}
-use Rattle.relative_path_links.specs.Rewriter.{Moving, moving, AtFile, StillLeads, AtLostFile, with_slash, IsNewPath, StaysUnchanged, Part, IsMovedTarget, unknown_report, BecomesBy, Becomes, with_parts, unchanged_of, IsRewritten}
-use Rattle.relative_path_links.specs.Site.{LeadsOn, KeepsLinkBy, KeepsLink, StaysInPlace, StayInPlace, NothingMoves, KeepsLinks, moved_to, ForMovedPage, AreRewritten, KeepTheirLinks, HaveTargets}
+use Rattle.relative_path_links.specs.Rewriter.{Moving, moving, AtFile, StillLeads, AtLostFile, with_slash, IsNewPath, StaysUnchanged, Part, IsMovedTarget, unknown_report, BecomesBy, Becomes, with_parts, IsRewritten}
+use Rattle.relative_path_links.specs.Site.{LeadsOn, KeepsLinkBy, KeepsLink, StaysInPlace, StayInPlace, KeepsLinks, moved_to, ForMovedPage, AreRewritten, KeepTheirLinks, HaveTargets}
 
 MatchOption-map : {T A C : Type 0} {B D : T → Type 0} (found : Option T) → (A → C) → ((x : T) → B x → D x)
     → MatchOption found A B → MatchOption found C D

@@ -1,6 +1,5 @@
 -- Targets in order in a page.
-use Rattle.std.proofs.Common.{◌≡◌, ℕ, List, [], ◌∷◌, map, Result, Ok, Err, IfOk}
-use Rattle.markdown_targets.specs.declared.span.Span.{Span}
+use Rattle.std.proofs.Common.{ℕ, List, [], ◌∷◌, map, Result, Ok, Err, IfOk}
 use Rattle.markdown_targets.specs.Spans.{AreInOrder}
 use Rattle.relative_path_links.specs.declared.target.Target.{Target}
 use Rattle.relative_path_links.specs.Targets.{HasTargets, span_of}

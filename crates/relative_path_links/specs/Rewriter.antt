@@ -1,5 +1,5 @@
 -- What becomes of the targets of a page when files move, and of the page.
-use Rattle.std.specs.Prelude.{◌≡◌, ◌⊎◌, ℕ, Bool, true, ◌==◌, ◌&&◌, not, List, [], ◌∷◌, ◌++◌, length, drop, Option, None, Some, MatchOption, if◌then◌else◌, ⊤}
+use Rattle.std.specs.Prelude.{◌≡◌, ◌⊎◌, ℕ, true, false, ◌&&◌, not, List, [], ◌∷◌, ◌++◌, length, drop, Option, None, Some, MatchOption, if◌then◌else◌, ⊤}
 use Rattle.std.specs.List.{AllZip, list_any, between}
 use Rattle.relative_path.specs.Steps.{Step, slash, components}
 use Rattle.relative_path.specs.Relating.{Leads, IsReachable, IsShortestText}
@@ -8,8 +8,8 @@ use Rattle.relative_path_moves.specs.TreeMoves.{AtTreeTarget}
 use Rattle.relative_path_moves.specs.declared.tree_moves.MovedPage.{MovedPage}
 use Rattle.target_paths.specs.declared.target.TargetSyntax.{TargetSyntax}
 use Rattle.target_paths.specs.declared.target.WhyUnknown.{WhyUnknown}
-use Rattle.target_paths.specs.Reading.{Meaning, not_relative, path_before, unknown, meaning}
-use Rattle.target_paths.specs.Writing.{is_nul, path_written, target_of, IsTakenAs}
+use Rattle.target_paths.specs.Reading.{Meaning, not_relative, path_before, unknown, meaning, IsTail}
+use Rattle.target_paths.specs.Writing.{is_nul, path_written, target_of}
 use Rattle.relative_path_links.specs.UrlPath.{ends_in_slash}
 use Rattle.relative_path_links.specs.Targets.{target_text}
 use Rattle.relative_path_links.specs.declared.target.Target.{Target}
@@ -101,20 +101,24 @@ abbrev pub reported : ℕ → Option Unchanged → List (ℕ × Unchanged)
 reported start None = []
 reported start (Some why) = (start, why) ∷ []
 
--- the text is what is written for a new path in place of this one, and each reader takes it as the new path
-pub record IsWritten (m : Moving) (path text : List ℕ) : Type 0 where
-  pub new : List ℕ
+-- the path to write in place of this one: the new path, which has no NUL
+pub record IsPathToWrite (m : Moving) (path new : List ℕ) : Type 0 where
   pub is_new : IsNewPath m path new
-  pub written : text ≡ target_of new
-  pub taken : IsTakenAs (target_of new) (path_before (path_written new) (length (target_of new)))
+  pub no_nul : list_any is_nul new ≡ false
 
 -- the target stays, and isn't reported
 abbrev pub KeepsTarget : Moving → TargetSyntax → List ℕ → Type 0
 KeepsTarget m syntax target = BecomesPart m syntax target (record { text = target; unchanged = None })
 
--- the target becomes this text
-abbrev pub IsNewTarget : Moving → TargetSyntax → List ℕ → List ℕ → Type 0
-IsNewTarget m syntax target text = BecomesPart m syntax target (record { text = text; unchanged = None })
+-- the target is read as a path, this is the path to write in its place, and this is the target from its query or fragment
+-- on
+pub record IsNewTarget (m : Moving) (syntax : TargetSyntax) (target new tail : List ℕ) : Type 0 where
+  pub path : List ℕ
+  pub tail_at : ℕ
+  pub means : meaning syntax target ≡ path_before path tail_at
+  pub to_write : IsPathToWrite m path new
+  pub tail_is : tail ≡ drop tail_at target
+  pub is_tail : IsTail syntax tail
 
 -- why a target has no new text: it stays and is reported; a failed allocation says nothing of the target
 abbrev pub IsUnchangedTarget : Moving → TargetSyntax → List ℕ → RewriteError → Type 0

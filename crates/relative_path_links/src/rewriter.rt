@@ -6,10 +6,10 @@ ghost use Rattle.relative_path_links.specs.Targets.{HasTargets};
 ghost use Rattle.relative_path_links.specs.Rewriter.{
   BecomesPart,
   IsNewTarget,
+  IsPathToWrite,
   IsRewritten,
   IsUnchangedPath,
   IsUnchangedTarget,
-  IsWritten,
   KeepsTarget,
   moving,
   Part,
@@ -22,7 +22,7 @@ use crate::target::Target;
 use relative_path::RelativePath;
 use relative_path_moves::{MovedPage, ReferenceError, TreeMoves};
 use std::alloc::{AllocError, Global};
-use target_paths::{TargetReading, TargetSyntax, WhyUnknown, path_of_target, target_of_path};
+use target_paths::{TargetReading, TargetSyntax, WhyUnknown, path_of_target, push_target_of_path};
 
 /// Why [`rewrite_links`] reports a target and leaves it as it is.
 #[derive(Clone, Copy, Debug, PartialEq, Eq)]
@@ -45,6 +45,13 @@ pub struct RewrittenPage {
     /// The targets that stay unchanged although they no longer lead to their file, or may not: the offset of
     /// the target in the page before the moves, and the reason.
     pub unchanged: Vec<(usize, Unchanged)>,
+}
+
+// What is written in place of a target: a new path, and after it the old query and fragment.
+#[derive(Drop)]
+struct NewTarget<'t> {
+    path: String,
+    tail: &'t str,
 }
 
 // Why a target has no new text.
@@ -77,8 +84,8 @@ impl From<AllocError> for RewriteError {
 /// meaning isn't known stays too. It is reported if the table has a move, since it may lead to what moved.
 ///
 /// Allocates the text, at first as many bytes as the page has, and the list of unchanged targets. For each
-/// target it allocates what [`path_of_target`] and [`TreeMoves::moved_in`] do, and the new target, if there is
-/// one. The only error is lack of memory.
+/// target it allocates at most six times: what [`path_of_target`] and [`TreeMoves::moved_in`] do. The only
+/// error is lack of memory.
 ///
 /// ```
 /// let moves = [("a.md", "docs/a.md"), ("my b.md", "docs/more/b.md")]
@@ -154,7 +161,8 @@ fn push_target(
 {
     match new_target(alloc, syntax, target, tree, moved) {
         Ok(Some(new)) => {
-            text.push_str(&new)?;
+            push_target_of_path(text, &new.path)?;
+            text.push_str(new.tail)?;
             Ok(None)
         }
         Ok(None) => {
@@ -170,26 +178,26 @@ fn push_target(
 }
 
 // What to write in place of a target. `None` if the target stays and isn't reported.
-fn new_target(
+fn new_target<'t>(
     alloc: Global,
     syntax: TargetSyntax,
-    target: &str,
+    target: &'t str,
     tree: &TreeMoves<'_>,
     moved: &MovedPage,
-) -> Result<Option<String>, RewriteError>
+) -> Result<Option<NewTarget<'t>>, RewriteError>
     ensures new { IfOk result (λ new. MatchOption new
         (KeepsTarget (moving tree.now moved.now) syntax target.now)
-        (λ new. IsNewTarget (moving tree.now moved.now) syntax target.now (string_bytes new))) }
+        (λ new. IsNewTarget (moving tree.now moved.now) syntax target.now (string_bytes new.path) new.tail.now)) }
     ensures unchanged { IfErr result (IsUnchangedTarget (moving tree.now moved.now) syntax target.now) }
 {
     match path_of_target(alloc, syntax, target)? {
         TargetReading::NotRelative => Ok(None),
         TargetReading::Path { path, tail_at } => {
-            let Some(mut new) = new_path(alloc, &path, tree, moved)? else {
+            let Some(new) = new_path(alloc, &path, tree, moved)? else {
                 return Ok(None);
             };
-            new.push_str(&target[tail_at..])?;
-            Ok(Some(new))
+            let tail = &target[tail_at..];
+            Ok(Some(NewTarget { path: new, tail }))
         }
         TargetReading::Unknown(why) => match tree.len() {
             0 => Ok(None),
@@ -198,7 +206,7 @@ fn new_target(
     }
 }
 
-// What to write in place of a path. `None` if the path still leads to its file.
+// The path to write in place of a path. `None` if the path still leads to its file.
 fn new_path(
     alloc: Global,
     path: &str,
@@ -206,7 +214,7 @@ fn new_path(
     moved: &MovedPage,
 ) -> Result<Option<String>, RewriteError>
     ensures new { IfOk result (λ new. MatchOption new (StillLeads (moving tree.now moved.now) path.now)
-        (λ new. IsWritten (moving tree.now moved.now) path.now (string_bytes new))) }
+        (λ new. IsPathToWrite (moving tree.now moved.now) path.now (string_bytes new))) }
     ensures unchanged { IfErr result (IsUnchangedPath (moving tree.now moved.now) path.now) }
 {
     let way = match tree.moved_in(alloc, moved, RelativePath::new(path)) {
@@ -220,7 +228,7 @@ fn new_path(
     if has_nul(&new) {
         return Err(RewriteError::Unchanged(Unchanged::Nul));
     }
-    Ok(Some(target_of_path(alloc, &new)?))
+    Ok(Some(new))
 }
 
 // The way, with a slash at its end if the path has one.

@@ -3,7 +3,7 @@ use Rattle.std.proofs.Common.{◌≡◌, ◌≢◌, ◌↔◌, ℕ, ◌<◌, ◌
 use Rattle.std.proofs.lemmas.Bool.{cases_lt, cases_order}
 use Rattle.std.proofs.lemmas.List.{append_cancel_left, get_or-map, get_or_append_left, get_or_push, length-append, length-map, map-append, take_more}
 use lib.Dec.{eqb}
-use Rattle.relative_path.specs.Steps.{Step, cur, up, name, components}
+use Rattle.relative_path.specs.Steps.{Step, name, components}
 use Rattle.relative_path.specs.Walk.{walk, IsSame, LeadsBelow, StaysBelow}
 use Rattle.relative_path.specs.Slices.{IsFront}
 use Rattle.relative_path.specs.Normalizing.{AreNames, IsNormal, IsNormalText, IsNormalTextOf}
@@ -20,6 +20,7 @@ use Rattle.relative_path_moves.proofs.NormalPathLemmas.{AreNames-names, normal_u
 use Rattle.relative_path_moves.proofs.FrontTextLemmas.{IsNormal-append_names}
 use Rattle.relative_path_moves.proofs.LeadingLemmas.{last_name_of}
 use Rattle.relative_path_moves.proofs.TreeMovesLemmas.{AreNames-map, IsTreeTarget-only}
+use Rattle.relative_path_moves.proofs.WayLemmas.{AreNames-front}
 use Rattle.relative_path_moves.proofs.LeastLemmas.{IsLeast-iff, IsLeast-below, IsLeast-lesser, IsFoundPair-iff}
 
 -- ---- lists that stay below others
@@ -256,12 +257,6 @@ IsOtherFrom-next paths passed cs text front n least new result over normal last 
     ])
     (IsLeast-lesser (IsOtherFrom paths passed cs (length (components text)))
     (IsOtherAt paths passed (components front)) least new result lesser is is_new)
-
-AreNames-front : (cs ds : List Step) → AreNames (cs ++ ds) → AreNames cs
-AreNames-front [] ds names = tt
-AreNames-front (cur ∷ cs) ds names = absurd names
-AreNames-front (up ∷ cs) ds names = absurd names
-AreNames-front (name n ∷ cs) ds names = AreNames-front cs ds names
 
 -- of two lists that become equal with names after them, the longer ends in a name
 ends_in_name : (cs front : List Step) (under ns : List (List ℕ)) → cs ++ map name under ≡ front ++ map name ns

@@ -1,4 +1,4 @@
--- A normal text onto which names are pushed, one after another.
+-- A text onto which components are pushed, one after another.
 use Rattle.std.proofs.Common.{◌≡◌, ℕ, List, [], ◌∷◌, ◌++◌, refl, sym, ap, ◌∙◌, subst, append_assoc, append-nil}
 use Rattle.relative_path.specs.Steps.{Step, cur, up, name, components, spell, step_text, SpellsItself, SpellThemselves}
 use Rattle.relative_path.specs.Editing.{pushed}
@@ -12,14 +12,16 @@ pub record IsFrontText (cs : List Step) (text : List ℕ) (left : List Step) : T
   pub split : components text ++ left ≡ cs
 
 -- a push onto the empty text gives the text that is pushed
-pub IsFrontText-start : (front empty text : List ℕ) (names : List Step) → IsNormalText front → empty ≡ []
-    → text ≡ pushed empty front → IsFrontText (components front ++ names) text names
-IsFrontText-start front empty text names normal none pushes =
-    let whole : text ≡ front =
+pub pushed-empty : (empty front text : List ℕ) → IsNormalText front → empty ≡ [] → text ≡ pushed empty front → text ≡ front
+pushed-empty empty front text normal none pushes =
     pushes ∙ ap (λ text. pushed text front) none
     ∙ subst (λ text. pushed [] text ≡ text) (sym normal.spelled)
-    (unslashed-spell (components front) (SpellThemselves-components front)) in
-    rw whole (record { spelled = normal.spelled; split = refl })
+    (unslashed-spell (components front) (SpellThemselves-components front))
+
+-- nothing is pushed yet
+pub IsFrontText-start : (text : List ℕ) (left : List Step) → text ≡ spell (components text)
+    → IsFrontText (components text ++ left) text left
+IsFrontText-start text left spelled = record { spelled = spelled; split = refl }
 
 -- the components after a push
 components-next : (text : List ℕ) (c : Step) → SpellsItself c
@@ -27,16 +29,28 @@ components-next : (text : List ℕ) (c : Step) → SpellsItself c
 components-next text c alone = components-pushed text (step_text c) ∙ ap (λ cs. components text ++ cs) alone
 
 -- the next component is pushed
-pub IsFrontText-next : (cs : List Step) (text next left rest : List ℕ) (c : Step) → IsFrontText cs text (components left)
-    → components left ≡ c ∷ components rest → next ≡ pushed text (step_text c) → IsFrontText cs next (components rest)
-IsFrontText-next cs text next left rest c front is pushes =
-    let alone : SpellsItself c = (subst SpellThemselves is (SpellThemselves-components left)).0 in
+pub IsFrontText-push : (cs : List Step) (text next : List ℕ) (c : Step) (left rest : List Step) → IsFrontText cs text left
+    → left ≡ c ∷ rest → SpellsItself c → next ≡ pushed text (step_text c) → IsFrontText cs next rest
+IsFrontText-push cs text next c left rest front is alone pushes =
     let comps = components-next text c alone in
     rw pushes (record {
       spelled = spell-pushed text c front.spelled alone ∙ ap spell (sym comps);
-      split = ap (λ ds. ds ++ components rest) comps ∙ append_assoc (components text) (c ∷ []) (components rest)
+      split = ap (λ ds. ds ++ rest) comps ∙ append_assoc (components text) (c ∷ []) rest
           ∙ ap (λ ds. components text ++ ds) (sym is) ∙ front.split;
     })
+
+-- the next component of another text is pushed
+pub IsFrontText-next : (cs : List Step) (text next left rest : List ℕ) (c : Step) → IsFrontText cs text (components left)
+    → components left ≡ c ∷ components rest → next ≡ pushed text (step_text c) → IsFrontText cs next (components rest)
+IsFrontText-next cs text next left rest c front is =
+    IsFrontText-push cs text next c (components left) (components rest) front is
+    (subst SpellThemselves is (SpellThemselves-components left)).0
+
+-- all components are pushed
+pub IsFrontText-all : (cs : List Step) (text : List ℕ) (left : List Step) → IsFrontText cs text left → left ≡ []
+    → components text ≡ cs
+IsFrontText-all cs text left front none =
+    sym (append-nil (components text)) ∙ ap (λ ds. components text ++ ds) (sym none) ∙ front.split
 
 AreNames-append : (cs ds : List Step) → AreNames cs → AreNames ds → AreNames (cs ++ ds)
 AreNames-append [] ds names more = more
@@ -57,15 +71,13 @@ IsNormal-append_names (cur ∷ cs) ds normal names = absurd normal
 IsNormal-append_names (up ∷ cs) ds normal names = IsNormal-append_names cs ds normal names
 IsNormal-append_names (name n ∷ cs) ds normal names = AreNames-append cs ds normal names
 
--- all names are pushed
-pub IsFrontText-end : (front text : List ℕ) (names left : List Step) → IsNormalText front → AreNames names
-    → IsFrontText (components front ++ names) text left → left ≡ []
+-- names after a normal text
+pub IsNormalTextOf-names : (front text : List ℕ) (names : List Step) → IsNormalText front → AreNames names
+    → text ≡ spell (components text) → components text ≡ components front ++ names
     → IsNormalTextOf (components front ++ names) text
-IsFrontText-end front text names left normal are is none =
-    let all : components text ≡ components front ++ names =
-    sym (append-nil (components text)) ∙ ap (λ ds. components text ++ ds) (sym none) ∙ is.split in
+IsNormalTextOf-names front text names normal are spelled all =
     IsNormalTextOf-same (components front ++ names) text
     (record {
-      spelled = is.spelled;
+      spelled = spelled;
       normal = subst IsNormal (sym all) (IsNormal-append_names (components front) names normal.normal are);
     }) (rw all (IsSame-refl (components front ++ names)))

@@ -6,6 +6,7 @@ mod PairsLemmas
 mod MoveTableLemmas
 mod ReferenceLemmas
 mod FrontTextLemmas
+mod WayLemmas
 mod LeadingLemmas
 mod TreeMovesLemmas
 mod LeastLemmas

@@ -6,3 +6,4 @@ pub mod MoveTable
 pub mod TreeMoves
 pub mod Collisions
 pub mod Reference
+pub mod Ways

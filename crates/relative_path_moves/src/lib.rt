@@ -8,7 +8,7 @@
 //! paths that collide, ways to a target    collisions  leading
 //! paths by the places they lead to        place_index
 //! a path that is known to be normal       normal_path
-//! places, errors                          places  move_error
+//! places, errors, shortest paths          places  move_error  way
 //! ```
 #![tactic(auto)]
 
@@ -29,3 +29,4 @@ mod place_index;
 mod places;
 mod reference;
 mod tree_moves;
+mod way;

@@ -12,6 +12,7 @@ ghost use Rattle.relative_path.specs.RelativePath.{path_text, path_components};
 ghost use Rattle.relative_path_moves.specs.Places.{directory};
 
 use crate::places::directory;
+use crate::way::push_components;
 use relative_path::{RelativePath, RelativePathBuf};
 use std::alloc::{AllocError, Global};
 use std::fmt;
@@ -108,9 +109,7 @@ impl NormalPath {
         let room = room.saturating_add(names.as_str().len());
         let mut path = RelativePathBuf::with_capacity(alloc, room)?;
         path.push(front)?;
-        for name in names.components() {
-            path.push(name.as_relative_path())?;
-        }
+        push_components(&mut path, names)?;
         Ok(NormalPath { path })
     }
 

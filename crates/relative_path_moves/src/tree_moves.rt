@@ -27,6 +27,7 @@ use crate::move_error::{MoveTableError, ReferenceError};
 use crate::move_table::{MoveTable, new_paths};
 use crate::normal_path::NormalPath;
 use crate::places::directory;
+use crate::way::way_between;
 use relative_path::{RelativePath, RelativePathBuf};
 use std::alloc::{AllocError, Global};
 use std::marker::Model;
@@ -211,9 +212,9 @@ impl<'a> TreeMoves<'a> {
     /// where the target climbs above the root, and with [`ReferenceError::NoPath`] where no path leads from
     /// the page's new directory to the target.
     ///
-    /// Allocates at most six times: what `join_normalized` does, the target if a move takes it along, and
-    /// what `try_relative` does if the reference doesn't stay. It fails with `OutOfMemory` only if one of
-    /// these allocations fails.
+    /// Allocates at most four times: what `join_normalized` does, the target if a move takes it along, and
+    /// the result, with room for one more byte. It fails with `OutOfMemory` only if one of these allocations
+    /// fails.
     ///
     /// ```
     /// let moves = [(RelativePath::new("docs"), RelativePath::new("guide"))];
@@ -395,9 +396,13 @@ fn link_from(
     if !target.has_place() {
         return Err(ReferenceError::AboveRoot);
     }
-    let (from, to) = (directory.as_relative_path(), target.as_relative_path());
-    match from.try_relative(alloc, to)? {
-        Some(way) => Ok(Some(way)),
-        None => Err(ReferenceError::NoPath),
+    if !directory.has_place() {
+        return Err(ReferenceError::NoPath);
     }
+    let way = way_between(
+        alloc,
+        directory.as_relative_path(),
+        target.as_relative_path(),
+    )?;
+    Ok(Some(way))
 }

@@ -11,7 +11,7 @@
 
 pub use self::reading::path_of_target;
 pub use self::target::{TargetReading, TargetSyntax, WhyUnknown};
-pub use self::writing::target_of_path;
+pub use self::writing::{push_target_of_path, target_of_path};
 
 mod mark;
 mod piece;

@@ -50,8 +50,8 @@ struct PathPart {
 /// A reference to 0, to a surrogate or past U+10FFFF is read as U+FFFD. The meaning is also unknown if the path
 /// has `%2F` or `%00`, or if the decoded path isn't UTF-8. [`WhyUnknown`] has the reasons.
 ///
-/// Allocates as many bytes as the target has, and for a path as many bytes as were read before the tail. Time is
-/// linear.
+/// Allocates once, or twice for a path: as many bytes as the target has, and two more for each NUL; and then as many
+/// bytes as were read before the tail. Time is linear.
 ///
 /// ```
 /// let reading = path_of_target(alloc, TargetSyntax::Markdown, "my%20a\\_b.md?q#top")?;
@@ -125,7 +125,7 @@ fn read_path(alloc: Global, syntax: TargetSyntax, target: &[u8]) -> Result<PathP
     ensures tail { IfOk result (λ _. HasTail syntax target.now) }
     ensures err { IfErr result (SaysWhy (joined (path_pieces syntax target.now))) }
 {
-    let mut bytes = Vec::with_capacity(alloc, target.len())?;
+    let mut bytes = Vec::with_capacity(alloc, room_for(target))?;
     let mut left = target;
     while let [first, rest @ ..] = left {
         let piece = source_piece(syntax, *first, rest);
@@ -138,6 +138,12 @@ fn read_path(alloc: Global, syntax: TargetSyntax, target: &[u8]) -> Result<PathP
     }
     let tail_at = target.len();
     Ok(PathPart { bytes, tail_at })
+}
+
+// How many bytes a target is read as at most. A NUL, which is one byte, is read as U+FFFD, which has three.
+fn room_for(target: &[u8]) -> usize {
+    let nuls = target.iter().filter(|byte| **byte == 0).count();
+    target.len().saturating_add(nuls.saturating_mul(2))
 }
 
 // Whether a piece that is read as these bytes begins a query or a fragment.

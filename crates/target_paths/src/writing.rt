@@ -42,17 +42,16 @@ fn push_percent(target: &mut String, byte: u8) -> Result<(), AllocError>
     target.push(hexadecimal(byte % 16))
 }
 
-// The target that spells a path.
-fn spelled(alloc: Global, path: &str) -> Result<String, AllocError>
-    ensures { IfOk result (λ target. string_bytes target ≡ spelled path.now) }
+// Adds the target that spells a path.
+fn push_spelled(target: &mut String, path: &str) -> Result<(), AllocError>
+    ensures { IfOk result (λ _. string_bytes target.new ≡ string_bytes target.old ++ spelled path.now) }
 {
-    let mut target = String::with_capacity(alloc, path.len())?;
     let mut place = Place::start_of(path);
     for character in path.chars() {
-        push_character(&mut target, place, character)?;
+        push_character(target, place, character)?;
         place = place.after(character);
     }
-    Ok(target)
+    Ok(())
 }
 
 // Adds what is written for a character.
@@ -115,5 +114,26 @@ pub fn target_of_path(alloc: Global, path: &str) -> Result<String, AllocError>
     ensures start { IfOk result (λ target. begins_template (string_bytes target) ≡ false) }
     ensures block { IfOk result (λ target. begins_block (string_bytes target) ≡ false) }
 {
-    spelled(alloc, path_written(path))
+    let mut target = String::with_capacity(alloc, path.len())?;
+    push_target_of_path(&mut target, path)?;
+    Ok(target)
+}
+
+/// Appends to a text what [`target_of_path`] returns for a path.
+///
+/// Allocates only if the text's capacity is too small. If the call fails, the text may have a part of the target at
+/// its end. Time is linear in the path.
+///
+/// ```
+/// let mut text = String::from_str(alloc, "[b](")?;
+/// push_target_of_path(&mut text, "my b.md")?;
+/// assert_eq!(rt; text.as_str(), "[b](my%20b.md");
+/// ```
+pub fn push_target_of_path(text: &mut String, path: &str) -> Result<(), AllocError>
+    ensures text { IfOk result
+        (λ _. string_bytes text.new ≡ string_bytes text.old ++ target_of path.now) }
+    ensures read { list_any is_nul path.now ≡ false
+        → IsTakenAs (target_of path.now) (path_before (path_written path.now) (length (target_of path.now))) }
+{
+    push_spelled(text, path_written(path))
 }

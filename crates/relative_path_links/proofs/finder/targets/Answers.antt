@@ -1,5 +1,5 @@
 -- The targets have the spans that were found.
-use Rattle.std.proofs.Common.{◌≡◌, map, subst, sym, ◌∙◌, ap}
+use Rattle.std.proofs.Common.{map, subst, sym, ◌∙◌, ap}
 use Rattle.markdown_targets.specs.Spans.{AreInOrder}
 use Rattle.relative_path_links.proofs.TargetsLemmas.{IfOk-all, HasTargets-spans}
 use Rattle.relative_path_links.proofs.finder.targets.Goals as goal

@@ -1,5 +1,5 @@
 -- The path that the table returns, with a slash at its end if the old path has one, is written as a target.
-use Rattle.std.proofs.Common.{◌≡◌, ◌∙◌, false, is_some, Err, ap, sym, string_bytes}
+use Rattle.std.proofs.Common.{◌∙◌, is_some, Err, ap, sym, string_bytes}
 use Rattle.std.specs.List.{list_any}
 use Rattle.target_paths.specs.Writing.{is_nul}
 use Rattle.relative_path_links.specs.Rewriter.{IsNewPath, moving}
@@ -35,11 +35,6 @@ returns-then-has_nul-clause-unchanged c = (
 
 pub returns-clause-new : goal.returns-clause-new
 returns-clause-new c = record {
-  new = c.deref-2.result.now;
-  is_new = rw c.deref-2.ensures (is_new (goal.at.returns-clause-new c).In_ok-new);
-  written = c.in_ok-target_of_path.ensures.text;
-  taken = rw c.in_ok-target_of_path.ensures.text at (c.in_ok-target_of_path.ensures.read no_nul);
-} where
-  no_nul : list_any is_nul c.deref-2.result.now ≡ false
-  no_nul =
-      ap (list_any is_nul) (c.deref-2.ensures ∙ sym c.deref.ensures) ∙ sym c.has_nul.ensures ∙ c.if-has_nul.false
+  is_new = is_new (goal.at.returns-clause-new c).In_ok-new;
+  no_nul = ap (list_any is_nul) (sym c.deref.ensures) ∙ sym c.has_nul.ensures ∙ c.if-has_nul.false;
+}

@@ -1,8 +1,8 @@
 -- A target that is read as a path stays, moves, or stays for a reason.
-use Rattle.std.proofs.Common.{◌≡◌, ◌++◌, ◌∙◌, ap, sym, subst, string_bytes}
+use Rattle.std.proofs.Common.{◌≡◌, string_bytes}
 use Rattle.target_paths.specs.Reading.{meaning, path_before}
-use Rattle.relative_path_links.specs.Rewriter.{moving, IsNewTarget}
-use Rattle.relative_path_links.proofs.RewriterLemmas.{IfErr-error, Says-path, BecomesPart-kept, IsUnchangedTarget-path, BecomesPart-moved}
+use Rattle.relative_path_links.specs.Rewriter.{moving}
+use Rattle.relative_path_links.proofs.RewriterLemmas.{IfErr-error, Says-path, BecomesPart-kept, IsUnchangedTarget-path}
 use Rattle.relative_path_links.proofs.rewriter.new_target.Goals as goal
 use Rattle.relative_path_links.proofs.rewriter.new_target.Goals.{In-Path}
 
@@ -25,13 +25,3 @@ returns-in_default-clause-new c =
     BecomesPart-kept (moving c.args.tree.now c.args.moved.now) c.args.syntax c.args.target.now (string_bytes c.in-Path.path)
     c.in-Path.tail_at (means (goal.at.returns-in_default-clause-new c).In-Path)
     (rw (c.in_default.is, c.deref.ensures) at c.in_ok-new-in-Path.ensures.new)
-
-pub returns-in_ok-push_str-in-Path-clause-new : goal.returns-in_ok-push_str-in-Path-clause-new
-returns-in_ok-push_str-in-Path-clause-new c =
-    let m = moving c.args.tree.now c.args.moved.now in
-    let tail = rw c.in-Path.is at c.in_ok-path_of_target.ensures.tail in
-    let is = rw (c.in-Some.is, c.deref.ensures) at c.in_ok-new-in-Path.ensures.new in
-    subst (IsNewTarget m c.args.syntax c.args.target.now)
-    (sym (c.in_ok-push_str-in-Path.ensures.bytes ∙ ap (λ tail. string_bytes c.in-Some.new ++ tail) c.range_from.ensures.value))
-    (BecomesPart-moved m c.args.syntax c.args.target.now (string_bytes c.in-Path.path) c.in-Path.tail_at
-    (means (goal.at.returns-in_ok-push_str-in-Path-clause-new c).In-Path) (string_bytes c.in-Some.new) is tail.tail)

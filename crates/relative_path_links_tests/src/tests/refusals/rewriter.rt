@@ -8,11 +8,15 @@ use relative_path_moves::TreeMoves;
 use std::alloc::Global;
 use std::test::Fail;
 
-// The rewriter's call between two marks, on a page that moves into a directory. It fails where memory
-// was there and the page becomes another text than is expected.
-fn moved_down(alloc: Global, page: &str, expected: &str) -> Result<(), Fail> {
-    let moves = [(RelativePath::new("a.md"), RelativePath::new("b/a.md"))];
-    let tree = TreeMoves::new(alloc, &moves)?;
+// The rewriter's call between two marks, on the page a.md, which these moves take elsewhere. It fails where
+// memory was there and the page becomes another text than is expected.
+fn moved_by(
+    alloc: Global,
+    moves: &[(RelativePath<'_>, RelativePath<'_>)],
+    page: &str,
+    expected: &str,
+) -> Result<(), Fail> {
+    let tree = TreeMoves::new(alloc, moves)?;
     let found = targets(alloc, page)?;
     let moved = tree.moved_page(alloc, RelativePath::new("a.md"))?;
     begin(alloc);
@@ -24,7 +28,13 @@ fn moved_down(alloc: Global, page: &str, expected: &str) -> Result<(), Fail> {
     }
 }
 
-// Requests: 19 4 4 1s 4 1s 1s 7 7 4 4 1s 4 1s 1s 7 7 38 = 1
+// The same, where the page alone moves.
+fn moved_down(alloc: Global, page: &str, expected: &str) -> Result<(), Fail> {
+    let moves = [(RelativePath::new("a.md"), RelativePath::new("b/a.md"))];
+    moved_by(alloc, &moves, page, expected)
+}
+
+// Requests: 19 4 4 1s 4 8 4 4 1s 4 8 38 = 1
 #[test]
 fn two_links(rt: HostRuntime) -> Result<(), Fail> {
     moved_down(
@@ -34,13 +44,23 @@ fn two_links(rt: HostRuntime) -> Result<(), Fail> {
     )
 }
 
-// Requests: 1048581 1048576 1048576 524288s 1048576 1s 524288s 1048579 1048579 2097162 = 1
+// Requests: 1048581 1048576 1048576 524288s 1048576 1048580 2097162 = 1
 #[test]
 fn a_long_link(rt: HostRuntime) -> Result<(), Fail> {
     let long = long_text(rt.alloc())?;
     let page = format!(in rt.alloc(); "[c]({long})")?;
     let expected = format!(in rt.alloc(); "[c](../{long})")?;
     moved_down(rt.alloc(), page.as_str(), expected.as_str())
+}
+
+// Requests: 11 6 4 2s 3 5 9 22 = 1
+#[test]
+fn a_link_to_a_directory_that_moves(rt: HostRuntime) -> Result<(), Fail> {
+    let moves = [("a.md", "b/a.md"), ("c", "d e")].map(|(old, new)| (
+        RelativePath::new(old),
+        RelativePath::new(new),
+    ));
+    moved_by(rt.alloc(), &moves, "[c](c/x/#t)", "[c](../d%20e/x/#t)")
 }
 
 // Requests: 12 7 7 2s 7 64 = 2
@@ -80,7 +100,7 @@ fn site_moved_down(alloc: Global, text: &str, expected: &str) -> Result<(), Fail
     }
 }
 
-// Requests: 72 1s 4 7 1s 1 9 4 4 1s 4 1s 1s 7 7 18 = 3
+// Requests: 72 1s 4 7 1s 1 9 4 4 1s 4 8 18 = 3
 #[test]
 fn a_site(rt: HostRuntime) -> Result<(), Fail> {
     site_moved_down(rt.alloc(), "[c](c.md)", "[c](../c.md)")

@@ -303,7 +303,7 @@ fn ask_in_a_tree(
     same(reference, &found, &expected.as_ref().map(|way| *way))
 }
 
-// Requests: 4s 6 7 1s 2s 10 = 1, 2s 6 7 2s 7 = 1, 2s 6 7 = 0, 1s 1 = 0, 4s 4 = 0, 524289s 1048578 = 0
+// Requests: 4s 6 7 11 = 1, 2s 6 7 8 = 1, 2s 6 7 = 0, 1s 1 = 0, 4s 4 = 0, 524289s 1048578 = 0
 #[test]
 fn a_reference_in_a_tree(rt: HostRuntime) -> Result<(), Fail> {
     let moves = [("docs", "guide")].map(as_paths);

@@ -45,7 +45,7 @@ fn a_directory(rt: HostRuntime) -> Result<(), Fail> {
     }
 }
 
-// Requests: 32 2s 6 488 1s 2s 6 1s 4 8 8 6 2s 6 7 2s 6 6 12 288 1s 1 2s 6 7 1s 1 4 4 4 2s 6 7 1s 2s 4 4 = 3
+// Requests: 32 2s 6 488 1s 2s 6 1s 4 8 8 6 2s 6 7 7 288 1s 1 2s 6 7 1s 1 4 4 4 2s 6 7 5 = 3
 #[test]
 fn links_that_change(rt: HostRuntime) -> Result<(), Fail> {
     let tree = tree(rt.alloc())?;

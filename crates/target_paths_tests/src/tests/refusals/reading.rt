@@ -17,7 +17,7 @@ fn has_path(alloc: Global, target: &str, expected: &str) -> Result<(), Fail> {
     }
 }
 
-// Requests: 4 4 = 1, 9 5 = 1, 3 8 5 = 1, 1048576 1048576 = 1
+// Requests: 4 4 = 1, 9 5 = 1, 5 5 = 1, 1048576 1048576 = 1
 #[test]
 fn paths(rt: HostRuntime) -> Result<(), Fail> {
     has_path(rt.alloc(), "b.md", "b.md")?;

@@ -1,6 +1,6 @@
 -- Each turn inserts the next page into the index. At the end the index has all pages. Only one page is the first with a
 -- name that isn't plain.
-use Rattle.std.proofs.Common.{◌≡◌, ℕ, Err, map, subst, ap}
+use Rattle.std.proofs.Common.{◌≡◌, Err, map, subst, ap}
 use Rattle.relative_path_links.specs.SiteMap.{IsFirstOtherPage}
 use Rattle.relative_path_links.specs.UrlPath.{page_of}
 use Rattle.relative_path_links.specs.declared.site_map.SiteMapError.TheVariants.{NotPlain}

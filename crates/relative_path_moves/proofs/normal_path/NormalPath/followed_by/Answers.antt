@@ -1,30 +1,37 @@
--- Each turn pushes the next name.
-use Rattle.relative_path.specs.Components.{text_left, step_of}
+-- The names are pushed onto the normal text.
+use Rattle.std.proofs.Common.{◌≡◌, ◌∙◌, ◌++◌, ap, sym, subst}
+use Rattle.relative_path.specs.Steps.{components, spell}
+use Rattle.relative_path.specs.Normalizing.{IsNormalTextOf}
 use Rattle.relative_path.specs.RelativePath.{path_components}
-use Rattle.relative_path_moves.proofs.FrontTextLemmas.{IsFrontText-start, IsFrontText-next, IsFrontText-end}
+use Rattle.relative_path_moves.proofs.FrontTextLemmas.{pushed-empty, IsNormalTextOf-names}
 use Rattle.relative_path_moves.proofs.normal_path.NormalPath.followed_by.Goals as goal
+use Rattle.relative_path_moves.proofs.normal_path.NormalPath.followed_by.Goals.{In_ok-push, In_ok-push_components}
 
-pub loop-name-init : goal.loop-name-init
-loop-name-init c =
-    rw (c.into_iter-name-iterator.ensures.into_iter_gives, c.components-name-items.ensures.text)
-    (IsFrontText-start c.args.self.now c.in_ok-path.path.text c.push.new.self.text (path_components c.args.names)
-    c.as_relative_path-front.ensures.normal c.in_ok-path.ensures.empty
-    (rw c.as_relative_path-front.ensures.text at c.in_ok-push.ensures.ok))
+-- the text that was pushed first
+is_front : (c : In_ok-push) → c.push.new.self.text ≡ c.args.self.now
+is_front c =
+    pushed-empty c.in_ok-path.path.text c.args.self.now c.push.new.self.text c.as_relative_path-front.ensures.normal
+    c.in_ok-path.ensures.empty (rw c.as_relative_path-front.ensures.text at c.in_ok-push.ensures.ok)
 
-pub loop-name-preserved : goal.loop-name-preserved
-loop-name-preserved c =
-    IsFrontText-next _ c.loop-name.path.text c.push-in-loop-name.new.self.text (text_left c.loop-name.name-iterator)
-    (text_left c.next.new.self) (step_of c.in-Some.name) c.loop-name.invariant c.in-Some.ensures.steps.0
-    (rw c.as_relative_path.ensures at c.in_ok-push-2.ensures.ok)
+-- the text with the names
+is_normal : (c : In_ok-push_components) → c.push.new.self.text ≡ c.args.self.now
+    → IsNormalTextOf (components c.args.self.now ++ path_components c.args.names) c.push_components.new.way.text
+is_normal c is =
+    IsNormalTextOf-names c.args.self.now c.push_components.new.way.text (path_components c.args.names)
+    c.as_relative_path-front.ensures.normal c.requires c.in_ok-push_components.ensures.spelled
+    (c.in_ok-push_components.ensures.components
+    ∙ ap (λ text. components text ++ path_components c.args.names) is)
+
+pub push_components-requires : goal.push_components-requires
+push_components-requires c =
+    subst (λ text. text ≡ spell (components text)) (sym (is_front (goal.at.push_components-requires c).In_ok-push))
+    c.as_relative_path-front.ensures.normal.spelled
 
 pub invariant_of-result : goal.invariant_of-result
 invariant_of-result c =
-    let is =
-    IsFrontText-end c.args.self.now c.loop-name.path.text (path_components c.args.names) _
-    c.as_relative_path-front.ensures.normal c.requires c.loop-name.invariant c.in-None.ensures.steps.0 in
-    is.normal_text
+    let is = is_front (goal.at.invariant_of-result c).In_ok-push in
+    (is_normal (goal.at.invariant_of-result c).In_ok-push_components is).normal_text
 
 pub returns : goal.returns
 returns c =
-    IsFrontText-end c.args.self.now c.loop-name.path.text (path_components c.args.names) _
-    c.as_relative_path-front.ensures.normal c.requires c.loop-name.invariant c.in-None.ensures.steps.0
+    is_normal (goal.at.returns c).In_ok-push_components (is_front (goal.at.returns c).In_ok-push)
