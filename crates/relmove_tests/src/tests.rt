@@ -4,7 +4,6 @@ use std::test::Fail;
 
 mod arguments;
 mod cases;
-mod disk;
 mod faults;
 mod journal;
 mod moving;

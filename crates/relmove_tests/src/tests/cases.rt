@@ -1,5 +1,5 @@
 //! Trees and the steps of moves in them, by hand.
-use crate::tests::disk::{Content, Disk};
+use relmove_disk::{Content, Disk};
 use relmove_plan::{NewText, Rename, Steps};
 use std::alloc::{AllocError, Global};
 use std::io;

@@ -1,7 +1,7 @@
 //! Each call of a run fails in turn. After each fault no byte is lost, and the run can be ended and taken back.
 use crate::tests::cases::{self, Case, Place, below_site, disk_of};
-use crate::tests::disk::{Disk, Machine, Way};
 use crate::tests::same;
+use relmove_disk::{Disk, Machine, Way};
 use relmove_lib::{Ended, Fault, Root, Stage, carry_out, resume, undo};
 use std::alloc::Global;
 use std::test::Fail;

@@ -1,9 +1,9 @@
 //! What a call that moves files prints, its status, and the tree after it.
 use crate::tests::cases::{Place, disk_of};
-use crate::tests::disk::{Content, Disk, Machine, Way};
 use crate::tests::faults::holds;
 use crate::tests::reading::answers;
 use crate::tests::same;
+use relmove_disk::{Content, Disk, Machine, Way};
 use relmove_lib::{Ended, Root, Status, answer, resume};
 use std::alloc::Global;
 use std::test::Fail;

@@ -1,9 +1,9 @@
 //! What a long call prints of its progress, and a run that stopped.
 use crate::tests::cases::disk_of;
-use crate::tests::disk::Machine;
 use crate::tests::faults::holds;
 use crate::tests::moving::{MOVED_SITE, SITE, WRITE};
 use crate::tests::same;
+use relmove_disk::Machine;
 use relmove_lib::report::print_end;
 use relmove_lib::{Ended, Fault, Progress, Stage, Status, WithProgress, answer};
 use std::test::Fail;

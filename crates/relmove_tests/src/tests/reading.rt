@@ -1,6 +1,6 @@
 //! What is read below a root, and which links lead to nothing.
-use crate::tests::disk::{Content, Disk, Machine};
 use crate::tests::same;
+use relmove_disk::{Content, Disk, Machine};
 use relmove_lib::{
     EntryKind, Fault, Position, Root, Status, answer, dead_links_of, position_after, read_tree,
 };
@@ -102,7 +102,7 @@ fn fails_if_a_call_fails(rt: HostRuntime) -> Result<(), Fail> {
     let machine = Machine(&disk);
     read_tree(&Root::new(&machine, "site"))?;
     for number in 1..=disk.calls() {
-        disk.fail_at(number, crate::tests::disk::Way::Refused);
+        disk.fail_at(number, relmove_disk::Way::Refused);
         let read = read_tree(&Root::new(&machine, "site"));
         let failed = matches!(&read, Err(Fault::System { .. }));
         same("a call fails", &failed, &true)?;

@@ -1,4 +1,6 @@
-//! A file system in memory. A test says which of its calls fails, and how.
+//! A file system in memory, for tests. A test says which of its calls fails, and how.
+#![tactic(auto)]
+
 ghost use Rattle.std.specs.Io.{WritesAtMost};
 
 use std::alloc::{Alloc, AllocError, Global};
