@@ -1,5 +1,10 @@
 pub mod MovesLemmas
 pub mod TreesLemmas
+pub mod AboveLemmas
 pub mod PagesLemmas
 pub mod PlanLemmas
 pub mod OrderLemmas
+pub mod StepsLemmas
+pub mod CarryLemmas
+pub mod OnlyLemmas
+pub mod NamesLemmas

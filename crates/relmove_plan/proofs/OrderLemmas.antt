@@ -4,6 +4,7 @@ use Rattle.std.proofs.lemmas.Bool.Decides.{nat_tests}
 use Rattle.std.proofs.lemmas.Cmp.{nat_cmp_total, lists_total}
 use Rattle.std.proofs.lemmas.List.{get_or-map, get_or-reverse, length-map, length-reverse, map_push, reverse-append, reverse-reverse}
 use Rattle.std.proofs.lemmas.List.Sorted.{ranks_by, sorted_far}
+use Rattle.std.proofs.lemmas.Simd.{map-map}
 use Rattle.std.specs.Cmp.Lexicographic.{slice_cmp}
 use mathlib.Core.List.{reverse}
 use Rattle.std.specs.List.Sorted.{IsSortedBy}
@@ -73,13 +74,13 @@ map-reverse f (x ∷ xs) =
     ∙ ap (λ ys. ys ++ f x ∷ []) (map-reverse f xs) ∙ sym (reverse-append (f x ∷ []) (map f xs))
 
 -- what is left is turned round, behind what was taken
-pub reverse-push : (taken paths : List (List ℕ)) (path : List ℕ)
+pub reverse-push : {K : Type 0} (taken paths : List K) (path : K)
     → taken ++ reverse (paths ++ path ∷ []) ≡ (taken ++ path ∷ []) ++ reverse paths
 reverse-push taken paths path =
     ap (λ rest. taken ++ rest) (reverse-append paths (path ∷ [])) ∙ sym (append_assoc taken (path ∷ []) (reverse paths))
 
 -- what was taken, and what is left, turned round, as one more is taken
-pub reverse-next : {X Y : Type 0} (f : Y → List ℕ) (key : X → List ℕ) (taken : List Y) (left rest : List X) (y : Y) (x : X)
+pub reverse-next : {X Y K : Type 0} (f : Y → K) (key : X → K) (taken : List Y) (left rest : List X) (y : Y) (x : X)
     → f y ≡ key x → left ≡ rest ++ x ∷ []
     → map f (taken ++ y ∷ []) ++ reverse (map key rest) ≡ map f taken ++ reverse (map key left)
 reverse-next f key taken left rest y x same is =
@@ -89,9 +90,16 @@ reverse-next f key taken left rest y x same is =
     ∙ ap (λ paths. map f taken ++ reverse paths) (sym (map_push key rest x) ∙ ap (map key) (sym is))
 
 -- after the last
-pub reverse-end : {X Y : Type 0} (f : Y → List ℕ) (key : X → List ℕ) (taken : List Y) (left : List X) (all : List (List ℕ))
+pub reverse-end : {X Y K : Type 0} (f : Y → K) (key : X → K) (taken : List Y) (left : List X) (all : List K)
     → left ≡ [] → map f taken ++ reverse (map key left) ≡ all → map f taken ≡ all
 reverse-end f key taken left all none so_far = sym (append-nil (map f taken)) ∙ (rw none at so_far)
+
+-- one part of each, turned round
+pub map_part-reverse : {X Y K L : Type 0} (part : K → L) (f : Y → K) (key : X → K) (taken : List Y) (all : List X)
+    → map f taken ≡ reverse (map key all) → map (λ y. part (f y)) taken ≡ reverse (map (λ x. part (key x)) all)
+map_part-reverse part f key taken all is =
+    sym (map-map part f taken) ∙ ap (map part) is ∙ map-reverse part (map key all)
+    ∙ ap reverse (map-map part key all)
 
 -- paths that are turned round twice
 pub AboveFirst-twice : {X : Type 0} (xs ys : List X) (key : X → List ℕ) → ys ≡ reverse xs → AboveFirst (map key xs)

@@ -1,7 +1,8 @@
 -- The pages whose text changes, one after another.
-use Rattle.std.proofs.Common.{◌≡◌, ℕ, ◌<◌, ◌≤◌, ◌+◌, true, false, List, [], ◌∷◌, ◌++◌, map, length, drop, get_or, string_bytes, refl, sym, ap, ◌∙◌, add-one, append_assoc, append-nil}
+use Rattle.std.proofs.Common.{◌≡◌, ℕ, ◌<◌, ◌≤◌, ◌+◌, Bool, true, false, if◌then◌else◌, All, List, [], ◌∷◌, ◌++◌, map, length, drop, get_or, string_bytes, refl, sym, ap, subst, ◌∙◌, add-one, append_assoc, append-nil, arith}
 use Rattle.std.proofs.Math.Seq.{drop-cons}
-use Rattle.std.proofs.lemmas.List.{drop_all, map_push}
+use Rattle.std.proofs.lemmas.List.{drop_all, get_or-map, length-map, map_push}
+use Rattle.std.proofs.lemmas.List.Elements.{All-cons, All-nil, All-weaker}
 use Rattle.std.specs.Str.{bytes_eq}
 use Rattle.relative_path_links.specs.declared.site.MovedSitePage.{MovedSitePage}
 use Rattle.relative_path_links.specs.declared.site.SitePage.{SitePage}
@@ -50,3 +51,28 @@ pub ChangedSoFar-end : (pages : List SitePage) (news : List MovedSitePage) (k : 
     → map (λ page. page.number) changed ≡ changed_from 0 pages news
 ChangedSoFar-end pages news k changed all so_far =
     sym (append-nil (map (λ page. page.number) changed)) ∙ (rw (drop_all k pages all) at so_far)
+
+-- the pages whose text changes are among the pages
+All-changed_from : (k : ℕ) (pages : List SitePage) (news : List MovedSitePage)
+    → All (λ number. number < k + length pages) (changed_from k pages news)
+All-changed_from k [] news = All-nil (λ number. number < k + 0)
+All-changed_from k (page ∷ pages) [] = All-nil (λ number. number < k + length (page ∷ pages))
+All-changed_from k (page ∷ pages) (new ∷ news) =
+    either (bytes_eq page.text.now (string_bytes new.page.text))
+    (All-weaker (λ number. number < k + 1 + length pages) (λ number. number < k + length (page ∷ pages))
+    (λ number l. omega (arith, l)) (changed_from (k + 1) pages news) (All-changed_from (k + 1) pages news))
+  where
+    either : (same : Bool) → All (λ number. number < k + length (page ∷ pages)) (changed_from (k + 1) pages news)
+        → All (λ number. number < k + length (page ∷ pages))
+        (if same then changed_from (k + 1) pages news else k ∷ changed_from (k + 1) pages news)
+    either true rest = rest
+    either false rest =
+        All-cons (λ number. number < k + length (page ∷ pages)) k (changed_from (k + 1) pages news) (omega arith) rest
+
+pub All-changed : (pages : List SitePage) (news : List MovedSitePage) (changed : List ChangedPage)
+    → map (λ page. page.number) changed ≡ changed_from 0 pages news → All (λ page. page.number < length pages) changed
+All-changed pages news changed is = λ k d l.
+    let all = subst (All (λ number. number < 0 + length pages)) (sym is) (All-changed_from 0 pages news) in
+    let at = get_or-map (λ (page : ChangedPage). page.number) changed k d d.number l in
+    let within = all k d.number (rw (length-map changed (λ (page : ChangedPage). page.number)) l) in
+    omega (arith, at, within)

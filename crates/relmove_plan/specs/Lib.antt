@@ -4,3 +4,4 @@ pub mod Refusals
 pub mod Pages
 pub mod Plan
 pub mod Steps
+pub mod BetweenNames

@@ -4,10 +4,10 @@ use Rattle.relative_path.specs.Steps.{components}
 use Rattle.relative_path_moves.specs.Moves.{Move, AreApart}
 use Rattle.relmove_plan.specs.declared.entry.Entry.{Entry}
 use Rattle.relmove_plan.specs.declared.refusal.Refusal.{Refusal}
-use Rattle.relmove_plan.specs.declared.refusal.Refusal.TheVariants.{BelowFile, NoFreeName, OutOfMemory}
+use Rattle.relmove_plan.specs.declared.refusal.Refusal.TheVariants.{NoFreeName, OutOfMemory}
 use Rattle.relmove_plan.specs.Moves.{EachMove, HasFinePaths}
-use Rattle.relmove_plan.specs.Trees.{IsOldFine, IsFree, AreAfter, AreDistinct}
-use Rattle.relmove_plan.specs.Refusals.{IsOfFirst, IsPathRefusal, IsOldRefusal, IsNewRefusal, IsTableRefusal, turned, IsSameNewRefusal, IsCollisionRefusal}
+use Rattle.relmove_plan.specs.Trees.{IsOldFine, IsFree, IsBelowNoFile, AreAfter, AreDistinct}
+use Rattle.relmove_plan.specs.Refusals.{IsOfFirst, IsPathRefusal, IsOldRefusal, IsNewRefusal, IsTableRefusal, turned, IsSameNewRefusal, IsCollisionRefusal, IsAboveRefusal}
 
 -- the moves leave from where something is, each from a place of its own
 pub record MayLeave (entries : List Entry) (moves : List Move) (any_name : Bool) : Type 0 where
@@ -22,11 +22,16 @@ pub record MayCome (entries : List Entry) (moves : List Move) (any_name : Bool) 
   pub free : EachMove (λ move. IsFree moves entries move.new) moves
 
 -- and no two entries have the same path after the moves
-pub record IsAccepted (entries : List Entry) (moves : List Move) (any_name : Bool) : Type 0 where
+pub record StayApart (entries : List Entry) (moves : List Move) (any_name : Bool) : Type 0 where
   pub come : MayCome entries moves any_name
   pub after : List (List ℕ)
   pub are_after : AreAfter moves entries after
   pub distinct : AreDistinct (map components after)
+
+-- and no new path is below what is, after the moves, a file or a symbolic link
+pub record IsAccepted (entries : List Entry) (moves : List Move) (any_name : Bool) : Type 0 where
+  pub apart : StayApart entries moves any_name
+  pub above : EachMove (λ move. IsBelowNoFile moves entries move.new) moves
 
 -- the paths after the moves are refused
 pub record Collide (entries : List Entry) (moves : List Move) (refusal : Refusal) : Type 0 where
@@ -49,7 +54,8 @@ pub data IsRefused (entries : List Entry) (moves : List Move) (any_name : Bool) 
       → IsOfFirst (λ move. IsFree moves entries move.new) (IsNewRefusal moves entries) moves refusal
       → IsRefused entries moves any_name refusal
   collision : MayCome entries moves any_name → Collide entries moves refusal → IsRefused entries moves any_name refusal
-  below_file : IsAccepted entries moves any_name → (k : ℕ) → refusal ≡ BelowFile k
+  below_file : StayApart entries moves any_name
+      → IsOfFirst (λ move. IsBelowNoFile moves entries move.new) (IsAboveRefusal moves entries) moves refusal
       → IsRefused entries moves any_name refusal
   names : IsAccepted entries moves any_name → refusal ≡ NoFreeName → IsRefused entries moves any_name refusal
   memory : refusal ≡ OutOfMemory → IsRefused entries moves any_name refusal

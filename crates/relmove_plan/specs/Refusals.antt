@@ -9,7 +9,7 @@ use Rattle.relmove_plan.specs.declared.refusal.Refusal.{Refusal}
 use Rattle.relmove_plan.specs.declared.refusal.Refusal.TheVariants.{NoFileName, LeavesRoot, IntoItself, NotPlain, OwnName, SameOld, NotThere, ForeignName, SameNew, Taken, Collision, BelowFile, NoFreeName, OutOfMemory}
 use Rattle.relmove_plan.specs.Moves as paths
 use Rattle.relmove_plan.specs.Moves.{EachMove, move_of, IsPlaced, LeadsIntoItself, StaysOutside, is_own_step, HasFinePaths}
-use Rattle.relmove_plan.specs.Trees.{IsNotThere, IsOldForeign, IsTaken, IsFirstCollision}
+use Rattle.relmove_plan.specs.Trees.{IsNotThere, IsOldForeign, IsTaken, IsBelowFile, IsFirstCollision}
 
 -- the refusal is of the first move that isn't fine
 pub record IsOfFirst (Fine : Move → Type 0) (Refused : ℕ → Move → Refusal → Type 0) (moves : List Move)
@@ -126,22 +126,22 @@ IsCollisionRefusal paths (BelowFile j) = ⊥
 IsCollisionRefusal paths NoFreeName = ⊥
 IsCollisionRefusal paths OutOfMemory = ⊤
 
--- a new path below a file is refused, or an allocation failed
-abbrev pub IsAboveRefusal : Refusal → Type 0
-IsAboveRefusal (NoFileName j) = ⊥
-IsAboveRefusal (LeavesRoot j) = ⊥
-IsAboveRefusal (IntoItself j) = ⊥
-IsAboveRefusal (NotPlain j) = ⊥
-IsAboveRefusal (OwnName j) = ⊥
-IsAboveRefusal (SameOld i j) = ⊥
-IsAboveRefusal (NotThere j) = ⊥
-IsAboveRefusal (ForeignName j) = ⊥
-IsAboveRefusal (SameNew i j) = ⊥
-IsAboveRefusal (Taken j) = ⊥
-IsAboveRefusal (Collision d e) = ⊥
-IsAboveRefusal (BelowFile j) = ⊤
-IsAboveRefusal NoFreeName = ⊥
-IsAboveRefusal OutOfMemory = ⊤
+-- why move number k is refused for what is above its new path
+abbrev pub IsAboveRefusal : List Move → List Entry → ℕ → Move → Refusal → Type 0
+IsAboveRefusal moves entries k move (NoFileName j) = ⊥
+IsAboveRefusal moves entries k move (LeavesRoot j) = ⊥
+IsAboveRefusal moves entries k move (IntoItself j) = ⊥
+IsAboveRefusal moves entries k move (NotPlain j) = ⊥
+IsAboveRefusal moves entries k move (OwnName j) = ⊥
+IsAboveRefusal moves entries k move (SameOld i j) = ⊥
+IsAboveRefusal moves entries k move (NotThere j) = ⊥
+IsAboveRefusal moves entries k move (ForeignName j) = ⊥
+IsAboveRefusal moves entries k move (SameNew i j) = ⊥
+IsAboveRefusal moves entries k move (Taken j) = ⊥
+IsAboveRefusal moves entries k move (Collision d e) = ⊥
+IsAboveRefusal moves entries k move (BelowFile j) = (j ≡ k) × IsBelowFile moves entries move.new
+IsAboveRefusal moves entries k move NoFreeName = ⊥
+IsAboveRefusal moves entries k move OutOfMemory = ⊤
 
 -- no name is free, or an allocation failed
 abbrev pub IsStepsRefusal : Refusal → Type 0

@@ -1,14 +1,15 @@
 -- The entries of a tree, before the moves and after them.
-use Rattle.std.specs.Prelude.{◌≡◌, ◌⊎◌, ◌<◌, ℕ, Bool, true, false, List, map, length}
+use Rattle.std.specs.Prelude.{◌≡◌, ◌≢◌, ◌⊎◌, ◌<◌, ℕ, Bool, true, false, List, [], ◌++◌, map, length}
 use Rattle.std.specs.List.{All, AllZip, Any}
 use Rattle.relative_path.specs.Steps.{Step, components}
 use Rattle.relative_path.specs.Walk.{IsSame}
 use Rattle.relative_path.specs.Normalizing.{IsNormalTextOf}
 use Rattle.relative_path.specs.Prefixing.{StartsWith}
 use Rattle.relative_path.specs.RelativePath.{path_components}
-use Rattle.relative_path_moves.specs.Moves.{Move}
-use Rattle.relative_path_moves.specs.PlaceIndex.{IsFirstAt, IsNoneAt, path_at}
+use Rattle.relative_path_moves.specs.Moves.{Move, AreApart}
+use Rattle.relative_path_moves.specs.PlaceIndex.{Indexes, IsFirstAt, IsNoneAt, path_at}
 use Rattle.relative_path_moves.specs.TreeMoves.{AtTreePath}
+use Rattle.relative_path_moves.specs.declared.place_index.PlaceIndex.{PlaceIndex}
 use Rattle.relmove_plan.specs.declared.entry.Entry.{Entry}
 use Rattle.relmove_plan.specs.declared.entry.Kind.{Kind}
 use Rattle.relmove_plan.specs.declared.entry.Kind.TheVariants.{File, Directory, Link}
@@ -78,6 +79,42 @@ pub record IsFirstCollision (paths : List (List Step)) (d e : ℕ) : Type 0 wher
 -- no two of the paths lead to the same place
 abbrev pub AreDistinct : List (List Step) → Type 0
 AreDistinct paths = (e : ℕ) → e < length paths → IsFirstAt paths (path_at paths e) e
+
+-- no two moves have the same old path, and the index has the paths of the entries after the moves, which all differ
+pub record IndexesAfter (moves : List Move) (entries : List Entry) (index : PlaceIndex) : Type 0 where
+  pub apart : AreApart moves
+  pub after : List (List ℕ)
+  pub are_after : AreAfter moves entries after
+  pub distinct : AreDistinct (map components after)
+  pub indexes : Indexes (map components after) index
+
+-- the entry is a file or a symbolic link, and after the moves it is where the components lead
+pub record IsFileAt (moves : List Move) (cs : List Step) (entry : Entry) : Type 0 where
+  pub file : is_directory entry.kind ≡ false
+  pub there : AtTreePath moves (path_components entry.path) (λ target. IsSame target cs)
+
+-- after the moves a file or a symbolic link is where the components lead
+abbrev pub HasFileAt : List Move → List Entry → List Step → Type 0
+HasFileAt moves entries cs = Any (IsFileAt moves cs) entries
+
+-- a front of the components, neither empty nor all of them, leads to where a file or a symbolic link is after the moves
+pub record HasFileAbove (moves : List Move) (entries : List Entry) (cs : List Step) : Type 0 where
+  pub front : List Step
+  pub rest : List Step
+  pub split : cs ≡ front ++ rest
+  pub some_front : front ≢ []
+  pub some_rest : rest ≢ []
+  pub file : HasFileAt moves entries front
+
+-- after the moves the path is below a file or a symbolic link
+abbrev pub IsBelowFile : List Move → List Entry → List Step → Type 0
+IsBelowFile moves entries cs =
+    (normal : List ℕ) × IsNormalTextOf cs normal × HasFileAbove moves entries (components normal)
+
+-- after the moves the path is below no file and no symbolic link
+abbrev pub IsBelowNoFile : List Move → List Entry → List Step → Type 0
+IsBelowNoFile moves entries cs =
+    (normal : List ℕ) × IsNormalTextOf cs normal × (¬ HasFileAbove moves entries (components normal))
 
 -- an entry is at the old path, and no entry at it or below it holds a name that isn't UTF-8
 pub record IsOldFine (entries : List Entry) (old : List Step) : Type 0 where

@@ -1,4 +1,8 @@
 //! The directories above a path.
+ghost use Rattle.std.specs.Prelude.{◌≡◌, ◌≢◌, ◌≤◌, ◌++◌, [], ◌∷◌, MatchOption, length};
+ghost use Rattle.relative_path.specs.RelativePath.{path_components};
+ghost use Rattle.relative_path.specs.Steps.{Step};
+
 use relative_path::RelativePath;
 use std::alloc::{AllocError, Global};
 
@@ -8,12 +12,25 @@ pub(crate) fn directories_above<'a>(
     path: RelativePath<'a>,
 ) -> Result<Vec<RelativePath<'a>>, AllocError> {
     let mut directories = Vec::new(alloc);
-    let mut left = path.components();
-    while left.next_back().is_some() {
-        let directory = left.as_relative_path();
-        if directory.as_str().len() > 0 {
-            directories.push(directory)?;
-        }
+    let mut left = path;
+    while let Some(directory) = directory_above(left) {
+        directories.push(directory)?;
+        left = directory;
     }
     Ok(directories)
+}
+
+// The path of the directory above a path. `None` if the path has no more than one component.
+pub(crate) fn directory_above<'a>(path: RelativePath<'a>) -> Option<RelativePath<'a>>
+    ensures { MatchOption result (length (path_components path.entry) ≤ 1)
+        (λ directory. (path_components directory ≢ [])
+        × ((last : Step) × (path_components path.entry ≡ path_components directory ++ last ∷ []))) }
+{
+    let mut left = path.components();
+    left.next_back()?;
+    let directory = left.as_relative_path();
+    if directory.as_str().is_empty() {
+        return None;
+    }
+    Some(directory)
 }

@@ -52,15 +52,3 @@ pub(crate) fn index_after(alloc: Global, paths: &[NormalPath]) -> Result<PlaceIn
     }
     Ok(index)
 }
-
-// The old paths of the moves, by number.
-pub(crate) fn index_of(
-    alloc: Global,
-    moves: &[(RelativePath<'_>, RelativePath<'_>)],
-) -> Result<PlaceIndex, AllocError> {
-    let mut index = PlaceIndex::new(alloc);
-    for (number, (old, _)) in moves.iter().enumerate() {
-        index.insert(alloc, *old, number)?;
-    }
-    Ok(index)
-}

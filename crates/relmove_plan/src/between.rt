@@ -1,6 +1,7 @@
 //! Names for what moves, while it moves.
-ghost use Rattle.std.specs.Prelude.{IfErr};
+ghost use Rattle.std.specs.Prelude.{IfErr, IfOk, OnOk, [], string_bytes};
 ghost use Rattle.relmove_plan.specs.Refusals.{IsStepsRefusal};
+ghost use Rattle.relmove_plan.specs.BetweenNames.{AreDrawn, IsDrawn, IsLater};
 
 use crate::refusal::Refusal;
 use relative_path::RelativePath;
@@ -18,13 +19,16 @@ pub(crate) struct FreeNames<'a> {
 
 impl<'a> FreeNames<'a> {
     // Free names beside these entries.
-    pub(crate) fn new(entries: &'a PlaceIndex) -> FreeNames<'a> {
+    pub(crate) fn new(entries: &'a PlaceIndex) -> FreeNames<'a>
+        ensures { AreDrawn entries.now result [] }
+    {
         FreeNames { entries, next: 1 }
     }
 
     // The next name that is free in the root.
     pub(crate) fn in_root(&mut self, alloc: Global) -> Result<String, Refusal>
-        ensures { IfErr result IsStepsRefusal }
+        ensures drawn { IfOk result (λ name. IsDrawn self.old self.new (string_bytes name)) }
+        ensures refused { IfErr result IsStepsRefusal }
     {
         for number in self.next..u64::MAX {
             let name = format!(in alloc; ".relmove-{number}")?;
@@ -43,7 +47,8 @@ impl<'a> FreeNames<'a> {
         alloc: Global,
         directory: RelativePath<'_>,
     ) -> Result<String, Refusal>
-        ensures { IfErr result IsStepsRefusal }
+        ensures later { OnOk result (IsLater self.old self.new) }
+        ensures refused { IfErr result IsStepsRefusal }
     {
         for number in self.next..u64::MAX {
             let name = format!(in alloc; ".relmove-{number}")?;

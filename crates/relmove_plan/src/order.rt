@@ -1,7 +1,7 @@
 //! The order of a run's renames.
-ghost use Rattle.std.specs.Prelude.{◌≡◌, IfOk, map, string_bytes};
+ghost use Rattle.std.specs.Prelude.{◌≡◌, IfOk, IsPermutation, map, string_bytes};
 ghost use mathlib.Core.List.{reverse};
-ghost use Rattle.relmove_plan.specs.Steps.{AboveFirst, BelowFirst};
+ghost use Rattle.relmove_plan.specs.Steps.{AboveFirst, BelowFirst, from_name, rename_text, to_name};
 
 use crate::steps::Rename;
 use std::alloc::{AllocError, Global};
@@ -11,8 +11,10 @@ pub(crate) fn below_first(
     alloc: Global,
     mut leaving: Vec<(String, String)>,
 ) -> Result<Vec<Rename>, AllocError>
-    ensures { IfOk result
+    ensures order { IfOk result
         (λ apart. BelowFirst (map (λ step. string_bytes step.from) apart.items)) }
+    ensures same { IfOk result
+        (λ apart. IsPermutation (map to_name leaving.items) (map rename_text apart.items)) }
 {
     leaving.sort()?;
     leaving_from_last(alloc, leaving)
@@ -23,8 +25,8 @@ fn leaving_from_last(
     alloc: Global,
     mut leaving: Vec<(String, String)>,
 ) -> Result<Vec<Rename>, AllocError>
-    ensures { IfOk result (λ apart. map (λ step. string_bytes step.from) apart.items
-        ≡ reverse (map (λ pair. string_bytes pair.0) leaving.items)) }
+    ensures { IfOk result (λ apart. map rename_text apart.items
+        ≡ reverse (map to_name leaving.items)) }
 {
     let mut apart = Vec::with_capacity(alloc, leaving.len())?;
     while let Some((from, to)) = leaving.pop() {
@@ -38,8 +40,10 @@ pub(crate) fn above_first(
     alloc: Global,
     mut arrivals: Vec<(String, String)>,
 ) -> Result<Vec<Rename>, AllocError>
-    ensures { IfOk result
+    ensures order { IfOk result
         (λ together. AboveFirst (map (λ step. string_bytes step.to) together.items)) }
+    ensures same { IfOk result
+        (λ together. IsPermutation (map from_name arrivals.items) (map rename_text together.items)) }
 {
     arrivals.sort()?;
     arrivals.reverse();
@@ -51,8 +55,8 @@ fn arrivals_from_last(
     alloc: Global,
     mut arrivals: Vec<(String, String)>,
 ) -> Result<Vec<Rename>, AllocError>
-    ensures { IfOk result (λ together. map (λ step. string_bytes step.to) together.items
-        ≡ reverse (map (λ pair. string_bytes pair.0) arrivals.items)) }
+    ensures { IfOk result (λ together. map rename_text together.items
+        ≡ reverse (map from_name arrivals.items)) }
 {
     let mut together = Vec::with_capacity(alloc, arrivals.len())?;
     while let Some((to, from)) = arrivals.pop() {

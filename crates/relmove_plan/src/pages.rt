@@ -1,7 +1,9 @@
 //! Which pages change.
-ghost use Rattle.std.specs.Prelude.{◌≡◌, ◌↔◌, IfOk, IsTrue, length, map};
+ghost use Rattle.std.specs.Prelude.{◌≡◌, ◌↔◌, ◌<◌, All, IfOk, IsTrue, length, map};
 ghost use Rattle.relative_path_links.specs.Site.{HaveTargets};
+ghost use Rattle.relative_path_moves.specs.PlaceIndex.{Indexes};
 ghost use Rattle.relmove_plan.specs.Pages.{changed_from};
+ghost use Rattle.relmove_plan.specs.Steps.{changed_paths};
 
 use relative_path_links::{MovedSitePage, SitePage, Target, are_in_order, rewrite_links};
 use relative_path_moves::{MovedPage, PlaceIndex, TreeMoves};
@@ -103,12 +105,13 @@ pub(crate) fn changed_index(
     alloc: Global,
     pages: &[SitePage<'_>],
     changed: &[ChangedPage],
-) -> Result<PlaceIndex, AllocError> {
+) -> Result<PlaceIndex, AllocError>
+    requires { All (λ page. page.number < length pages.now) changed.now }
+    ensures { IfOk result (Indexes (changed_paths pages.now changed.now)) }
+{
     let mut index = PlaceIndex::new(alloc);
     for (number, page) in changed.iter().enumerate() {
-        if let Some(page) = pages.get(page.number) {
-            index.insert(alloc, page.path, number)?;
-        }
+        index.insert(alloc, pages[page.number].path, number)?;
     }
     Ok(index)
 }

@@ -1,13 +1,19 @@
 //! The plan of a run.
-ghost use Rattle.std.specs.Prelude.{◌≡◌, IfErr, IfOk, OnOk, map, string_bytes};
+ghost use Rattle.std.specs.Prelude.{◌≡◌, ◌<◌, All, IfErr, IfOk, List, OnOk, length, map, string_bytes};
 ghost use Rattle.relative_path_links.specs.Site.{HaveTargets, KeepTheirLinks};
+ghost use Rattle.relative_path.specs.Steps.{Step};
 ghost use Rattle.relative_path_moves.specs.Moves.{moves_of};
+ghost use Rattle.relative_path_moves.specs.PlaceIndex.{Indexes};
+ghost use Rattle.relative_path_moves.specs.declared.place_index.PlaceIndex.{PlaceIndex};
 ghost use Rattle.relmove_plan.specs.Pages.{changed_from};
 ghost use Rattle.relmove_plan.specs.Plan.{IsAccepted, IsRefused};
 ghost use Rattle.relmove_plan.specs.Refusals.{IsStepsRefusal};
-ghost use Rattle.relmove_plan.specs.Steps.{AboveFirst, BelowFirst};
+ghost use Rattle.relmove_plan.specs.Moves.{EachMove};
+ghost use Rattle.relmove_plan.specs.Trees.{entry_paths};
+ghost use Rattle.relmove_plan.specs.Steps.{AboveFirst, BelowFirst, DoesMove, LosesNothing, OnlyTheseLeave, RemovesAt, ReplacesPages, changed_paths, names_left, rename_texts, step_texts};
+ghost use Rattle.relmove_plan.specs.BetweenNames.{AreDrawn, AreFreeNames};
 
-use crate::after::{entry_index, index_of};
+use crate::after::entry_index;
 use crate::allowed::{coming_index, leaving_table};
 use crate::between::FreeNames;
 use crate::directories::{directories_emptied, directories_to_make};
@@ -15,7 +21,7 @@ use crate::entry::Entry;
 use crate::order::{above_first, below_first};
 use crate::pages::{ChangedPage, changed_index, changed_pages};
 use crate::refusal::Refusal;
-use crate::renames::{MovedOlds, Renames, add_moves, add_pages, names_between, news_between};
+use crate::renames::{Renames, add_moves, add_pages, names_between, news_between, old_index};
 use crate::steps::Steps;
 use crate::symbolic::{LinkNotice, link_notices};
 use relative_path::RelativePath;
@@ -64,6 +70,18 @@ pub fn make_plan(
         (λ plan. BelowFirst (map (λ step. string_bytes step.from) plan.steps.apart.items)) }
     ensures together { IfOk result
         (λ plan. AboveFirst (map (λ step. string_bytes step.to) plan.steps.together.items)) }
+    ensures kept { IfOk result (λ plan. LosesNothing (step_texts plan.steps)) }
+    ensures moved { IfOk result (λ plan. EachMove
+        (DoesMove (changed_paths tree.entry.pages.now plan.changed.items) (step_texts plan.steps))
+        (moves_of moves.now)) }
+    ensures replaced { IfOk result (λ plan. ReplacesPages tree.entry.pages.now plan.pages.items
+        plan.changed.items (step_texts plan.steps)) }
+    ensures removed { IfOk result (λ plan. All (RemovesAt (step_texts plan.steps))
+        (changed_paths tree.entry.pages.now plan.changed.items)) }
+    ensures only { IfOk result (λ plan. OnlyTheseLeave (moves_of moves.now)
+        (changed_paths tree.entry.pages.now plan.changed.items) (step_texts plan.steps)) }
+    ensures names { IfOk result
+        (λ plan. AreFreeNames (entry_paths tree.entry.entries.now) (names_left (step_texts plan.steps))) }
     ensures refused { IfErr result (IsRefused tree.entry.entries.now (moves_of moves.now) any_name) }
 {
     let index = entry_index(alloc, tree.entries)?;
@@ -97,6 +115,8 @@ fn rewritten_pages(
     ensures links { IfOk result (λ found. KeepTheirLinks table.now pages.now found.0.items) }
     ensures changed { IfOk result (λ found. map (λ page. page.number) found.1.items
         ≡ changed_from 0 pages.now found.0.items) }
+    ensures within { IfOk result (λ found. All (λ page. page.number < length pages.now) found.1.items) }
+    ensures long { IfOk result (λ found. length found.0.items ≡ length pages.now) }
 {
     let news = rewrite_site(alloc, pages, table)?;
     let changed = changed_pages(alloc, pages, &news, table)?;
@@ -123,31 +143,28 @@ fn steps_of(
     moves: &[(RelativePath<'_>, RelativePath<'_>)],
     now: After<'_, '_>,
 ) -> Result<Steps, Refusal>
+    requires within { All (λ page. page.number < length pages.now) now.changed.now }
+    requires long { length now.pages.now ≡ length pages.now }
     ensures apart { IfOk result
         (λ steps. BelowFirst (map (λ step. string_bytes step.from) steps.apart.items)) }
     ensures together { IfOk result
         (λ steps. AboveFirst (map (λ step. string_bytes step.to) steps.together.items)) }
+    ensures kept { IfOk result (λ steps. LosesNothing (step_texts steps)) }
+    ensures moved { IfOk result (λ steps. EachMove
+        (DoesMove (changed_paths pages.now now.entry.changed.now) (step_texts steps)) (moves_of moves.now)) }
+    ensures replaced { IfOk result (λ steps. ReplacesPages pages.now now.entry.pages.now
+        now.entry.changed.now (step_texts steps)) }
+    ensures removed { IfOk result (λ steps. All (RemovesAt (step_texts steps))
+        (changed_paths pages.now now.entry.changed.now)) }
+    ensures only { IfOk result (λ steps. OnlyTheseLeave (moves_of moves.now)
+        (changed_paths pages.now now.entry.changed.now) (step_texts steps)) }
+    ensures names { IfOk result (λ steps. (paths : List (List Step)) → Indexes paths now.entry.index.now
+        → AreFreeNames paths (names_left (step_texts steps))) }
     ensures refused { IfErr result IsStepsRefusal }
 {
     let mut names = FreeNames::new(now.index);
     let between = names_between(alloc, &mut names, moves.len())?;
-    let mut renames = Renames::new(alloc);
-    let rewritten = changed_index(alloc, pages, now.changed)?;
-    add_moves(alloc, &mut renames, moves, &between, &rewritten)?;
-    let olds = index_of(alloc, moves)?;
-    let moved = MovedOlds {
-        olds: &olds,
-        between: &between,
-    };
-    add_pages(
-        alloc,
-        &mut renames,
-        &mut names,
-        pages,
-        now.pages,
-        now.changed,
-        &moved,
-    )?;
+    let renames = renames_of(alloc, &mut names, pages, moves, &between, now)?;
     Ok(Steps {
         texts: renames.texts,
         apart: below_first(alloc, renames.leaving)?,
@@ -156,6 +173,48 @@ fn steps_of(
         removed: renames.removed,
         emptied: directories_emptied(alloc, pages, moves, now.table)?,
     })
+}
+
+// What leaves, and what comes.
+fn renames_of(
+    alloc: Global,
+    names: &mut FreeNames<'_>,
+    pages: &[SitePage<'_>],
+    moves: &[(RelativePath<'_>, RelativePath<'_>)],
+    between: &[String],
+    now: After<'_, '_>,
+) -> Result<Renames, Refusal>
+    requires within { All (λ page. page.number < length pages.now) now.changed.now }
+    requires long { length now.pages.now ≡ length pages.now }
+    requires count { length between.now ≡ length moves.now }
+    ensures kept { IfOk result (λ renames. LosesNothing (rename_texts renames)) }
+    ensures moved { IfOk result (λ renames. EachMove
+        (DoesMove (changed_paths pages.now now.entry.changed.now) (rename_texts renames)) (moves_of moves.now)) }
+    ensures replaced { IfOk result (λ renames. ReplacesPages pages.now now.entry.pages.now
+        now.entry.changed.now (rename_texts renames)) }
+    ensures removed { IfOk result (λ renames. All (RemovesAt (rename_texts renames))
+        (changed_paths pages.now now.entry.changed.now)) }
+    ensures only { IfOk result (λ renames. OnlyTheseLeave (moves_of moves.now)
+        (changed_paths pages.now now.entry.changed.now) (rename_texts renames)) }
+    ensures free { IfOk result (λ renames. (index : PlaceIndex)
+        → AreDrawn index names.old (map string_bytes between.now)
+        → AreDrawn index names.new (names_left (rename_texts renames))) }
+    ensures refused { IfErr result IsStepsRefusal }
+{
+    let mut renames = Renames::new(alloc);
+    let rewritten = changed_index(alloc, pages, now.changed)?;
+    add_moves(alloc, &mut renames, moves, between, &rewritten)?;
+    let olds = old_index(alloc, moves)?;
+    add_pages(
+        alloc,
+        &mut renames,
+        names,
+        pages,
+        now.pages,
+        now.changed,
+        &olds,
+    )?;
+    Ok(renames)
 }
 
 // The directories to make, each where it can be made.

@@ -1,5 +1,5 @@
 //! Which moves are refused.
-ghost use Rattle.std.specs.Prelude.{◌≡◌, ◌≢◌, ◌↔◌, ◌<◌, ℕ, Bool, List, Option, None, IsSome, IsTrue, OnOk, IfOk, IfErr, MatchBool, true, false, length};
+ghost use Rattle.std.specs.Prelude.{◌≡◌, ◌≢◌, ◌↔◌, ◌<◌, ℕ, Bool, List, Option, None, IsSome, IsTrue, OnOk, IfOk, IfErr, MatchBool, true, false, not, length, slice_index_or};
 ghost use Rattle.std.specs.List.{list_any};
 ghost use Rattle.relative_path.specs.Components.{step_of};
 ghost use Rattle.relative_path.specs.Steps.{Step, components};
@@ -7,14 +7,27 @@ ghost use Rattle.relative_path.specs.Walk.{IsSame, place_of};
 ghost use Rattle.relative_path.specs.Naming.{last_name};
 ghost use Rattle.relative_path.specs.RelativePath.{path_components, path_text};
 ghost use Rattle.relative_path_files.specs.Names.{IfName, IsPlainName};
-ghost use Rattle.relative_path_moves.specs.Moves.{AreApart, moves_of};
+ghost use Rattle.relative_path_moves.specs.Moves.{AreApart, Move, moves_of};
 ghost use Rattle.relative_path_moves.specs.PlaceIndex.{Indexes};
 ghost use Rattle.relmove_plan.specs.Moves.{EachMove, HasFinePaths, IsPlaced, StaysOutside, is_own_step, move_of};
-ghost use Rattle.relmove_plan.specs.Trees.{HoldsForeignName, HoldsNoForeignName, IsForeignBelow, IsFree, IsOldFine, IsTaken, entry_paths};
+ghost use Rattle.relmove_plan.specs.Trees.{
+  HasFileAbove,
+  HasFileAt,
+  HoldsForeignName,
+  HoldsNoForeignName,
+  IndexesAfter,
+  IsBelowNoFile,
+  IsForeignBelow,
+  IsFree,
+  IsOldFine,
+  IsTaken,
+  entry_paths,
+};
 ghost use Rattle.relmove_plan.specs.Trees as trees;
 ghost use Rattle.relmove_plan.specs.Refusals.{IsAboveRefusal, IsNewRefusal, IsOfFirst, IsOldRefusal, IsPathRefusal};
+ghost use Rattle.relmove_plan.specs.declared.entry.Entry.{Entry};
 
-use crate::above::directories_above;
+use crate::above::directory_above;
 use crate::entry::{Entry, Kind};
 use crate::refusal::Refusal;
 use relative_path::{Component, RelativePath};
@@ -275,59 +288,102 @@ fn check_new(
     Ok(())
 }
 
-// Fails at the first move whose new path is below what is, after the moves, no directory.
+// Fails at the first move whose new path is below what is, after the moves, a file or a symbolic link.
 pub(crate) fn check_above(
     alloc: Global,
     entries: &[Entry<'_>],
     after: &PlaceIndex,
     moves: &[(RelativePath<'_>, RelativePath<'_>)],
 ) -> Result<(), Refusal>
-    ensures { IfErr result IsAboveRefusal }
+    ensures fine { OnOk result ((tree : List Move) → IndexesAfter tree entries.now after.now
+        → EachMove (λ move. IsBelowNoFile tree entries.now move.new) (moves_of moves.now)) }
+    ensures refused { IfErr result (λ refusal. (tree : List Move) → IndexesAfter tree entries.now after.now
+        → IsOfFirst (λ move. IsBelowNoFile tree entries.now move.new)
+        (IsAboveRefusal tree entries.now) (moves_of moves.now) refusal) }
 {
     for (number, (_, new)) in moves.iter().enumerate() {
-        let new = NormalPath::of(alloc, *new)?;
-        if is_below_file(alloc, entries, after, &new)? {
-            return Err(Refusal::BelowFile(number));
-        }
+        check_place(alloc, entries, after, number, *new)?;
     }
     Ok(())
 }
 
-// Whether what is above a path, after the moves, has no directory.
+// Fails if the new path of a move is below what is, after the moves, a file or a symbolic link.
+fn check_place(
+    alloc: Global,
+    entries: &[Entry<'_>],
+    after: &PlaceIndex,
+    number: usize,
+    new: RelativePath<'_>,
+) -> Result<(), Refusal>
+    ensures fine { OnOk result ((tree : List Move) → IndexesAfter tree entries.now after.now
+        → IsBelowNoFile tree entries.now (path_components new.entry)) }
+    ensures refused { IfErr result (λ refusal. (old : List Step) (tree : List Move)
+        → IndexesAfter tree entries.now after.now
+        → IsAboveRefusal tree entries.now number (move_of old (path_components new.entry)) refusal) }
+{
+    let place = NormalPath::of(alloc, new)?;
+    let is_below = is_below_file(alloc, entries, after, place.as_relative_path())?;
+    if is_below {
+        return Err(Refusal::BelowFile(number));
+    }
+    Ok(())
+}
+
+// Whether a file or a symbolic link is, after the moves, above a path.
 fn is_below_file(
     alloc: Global,
     entries: &[Entry<'_>],
     after: &PlaceIndex,
-    path: &NormalPath,
-) -> Result<bool, AllocError> {
-    let directories = directories_above(alloc, path.as_relative_path())?;
-    for directory in &directories {
-        if is_no_directory(alloc, entries, after, *directory)? {
+    path: RelativePath<'_>,
+) -> Result<bool, AllocError>
+    ensures { IfOk result (λ is_below. (tree : List Move) → IndexesAfter tree entries.now after.now
+        → MatchBool is_below (HasFileAbove tree entries.now (path_components path.entry))
+        (¬ HasFileAbove tree entries.now (path_components path.entry))) }
+{
+    let mut left = path;
+    while let Some(directory) = directory_above(left) {
+        let has_file = has_file_at(alloc, entries, after, directory)?;
+        if has_file {
             return Ok(true);
         }
+        left = directory;
     }
     Ok(false)
 }
 
-// Whether the entry that is at a path after the moves, if there is one, is no directory.
-fn is_no_directory(
+// Whether a file or a symbolic link is, after the moves, where a path leads.
+fn has_file_at(
     alloc: Global,
     entries: &[Entry<'_>],
     after: &PlaceIndex,
     path: RelativePath<'_>,
-) -> Result<bool, AllocError> {
+) -> Result<bool, AllocError>
+    ensures { IfOk result (λ has_file. (tree : List Move) → IndexesAfter tree entries.now after.now
+        → MatchBool has_file (HasFileAt tree entries.now (path_components path.entry))
+        (¬ HasFileAt tree entries.now (path_components path.entry))) }
+{
     let place = NormalPath::of(alloc, path)?;
-    let Some(number) = after.get(&place) else {
-        return Ok(false);
-    };
-    match entries.get(number) {
-        Some(entry) => Ok(!is_directory(entry.kind)),
+    match after.get(&place) {
+        Some(number) => Ok(is_file(entries, number)),
         None => Ok(false),
     }
 }
 
+// Whether an entry, given by its number, is a file or a symbolic link.
+fn is_file(entries: &[Entry<'_>], number: usize) -> bool
+    ensures { (none : Entry) → number < length entries.now
+        → result ≡ not (trees.is_directory (slice_index_or entries.now number none).kind) }
+{
+    match entries.get(number) {
+        Some(entry) => !is_directory(entry.kind),
+        None => false,
+    }
+}
+
 // Whether an entry is a directory.
-fn is_directory(kind: Kind<'_>) -> bool {
+fn is_directory(kind: Kind<'_>) -> bool
+    ensures { result ≡ trees.is_directory kind.entry }
+{
     match kind {
         Kind::Directory { .. } => true,
         Kind::File => false,

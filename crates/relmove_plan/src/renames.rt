@@ -1,7 +1,16 @@
 //! The renames of a run: everything that moves, and each page that changes, to a name in between, and from there to
 //! its new path.
-ghost use Rattle.std.specs.Prelude.{IfErr};
+ghost use Rattle.std.specs.Prelude.{◌≡◌, ◌<◌, ℕ, ◌++◌, [], ◌∷◌, All, IfErr, IfOk, List, OnOk, length, map, string_bytes};
+ghost use Rattle.relative_path.specs.Steps.{Step};
+ghost use Rattle.relative_path.specs.RelativePath.{path_components};
+ghost use Rattle.relative_path.specs.Normalizing.{IsNormalTextOf};
+ghost use Rattle.relative_path_moves.specs.Moves.{Move, move_at, moves_of};
+ghost use Rattle.relative_path_moves.specs.PlaceIndex.{Indexes, path_at};
+ghost use Rattle.relative_path_moves.specs.declared.place_index.PlaceIndex.{PlaceIndex};
+ghost use Rattle.relmove_plan.specs.Moves.{EachMove, move_of};
 ghost use Rattle.relmove_plan.specs.Refusals.{IsStepsRefusal};
+ghost use Rattle.relmove_plan.specs.Steps.{AreAmong, DoesMove, LosesNothing, RemovesAt, RemovesMoved, ReplacesPage, ReplacesPages, OnlyTheseLeave, changed_paths, names_left, old_paths, rename_texts, with_carried, with_removed, with_text};
+ghost use Rattle.relmove_plan.specs.BetweenNames.{AreDrawn};
 
 use crate::between::FreeNames;
 use crate::pages::ChangedPage;
@@ -18,7 +27,10 @@ pub(crate) fn names_between(
     names: &mut FreeNames<'_>,
     count: usize,
 ) -> Result<Vec<String>, Refusal>
-    ensures { IfErr result IsStepsRefusal }
+    ensures count { IfOk result (λ between. length between.items ≡ count) }
+    ensures free { IfOk result (λ between. (index : PlaceIndex) → AreDrawn index names.old []
+        → AreDrawn index names.new (map string_bytes between.items)) }
+    ensures refused { IfErr result IsStepsRefusal }
 {
     let mut between = Vec::with_capacity(alloc, count)?;
     for _ in 0..count {
@@ -55,7 +67,12 @@ pub(crate) struct Renames {
 
 impl Renames {
     // No renames.
-    pub(crate) fn new(alloc: Global) -> Renames {
+    pub(crate) fn new(alloc: Global) -> Renames
+        ensures kept { LosesNothing (rename_texts result) }
+        ensures left { names_left (rename_texts result) ≡ [] }
+        ensures only { (moves : List Move) (paths : List (List Step))
+            → OnlyTheseLeave moves paths (rename_texts result) }
+    {
         Renames {
             leaving: Vec::new(alloc),
             arrivals: Vec::new(alloc),
@@ -65,52 +82,136 @@ impl Renames {
     }
 }
 
-// Adds the moves. The old path of each leaves to its name in between; and what is there comes to the new path, unless
-// it is a page that changes.
+// Adds that a page's new text is written to a file.
+fn add_text(
+    alloc: Global,
+    renames: &mut Renames,
+    page: &str,
+    file: &str,
+    text: &str,
+) -> Result<(), AllocError>
+    ensures { OnOk result (rename_texts renames.new
+        ≡ with_text (rename_texts renames.old) page.now file.now text.now) }
+{
+    renames.texts.push(NewText {
+        page: String::from_str(alloc, page)?,
+        file: String::from_str(alloc, file)?,
+        text: String::from_str(alloc, text)?,
+    })?;
+    Ok(())
+}
+
+// Adds that what is at a path leaves to a name in between, and comes from there to another path.
+fn add_carried(
+    alloc: Global,
+    renames: &mut Renames,
+    from: String,
+    name: &str,
+    to: String,
+) -> Result<(), AllocError>
+    ensures { OnOk result (rename_texts renames.new
+        ≡ with_carried (rename_texts renames.old) (string_bytes from) name.now (string_bytes to)) }
+{
+    renames
+        .leaving
+        .push((from, String::from_str(alloc, name)?))?;
+    renames.arrivals.push((to, String::from_str(alloc, name)?))?;
+    Ok(())
+}
+
+// Adds that what is at a path leaves to a name in between, and is removed there.
+fn add_removed(
+    alloc: Global,
+    renames: &mut Renames,
+    from: String,
+    name: &str,
+) -> Result<(), AllocError>
+    ensures { OnOk result (rename_texts renames.new
+        ≡ with_removed (rename_texts renames.old) (string_bytes from) name.now) }
+{
+    renames
+        .leaving
+        .push((from, String::from_str(alloc, name)?))?;
+    renames.removed.push(String::from_str(alloc, name)?)?;
+    Ok(())
+}
+
+// Adds the moves.
 pub(crate) fn add_moves(
     alloc: Global,
     renames: &mut Renames,
     moves: &[(RelativePath<'_>, RelativePath<'_>)],
     between: &[String],
     changed: &PlaceIndex,
-) -> Result<(), Refusal>
-    ensures { IfErr result IsStepsRefusal }
+) -> Result<(), AllocError>
+    requires kept { LosesNothing (rename_texts renames.old) }
+    requires count { length between.now ≡ length moves.now }
+    ensures kept { OnOk result (LosesNothing (rename_texts renames.new)) }
+    ensures moved { OnOk result ((paths : List (List Step)) → Indexes paths changed.now
+        → EachMove (DoesMove paths (rename_texts renames.new)) (moves_of moves.now)) }
+    ensures left { OnOk result (names_left (rename_texts renames.new)
+        ≡ names_left (rename_texts renames.old) ++ map string_bytes between.now) }
+    ensures only { OnOk result ((paths : List (List Step))
+        → OnlyTheseLeave (moves_of moves.now) paths (rename_texts renames.old)
+        → OnlyTheseLeave (moves_of moves.now) paths (rename_texts renames.new)) }
 {
-    for ((old, new), name) in moves.iter().zip(between) {
-        let old = NormalPath::of(alloc, *old)?;
-        if changed.get(&old).is_none() {
-            let new = NormalPath::of(alloc, *new)?;
-            add_arrival(alloc, renames, new, name)?;
-        }
-        add_leaving(alloc, renames, old, name)?;
+    for (number, (old, new)) in moves.iter().enumerate() {
+        add_move(alloc, renames, *old, *new, &between[number], changed)?;
     }
     Ok(())
 }
 
-// Adds that what is at a path leaves to a name in between.
-fn add_leaving(
+// Adds a move. What is at the old path leaves to the name in between. A page that changes is removed there, since its new
+// text comes to the new path; anything else comes to the new path itself.
+fn add_move(
     alloc: Global,
     renames: &mut Renames,
-    from: NormalPath,
+    old: RelativePath<'_>,
+    new: RelativePath<'_>,
     name: &str,
-) -> Result<(), AllocError> {
-    let from = from.into_relative_path_buf().into_string();
-    renames
-        .leaving
-        .push((from, String::from_str(alloc, name)?))?;
-    Ok(())
+    changed: &PlaceIndex,
+) -> Result<(), AllocError>
+    requires { LosesNothing (rename_texts renames.old) }
+    ensures kept { OnOk result (LosesNothing (rename_texts renames.new)) }
+    ensures among { OnOk result (AreAmong (rename_texts renames.old) (rename_texts renames.new)) }
+    ensures moved { OnOk result ((paths : List (List Step)) → Indexes paths changed.now
+        → DoesMove paths (rename_texts renames.new)
+        (move_of (path_components old.entry) (path_components new.entry))) }
+    ensures left { OnOk result (names_left (rename_texts renames.new)
+        ≡ names_left (rename_texts renames.old) ++ name.now ∷ []) }
+    ensures only { OnOk result ((moves : List Move) (paths : List (List Step)) (k : ℕ) → k < length moves
+        → move_at moves k ≡ move_of (path_components old.entry) (path_components new.entry)
+        → OnlyTheseLeave moves paths (rename_texts renames.old)
+        → OnlyTheseLeave moves paths (rename_texts renames.new)) }
+{
+    let old = NormalPath::of(alloc, old)?;
+    let changes = changed.get(&old).is_some();
+    let from = old.into_relative_path_buf().into_string();
+    if changes {
+        return add_removed(alloc, renames, from, name);
+    }
+    let to = NormalPath::of(alloc, new)?;
+    add_carried(
+        alloc,
+        renames,
+        from,
+        name,
+        to.into_relative_path_buf().into_string(),
+    )
 }
 
-// Adds that what has a name in between comes to a path.
-fn add_arrival(
+// The old paths of the moves, by number.
+pub(crate) fn old_index(
     alloc: Global,
-    renames: &mut Renames,
-    to: NormalPath,
-    name: &str,
-) -> Result<(), AllocError> {
-    let to = to.into_relative_path_buf().into_string();
-    renames.arrivals.push((to, String::from_str(alloc, name)?))?;
-    Ok(())
+    moves: &[(RelativePath<'_>, RelativePath<'_>)],
+) -> Result<PlaceIndex, AllocError>
+    ensures { IfOk result (Indexes (old_paths (moves_of moves.now))) }
+{
+    let mut index = PlaceIndex::new(alloc);
+    for (number, (old, _)) in moves.iter().enumerate() {
+        index.insert(alloc, *old, number)?;
+    }
+    Ok(index)
 }
 
 // Adds the pages that change.
@@ -121,23 +222,31 @@ pub(crate) fn add_pages(
     pages: &[SitePage<'_>],
     news: &[MovedSitePage],
     changed: &[ChangedPage],
-    moved: &MovedOlds<'_>,
+    olds: &PlaceIndex,
 ) -> Result<(), Refusal>
-    ensures { IfErr result IsStepsRefusal }
+    requires kept { LosesNothing (rename_texts renames.old) }
+    requires within { All (λ page. page.number < length pages.now) changed.now }
+    requires long { length news.now ≡ length pages.now }
+    ensures kept { OnOk result (LosesNothing (rename_texts renames.new)) }
+    ensures among { OnOk result (AreAmong (rename_texts renames.old) (rename_texts renames.new)) }
+    ensures replaced { OnOk result
+        (ReplacesPages pages.now news.now changed.now (rename_texts renames.new)) }
+    ensures removed { OnOk result ((moves : List Move) → Indexes (old_paths moves) olds.now
+        → EachMove (DoesMove (changed_paths pages.now changed.now) (rename_texts renames.old)) moves
+        → All (RemovesAt (rename_texts renames.new)) (changed_paths pages.now changed.now)) }
+    ensures only { OnOk result ((moves : List Move)
+        → OnlyTheseLeave moves (changed_paths pages.now changed.now) (rename_texts renames.old)
+        → OnlyTheseLeave moves (changed_paths pages.now changed.now) (rename_texts renames.new)) }
+    ensures free { OnOk result ((index : PlaceIndex)
+        → AreDrawn index names.old (names_left (rename_texts renames.old))
+        → AreDrawn index names.new (names_left (rename_texts renames.new))) }
+    ensures refused { IfErr result IsStepsRefusal }
 {
     for page in changed {
-        if let (Some(old), Some(new)) = (pages.get(page.number), news.get(page.number)) {
-            add_page(alloc, renames, names, *old, new, moved)?;
-        }
+        let old = pages[page.number];
+        add_page(alloc, renames, names, old, &news[page.number], olds)?;
     }
     Ok(())
-}
-
-// The old paths of the moves by number, and the names in between.
-#[derive(Clone, Copy)]
-pub(crate) struct MovedOlds<'a> {
-    pub(crate) olds: &'a PlaceIndex,
-    pub(crate) between: &'a [String],
 }
 
 // Adds a page that changes: its old text leaves and is removed, and its new text, in a file beside it, comes to its new
@@ -148,44 +257,62 @@ fn add_page(
     names: &mut FreeNames<'_>,
     page: SitePage<'_>,
     new: &MovedSitePage,
-    moved: &MovedOlds<'_>,
+    olds: &PlaceIndex,
 ) -> Result<(), Refusal>
-    ensures { IfErr result IsStepsRefusal }
+    requires { LosesNothing (rename_texts renames.old) }
+    ensures kept { OnOk result (LosesNothing (rename_texts renames.new)) }
+    ensures among { OnOk result (AreAmong (rename_texts renames.old) (rename_texts renames.new)) }
+    ensures replaced { OnOk result (ReplacesPage (rename_texts renames.new) page.entry new.now) }
+    ensures removed { OnOk result ((moves : List Move) → Indexes (old_paths moves) olds.now
+        → RemovesMoved moves (path_components page.entry.path) (rename_texts renames.old)
+        → RemovesAt (rename_texts renames.new) (path_components page.entry.path)) }
+    ensures only { OnOk result ((moves : List Move) (paths : List (List Step)) (k : ℕ) → k < length paths
+        → path_at paths k ≡ path_components page.entry.path
+        → OnlyTheseLeave moves paths (rename_texts renames.old)
+        → OnlyTheseLeave moves paths (rename_texts renames.new)) }
+    ensures free { OnOk result ((index : PlaceIndex)
+        → AreDrawn index names.old (names_left (rename_texts renames.old))
+        → AreDrawn index names.new (names_left (rename_texts renames.new))) }
+    ensures refused { IfErr result IsStepsRefusal }
 {
     let old = NormalPath::of(alloc, page.path)?;
     let file = names.in_directory(alloc, old.directory())?;
-    let text = String::from_str(alloc, &new.page.text)?;
-    renames.texts.push(NewText {
-        page: String::from_str(alloc, old.as_relative_path().as_str())?,
-        file: String::from_str(alloc, &file)?,
-        text,
-    })?;
-    add_old_text(alloc, renames, names, old, moved)?;
+    let normal = old.as_relative_path().as_str();
+    add_text(alloc, renames, normal, &file, &new.page.text)?;
+    add_old_text(alloc, renames, names, old, olds)?;
     let name = names.in_root(alloc)?;
-    let to = NormalPath::of(alloc, new.path.as_relative_path())?;
-    add_arrival(alloc, renames, to, &name)?;
-    renames.leaving.push((file, name))?;
+    let to = String::from_str(alloc, new.path.as_relative_path().as_str())?;
+    add_carried(alloc, renames, file, &name, to)?;
     Ok(())
 }
 
-// Adds that the old text of a page is removed. It leaves as its move says, or to a name of its own.
+// Adds that the old text of a page leaves and is removed, unless the page's own move says so already.
 fn add_old_text(
     alloc: Global,
     renames: &mut Renames,
     names: &mut FreeNames<'_>,
     page: NormalPath,
-    moved: &MovedOlds<'_>,
+    olds: &PlaceIndex,
 ) -> Result<(), Refusal>
-    ensures { IfErr result IsStepsRefusal }
+    requires { LosesNothing (rename_texts renames.old) }
+    ensures kept { OnOk result (LosesNothing (rename_texts renames.new)) }
+    ensures among { OnOk result (AreAmong (rename_texts renames.old) (rename_texts renames.new)) }
+    ensures removed { OnOk result ((moves : List Move) (cs : List Step)
+        → Indexes (old_paths moves) olds.now → IsNormalTextOf cs page
+        → RemovesMoved moves cs (rename_texts renames.old) → RemovesAt (rename_texts renames.new) cs) }
+    ensures only { OnOk result ((moves : List Move) (paths : List (List Step)) (k : ℕ) → k < length paths
+        → IsNormalTextOf (path_at paths k) page → OnlyTheseLeave moves paths (rename_texts renames.old)
+        → OnlyTheseLeave moves paths (rename_texts renames.new)) }
+    ensures free { OnOk result ((index : PlaceIndex)
+        → AreDrawn index names.old (names_left (rename_texts renames.old))
+        → AreDrawn index names.new (names_left (rename_texts renames.new))) }
+    ensures refused { IfErr result IsStepsRefusal }
 {
-    if let Some(number) = moved.olds.get(&page) {
-        if let Some(name) = moved.between.get(number) {
-            renames.removed.push(String::from_str(alloc, name)?)?;
-            return Ok(());
-        }
+    if olds.get(&page).is_some() {
+        return Ok(());
     }
     let name = names.in_root(alloc)?;
-    add_leaving(alloc, renames, page, &name)?;
-    renames.removed.push(name)?;
+    let from = page.into_relative_path_buf().into_string();
+    add_removed(alloc, renames, from, &name)?;
     Ok(())
 }

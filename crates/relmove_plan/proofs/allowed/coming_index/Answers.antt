@@ -1,8 +1,8 @@
 -- The tests of the new paths, one after another.
 use Rattle.relative_path_moves.specs.Moves.{moves_of}
-use Rattle.relmove_plan.specs.Plan.{news, collision}
+use Rattle.relmove_plan.specs.Plan.{StayApart, news, collision, below_file}
 use Rattle.relmove_plan.proofs.MovesLemmas.{IfErr-error}
-use Rattle.relmove_plan.proofs.PlanLemmas.{IsRefused-above}
+use Rattle.relmove_plan.proofs.PlanLemmas.{IndexesAfter-apart}
 use Rattle.relmove_plan.proofs.allowed.coming_index.Goals as goal
 
 pub returns-in_err-check_news-clause-refused : goal.returns-in_err-check_news-clause-refused
@@ -27,25 +27,37 @@ returns-in_err-check_above-clause-refused c =
     let free = rw c.requires.table at c.in_ok-check_news.ensures.fine in
     let are_after = rw c.requires.table at c.in_ok-paths.ensures in
     let distinct = rw c.deref.ensures.value at c.in_ok-after.ensures.distinct in
+    let indexes = rw c.deref.ensures.value at c.in_ok-after.ensures.indexes in
+    let moves = moves_of c.args.moves.now in
     IfErr-error c.from_residual-in_err-check_above.result c.in_err-check_above.field-0.0 _
     c.from_residual-in_err-check_above.ensures.1
-    (λ any_name leave. IsRefused-above c.args.entries.now (moves_of c.args.moves.now) any_name
-    c.in_err-check_above.field-0.0 c.in_err-check_above.ensures
-    (record {
+    (λ any_name leave.
+    let apart : StayApart c.args.entries.now moves any_name = record {
       come = record { leave = leave; apart = c.in_ok-check_turned.ensures.apart; free = free };
       after = c.in_ok-paths.paths.items;
       are_after = are_after;
       distinct = distinct;
-    }))
+    } in
+    below_file apart
+    (c.in_err-check_above.ensures.refused moves
+    (IndexesAfter-apart c.args.entries.now moves any_name c.in_ok-after.after apart indexes)))
 
 pub returns-clause-fine : goal.returns-clause-fine
 returns-clause-fine c =
     let free = rw c.requires.table at c.in_ok-check_news.ensures.fine in
     let are_after = rw c.requires.table at c.in_ok-paths.ensures in
     let distinct = rw c.deref.ensures.value at c.in_ok-after.ensures.distinct in
-    λ any_name leave. record {
+    let indexes = rw c.deref.ensures.value at c.in_ok-after.ensures.indexes in
+    let moves = moves_of c.args.moves.now in
+    λ any_name leave.
+    let apart : StayApart c.args.entries.now moves any_name = record {
       come = record { leave = leave; apart = c.in_ok-check_turned.ensures.apart; free = free };
       after = c.in_ok-paths.paths.items;
       are_after = are_after;
       distinct = distinct;
+    } in record {
+      apart = apart;
+      above =
+          c.in_ok-check_above.ensures.fine moves
+          (IndexesAfter-apart c.args.entries.now moves any_name c.in_ok-after.after apart indexes);
     }

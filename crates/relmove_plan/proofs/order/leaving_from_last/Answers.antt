@@ -1,10 +1,11 @@
 -- Each turn takes the last.
-use Rattle.std.proofs.Common.{string_bytes, refl, ◌∙◌}
+use Rattle.std.proofs.Common.{refl, ◌∙◌}
+use Rattle.relmove_plan.specs.Steps.{rename_text, to_name}
 use Rattle.relmove_plan.proofs.OrderLemmas.{reverse-next}
 use Rattle.relmove_plan.proofs.order.leaving_from_last.Goals as goal
 
 pub loop-from-preserved : goal.loop-from-preserved
 loop-from-preserved c =
     rw c.in_ok-push.ensures.items
-    (reverse-next (λ step. string_bytes step.from) (λ pair. string_bytes pair.0) c.loop-from.apart.items
-    c.loop-from.leaving.items c.pop.new.self.items _ _ refl c.in-Some.ensures.items ∙ c.loop-from.invariant)
+    (reverse-next rename_text to_name c.loop-from.apart.items c.loop-from.leaving.items c.pop.new.self.items _ _ refl
+    c.in-Some.ensures.items ∙ c.loop-from.invariant)

@@ -9,3 +9,10 @@ returns-in_err-after-clause-refused c =
 
 pub returns-clause-accepted : goal.returns-clause-accepted
 returns-clause-accepted c = c.in_ok-after.ensures.fine c.args.any_name c.in_ok-table.ensures.fine
+
+pub returns-clause-replaced : goal.returns-clause-replaced
+returns-clause-replaced c =
+    rw (c.deref.ensures.value, c.deref-2.ensures.value) at c.in_ok-steps.ensures.replaced
+
+pub returns-clause-only : goal.returns-clause-only
+returns-clause-only c = rw c.deref-2.ensures.value at c.in_ok-steps.ensures.only

@@ -1,0 +1,195 @@
+-- Files and symbolic links above a path, after the moves: found from the path upwards.
+use Rattle.std.proofs.Common.{◌≡◌, ◌≢◌, ℕ, zero, suc, ◌<◌, ◌≤◌, Bool, true, false, not, true≢false, List, [], ◌∷◌, ◌++◌, map, length, take, get_or, MatchBool, inl, inr, refl, sym, ap, subst, ◌∙◌, append_assoc, append-nil, take_at, arith}
+use Rattle.std.proofs.lemmas.Bool.{cases_lt, cases_order, not-true, not-false}
+use Rattle.std.proofs.lemmas.List.{get_or-map, get_or_default, length-append, length-map, nil_from_length}
+use Rattle.std.proofs.lemmas.Option.{slice_get_cases}
+use Rattle.std.proofs.lemmas.Slice.Zip.{AllZip-long}
+use Rattle.std.specs.List.{AllZip}
+use Rattle.relative_path.specs.Slices.{IsFront}
+use Rattle.relative_path.specs.Steps.{Step, components}
+use Rattle.relative_path.specs.Walk.{IsSame}
+use Rattle.relative_path.specs.RelativePath.{path_components}
+use Rattle.relative_path.proofs.ForCallers.{IsSame-sym, IsSame-trans}
+use Rattle.relative_path.proofs.OnLiterals.{relative_path_on_literals}
+use Rattle.relative_path_moves.specs.declared.place_index.PlaceIndex.{PlaceIndex}
+use Rattle.relative_path_moves.specs.Moves.{Move}
+use Rattle.relative_path_moves.specs.PlaceIndex.{IsFirstAt, IsNoneAt, path_at}
+use Rattle.relative_path_moves.proofs.ForCallers.{IsTreeTarget-only}
+use Rattle.relmove_plan.specs.declared.entry.Entry.{Entry}
+use Rattle.relmove_plan.specs.Trees.{is_directory, IsAfter, IndexesAfter, IsFileAt, HasFileAt, HasFileAbove}
+
+-- ---- the directory above a path
+
+components-nil : components [] ≡ []
+unfolding relative_path_on_literals
+components-nil = refl
+
+-- a front without a byte has no component
+pub length-components : (text front : List ℕ) (last : Step) → components text ≡ components front ++ last ∷ []
+    → front ≡ [] → length (components text) ≤ 1
+length-components text front last is empty =
+    let none : components front ≡ [] = ap components empty ∙ components-nil in
+    omega (arith, ap length is, length-append (components front) (last ∷ []), ap length none)
+
+-- a front with a byte has a component
+pub components-front : (text front : List ℕ) → IsFront text front → front ≢ [] → components front ≢ []
+components-front text front is some none =
+    let shortest = is.shortest 0 (components-nil ∙ sym none ∙ is.same_components) in
+    some (nil_from_length front (omega (arith, shortest)))
+
+-- ---- the walk up from a path
+
+some_long : {X : Type 0} (xs : List X) → xs ≢ [] → 1 ≤ length xs
+some_long [] some = absurd (some refl)
+some_long (x ∷ xs) some = omega arith
+
+-- equally long fronts of a list are equal
+same_front : (front other rest more : List Step) → front ++ rest ≡ other ++ more → length front ≡ length other
+    → front ≡ other
+same_front front other rest more is count =
+    sym (take_at front rest (length other) count) ∙ ap (take (length other)) is ∙ take_at other more (length other) refl
+
+-- the components begin with the front, and no front of theirs that is as long or longer leads to a file
+pub record IsClearFrom (moves : List Move) (entries : List Entry) (cs front : List Step) : Type 0 where
+  pub under : List Step
+  pub split : cs ≡ front ++ under
+  pub clear : (longer rest : List Step) → cs ≡ longer ++ rest → rest ≢ [] → length front ≤ length longer
+      → ¬ HasFileAt moves entries longer
+
+pub IsClearFrom-start : (moves : List Move) (entries : List Entry) (cs : List Step) → IsClearFrom moves entries cs cs
+IsClearFrom-start moves entries cs = record {
+  under = [];
+  split = sym (append-nil cs);
+  clear = λ longer rest is some long file.
+      some (nil_from_length rest (omega (arith, ap length is, length-append longer rest, long)));
+}
+
+module _ (moves : List Move) (entries : List Entry) (cs front directory : List Step) (last : Step)
+    (above : IsClearFrom moves entries cs front) (is : front ≡ directory ++ last ∷ [])
+  where
+    split_here : cs ≡ directory ++ last ∷ above.under
+    split_here = above.split ∙ ap (λ ds. ds ++ above.under) is ∙ append_assoc directory (last ∷ []) above.under
+
+    -- the directory is no file
+    pub IsClearFrom-next : ¬ HasFileAt moves entries directory → IsClearFrom moves entries cs directory
+    IsClearFrom-next none = record {
+      under = last ∷ above.under;
+      split = split_here;
+      clear = λ longer rest split some long file. elim (cases_lt (length directory) (length longer)) [
+        | inl less ↦
+            let count : length front ≤ length longer =
+            omega (arith, less, ap length is, length-append directory (last ∷ [])) in
+            above.clear longer rest split some count file
+        | inr no_less ↦
+            let same =
+            same_front longer directory rest (last ∷ above.under) (sym split ∙ split_here) (omega (arith, long, no_less)) in
+            none (subst (HasFileAt moves entries) same file)
+      ];
+    }
+
+    -- the directory is a file
+    pub HasFileAbove-here : directory ≢ [] → HasFileAt moves entries directory → HasFileAbove moves entries cs
+    HasFileAbove-here some file = record {
+      front = directory;
+      rest = last ∷ above.under;
+      split = split_here;
+      some_front = some;
+      some_rest = λ none. absurd (let count = ap length none in omega (arith, count));
+      file = file;
+    }
+
+-- at the end no front is left
+pub IsClearFrom-end : (moves : List Move) (entries : List Entry) (cs front : List Step) → length front ≤ 1
+    → IsClearFrom moves entries cs front → ¬ HasFileAbove moves entries cs
+IsClearFrom-end moves entries cs front short above has =
+    let long = some_long has.front has.some_front in
+    above.clear has.front has.rest has.split has.some_rest (omega (arith, short, long)) has.file
+
+-- ---- the entry where components lead, after the moves
+
+-- R holds of the elements at each place
+AllZip-at : {A B : Type 0} (R : A → B → Type 0) (xs : List A) (ys : List B) (k : ℕ) (x : A) (y : B) → AllZip R xs ys
+    → k < length xs → R (get_or xs k x) (get_or ys k y)
+AllZip-at R [] ys k x y zipped within = absurd (omega (arith, within))
+AllZip-at R (a ∷ xs) [] k x y zipped within = absurd zipped
+AllZip-at R (a ∷ xs) (b ∷ ys) zero x y zipped within = zipped.0
+AllZip-at R (a ∷ xs) (b ∷ ys) (suc k) x y zipped within = AllZip-at R xs ys k x y zipped.1 (omega (arith, within))
+
+module _ (moves : List Move) (entries : List Entry) (index : PlaceIndex) (known : IndexesAfter moves entries index)
+    (cs : List Step)
+  where
+    count : length known.after ≡ length entries
+    count = AllZip-long (IsAfter moves) entries known.after known.are_after
+
+    count_paths : length (map components known.after) ≡ length entries
+    count_paths = length-map known.after components ∙ count
+
+    path_of : (k : ℕ) → k < length entries
+        → path_at (map components known.after) k ≡ components (get_or known.after k [])
+    path_of k within = get_or-map components known.after k [] [] (omega (arith, within, count))
+
+    is_after : (k : ℕ) (entry : Entry) → k < length entries → get_or entries k entry ≡ entry
+        → IsAfter moves entry (get_or known.after k [])
+    is_after k entry within is =
+        subst (λ e. IsAfter moves e (get_or known.after k [])) is
+        (AllZip-at (IsAfter moves) entries known.after k entry [] known.are_after within)
+
+    -- a file is where the path of its number leads
+    leads_there : (k : ℕ) (entry : Entry) → k < length entries → get_or entries k entry ≡ entry
+        → IsFileAt moves cs entry → IsSame cs (path_at (map components known.after) k)
+    leads_there k entry within is file =
+        let (one, one_is, same) = file.there in
+        let (other, other_is, normal) = is_after k entry within is in
+        let only : other ≡ one =
+        IsTreeTarget-only moves (path_components entry.path) one other known.apart one_is other_is in
+        subst (IsSame cs) (sym (path_of k within))
+        (IsSame-trans (IsSame-sym same)
+        (subst (λ target. IsSame target (components (get_or known.after k []))) only normal.same))
+
+    -- no path leads there
+    pub HasFileAt-none : IsNoneAt (map components known.after) cs → ¬ HasFileAt moves entries cs
+    HasFileAt-none none (k, entry, within, is, file) =
+        none k (omega (arith, within, count_paths)) (leads_there k entry within is file)
+
+    module _ (number : ℕ) (entry : Entry) (within : number < length entries) (is : get_or entries number entry ≡ entry)
+        (first : IsFirstAt (map components known.after) cs number)
+      where
+        -- the entry that is there is a file
+        HasFileAt-file : is_directory entry.kind ≡ false → HasFileAt moves entries cs
+        HasFileAt-file file =
+            let (target, target_is, normal) = is_after number entry within is in
+            let there = subst (IsSame cs) (path_of number within) first.same in
+            let same = IsSame-trans normal.same (IsSame-sym there) in
+            (number, entry, within, is, record { file = file; there = (target, target_is, same) })
+
+        -- the entry that is there is a directory
+        HasFileAt-directory : is_directory entry.kind ≡ true → ¬ HasFileAt moves entries cs
+        HasFileAt-directory directory (k, other, other_within, other_is, file) =
+            let leads = leads_there k other other_within other_is file in
+            elim (cases_order number k) [
+              | inl same ↦
+                  let here = ap (λ j. get_or entries j entry) same in
+                  let e : entry ≡ other = sym is ∙ here ∙ get_or_default entries k entry other other_within ∙ other_is in
+                  true≢false (sym directory ∙ ap (λ x. is_directory x.kind) e ∙ file.file)
+              | inr (inl less) ↦
+                  let k_within : k < length (map components known.after) = omega (arith, other_within, count_paths) in
+                  (known.distinct k k_within).first number less (IsSame-trans (IsSame-sym leads) first.same)
+              | inr (inr more) ↦ first.first k more leads
+            ]
+
+    -- the first path that leads there tells whether a file is there
+    pub HasFileAt-number : (number : ℕ) (file : Bool) → IsFirstAt (map components known.after) cs number
+        → ((none : Entry) → number < length entries → file ≡ not (is_directory (get_or entries number none).kind))
+        → MatchBool file (HasFileAt moves entries cs) (¬ HasFileAt moves entries cs)
+    HasFileAt-number number true first is = elim ((slice_get_cases entries number).1) [
+      | inl (entry, within, get, same) ↦
+          HasFileAt-file number entry within same first
+          (ap (λ e. is_directory e.kind) (sym same) ∙ not-true _ (sym (is entry within)))
+      | inr (past, none) ↦ absurd (omega (arith, past, first.within, count_paths))
+    ]
+    HasFileAt-number number false first is = elim ((slice_get_cases entries number).1) [
+      | inl (entry, within, get, same) ↦
+          HasFileAt-directory number entry within same first
+          (ap (λ e. is_directory e.kind) (sym same) ∙ not-false _ (sym (is entry within)))
+      | inr (past, none) ↦ absurd (omega (arith, past, first.within, count_paths))
+    ]

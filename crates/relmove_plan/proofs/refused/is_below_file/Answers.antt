@@ -1,0 +1,25 @@
+-- Each turn takes the last component off, and asks what is there.
+use Rattle.relative_path.specs.RelativePath.{path_components}
+use Rattle.relmove_plan.proofs.AboveLemmas.{IsClearFrom-next, IsClearFrom-end, HasFileAbove-here}
+use Rattle.relmove_plan.proofs.refused.is_below_file.Goals as goal
+
+pub returns-then-has_file : goal.returns-then-has_file
+returns-then-has_file c = λ tree known.
+    let (some, ends) = c.in-Some.ensures in
+    let (last, is) = ends in
+    HasFileAbove-here tree c.args.entries.now (path_components c.args.path) (path_components c.loop-directory.left)
+    (path_components c.in-Some.directory) last (c.loop-directory.invariant tree known) is some
+    (rw c.if-has_file.true at (c.in_ok-has_file.ensures tree known))
+
+pub loop-directory-preserved : goal.loop-directory-preserved
+loop-directory-preserved c = λ tree known.
+    let (some, ends) = c.in-Some.ensures in
+    let (last, is) = ends in
+    IsClearFrom-next tree c.args.entries.now (path_components c.args.path) (path_components c.loop-directory.left)
+    (path_components c.in-Some.directory) last (c.loop-directory.invariant tree known) is
+    (rw c.if-has_file.false at (c.in_ok-has_file.ensures tree known))
+
+pub returns : goal.returns
+returns c = λ tree known.
+    IsClearFrom-end tree c.args.entries.now (path_components c.args.path) (path_components c.loop-directory.left)
+    c.in_default.ensures (c.loop-directory.invariant tree known)

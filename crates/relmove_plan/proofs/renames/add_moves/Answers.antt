@@ -1,0 +1,38 @@
+-- Each turn does the next move.
+use Rattle.std.proofs.Common.{◌<◌, length, arith}
+use Rattle.relative_path_moves.specs.Moves.{moves_of, move_at}
+use Rattle.relmove_plan.specs.Steps.{DoesMove, names_left, rename_texts}
+use Rattle.relmove_plan.proofs.MovesLemmas.{EachMove-next, length-moves_of, move_at-moves_of}
+use Rattle.relmove_plan.proofs.CarryLemmas.{DoesMove-among}
+use Rattle.relmove_plan.proofs.NamesLemmas.{names_left-all, names_left-next}
+use Rattle.relmove_plan.proofs.renames.add_moves.Goals as goal
+
+pub loop-number-preserved : goal.loop-number-preserved
+loop-number-preserved c =
+    let steps = rename_texts c.loop-number.renames in
+    let more = rename_texts c.add_move.new.renames in
+    let moves = c.args.moves.now in
+    let within : c.loop-number.number < length c.args.between.now = rw c.requires.count c.loop-number-test.true in
+    record {
+      kept = c.in_ok-add_move.ensures.kept;
+      moved = λ paths has.
+          EachMove-next (DoesMove paths more) moves c.loop-number.number _ c.loop-number-test.true
+          (λ j l. DoesMove-among steps more c.in_ok-add_move.ensures.among paths (move_at (moves_of moves) j)
+          (c.loop-number.invariant.moved paths has j l))
+          (c.in_ok-add_move.ensures.moved paths has);
+      only = λ paths only.
+          c.in_ok-add_move.ensures.only (moves_of moves) paths c.loop-number.number
+          (rw (length-moves_of moves) c.loop-number-test.true)
+          (move_at-moves_of moves c.loop-number.number _ c.loop-number-test.true)
+          (c.loop-number.invariant.only paths only);
+      left = names_left-next (names_left (rename_texts c.args.renames.now)) (names_left steps) (names_left more)
+          c.args.between.now c.loop-number.number c.index-between-number.result c.deref.result.now within
+          c.index-between-number.is c.deref.ensures c.loop-number.invariant.left c.in_ok-add_move.ensures.left;
+    }
+
+pub returns-clause-left : goal.returns-clause-left
+returns-clause-left c =
+    let count = c.requires.count in
+    let last = c.loop-number-test.false in
+    names_left-all (names_left (rename_texts c.args.renames.now)) (names_left (rename_texts c.loop-number.renames))
+    c.args.between.now c.loop-number.number (omega (arith, count, last)) c.loop-number.invariant.left

@@ -1,0 +1,50 @@
+-- Each turn replaces the next page.
+use Rattle.std.proofs.Common.{◌<◌, ◌≤◌, length, arith}
+use Rattle.relmove_plan.specs.Steps.{RemovesAt, changed_paths, rename_texts}
+use Rattle.relmove_plan.proofs.CarryLemmas.{All-RemovesAt-next, All-taken, AreAmong-trans, RemovesMoved-among, RemovesMoved-each, ReplacesPages-all, ReplacesPages-next, length-changed_paths, path_at-changed_paths}
+use Rattle.relmove_plan.proofs.renames.add_pages.Goals as goal
+
+pub loop-page-preserved : goal.loop-page-preserved
+loop-page-preserved c =
+    let steps = rename_texts c.loop-page.renames in
+    let more = rename_texts c.add_page.new.renames in
+    let before = rename_texts c.args.renames.now in
+    let pages = c.args.pages.now in
+    let changed = c.args.changed.now in
+    let paths = changed_paths pages changed in
+    let k = c.loop-page.page-index in
+    let within : k < length paths = rw (length-changed_paths pages changed) c.loop-page-test.true in
+    record {
+      kept = c.in_ok-add_page.ensures.kept;
+      among = AreAmong-trans (rename_texts c.args.renames.now) steps more c.loop-page.invariant.among
+          c.in_ok-add_page.ensures.among;
+      replaced = ReplacesPages-next c.args.pages.now c.args.news.now c.args.changed.now steps more c.loop-page.page-index
+          _ _ c.index-news-page.result c.in_ok-add_page.ensures.among c.loop-page-test.true c.index-news-page.is
+          c.in_ok-add_page.ensures.replaced c.loop-page.invariant.replaced;
+      removed = λ moves has does.
+          let here = path_at-changed_paths pages changed k _ _ c.loop-page-test.true
+          (c.requires.within k _ c.loop-page-test.true) in
+          All-RemovesAt-next paths steps more k _ c.in_ok-add_page.ensures.among within here
+          (c.in_ok-add_page.ensures.removed moves has
+          (RemovesMoved-among before steps c.loop-page.invariant.among moves _
+          (RemovesMoved-each paths moves before k _ within here does)))
+          (c.loop-page.invariant.removed moves has does);
+      only = λ moves only.
+          c.in_ok-add_page.ensures.only moves paths k within
+          (path_at-changed_paths pages changed k _ _ c.loop-page-test.true (c.requires.within k _ c.loop-page-test.true))
+          (c.loop-page.invariant.only moves only);
+      free = λ index drawn. c.in_ok-add_page.ensures.free index (c.loop-page.invariant.free index drawn);
+    }
+
+pub returns-clause-replaced : goal.returns-clause-replaced
+returns-clause-replaced c =
+    ReplacesPages-all c.args.pages.now c.args.news.now c.args.changed.now (rename_texts c.loop-page.renames)
+    c.loop-page.page-index (grind (arith, c.loop-page-test.false)) c.loop-page.invariant.replaced
+
+pub returns-clause-removed : goal.returns-clause-removed
+returns-clause-removed c = λ moves has does.
+    let paths = changed_paths c.args.pages.now c.args.changed.now in
+    let long = length-changed_paths c.args.pages.now c.args.changed.now in
+    let all : length paths ≤ c.loop-page.page-index = rw long (grind (arith, c.loop-page-test.false)) in
+    All-taken (RemovesAt (rename_texts c.loop-page.renames)) paths c.loop-page.page-index all
+    (c.loop-page.invariant.removed moves has does)

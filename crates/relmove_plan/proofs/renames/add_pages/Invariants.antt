@@ -1,0 +1,23 @@
+-- So far nothing is lost, each page is replaced, and its old text is removed.
+use Rattle.std.proofs.Common.{All, List, take}
+use Rattle.relative_path_moves.specs.Moves.{Move}
+use Rattle.relative_path_moves.specs.PlaceIndex.{Indexes}
+use Rattle.relative_path_moves.specs.declared.place_index.PlaceIndex.{PlaceIndex}
+use Rattle.relmove_plan.specs.Moves.{EachMove}
+use Rattle.relmove_plan.specs.Steps.{AreAmong, DoesMove, LosesNothing, OnlyTheseLeave, RemovesAt, ReplacesPages, changed_paths, names_left, old_paths, rename_texts}
+use Rattle.relmove_plan.specs.BetweenNames.{AreDrawn}
+use Rattle.relmove_plan.proofs.renames.add_pages.Given as goal
+
+abbrev pub invariant-loop-page : goal.invariant-loop-page
+invariant-loop-page l = record {
+  kept : LosesNothing (rename_texts l.renames);
+  among : AreAmong (rename_texts l.fn.renames) (rename_texts l.renames);
+  replaced : ReplacesPages l.pages l.news (take l.page-index l.changed) (rename_texts l.renames);
+  removed : (moves : List Move) → Indexes (old_paths moves) l.olds
+      → EachMove (DoesMove (changed_paths l.pages l.changed) (rename_texts l.fn.renames)) moves
+      → All (RemovesAt (rename_texts l.renames)) (take l.page-index (changed_paths l.pages l.changed));
+  only : (moves : List Move) → OnlyTheseLeave moves (changed_paths l.pages l.changed) (rename_texts l.fn.renames)
+      → OnlyTheseLeave moves (changed_paths l.pages l.changed) (rename_texts l.renames);
+  free : (index : PlaceIndex) → AreDrawn index l.fn.names (names_left (rename_texts l.fn.renames))
+      → AreDrawn index l.names (names_left (rename_texts l.renames));
+}
