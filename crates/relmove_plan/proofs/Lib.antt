@@ -8,3 +8,4 @@ pub mod StepsLemmas
 pub mod CarryLemmas
 pub mod OnlyLemmas
 pub mod NamesLemmas
+pub mod DirectoriesLemmas

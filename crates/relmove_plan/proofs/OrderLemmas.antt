@@ -14,7 +14,7 @@ use Rattle.std.specs.declared.cmp.Ordering.{Ordering}
 use Rattle.relative_path.specs.Steps.{slash}
 use Rattle.relmove_plan.specs.Steps.{IsBelow, BelowFirst, AboveFirst}
 
-nat_cmp-self : (x : ℕ) → nat_cmp x x ≡ Equal
+pub nat_cmp-self : (x : ℕ) → nat_cmp x x ≡ Equal
 nat_cmp-self x = grind (arith, nat_tests)
 
 -- a text comes before each that goes on after it

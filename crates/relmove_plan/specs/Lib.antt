@@ -5,3 +5,4 @@ pub mod Pages
 pub mod Plan
 pub mod Steps
 pub mod BetweenNames
+pub mod Directories

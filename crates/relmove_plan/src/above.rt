@@ -1,7 +1,8 @@
 //! The directories above a path.
-ghost use Rattle.std.specs.Prelude.{◌≡◌, ◌≢◌, ◌≤◌, ◌++◌, [], ◌∷◌, MatchOption, length};
+ghost use Rattle.std.specs.Prelude.{◌≡◌, ◌≢◌, ◌≤◌, ◌++◌, [], ◌∷◌, All, IfOk, MatchOption, length};
 ghost use Rattle.relative_path.specs.RelativePath.{path_components};
 ghost use Rattle.relative_path.specs.Steps.{Step};
+ghost use Rattle.relmove_plan.specs.Directories.{HasDirectory};
 
 use relative_path::RelativePath;
 use std::alloc::{AllocError, Global};
@@ -10,7 +11,10 @@ use std::alloc::{AllocError, Global};
 pub(crate) fn directories_above<'a>(
     alloc: Global,
     path: RelativePath<'a>,
-) -> Result<Vec<RelativePath<'a>>, AllocError> {
+) -> Result<Vec<RelativePath<'a>>, AllocError>
+    ensures { IfOk result (λ directories. All (λ directory. HasDirectory (path_components path.entry)
+        (path_components directory)) directories.items) }
+{
     let mut directories = Vec::new(alloc);
     let mut left = path;
     while let Some(directory) = directory_above(left) {

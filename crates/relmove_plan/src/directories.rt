@@ -1,4 +1,11 @@
 //! The directories that a run makes, and those that it may empty.
+ghost use Rattle.std.specs.Prelude.{◌≡◌, ◌<◌, ℕ, List, IfOk, OnOk, length, map, string_bytes};
+ghost use mathlib.Core.List.{reverse};
+ghost use Rattle.relative_path.specs.RelativePath.{path_components};
+ghost use Rattle.relative_path_moves.specs.Moves.{Move, move_at, moves_of};
+ghost use Rattle.relmove_plan.specs.Directories.{AreLeftByMoves};
+ghost use Rattle.relmove_plan.specs.Steps.{BelowFirst};
+
 use crate::above::directories_above;
 use relative_path::RelativePath;
 use relative_path_links::{SitePage, Target};
@@ -50,11 +57,14 @@ pub(crate) fn directories_emptied(
     pages: &[SitePage<'_>],
     moves: &[(RelativePath<'_>, RelativePath<'_>)],
     tree: &TreeMoves<'_>,
-) -> Result<Vec<String>, AllocError> {
+) -> Result<Vec<String>, AllocError>
+    ensures order { IfOk result (λ emptied. BelowFirst (map string_bytes emptied.items)) }
+    ensures left { IfOk result
+        (λ emptied. AreLeftByMoves tree.now (moves_of moves.now) emptied.items) }
+{
     let mut left = BTreeSet::new(alloc);
     for (old, _) in moves {
-        let old = NormalPath::of(alloc, *old)?;
-        add_left(alloc, &mut left, old.as_relative_path(), tree)?;
+        add_left(alloc, &mut left, *old, tree)?;
     }
     for page in pages {
         if left.is_empty() {
@@ -62,12 +72,19 @@ pub(crate) fn directories_emptied(
         }
         remove_linked(alloc, &mut left, *page, tree)?;
     }
-    let mut emptied = Vec::with_capacity(alloc, left.len())?;
-    for directory in left {
-        emptied.push(directory)?;
+    from_last(alloc, left)
+}
+
+// The texts of a set, from the last to the first.
+fn from_last(alloc: Global, mut set: BTreeSet<String>) -> Result<Vec<String>, AllocError>
+    ensures reversed { IfOk result (λ texts. texts.items ≡ reverse set.keys) }
+    ensures order { IfOk result (λ texts. BelowFirst (map string_bytes texts.items)) }
+{
+    let mut texts = Vec::with_capacity(alloc, set.len())?;
+    while let Some(text) = set.pop_last() {
+        texts.push(text)?;
     }
-    emptied.reverse();
-    Ok(emptied)
+    Ok(texts)
 }
 
 // Adds the directories above a path, where they are after the moves.
@@ -76,8 +93,13 @@ fn add_left(
     left: &mut BTreeSet<String>,
     path: RelativePath<'_>,
     tree: &TreeMoves<'_>,
-) -> Result<(), AllocError> {
-    let directories = directories_above(alloc, path)?;
+) -> Result<(), AllocError>
+    ensures { OnOk result ((moves : List Move) (k : ℕ) → k < length moves
+        → (move_at moves k).old ≡ path_components path.entry
+        → AreLeftByMoves tree.now moves left.old.keys → AreLeftByMoves tree.now moves left.new.keys) }
+{
+    let path = NormalPath::of(alloc, path)?;
+    let directories = directories_above(alloc, path.as_relative_path())?;
     for directory in &directories {
         let now = tree.path_after(alloc, *directory)?;
         left.insert(now.into_relative_path_buf().into_string())?;
@@ -91,7 +113,10 @@ fn remove_linked(
     left: &mut BTreeSet<String>,
     page: SitePage<'_>,
     tree: &TreeMoves<'_>,
-) -> Result<(), AllocError> {
+) -> Result<(), AllocError>
+    ensures { OnOk result ((moves : List Move) → AreLeftByMoves tree.now moves left.old.keys
+        → AreLeftByMoves tree.now moves left.new.keys) }
+{
     for target in page.targets {
         if let Some(place) = place_after(alloc, page, *target, tree)? {
             left.remove(place.as_relative_path().as_str());

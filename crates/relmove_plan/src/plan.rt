@@ -9,6 +9,7 @@ ghost use Rattle.relmove_plan.specs.Pages.{changed_from};
 ghost use Rattle.relmove_plan.specs.Plan.{IsAccepted, IsRefused};
 ghost use Rattle.relmove_plan.specs.Refusals.{IsStepsRefusal};
 ghost use Rattle.relmove_plan.specs.Moves.{EachMove};
+ghost use Rattle.relmove_plan.specs.Directories.{AreLeftByMoves};
 ghost use Rattle.relmove_plan.specs.Trees.{entry_paths};
 ghost use Rattle.relmove_plan.specs.Steps.{AboveFirst, BelowFirst, DoesMove, LosesNothing, OnlyTheseLeave, RemovesAt, ReplacesPages, changed_paths, names_left, rename_texts, step_texts};
 ghost use Rattle.relmove_plan.specs.BetweenNames.{AreDrawn, AreFreeNames};
@@ -78,6 +79,9 @@ pub fn make_plan(
         plan.changed.items (step_texts plan.steps)) }
     ensures removed { IfOk result (λ plan. All (RemovesAt (step_texts plan.steps))
         (changed_paths tree.entry.pages.now plan.changed.items)) }
+    ensures emptied { IfOk result (λ plan. BelowFirst (map string_bytes plan.steps.emptied.items)) }
+    ensures left { IfOk result
+        (λ plan. AreLeftByMoves (moves_of moves.now) (moves_of moves.now) plan.steps.emptied.items) }
     ensures only { IfOk result (λ plan. OnlyTheseLeave (moves_of moves.now)
         (changed_paths tree.entry.pages.now plan.changed.items) (step_texts plan.steps)) }
     ensures names { IfOk result
@@ -156,6 +160,9 @@ fn steps_of(
         now.entry.changed.now (step_texts steps)) }
     ensures removed { IfOk result (λ steps. All (RemovesAt (step_texts steps))
         (changed_paths pages.now now.entry.changed.now)) }
+    ensures emptied { IfOk result (λ steps. BelowFirst (map string_bytes steps.emptied.items)) }
+    ensures left { IfOk result
+        (λ steps. AreLeftByMoves now.entry.table.now (moves_of moves.now) steps.emptied.items) }
     ensures only { IfOk result (λ steps. OnlyTheseLeave (moves_of moves.now)
         (changed_paths pages.now now.entry.changed.now) (step_texts steps)) }
     ensures names { IfOk result (λ steps. (paths : List (List Step)) → Indexes paths now.entry.index.now

@@ -1,5 +1,8 @@
 -- What is accepted, or refused, of moves that may leave.
 use Rattle.relmove_plan.proofs.MovesLemmas.{IfErr-error}
+use Rattle.std.proofs.Common.{subst}
+use Rattle.relative_path_moves.specs.Moves.{moves_of}
+use Rattle.relmove_plan.specs.Directories.{AreLeftByMoves}
 use Rattle.relmove_plan.proofs.plan.make_plan.Goals as goal
 
 pub returns-in_err-after-clause-refused : goal.returns-in_err-after-clause-refused
@@ -16,3 +19,8 @@ returns-clause-replaced c =
 
 pub returns-clause-only : goal.returns-clause-only
 returns-clause-only c = rw c.deref-2.ensures.value at c.in_ok-steps.ensures.only
+
+pub returns-clause-left : goal.returns-clause-left
+returns-clause-left c =
+    subst (λ table. AreLeftByMoves table (moves_of c.args.moves.now) c.in_ok-steps.steps.emptied.items)
+    c.in_ok-table.ensures.table c.in_ok-steps.ensures.left
