@@ -42,6 +42,15 @@ fn push_percent(target: &mut String, byte: u8) -> Result<(), AllocError>
     target.push(hexadecimal(byte % 16))
 }
 
+// The target that spells a path.
+fn spelled(alloc: Global, path: &str) -> Result<String, AllocError>
+    ensures { IfOk result (λ target. string_bytes target ≡ spelled path.now) }
+{
+    let mut target = String::with_capacity(alloc, path.len())?;
+    push_spelled(&mut target, path)?;
+    Ok(target)
+}
+
 // Adds the target that spells a path.
 fn push_spelled(target: &mut String, path: &str) -> Result<(), AllocError>
     ensures { IfOk result (λ _. string_bytes target.new ≡ string_bytes target.old ++ spelled path.now) }
@@ -114,9 +123,7 @@ pub fn target_of_path(alloc: Global, path: &str) -> Result<String, AllocError>
     ensures start { IfOk result (λ target. begins_template (string_bytes target) ≡ false) }
     ensures block { IfOk result (λ target. begins_block (string_bytes target) ≡ false) }
 {
-    let mut target = String::with_capacity(alloc, path.len())?;
-    push_target_of_path(&mut target, path)?;
-    Ok(target)
+    spelled(alloc, path_written(path))
 }
 
 /// Appends to a text what [`target_of_path`] returns for a path.
