@@ -8,4 +8,6 @@ pub mod StepsLemmas
 pub mod CarryLemmas
 pub mod OnlyLemmas
 pub mod NamesLemmas
+pub mod NewFilesLemmas
+pub mod OnceLemmas
 pub mod DirectoriesLemmas

@@ -3,6 +3,8 @@ use Rattle.relmove_plan.proofs.MovesLemmas.{IfErr-error}
 use Rattle.std.proofs.Common.{subst}
 use Rattle.relative_path_moves.specs.Moves.{moves_of}
 use Rattle.relmove_plan.specs.Directories.{AreLeftByMoves}
+use Rattle.relmove_plan.specs.Trees.{entry_paths}
+use Rattle.relmove_plan.proofs.OnceLemmas.{LeaveFromEntries-whole}
 use Rattle.relmove_plan.proofs.plan.make_plan.Goals as goal
 
 pub returns-in_err-after-clause-refused : goal.returns-in_err-after-clause-refused
@@ -24,3 +26,12 @@ pub returns-clause-left : goal.returns-clause-left
 returns-clause-left c =
     subst (λ table. AreLeftByMoves table (moves_of c.args.moves.now) c.in_ok-steps.steps.emptied.items)
     c.in_ok-table.ensures.table c.in_ok-steps.ensures.left
+
+pub returns-clause-files : goal.returns-clause-files
+returns-clause-files c = rw c.deref-2.ensures.value at (c.in_ok-steps.ensures.files ? ?)
+
+pub returns-clause-once : goal.returns-clause-once
+returns-clause-once c = λ whole.
+    let leave = LeaveFromEntries-whole c.args.tree.entries.now c.args.tree.pages.now ? ? (moves_of c.args.moves.now)
+    c.args.any_name ? whole ? ? in
+    c.in_ok-steps.ensures.once (entry_paths c.args.tree.entries.now) ? (rw c.deref-2.ensures.value leave)
