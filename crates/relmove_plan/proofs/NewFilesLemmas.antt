@@ -177,7 +177,7 @@ AreFilesDrawn-file index pages before after steps page file text next normal one
             of_pages = All-push (λ (new : List ℕ × List ℕ × List ℕ). IsOneOf pages new.0) steps.texts new so_far.of_pages
                 one;
             next_to = All-push (λ (new : List ℕ × List ℕ × List ℕ). IsNextTo new.0 new.1) steps.texts new so_far.next_to
-                (record { number = next.number; next = ends });
+                (record { number = next.number; next = ends; spelled = next.file_of.normal_text.spelled });
             unused = All-push (λ (new : List ℕ × List ℕ × List ℕ). IsNoneAt entries (components new.1)) steps.texts new
                 so_far.unused
                 (next.unused entries (subst (Indexes entries) (sym drawn.entries) has));

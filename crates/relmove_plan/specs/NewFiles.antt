@@ -1,6 +1,6 @@
 -- The new files to which a run writes new texts, and what leaves its path once.
 use Rattle.std.specs.Prelude.{◌≡◌, ◌≢◌, ◌⊎◌, ◌<◌, ℕ, ◌^◌, List, [], ◌∷◌, ◌++◌, All, AllPairs, Contains, length}
-use Rattle.relative_path.specs.Steps.{Step, name, components}
+use Rattle.relative_path.specs.Steps.{Step, name, components, spell}
 use Rattle.relative_path.specs.Normalizing.{IsNormalTextOf}
 use Rattle.relative_path_moves.specs.Moves.{Move, AreApart}
 use Rattle.relative_path_moves.specs.Places.{directory}
@@ -16,10 +16,11 @@ use Rattle.relmove_plan.specs.Trees.{AreDistinct}
 abbrev pub IsOneOf : List (List Step) → List ℕ → Type 0
 IsOneOf paths text = (k : ℕ) × (k < length paths) × IsNormalTextOf (path_at paths k) text
 
--- the file is in the page's directory, under a numbered name
+-- the file is in the page's directory, under a numbered name, and its text spells its components
 pub record IsNextTo (page file : List ℕ) : Type 0 where
   pub number : ℕ
   pub next : components file ≡ directory (components page) ++ name (numbered_name number) ∷ []
+  pub spelled : file ≡ spell (components file)
 
 -- each new text is of one of these pages and has a file of its own, next to the page: no entry is at the file, and the
 -- file is no name in between

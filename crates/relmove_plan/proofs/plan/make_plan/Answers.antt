@@ -28,10 +28,17 @@ returns-clause-left c =
     c.in_ok-table.ensures.table c.in_ok-steps.ensures.left
 
 pub returns-clause-files : goal.returns-clause-files
-returns-clause-files c = rw c.deref-2.ensures.value at (c.in_ok-steps.ensures.files ? ?)
+returns-clause-files c =
+    rw c.deref-2.ensures.value at
+    (c.in_ok-steps.ensures.files (entry_paths c.args.tree.entries.now) c.in_ok-index.ensures)
 
 pub returns-clause-once : goal.returns-clause-once
 returns-clause-once c = λ whole.
-    let leave = LeaveFromEntries-whole c.args.tree.entries.now c.args.tree.pages.now ? ? (moves_of c.args.moves.now)
-    c.args.any_name ? whole ? ? in
-    c.in_ok-steps.ensures.once (entry_paths c.args.tree.entries.now) ? (rw c.deref-2.ensures.value leave)
+    let entries = c.args.tree.entries.now in
+    let pages = c.args.tree.pages.now in
+    let moves = moves_of c.args.moves.now in
+    let accepted = c.in_ok-after.ensures.fine c.args.any_name c.in_ok-table.ensures.fine in
+    let leave =
+    LeaveFromEntries-whole entries pages c.in_ok-pages.pages.items c.in_ok-pages.changed.items moves c.args.any_name
+    accepted whole c.in_ok-pages.ensures.within c.in_ok-pages.ensures.changed in
+    c.in_ok-steps.ensures.once (entry_paths entries) c.in_ok-index.ensures (rw c.deref-2.ensures.value leave)

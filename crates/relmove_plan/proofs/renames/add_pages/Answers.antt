@@ -42,11 +42,12 @@ loop-page-preserved c =
           c.in_ok-add_page.ensures.files index paths k within here (c.loop-page.invariant.free index drawn)
           (c.loop-page.invariant.files index drawn files);
       so_far = λ moves only.
-          let here = path_at-changed_paths pages changed k _ _ c.loop-page-test.true
-          (c.requires.within k _ c.loop-page-test.true) in
           let long = length-take-le (k + 1) paths (omega (arith, within)) in
-          c.in_ok-add_page.ensures.only moves (take (k + 1) paths) k (omega (arith, long))
-          (get_or-take (k + 1) paths k [] (omega arith) ∙ here)
+          let more : k < length (take (k + 1) paths) = omega (arith, long) in
+          let same = get_or-take (k + 1) paths k [] (omega arith) in
+          c.in_ok-add_page.ensures.only moves (take (k + 1) paths) k more
+          (same ∙ path_at-changed_paths pages changed k _ _ c.loop-page-test.true
+          (c.requires.within k _ c.loop-page-test.true))
           (OnlyTheseLeave-more_pages moves paths k steps within (c.loop-page.invariant.so_far moves only));
       once = λ index entries moves has has_olds leave drawn files only once.
           let here = path_at-changed_paths pages changed k _ _ c.loop-page-test.true
