@@ -1,7 +1,7 @@
 -- Nothing leaves the same path twice.
-use Rattle.std.proofs.Common.{All, AllPairs, Any, Contains, IsPermutation, Bool, true, false, if◌then◌else◌, ◌≡◌, ◌≢◌, ◌⊎◌, ℕ, ◌<◌, ◌≤◌, ◌+◌, ◌^◌, List, [], ◌∷◌, ◌++◌, inl, inr, length, map, take, get_or, string_bytes, refl, sym, ap, subst, ◌∙◌, get_or-take, arith}
+use Rattle.std.proofs.Common.{All, AllPairs, Contains, IsPermutation, Bool, true, false, if◌then◌else◌, ◌≡◌, ◌≢◌, ◌⊎◌, ℕ, ◌<◌, ◌≤◌, ◌+◌, ◌^◌, List, [], ◌∷◌, ◌++◌, inl, inr, length, map, take, get_or, string_bytes, refl, sym, ap, subst, ◌∙◌, get_or-take, arith}
 use Rattle.std.specs.Str.{bytes_eq}
-use Rattle.std.proofs.lemmas.List.{get_or-map, get_or_default, length-map, length-take-le}
+use Rattle.std.proofs.lemmas.List.{get_or-map, length-map, length-take-le}
 use Rattle.std.proofs.lemmas.List.Elements.{All-cons, All-contains, All-contains_itself, All-nil, All-push, All-weaker}
 use Rattle.std.proofs.lemmas.List.Kept.{AllPairs-cons}
 use Rattle.std.proofs.lemmas.List.Quantifiers.{all_pairs_push}
@@ -26,7 +26,7 @@ use Rattle.relmove_plan.specs.Pages.{changed_from, page_paths}
 use Rattle.relmove_plan.specs.Plan.{IsAccepted}
 use Rattle.relmove_plan.specs.Steps.{StepTexts, with_carried, with_removed, LeavesFrom, of_move, of_page, of_text, OnlyTheseLeave, changed_paths, old_paths}
 use Rattle.relmove_plan.specs.Trees.{AreDistinct, entry_paths}
-use Rattle.relmove_plan.specs.WholeTrees.{IsAt, LeadsToFile, IsWhole}
+use Rattle.relmove_plan.specs.WholeTrees.{LeadsToFile, IsWhole}
 use Rattle.relmove_plan.proofs.NamesLemmas.{bytes_eq-flips}
 use Rattle.relmove_plan.proofs.NewFilesLemmas.{EndsBelow-other}
 

@@ -1,12 +1,12 @@
 -- Each turn does the next move.
-use Rattle.std.proofs.Common.{◌≡◌, ◌<◌, ◌+◌, [], length, take, sym, ap, subst, ◌∙◌, arith}
+use Rattle.std.proofs.Common.{◌<◌, ◌+◌, [], length, take, subst, ◌∙◌, arith}
 use Rattle.relative_path_moves.specs.Moves.{Move, moves_of, move_at}
 use Rattle.relmove_plan.specs.NewFiles.{StaysThere}
 use Rattle.relmove_plan.specs.Steps.{DoesMove, names_left, rename_texts}
 use Rattle.relmove_plan.proofs.MovesLemmas.{EachMove-next, length-moves_of, move_at-moves_of}
 use Rattle.relmove_plan.proofs.CarryLemmas.{DoesMove-among}
 use Rattle.relmove_plan.proofs.NamesLemmas.{names_left-all, names_left-next}
-use Rattle.relmove_plan.proofs.OnceLemmas.{LeaveOnce-none, OnlyTheseLeave-more_moves, OnlyTheseLeave-none, StaysThere-move, count_more, move_at-take_more}
+use Rattle.relmove_plan.proofs.OnceLemmas.{OnlyTheseLeave-more_moves, StaysThere-move, count_more, move_at-take_more}
 use Rattle.relmove_plan.proofs.renames.add_moves.Goals as goal
 
 pub loop-number-preserved : goal.loop-number-preserved

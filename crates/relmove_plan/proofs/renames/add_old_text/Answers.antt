@@ -1,5 +1,5 @@
 -- The old text is removed, or a move leads from there already.
-use Rattle.std.proofs.Common.{◌≡◌, ◌++◌, ◌∷◌, [], sym, ap, subst, string_bytes, ◌∙◌}
+use Rattle.std.proofs.Common.{◌++◌, ◌∷◌, [], sym, ap, subst, string_bytes, ◌∙◌}
 use Rattle.relative_path.specs.Normalizing.{IsNormalTextOf}
 use Rattle.relative_path_moves.specs.PlaceIndex.{path_at}
 use Rattle.relmove_plan.specs.Steps.{LosesNothing, OnlyTheseLeave, StepTexts, of_page, RemovesAt, names_left, old_paths, rename_texts, with_removed}

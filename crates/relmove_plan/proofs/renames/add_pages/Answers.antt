@@ -1,5 +1,5 @@
 -- Each turn replaces the next page.
-use Rattle.std.proofs.Common.{◌≡◌, ◌<◌, ◌≤◌, ◌+◌, [], length, take, get_or-take, ◌∙◌, arith}
+use Rattle.std.proofs.Common.{◌<◌, ◌≤◌, ◌+◌, [], length, take, get_or-take, ◌∙◌, arith}
 use Rattle.std.proofs.lemmas.List.{length-take-le}
 use Rattle.relmove_plan.specs.Steps.{RemovesAt, changed_paths, rename_texts}
 use Rattle.relmove_plan.proofs.CarryLemmas.{All-RemovesAt-next, All-taken, AreAmong-trans, RemovesMoved-among, RemovesMoved-each, ReplacesPages-all, ReplacesPages-next, length-changed_paths, path_at-changed_paths}
