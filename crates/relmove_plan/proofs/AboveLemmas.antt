@@ -20,7 +20,8 @@ use Rattle.relmove_plan.specs.Trees.{is_directory, IsAfter, IndexesAfter, IsFile
 
 -- ---- the directory above a path
 
-components-nil : components [] ≡ []
+-- the empty text has no component
+pub components-nil : components [] ≡ []
 unfolding relative_path_on_literals
 components-nil = refl
 

@@ -150,7 +150,7 @@ module _ (paths : List (List Step)) (cs : List Step) where
   found-some None is at = absurd (false≢true is)
   found-some (Some k) is at = λ none. none k at.within at.same
 
-  found-none : (found : Option ℕ) → is_some found ≡ false → IsFoundAt paths cs found → IsNoneAt paths cs
+  pub found-none : (found : Option ℕ) → is_some found ≡ false → IsFoundAt paths cs found → IsNoneAt paths cs
   found-none None is at = at
   found-none (Some k) is at = absurd (false≢true (sym is))
 

@@ -8,6 +8,8 @@ pub mod StepsLemmas
 pub mod CarryLemmas
 pub mod OnlyLemmas
 pub mod NamesLemmas
+pub mod NewFilesLemmas
+pub mod OnceLemmas
 pub mod DirectoriesLemmas
 pub mod RunsLemmas
 pub mod PlacesLemmas

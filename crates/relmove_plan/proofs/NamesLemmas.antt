@@ -16,18 +16,18 @@ use Rattle.relative_path.specs.Steps.{Step, components}
 use Rattle.relative_path_moves.specs.PlaceIndex.{IsNoneAt}
 use Rattle.relative_path_moves.specs.declared.place_index.PlaceIndex.{PlaceIndex}
 use Rattle.relmove_plan.specs.declared.between.FreeNames.{FreeNames}
-use Rattle.relmove_plan.specs.BetweenNames.{numbered_name, IsNumbered, AreFreeNames, AreDrawn, IsLater, IsDrawn}
+use Rattle.relmove_plan.specs.BetweenNames.{numbered_name, IsNumbered, AreFreeNames, AreDrawn, IsDrawn}
 
 -- ---- names that differ, in another order
 
-bytes_eq-false : (one other : List ℕ) → one ≢ other → bytes_eq one other ≡ false
+pub bytes_eq-false : (one other : List ℕ) → one ≢ other → bytes_eq one other ≡ false
 bytes_eq-false one other differ = by (bytes_eq one other) (bytes_eq-Decides one other)
   where
     by : (b : Bool) → Decides b (one ≡ other) → b ≡ false
     by true decides = absurd (differ (decides.0 refl))
     by false decides = refl
 
-bytes_eq-flips : (one other : List ℕ) → bytes_eq one other ≡ bytes_eq other one
+pub bytes_eq-flips : (one other : List ℕ) → bytes_eq one other ≡ bytes_eq other one
 bytes_eq-flips one other =
     same_from_decides (bytes_eq one other) (bytes_eq other one) (bytes_eq-Decides one other)
     ((λ is. sym ((bytes_eq-Decides other one).0 is)), (λ is. (bytes_eq-Decides other one).1 (sym is)))
@@ -59,14 +59,15 @@ AreDrawn-none index free is = record {
   };
 }
 
-pub AreDrawn-later : (index : PlaceIndex) (before after : FreeNames) (names : List (List ℕ)) → IsLater before after
-    → AreDrawn index before names → AreDrawn index after names
-AreDrawn-later index before after names later drawn = record {
-  entries = ap (λ entries. entries.now) later.entries ∙ drawn.entries;
+-- the same names, perhaps after some more were drawn
+pub AreDrawn-later : (index : PlaceIndex) (before after : FreeNames) (names : List (List ℕ))
+    → after.entries ≡ before.entries → before.next ≤ after.next → AreDrawn index before names
+    → AreDrawn index after names
+AreDrawn-later index before after names entries next drawn = record {
+  entries = ap (λ entries. entries.now) entries ∙ drawn.entries;
   numbered = All-weaker (IsNumbered before.next) (IsNumbered after.next)
       (λ name is.
       let below = is.below in
-      let next = later.next in
       record {
         number = is.number;
         below = omega
@@ -78,7 +79,7 @@ AreDrawn-later index before after names later drawn = record {
 }
 
 -- a name with another number is another one
-numbered_name-other : (one other : ℕ) → one < 2 ^ 64 → other < 2 ^ 64 → one < other
+pub numbered_name-other : (one other : ℕ) → one < 2 ^ 64 → other < 2 ^ 64 → one < other
     → numbered_name one ≢ numbered_name other
 numbered_name-other one other fits fits_2 less same =
     let is = decimal_injective one other fits fits_2 (append_cancel_left (codes ".relmove-") (decimal one)
@@ -90,8 +91,8 @@ pub AreDrawn-next : (index : PlaceIndex) (before after : FreeNames) (names : Lis
 AreDrawn-next index before after names name next drawn =
     let late = next.late in
     let next_is = next.next in
-    let later : IsLater before after = record { entries = next.entries; next = omega (arith, late, next_is) } in
-    let numbered = (AreDrawn-later index before after names later drawn).numbered in
+    let numbered =
+    (AreDrawn-later index before after names next.entries (omega (arith, late, next_is)) drawn).numbered in
     record {
       entries = ap (λ entries. entries.now) next.entries ∙ drawn.entries;
       numbered = All-push (IsNumbered after.next) names name numbered

@@ -1,6 +1,7 @@
--- The names in between, to which things are renamed before they come to their new paths.
+-- The names in between, to which things are renamed before they come to their new paths, and the names of new files.
 use Rattle.std.specs.Prelude.{◌≡◌, ◌≢◌, ◌<◌, ◌≤◌, ℕ, ◌+◌, ◌^◌, List, ◌++◌, All, AllPairs, codes, decimal}
 use Rattle.relative_path.specs.Steps.{Step, components}
+use Rattle.relative_path.specs.Normalizing.{IsNormalTextOf}
 use Rattle.relative_path_moves.specs.PlaceIndex.{Indexes, IsNoneAt}
 use Rattle.relative_path_moves.specs.declared.place_index.PlaceIndex.{PlaceIndex}
 use Rattle.relmove_plan.specs.declared.between.FreeNames.{FreeNames}
@@ -28,11 +29,6 @@ pub record AreDrawn (index : PlaceIndex) (free : FreeNames) (names : List (List 
   pub numbered : All (IsNumbered free.next) names
   pub fresh : (paths : List (List Step)) → Indexes paths index → AreFreeNames paths names
 
--- the same free names, perhaps after some more were drawn
-pub record IsLater (before after : FreeNames) : Type 0 where
-  pub entries : after.entries ≡ before.entries
-  pub next : before.next ≤ after.next
-
 -- this name was drawn from the free names before, and no entry has it; these are the free names after
 pub record IsDrawn (before after : FreeNames) (name : List ℕ) : Type 0 where
   pub number : ℕ
@@ -42,3 +38,14 @@ pub record IsDrawn (before after : FreeNames) (name : List ℕ) : Type 0 where
   pub next : after.next ≡ number + 1
   pub name_is : name ≡ numbered_name number
   pub unused : (paths : List (List Step)) → Indexes paths before.entries.now → IsNoneAt paths (components name)
+
+-- the file's name was drawn from the free names before, the file is in the directory to which the components lead, and no
+-- entry is at it; these are the free names after
+pub record IsDrawnIn (cs : List Step) (before after : FreeNames) (file : List ℕ) : Type 0 where
+  pub number : ℕ
+  pub fits : number < 2 ^ 64
+  pub late : before.next ≤ number
+  pub entries : after.entries ≡ before.entries
+  pub next : after.next ≡ number + 1
+  pub file_of : IsNormalTextOf (cs ++ components (numbered_name number)) file
+  pub unused : (paths : List (List Step)) → Indexes paths before.entries.now → IsNoneAt paths (components file)

@@ -9,6 +9,7 @@ use Rattle.relative_path_links.specs.declared.site.MovedSitePage.{MovedSitePage}
 use Rattle.relative_path_links.specs.declared.site.SitePage.{SitePage}
 use Rattle.relative_path_moves.specs.Moves.{Move, move_at}
 use Rattle.relative_path_moves.specs.PlaceIndex.{IsNoneAt, path_at}
+use Rattle.relmove_plan.specs.Pages.{page_paths}
 use Rattle.relmove_plan.specs.declared.pages.ChangedPage.{ChangedPage}
 use Rattle.relmove_plan.specs.declared.renames.Renames.{Renames}
 use Rattle.relmove_plan.specs.declared.steps.NewText.{NewText}
@@ -164,8 +165,7 @@ old_paths moves = map (λ move. move.old) moves
 
 -- the paths of the pages that change
 abbrev pub changed_paths : List SitePage → List ChangedPage → List (List Step)
-changed_paths pages changed =
-    map (λ change. path_at (map (λ page. path_components page.path) pages) change.number) changed
+changed_paths pages changed = map (λ change. path_at (page_paths pages) change.number) changed
 
 -- the new text of the page is written to a new file, which is carried to the page's new path
 pub record ReplacesPage (steps : StepTexts) (page : SitePage) (new : MovedSitePage) : Type 0 where

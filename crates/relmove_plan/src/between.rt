@@ -1,7 +1,8 @@
 //! Names for what moves, while it moves.
-ghost use Rattle.std.specs.Prelude.{IfErr, IfOk, OnOk, [], string_bytes};
+ghost use Rattle.std.specs.Prelude.{IfErr, IfOk, [], string_bytes};
+ghost use Rattle.relative_path.specs.RelativePath.{path_components};
 ghost use Rattle.relmove_plan.specs.Refusals.{IsStepsRefusal};
-ghost use Rattle.relmove_plan.specs.BetweenNames.{AreDrawn, IsDrawn, IsLater};
+ghost use Rattle.relmove_plan.specs.BetweenNames.{AreDrawn, IsDrawn, IsDrawnIn};
 
 use crate::refusal::Refusal;
 use relative_path::RelativePath;
@@ -47,7 +48,8 @@ impl<'a> FreeNames<'a> {
         alloc: Global,
         directory: RelativePath<'_>,
     ) -> Result<String, Refusal>
-        ensures later { OnOk result (IsLater self.old self.new) }
+        ensures drawn { IfOk result (λ file.
+            IsDrawnIn (path_components directory.entry) self.old self.new (string_bytes file)) }
         ensures refused { IfErr result IsStepsRefusal }
     {
         for number in self.next..u64::MAX {

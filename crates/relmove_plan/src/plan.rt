@@ -5,7 +5,8 @@ ghost use Rattle.relative_path.specs.Steps.{Step};
 ghost use Rattle.relative_path_moves.specs.Moves.{moves_of};
 ghost use Rattle.relative_path_moves.specs.PlaceIndex.{Indexes};
 ghost use Rattle.relative_path_moves.specs.declared.place_index.PlaceIndex.{PlaceIndex};
-ghost use Rattle.relmove_plan.specs.Pages.{changed_from};
+ghost use Rattle.relmove_plan.specs.NewFiles.{AreFilesDrawn, HaveOwnFiles, LeaveFromEntries, LeaveOnce};
+ghost use Rattle.relmove_plan.specs.Pages.{changed_from, page_paths};
 ghost use Rattle.relmove_plan.specs.Plan.{IsAccepted, IsRefused};
 ghost use Rattle.relmove_plan.specs.Refusals.{IsStepsRefusal};
 ghost use Rattle.relmove_plan.specs.Moves.{EachMove};
@@ -13,6 +14,7 @@ ghost use Rattle.relmove_plan.specs.Directories.{AreLeftByMoves};
 ghost use Rattle.relmove_plan.specs.Trees.{entry_paths};
 ghost use Rattle.relmove_plan.specs.Steps.{AboveFirst, BelowFirst, DoesMove, LosesNothing, OnlyTheseLeave, RemovesAt, ReplacesPages, changed_paths, names_left, rename_texts, step_texts};
 ghost use Rattle.relmove_plan.specs.BetweenNames.{AreDrawn, AreFreeNames};
+ghost use Rattle.relmove_plan.specs.WholeTrees.{IsWhole};
 
 use crate::after::entry_index;
 use crate::allowed::{coming_index, leaving_table};
@@ -86,6 +88,10 @@ pub fn make_plan(
         (changed_paths tree.entry.pages.now plan.changed.items) (step_texts plan.steps)) }
     ensures names { IfOk result
         (λ plan. AreFreeNames (entry_paths tree.entry.entries.now) (names_left (step_texts plan.steps))) }
+    ensures once { IfOk result (λ plan. IsWhole tree.entry.entries.now (page_paths tree.entry.pages.now)
+        → LeaveOnce (step_texts plan.steps)) }
+    ensures files { IfOk result (λ plan. HaveOwnFiles (entry_paths tree.entry.entries.now)
+        (changed_paths tree.entry.pages.now plan.changed.items) (step_texts plan.steps)) }
     ensures refused { IfErr result (IsRefused tree.entry.entries.now (moves_of moves.now) any_name) }
 {
     let index = entry_index(alloc, tree.entries)?;
@@ -167,6 +173,11 @@ fn steps_of(
         (changed_paths pages.now now.entry.changed.now) (step_texts steps)) }
     ensures names { IfOk result (λ steps. (paths : List (List Step)) → Indexes paths now.entry.index.now
         → AreFreeNames paths (names_left (step_texts steps))) }
+    ensures once { IfOk result (λ steps. (paths : List (List Step)) → Indexes paths now.entry.index.now
+        → LeaveFromEntries paths (moves_of moves.now) (changed_paths pages.now now.entry.changed.now)
+        → LeaveOnce (step_texts steps)) }
+    ensures files { IfOk result (λ steps. (paths : List (List Step)) → Indexes paths now.entry.index.now
+        → HaveOwnFiles paths (changed_paths pages.now now.entry.changed.now) (step_texts steps)) }
     ensures refused { IfErr result IsStepsRefusal }
 {
     let mut names = FreeNames::new(now.index);
@@ -206,6 +217,13 @@ fn renames_of(
     ensures free { IfOk result (λ renames. (index : PlaceIndex)
         → AreDrawn index names.old (map string_bytes between.now)
         → AreDrawn index names.new (names_left (rename_texts renames))) }
+    ensures files { IfOk result (λ renames. (index : PlaceIndex)
+        → AreDrawn index names.old (map string_bytes between.now)
+        → AreFilesDrawn index (changed_paths pages.now now.entry.changed.now) names.new (rename_texts renames)) }
+    ensures once { IfOk result (λ renames. (index : PlaceIndex) (entries : List (List Step))
+        → Indexes entries index
+        → LeaveFromEntries entries (moves_of moves.now) (changed_paths pages.now now.entry.changed.now)
+        → AreDrawn index names.old (map string_bytes between.now) → LeaveOnce (rename_texts renames)) }
     ensures refused { IfErr result IsStepsRefusal }
 {
     let mut renames = Renames::new(alloc);

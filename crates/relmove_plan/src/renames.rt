@@ -1,16 +1,17 @@
 //! The renames of a run: everything that moves, and each page that changes, to a name in between, and from there to
 //! its new path.
-ghost use Rattle.std.specs.Prelude.{◌≡◌, ◌<◌, ℕ, ◌++◌, [], ◌∷◌, All, IfErr, IfOk, List, OnOk, length, map, string_bytes};
+ghost use Rattle.std.specs.Prelude.{◌≡◌, ◌<◌, ℕ, ◌++◌, [], ◌∷◌, All, IfErr, IfOk, List, OnOk, length, map, string_bytes, take};
 ghost use Rattle.relative_path.specs.Steps.{Step};
 ghost use Rattle.relative_path.specs.RelativePath.{path_components};
 ghost use Rattle.relative_path.specs.Normalizing.{IsNormalTextOf};
-ghost use Rattle.relative_path_moves.specs.Moves.{Move, move_at, moves_of};
-ghost use Rattle.relative_path_moves.specs.PlaceIndex.{Indexes, path_at};
+ghost use Rattle.relative_path_moves.specs.Moves.{AreApart, Move, move_at, moves_of};
+ghost use Rattle.relative_path_moves.specs.PlaceIndex.{Indexes, IsNoneAt, path_at};
 ghost use Rattle.relative_path_moves.specs.declared.place_index.PlaceIndex.{PlaceIndex};
 ghost use Rattle.relmove_plan.specs.Moves.{EachMove, move_of};
 ghost use Rattle.relmove_plan.specs.Refusals.{IsStepsRefusal};
 ghost use Rattle.relmove_plan.specs.Steps.{AreAmong, DoesMove, LosesNothing, RemovesAt, RemovesMoved, ReplacesPage, ReplacesPages, OnlyTheseLeave, changed_paths, names_left, old_paths, rename_texts, with_carried, with_removed, with_text};
 ghost use Rattle.relmove_plan.specs.BetweenNames.{AreDrawn};
+ghost use Rattle.relmove_plan.specs.NewFiles.{AreFilesDrawn, DoNothingYet, LeaveFromEntries, LeaveOnce, LeavesToo, StaysThere};
 
 use crate::between::FreeNames;
 use crate::pages::ChangedPage;
@@ -72,6 +73,7 @@ impl Renames {
         ensures left { names_left (rename_texts result) ≡ [] }
         ensures only { (moves : List Move) (paths : List (List Step))
             → OnlyTheseLeave moves paths (rename_texts result) }
+        ensures none { DoNothingYet (rename_texts result) }
     {
         Renames {
             leaving: Vec::new(alloc),
@@ -154,6 +156,9 @@ pub(crate) fn add_moves(
     ensures only { OnOk result ((paths : List (List Step))
         → OnlyTheseLeave (moves_of moves.now) paths (rename_texts renames.old)
         → OnlyTheseLeave (moves_of moves.now) paths (rename_texts renames.new)) }
+    ensures texts { OnOk result ((rename_texts renames.new).texts ≡ (rename_texts renames.old).texts) }
+    ensures once { OnOk result (AreApart (moves_of moves.now) → DoNothingYet (rename_texts renames.old)
+        → LeaveOnce (rename_texts renames.new)) }
 {
     for (number, (old, new)) in moves.iter().enumerate() {
         add_move(alloc, renames, *old, *new, &between[number], changed)?;
@@ -183,6 +188,9 @@ fn add_move(
         → move_at moves k ≡ move_of (path_components old.entry) (path_components new.entry)
         → OnlyTheseLeave moves paths (rename_texts renames.old)
         → OnlyTheseLeave moves paths (rename_texts renames.new)) }
+    ensures texts { OnOk result ((rename_texts renames.new).texts ≡ (rename_texts renames.old).texts) }
+    ensures once { OnOk result (StaysThere (path_components old.entry) (rename_texts renames.old)
+        → LeaveOnce (rename_texts renames.old) → LeaveOnce (rename_texts renames.new)) }
 {
     let old = NormalPath::of(alloc, old)?;
     let changes = changed.get(&old).is_some();
@@ -240,6 +248,17 @@ pub(crate) fn add_pages(
     ensures free { OnOk result ((index : PlaceIndex)
         → AreDrawn index names.old (names_left (rename_texts renames.old))
         → AreDrawn index names.new (names_left (rename_texts renames.new))) }
+    ensures files { OnOk result ((index : PlaceIndex)
+        → AreDrawn index names.old (names_left (rename_texts renames.old))
+        → AreFilesDrawn index (changed_paths pages.now changed.now) names.old (rename_texts renames.old)
+        → AreFilesDrawn index (changed_paths pages.now changed.now) names.new (rename_texts renames.new)) }
+    ensures once { OnOk result ((index : PlaceIndex) (entries : List (List Step)) (moves : List Move)
+        → Indexes entries index → Indexes (old_paths moves) olds.now
+        → LeaveFromEntries entries moves (changed_paths pages.now changed.now)
+        → AreDrawn index names.old (names_left (rename_texts renames.old))
+        → AreFilesDrawn index (changed_paths pages.now changed.now) names.old (rename_texts renames.old)
+        → OnlyTheseLeave moves [] (rename_texts renames.old)
+        → LeaveOnce (rename_texts renames.old) → LeaveOnce (rename_texts renames.new)) }
     ensures refused { IfErr result IsStepsRefusal }
 {
     for page in changed {
@@ -273,6 +292,18 @@ fn add_page(
     ensures free { OnOk result ((index : PlaceIndex)
         → AreDrawn index names.old (names_left (rename_texts renames.old))
         → AreDrawn index names.new (names_left (rename_texts renames.new))) }
+    ensures files { OnOk result ((index : PlaceIndex) (paths : List (List Step)) (k : ℕ) → k < length paths
+        → path_at paths k ≡ path_components page.entry.path
+        → AreDrawn index names.old (names_left (rename_texts renames.old))
+        → AreFilesDrawn index paths names.old (rename_texts renames.old)
+        → AreFilesDrawn index paths names.new (rename_texts renames.new)) }
+    ensures once { OnOk result ((index : PlaceIndex) (entries paths : List (List Step)) (moves : List Move) (k : ℕ)
+        → Indexes entries index → Indexes (old_paths moves) olds.now → LeaveFromEntries entries moves paths
+        → k < length paths → path_at paths k ≡ path_components page.entry.path
+        → AreDrawn index names.old (names_left (rename_texts renames.old))
+        → AreFilesDrawn index paths names.old (rename_texts renames.old)
+        → OnlyTheseLeave moves (take k paths) (rename_texts renames.old)
+        → LeaveOnce (rename_texts renames.old) → LeaveOnce (rename_texts renames.new)) }
     ensures refused { IfErr result IsStepsRefusal }
 {
     let old = NormalPath::of(alloc, page.path)?;
@@ -306,6 +337,14 @@ fn add_old_text(
     ensures free { OnOk result ((index : PlaceIndex)
         → AreDrawn index names.old (names_left (rename_texts renames.old))
         → AreDrawn index names.new (names_left (rename_texts renames.new))) }
+    ensures files { OnOk result ((index : PlaceIndex) (paths : List (List Step))
+        → AreFilesDrawn index paths names.old (rename_texts renames.old)
+        → AreFilesDrawn index paths names.new (rename_texts renames.new)) }
+    ensures leaves { OnOk result (LeavesToo page (rename_texts renames.old) (rename_texts renames.new)) }
+    ensures once { OnOk result ((moves : List Move) (cs : List Step)
+        → Indexes (old_paths moves) olds.now → IsNormalTextOf cs page
+        → (IsNoneAt (old_paths moves) cs → StaysThere cs (rename_texts renames.old))
+        → LeaveOnce (rename_texts renames.old) → LeaveOnce (rename_texts renames.new)) }
     ensures refused { IfErr result IsStepsRefusal }
 {
     if olds.get(&page).is_some() {

@@ -3,6 +3,8 @@ use Rattle.relmove_plan.proofs.MovesLemmas.{IfErr-error}
 use Rattle.std.proofs.Common.{subst}
 use Rattle.relative_path_moves.specs.Moves.{moves_of}
 use Rattle.relmove_plan.specs.Directories.{AreLeftByMoves}
+use Rattle.relmove_plan.specs.Trees.{entry_paths}
+use Rattle.relmove_plan.proofs.OnceLemmas.{LeaveFromEntries-whole}
 use Rattle.relmove_plan.proofs.plan.make_plan.Goals as goal
 
 pub returns-in_err-after-clause-refused : goal.returns-in_err-after-clause-refused
@@ -24,3 +26,19 @@ pub returns-clause-left : goal.returns-clause-left
 returns-clause-left c =
     subst (λ table. AreLeftByMoves table (moves_of c.args.moves.now) c.in_ok-steps.steps.emptied.items)
     c.in_ok-table.ensures.table c.in_ok-steps.ensures.left
+
+pub returns-clause-files : goal.returns-clause-files
+returns-clause-files c =
+    rw c.deref-2.ensures.value at
+    (c.in_ok-steps.ensures.files (entry_paths c.args.tree.entries.now) c.in_ok-index.ensures)
+
+pub returns-clause-once : goal.returns-clause-once
+returns-clause-once c = λ whole.
+    let entries = c.args.tree.entries.now in
+    let pages = c.args.tree.pages.now in
+    let moves = moves_of c.args.moves.now in
+    let accepted = c.in_ok-after.ensures.fine c.args.any_name c.in_ok-table.ensures.fine in
+    let leave =
+    LeaveFromEntries-whole entries pages c.in_ok-pages.pages.items c.in_ok-pages.changed.items moves c.args.any_name
+    accepted whole c.in_ok-pages.ensures.within c.in_ok-pages.ensures.changed in
+    c.in_ok-steps.ensures.once (entry_paths entries) c.in_ok-index.ensures (rw c.deref-2.ensures.value leave)

@@ -1,9 +1,10 @@
 -- The moves are done before the pages are added.
-use Rattle.std.proofs.Common.{Global, ◌++◌, map, string_bytes, sym, ap, subst, ◌∙◌}
+use Rattle.std.proofs.Common.{Global, [], ◌++◌, map, string_bytes, sym, ap, subst, ◌∙◌}
 use Rattle.relative_path_moves.specs.Moves.{moves_of, move_at}
 use Rattle.relmove_plan.specs.Steps.{changed_paths, rename_texts}
 use Rattle.relmove_plan.specs.BetweenNames.{AreDrawn}
 use Rattle.relmove_plan.proofs.CarryLemmas.{DoesMove-among}
+use Rattle.relmove_plan.proofs.NewFilesLemmas.{AreFilesDrawn-none}
 use Rattle.relmove_plan.proofs.plan.renames_of.Goals as goal
 
 pub returns-clause-moved : goal.returns-clause-moved
@@ -29,3 +30,25 @@ returns-clause-only c =
     let moves = moves_of c.args.moves.now in
     let paths = changed_paths c.args.pages.now c.args.now.changed.now in
     c.in_ok-add_pages.ensures.only moves (c.in_ok-add_moves.ensures.only paths (c.new-renames.ensures.only moves paths))
+
+pub returns-clause-files : goal.returns-clause-files
+returns-clause-files c = λ index drawn.
+    let names = map (string_bytes {Z = Global}) c.args.between.now in
+    let left = c.in_ok-add_moves.ensures.left ∙ ap (λ before. before ++ names) c.new-renames.ensures.left in
+    let paths = changed_paths c.args.pages.now c.args.now.changed.now in
+    c.in_ok-add_pages.ensures.files index (subst (AreDrawn index c.args.names.now) (sym left) drawn)
+    (AreFilesDrawn-none index paths c.args.names.now (rename_texts c.add_moves.new.renames)
+    (c.in_ok-add_moves.ensures.texts ∙ c.new-renames.ensures.none.texts))
+
+pub returns-clause-once : goal.returns-clause-once
+returns-clause-once c = λ index entries has leave drawn.
+    let names = map (string_bytes {Z = Global}) c.args.between.now in
+    let left = c.in_ok-add_moves.ensures.left ∙ ap (λ before. before ++ names) c.new-renames.ensures.left in
+    let moves = moves_of c.args.moves.now in
+    let paths = changed_paths c.args.pages.now c.args.now.changed.now in
+    c.in_ok-add_pages.ensures.once index entries moves has c.in_ok-olds.ensures leave
+    (subst (AreDrawn index c.args.names.now) (sym left) drawn)
+    (AreFilesDrawn-none index paths c.args.names.now (rename_texts c.add_moves.new.renames)
+    (c.in_ok-add_moves.ensures.texts ∙ c.new-renames.ensures.none.texts))
+    (c.in_ok-add_moves.ensures.only [] (c.new-renames.ensures.only moves []))
+    (c.in_ok-add_moves.ensures.once leave.apart c.new-renames.ensures.none)

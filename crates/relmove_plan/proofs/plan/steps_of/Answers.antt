@@ -10,6 +10,8 @@ use Rattle.relmove_plan.proofs.StepsLemmas.{LosesNothing-reordered}
 use Rattle.relmove_plan.proofs.CarryLemmas.{AreAmong-reordered, DoesMove-among, RemovesAt-among, ReplacesPages-among}
 use Rattle.relmove_plan.proofs.NamesLemmas.{AreFreeNames-IsPermutation}
 use Rattle.relmove_plan.proofs.OnlyLemmas.{OnlyTheseLeave-reordered}
+use Rattle.relmove_plan.proofs.NewFilesLemmas.{HaveOwnFiles-reordered}
+use Rattle.relmove_plan.proofs.OnceLemmas.{LeaveOnce-IsPermutation}
 use Rattle.relmove_plan.proofs.plan.steps_of.Goals as goal
 
 -- the renames in order
@@ -82,3 +84,22 @@ returns-clause-only c =
     } in
     OnlyTheseLeave-reordered (moves_of c.args.moves.now) (changed_paths c.args.pages.now c.args.now.changed.now)
     (rename_texts renames) steps c.in_ok-below_first.ensures.same refl c.in_ok-renames.ensures.only
+
+pub returns-clause-files : goal.returns-clause-files
+returns-clause-files c = λ paths has.
+    let index = c.args.now.index.now in
+    let renames = c.in_ok-renames.renames in
+    let steps = in_order renames c.in_ok-below_first.field-0 c.in_ok-above_first.field-0 in
+    let between = c.in_ok-between.ensures.free index c.new-names.ensures in
+    let drawn = c.in_ok-renames.ensures.files index (rw c.deref.ensures.value between) in
+    HaveOwnFiles-reordered paths (changed_paths c.args.pages.now c.args.now.changed.now) (rename_texts renames) steps
+    c.in_ok-below_first.ensures.same refl (drawn.own paths has)
+
+pub returns-clause-once : goal.returns-clause-once
+returns-clause-once c = λ paths has leave.
+    let index = c.args.now.index.now in
+    let renames = c.in_ok-renames.renames in
+    let steps = in_order renames c.in_ok-below_first.field-0 c.in_ok-above_first.field-0 in
+    let between = c.in_ok-between.ensures.free index c.new-names.ensures in
+    LeaveOnce-IsPermutation (rename_texts renames) steps c.in_ok-below_first.ensures.same
+    (c.in_ok-renames.ensures.once index paths has leave (rw c.deref.ensures.value between))

@@ -4,10 +4,12 @@ use Rattle.std.proofs.lemmas.Result.{on_ok_weaker}
 use Rattle.relative_path.specs.Normalizing.{IsNormalTextOf}
 use Rattle.relative_path.specs.RelativePath.{path_components}
 use Rattle.relmove_plan.specs.Moves.{move_of}
-use Rattle.relmove_plan.specs.Steps.{AreAmong, DoesMove, LosesNothing, OnlyTheseLeave, of_move, names_left, rename_texts}
+use Rattle.relmove_plan.specs.Steps.{AreAmong, DoesMove, LosesNothing, OnlyTheseLeave, StepTexts, of_move, names_left, rename_texts}
+use Rattle.relmove_plan.specs.NewFiles.{LeaveOnce}
 use Rattle.relmove_plan.proofs.StepsLemmas.{LosesNothing-with_carried, LosesNothing-with_removed, names_left-push}
 use Rattle.relmove_plan.proofs.CarryLemmas.{AreAmong-with_carried, AreAmong-with_removed, DoesMove-carried, DoesMove-removed}
 use Rattle.relmove_plan.proofs.OnlyLemmas.{OnlyTheseLeave-with_carried, OnlyTheseLeave-with_removed}
+use Rattle.relmove_plan.proofs.OnceLemmas.{LeaveOnce-with_carried, LeaveOnce-with_removed}
 use Rattle.relmove_plan.proofs.renames.add_move.Goals as goal
 
 pub returns-then-changes : goal.returns-then-changes
@@ -34,6 +36,9 @@ returns-then-changes c =
           (λ is moves paths k l here only. subst (OnlyTheseLeave moves paths) (sym is)
           (OnlyTheseLeave-with_removed moves paths steps from name
           (of_move k l (rw here from_is)) only)) c.add_removed.ensures;
+      texts = on_ok_weaker c.add_removed.result (λ is. ap (λ (all : StepTexts). all.texts) is) c.add_removed.ensures;
+      once = on_ok_weaker c.add_removed.result
+          (λ is stays once. subst LeaveOnce (sym is) (LeaveOnce-with_removed steps (path_components c.args.old) from name from_is stays once)) c.add_removed.ensures;
     }
 
 pub returns : goal.returns
@@ -64,4 +69,7 @@ returns c =
           (λ is moves paths k l here only. subst (OnlyTheseLeave moves paths) (sym is)
           (OnlyTheseLeave-with_carried moves paths steps from name to
           (of_move k l (rw here from_is)) only)) c.add_carried.ensures;
+      texts = on_ok_weaker c.add_carried.result (λ is. ap (λ (all : StepTexts). all.texts) is) c.add_carried.ensures;
+      once = on_ok_weaker c.add_carried.result
+          (λ is stays once. subst LeaveOnce (sym is) (LeaveOnce-with_carried steps (path_components c.args.old) from name from_is stays to once)) c.add_carried.ensures;
     }

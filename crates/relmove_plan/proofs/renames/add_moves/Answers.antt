@@ -1,10 +1,12 @@
 -- Each turn does the next move.
-use Rattle.std.proofs.Common.{◌<◌, length, arith}
-use Rattle.relative_path_moves.specs.Moves.{moves_of, move_at}
+use Rattle.std.proofs.Common.{◌<◌, ◌+◌, [], length, take, subst, ◌∙◌, arith}
+use Rattle.relative_path_moves.specs.Moves.{Move, moves_of, move_at}
+use Rattle.relmove_plan.specs.NewFiles.{StaysThere}
 use Rattle.relmove_plan.specs.Steps.{DoesMove, names_left, rename_texts}
 use Rattle.relmove_plan.proofs.MovesLemmas.{EachMove-next, length-moves_of, move_at-moves_of}
 use Rattle.relmove_plan.proofs.CarryLemmas.{DoesMove-among}
 use Rattle.relmove_plan.proofs.NamesLemmas.{names_left-all, names_left-next}
+use Rattle.relmove_plan.proofs.OnceLemmas.{OnlyTheseLeave-more_moves, StaysThere-move, count_more, move_at-take_more}
 use Rattle.relmove_plan.proofs.renames.add_moves.Goals as goal
 
 pub loop-number-preserved : goal.loop-number-preserved
@@ -13,6 +15,10 @@ loop-number-preserved c =
     let more = rename_texts c.add_move.new.renames in
     let moves = c.args.moves.now in
     let within : c.loop-number.number < length c.args.between.now = rw c.requires.count c.loop-number-test.true in
+    let all = moves_of moves in
+    let k = c.loop-number.number in
+    let here = move_at-moves_of moves k _ c.loop-number-test.true in
+    let within_all : k < length all = rw (length-moves_of moves) c.loop-number-test.true in
     record {
       kept = c.in_ok-add_move.ensures.kept;
       moved = λ paths has.
@@ -28,6 +34,18 @@ loop-number-preserved c =
       left = names_left-next (names_left (rename_texts c.args.renames.now)) (names_left steps) (names_left more)
           c.args.between.now c.loop-number.number c.index-between-number.result c.deref.result.now within
           c.index-between-number.is c.deref.ensures c.loop-number.invariant.left c.in_ok-add_move.ensures.left;
+      texts = c.in_ok-add_move.ensures.texts ∙ c.loop-number.invariant.texts;
+      so_far = λ none.
+          let long = count_more all k within_all in
+          c.in_ok-add_move.ensures.only (take (k + 1) all) [] k (omega (arith, long))
+          (move_at-take_more all k within_all ∙ here)
+          (OnlyTheseLeave-more_moves all k within_all [] steps (c.loop-number.invariant.so_far none));
+      once = λ apart none.
+          c.in_ok-add_move.ensures.once
+          (subst (λ (move : Move). StaysThere move.old steps) here
+          (StaysThere-move all k within_all steps apart (c.loop-number.invariant.texts ∙ none.texts)
+          (c.loop-number.invariant.so_far none)))
+          (c.loop-number.invariant.once apart none);
     }
 
 pub returns-clause-left : goal.returns-clause-left

@@ -1,12 +1,15 @@
 -- The old text is removed, or a move leads from there already.
-use Rattle.std.proofs.Common.{sym, ap, subst, string_bytes, ◌∙◌}
+use Rattle.std.proofs.Common.{◌++◌, ◌∷◌, [], sym, ap, subst, string_bytes, ◌∙◌}
 use Rattle.relative_path.specs.Normalizing.{IsNormalTextOf}
 use Rattle.relative_path_moves.specs.PlaceIndex.{path_at}
-use Rattle.relmove_plan.specs.Steps.{LosesNothing, OnlyTheseLeave, of_page, RemovesAt, names_left, old_paths, rename_texts}
+use Rattle.relmove_plan.specs.Steps.{LosesNothing, OnlyTheseLeave, StepTexts, of_page, RemovesAt, names_left, old_paths, rename_texts, with_removed}
+use Rattle.relmove_plan.specs.NewFiles.{LeaveOnce, LeavesToo}
 use Rattle.relmove_plan.proofs.StepsLemmas.{LosesNothing-with_removed, names_left-push}
-use Rattle.relmove_plan.proofs.CarryLemmas.{RemovesAt-moved, RemovesAt-with_removed}
+use Rattle.relmove_plan.proofs.CarryLemmas.{RemovesAt-moved, RemovesAt-with_removed, found-none}
 use Rattle.relmove_plan.proofs.NamesLemmas.{AreDrawn-next}
 use Rattle.relmove_plan.proofs.OnlyLemmas.{OnlyTheseLeave-with_removed}
+use Rattle.relmove_plan.proofs.NewFilesLemmas.{AreFilesDrawn-name}
+use Rattle.relmove_plan.proofs.OnceLemmas.{LeaveOnce-with_removed, LeavesToo-same, LeavesToo-with_removed}
 use Rattle.relmove_plan.proofs.renames.add_old_text.Goals as goal
 
 pub returns-then-is_some-clause-removed : goal.returns-then-is_some-clause-removed
@@ -43,3 +46,35 @@ returns-clause-only c = λ moves paths k l is only.
     subst (OnlyTheseLeave moves paths) (sym c.in_ok-add_removed.ensures)
     (OnlyTheseLeave-with_removed moves paths (rename_texts c.args.renames.now) from c.deref.result.now (of_page k l from_is)
     only)
+
+pub returns-then-is_some-clause-leaves : goal.returns-then-is_some-clause-leaves
+returns-then-is_some-clause-leaves c = LeavesToo-same c.args.page (rename_texts c.args.renames.now)
+
+pub returns-clause-leaves : goal.returns-clause-leaves
+returns-clause-leaves c =
+    let steps = rename_texts c.args.renames.now in
+    let from = string_bytes c.into_string-from.result in
+    let from_is = c.into_string-from.ensures.text ∙ c.into_relative_path_buf.ensures.text in
+    subst (λ all. LeavesToo c.args.page steps all) (sym c.in_ok-add_removed.ensures)
+    (subst (λ page. LeavesToo page steps (with_removed steps from c.deref.result.now)) from_is
+    (LeavesToo-with_removed from c.deref.result.now steps))
+
+pub returns-clause-once : goal.returns-clause-once
+returns-clause-once c = λ moves cs has is stays once.
+    let steps = rename_texts c.args.renames.now in
+    let from = string_bytes c.into_string-from.result in
+    let from_is : IsNormalTextOf cs from =
+    rw (c.into_string-from.ensures.text, c.into_relative_path_buf.ensures.text) is in
+    let none = found-none (old_paths moves) cs c.get.result (cc) (c.get.ensures.found (old_paths moves) cs has is.same) in
+    subst LeaveOnce (sym c.in_ok-add_removed.ensures)
+    (LeaveOnce-with_removed steps cs from c.deref.result.now from_is (stays none) once)
+
+pub returns-clause-files : goal.returns-clause-files
+returns-clause-files c = λ index paths files.
+    let steps = rename_texts c.args.renames.now in
+    let name = c.deref.result.now in
+    let left = ap names_left c.in_ok-add_removed.ensures
+    ∙ names_left-push steps (string_bytes c.into_string-from.result) name
+    ∙ ap (λ name. names_left steps ++ name ∷ []) c.deref.ensures in
+    AreFilesDrawn-name index paths c.args.names.now c.in_root.new.self steps (rename_texts c.add_removed.new.renames) _
+    c.in_ok-name.ensures.drawn (ap (λ (all : StepTexts). all.texts) c.in_ok-add_removed.ensures) left files

@@ -1,7 +1,9 @@
 -- Each turn replaces the next page.
-use Rattle.std.proofs.Common.{◌<◌, ◌≤◌, length, arith}
+use Rattle.std.proofs.Common.{◌<◌, ◌≤◌, ◌+◌, [], length, take, get_or-take, ◌∙◌, arith}
+use Rattle.std.proofs.lemmas.List.{length-take-le}
 use Rattle.relmove_plan.specs.Steps.{RemovesAt, changed_paths, rename_texts}
 use Rattle.relmove_plan.proofs.CarryLemmas.{All-RemovesAt-next, All-taken, AreAmong-trans, RemovesMoved-among, RemovesMoved-each, ReplacesPages-all, ReplacesPages-next, length-changed_paths, path_at-changed_paths}
+use Rattle.relmove_plan.proofs.OnceLemmas.{OnlyTheseLeave-more_pages}
 use Rattle.relmove_plan.proofs.renames.add_pages.Goals as goal
 
 pub loop-page-preserved : goal.loop-page-preserved
@@ -34,6 +36,26 @@ loop-page-preserved c =
           (path_at-changed_paths pages changed k _ _ c.loop-page-test.true (c.requires.within k _ c.loop-page-test.true))
           (c.loop-page.invariant.only moves only);
       free = λ index drawn. c.in_ok-add_page.ensures.free index (c.loop-page.invariant.free index drawn);
+      files = λ index drawn files.
+          let here = path_at-changed_paths pages changed k _ _ c.loop-page-test.true
+          (c.requires.within k _ c.loop-page-test.true) in
+          c.in_ok-add_page.ensures.files index paths k within here (c.loop-page.invariant.free index drawn)
+          (c.loop-page.invariant.files index drawn files);
+      so_far = λ moves only.
+          let long = length-take-le (k + 1) paths (omega (arith, within)) in
+          let more : k < length (take (k + 1) paths) = omega (arith, long) in
+          let same = get_or-take (k + 1) paths k [] (omega arith) in
+          c.in_ok-add_page.ensures.only moves (take (k + 1) paths) k more
+          (same ∙ path_at-changed_paths pages changed k _ _ c.loop-page-test.true
+          (c.requires.within k _ c.loop-page-test.true))
+          (OnlyTheseLeave-more_pages moves paths k steps within (c.loop-page.invariant.so_far moves only));
+      once = λ index entries moves has has_olds leave drawn files only once.
+          let here = path_at-changed_paths pages changed k _ _ c.loop-page-test.true
+          (c.requires.within k _ c.loop-page-test.true) in
+          c.in_ok-add_page.ensures.once index entries paths moves k has has_olds leave within here
+          (c.loop-page.invariant.free index drawn) (c.loop-page.invariant.files index drawn files)
+          (c.loop-page.invariant.so_far moves only)
+          (c.loop-page.invariant.once index entries moves has has_olds leave drawn files only once);
     }
 
 pub returns-clause-replaced : goal.returns-clause-replaced
