@@ -183,7 +183,7 @@ module _ (entries : List Entry) (pages changed : List (List Step)) (moves : List
     pub name_own : (k : ℕ) (step : List ℕ × List ℕ) → k < length steps.together → get_or steps.together k step ≡ step
         → is_own step.0 ≡ true
     name_own k step within is =
-        let (number, numbered) = free_come.numbered k [] (inside k within) in
+        let (number, fits, numbered) = free_come.numbered k [] (inside k within) in
         ap is_own (sym (come_at k step [] within is) ∙ numbered) ∙ is_own-numbered number
 
     -- two names from which something comes

@@ -39,7 +39,7 @@ AreFreeNames-IsPermutation paths names others moved free =
     IsDistinct-from_apart bytes_eq names (λ i j d l within. bytes_eq-false _ _ (free.different i j d l within)) in
     let distinct_2 = IsDistinct-IsPermutation bytes_eq bytes_eq-flips names others moved distinct in
     record {
-      numbered = All-permutation (λ name. (n : ℕ) × (name ≡ numbered_name n)) names others moved free.numbered;
+      numbered = All-permutation (λ name. (n : ℕ) × (n < 2 ^ 64) × (name ≡ numbered_name n)) names others moved free.numbered;
       different = λ i j d l within same.
           true≢false (sym ((bytes_eq-Decides _ _).1 same) ∙ apart_from_distinct bytes_eq others i j d distinct_2 l
           within);
@@ -53,7 +53,7 @@ AreDrawn-none index free is = record {
   entries = is;
   numbered = All-nil (IsNumbered free.next);
   fresh = λ paths has. record {
-    numbered = All-nil (λ name. (n : ℕ) × (name ≡ numbered_name n));
+    numbered = All-nil (λ name. (n : ℕ) × (n < 2 ^ 64) × (name ≡ numbered_name n));
     different = λ i j d l within. absurd (let w : j < 0 = within in omega (arith, w));
     unused = All-nil (λ name. IsNoneAt paths (components name));
   };
@@ -98,8 +98,8 @@ AreDrawn-next index before after names name next drawn =
       numbered = All-push (IsNumbered after.next) names name numbered
           (record { number = next.number; below = omega (arith, next_is); fits = next.fits; name_is = next.name_is });
       fresh = λ paths has. record {
-        numbered = All-push (λ other. (n : ℕ) × (other ≡ numbered_name n)) names name (drawn.fresh paths has).numbered
-            (next.number, next.name_is);
+        numbered = All-push (λ other. (n : ℕ) × (n < 2 ^ 64) × (other ≡ numbered_name n)) names name (drawn.fresh paths has).numbered
+            (next.number, next.fits, next.name_is);
         different = all_pairs_push (λ one other. one ≢ other) names name (drawn.fresh paths has).different
             (λ k d l same.
             let is = drawn.numbered k d l in

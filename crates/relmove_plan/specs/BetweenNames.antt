@@ -19,7 +19,7 @@ pub record IsNumbered (next : ℕ) (name : List ℕ) : Type 0 where
 
 -- the names have numbers, no two of them are equal, and none of the paths leads to where one of them leads
 pub record AreFreeNames (paths : List (List Step)) (names : List (List ℕ)) : Type 0 where
-  pub numbered : All (λ name. (n : ℕ) × (name ≡ numbered_name n)) names
+  pub numbered : All (λ name. (n : ℕ) × (n < 2 ^ 64) × (name ≡ numbered_name n)) names
   pub different : AllPairs (λ one other. one ≢ other) names
   pub unused : All (λ name. IsNoneAt paths (components name)) names
 
