@@ -17,3 +17,4 @@ pub mod WholeTreesLemmas
 pub mod SourcesLemmas
 pub mod ArrivalsLemmas
 pub mod MadeLemmas
+pub mod PlannedLemmas

@@ -20,7 +20,7 @@ use Rattle.relative_path_moves.specs.Places.{directory}
 use Rattle.relative_path_moves.specs.PlaceIndex.{Indexes, IsNoneAt}
 use Rattle.relative_path_moves.specs.declared.place_index.PlaceIndex.{PlaceIndex}
 use Rattle.relmove_plan.specs.declared.between.FreeNames.{FreeNames}
-use Rattle.relmove_plan.specs.BetweenNames.{numbered_name, IsNumbered, AreDrawn, IsDrawn, IsDrawnIn}
+use Rattle.relmove_plan.specs.BetweenNames.{numbered_name, IsNumbered, AreDrawn, AreFreeNames, IsDrawn, IsDrawnIn}
 use Rattle.relmove_plan.specs.NewFiles.{IsOneOf, IsNextTo, HaveOwnFiles, EndsBelow, AreFilesDrawn}
 use Rattle.relmove_plan.specs.Steps.{StepTexts, with_text, names_left}
 use Rattle.relmove_plan.proofs.AboveLemmas.{components-nil}
@@ -62,6 +62,13 @@ components-numbered_name n fits =
     ap (λ pieces. map classed (filter is_not_empty pieces))
     (slice_split_none is_slash (numbered_name n) (no_slash-numbered_name n fits))
     ∙ ap (λ c. c ∷ []) (classed-name 46 114 (codes "elmove-" ++ decimal n) (λ same. absurd (omega (arith, same))))
+
+-- names in between are one component each
+pub components-free : (paths : List (List Step)) (names : List (List ℕ)) → AreFreeNames paths names
+    → All (λ between. components between ≡ name between ∷ []) names
+components-free paths names free = λ k d l.
+    let (number, fits, is) = free.numbered k d l in
+    subst (λ between. components between ≡ name between ∷ []) (sym is) (components-numbered_name number fits)
 
 -- ---- the text that spells components
 
