@@ -8,6 +8,8 @@ use Rattle.relmove_plan.specs.Steps.{AreAmong, DoesMove, LosesNothing, OnlyThese
 use Rattle.relmove_plan.proofs.StepsLemmas.{LosesNothing-with_carried, LosesNothing-with_removed, names_left-push}
 use Rattle.relmove_plan.proofs.CarryLemmas.{AreAmong-with_carried, AreAmong-with_removed, DoesMove-carried, DoesMove-removed}
 use Rattle.relmove_plan.proofs.OnlyLemmas.{OnlyTheseLeave-with_carried, OnlyTheseLeave-with_removed}
+use Rattle.relmove_plan.specs.Directories.{LeavesTo}
+use Rattle.relmove_plan.proofs.DirectoriesLemmas.{LeavesTo-with_carried, LeavesTo-with_removed}
 use Rattle.relmove_plan.proofs.renames.add_move.Goals as goal
 
 pub returns-then-changes : goal.returns-then-changes
@@ -34,6 +36,9 @@ returns-then-changes c =
           (λ is moves paths k l here only. subst (OnlyTheseLeave moves paths) (sym is)
           (OnlyTheseLeave-with_removed moves paths steps from name
           (of_move k l (rw here from_is)) only)) c.add_removed.ensures;
+      named = on_ok_weaker c.add_removed.result
+          (λ is. subst (λ all. LeavesTo all move.old name) (sym is)
+          (LeavesTo-with_removed steps move.old from name from_is)) c.add_removed.ensures;
     }
 
 pub returns : goal.returns
@@ -64,4 +69,7 @@ returns c =
           (λ is moves paths k l here only. subst (OnlyTheseLeave moves paths) (sym is)
           (OnlyTheseLeave-with_carried moves paths steps from name to
           (of_move k l (rw here from_is)) only)) c.add_carried.ensures;
+      named = on_ok_weaker c.add_carried.result
+          (λ is. subst (λ all. LeavesTo all move.old name) (sym is)
+          (LeavesTo-with_carried steps move.old from name to from_is)) c.add_carried.ensures;
     }
