@@ -3,6 +3,8 @@ use Rattle.relmove_plan.proofs.MovesLemmas.{IfErr-error}
 use Rattle.std.proofs.Common.{subst}
 use Rattle.relative_path_moves.specs.Moves.{moves_of}
 use Rattle.relmove_plan.specs.Directories.{AreLeftByMoves}
+use Rattle.std.proofs.Common.{map}
+use Rattle.relative_path.specs.Steps.{components}
 use Rattle.relmove_plan.proofs.plan.make_plan.Goals as goal
 
 pub returns-in_err-after-clause-refused : goal.returns-in_err-after-clause-refused
@@ -24,3 +26,8 @@ pub returns-clause-left : goal.returns-clause-left
 returns-clause-left c =
     subst (λ table. AreLeftByMoves table (moves_of c.args.moves.now) c.in_ok-steps.steps.emptied.items)
     c.in_ok-table.ensures.table c.in_ok-steps.ensures.left
+
+pub returns-clause-made : goal.returns-clause-made
+returns-clause-made c =
+    let (after, are, has) = c.in_ok-after.ensures.index in
+    (after, are, c.in_ok-steps.ensures.made (map components after) has)

@@ -4,6 +4,7 @@ use Rattle.relative_path_moves.specs.Moves.{moves_of, move_at}
 use Rattle.relmove_plan.specs.Steps.{changed_paths, rename_texts}
 use Rattle.relmove_plan.specs.BetweenNames.{AreDrawn}
 use Rattle.relmove_plan.proofs.CarryLemmas.{DoesMove-among}
+use Rattle.relmove_plan.proofs.DirectoriesLemmas.{LeaveToNames-among}
 use Rattle.relmove_plan.proofs.plan.renames_of.Goals as goal
 
 pub returns-clause-moved : goal.returns-clause-moved
@@ -29,3 +30,9 @@ returns-clause-only c =
     let moves = moves_of c.args.moves.now in
     let paths = changed_paths c.args.pages.now c.args.now.changed.now in
     c.in_ok-add_pages.ensures.only moves (c.in_ok-add_moves.ensures.only paths (c.new-renames.ensures.only moves paths))
+
+pub returns-clause-named : goal.returns-clause-named
+returns-clause-named c =
+    LeaveToNames-among (rename_texts c.add_moves.new.renames) (rename_texts c.add_pages.new.renames)
+    c.in_ok-add_pages.ensures.among (moves_of c.args.moves.now) (map (string_bytes {Z = Global}) c.args.between.now)
+    c.in_ok-add_moves.ensures.named
