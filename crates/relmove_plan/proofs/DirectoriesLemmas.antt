@@ -1,4 +1,4 @@
--- The directories above a path, and a set of texts from its last to its first.
+-- The directories above a path, those that moves leave, and those that a run makes; and the texts of a set.
 use Rattle.std.proofs.Common.{All, ◌≡◌, ◌≢◌, ℕ, ◌<◌, ◌≤◌, ◌-◌, true, false, List, [], ◌∷◌, ◌++◌, Option, Some, None, inl, inr, is_some, Contains, String, Global, ◌+◌, map, take, length, get_or, string_bytes, refl, sym, ap, subst, ◌∙◌, append_assoc, append-nil, length-append, arith}
 use Rattle.std.specs.List.{AllPairs, AllZip, Any, zip}
 use Rattle.std.specs.BTreeSet.{insert_key}

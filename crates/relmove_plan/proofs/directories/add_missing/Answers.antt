@@ -1,9 +1,9 @@
 -- Each turn adds the text of the next directory, unless a path leads there.
-use Rattle.std.proofs.Common.{◌≡◌, [], Global, List, arith, get_or, map, string_bytes, take, refl, sym, ap, subst, ◌∙◌}
+use Rattle.std.proofs.Common.{◌≡◌, [], Global, List, arith, get_or, map, string_bytes, take, sym, ap, subst, ◌∙◌}
 use Rattle.std.proofs.lemmas.List.Elements.{All-more, All-nil}
 use Rattle.std.proofs.lemmas.Map.Views.{All-insert_key}
 use Rattle.std.specs.BTreeSet.{insert_key}
-use Rattle.relative_path.specs.Normalizing.{IsNormalText, IsNormalTextOf}
+use Rattle.relative_path.specs.Normalizing.{IsNormalText}
 use Rattle.relative_path.specs.RelativePath.{path_components, path_text}
 use Rattle.relative_path.specs.Steps.{Step}
 use Rattle.relative_path.specs.declared.path.RelativePath.{RelativePath}
@@ -38,7 +38,7 @@ loop-directory-preserved c =
     (rw (sym value) at (c.in_ok-directories.ensures.normal c.requires)) k default within in
     let is = IsNormalTextOf-itself (path_text directory) c.in_ok-place.place normal c.in_ok-place.ensures in
     let found = λ (paths : List (List Step)) (has : Indexes paths c.args.after.now).
-        c.get.ensures.found paths (path_components directory) has c.in_ok-place.ensures.same in
+    c.get.ensures.found paths (path_components directory) has c.in_ok-place.ensures.same in
     elim c.if-is_none.branch [
       | then-is_none+in_ok-from_str+in_ok-insert w ↦
           let key = w.in_ok-from_str.field-0 in
@@ -63,13 +63,13 @@ loop-directory-preserved c =
                 (IsServed-insert paths keys key directory key_is is));
           }
       | else-is_none w ↦ record {
-            kept = λ text has. rw w.missing-is (so_far.kept text has);
-            sound = λ moves paths j has l is_new are. rw w.missing-is (so_far.sound moves paths j has l is_new are);
-            complete = λ paths has.
-                rw w.missing-is
-                (All-more (IsServed paths before) items k default within (so_far.complete paths has)
-                (λ none. absurd (IsNoneAt-not paths (path_components directory) c.get.result w.if-is_none.ensures (found paths has) none)));
-          }
+        kept = λ text has. rw w.missing-is (so_far.kept text has);
+        sound = λ moves paths j has l is_new are. rw w.missing-is (so_far.sound moves paths j has l is_new are);
+        complete = λ paths has.
+            rw w.missing-is
+            (All-more (IsServed paths before) items k default within (so_far.complete paths has)
+            (λ none. absurd (IsNoneAt-not paths (path_components directory) c.get.result w.if-is_none.ensures (found paths has) none)));
+      }
     ]
 
 pub returns-clause-complete : goal.returns-clause-complete

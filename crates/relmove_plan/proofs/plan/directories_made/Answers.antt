@@ -1,5 +1,5 @@
 -- The moves of the table are those from the new paths to the names.
-use Rattle.std.proofs.Common.{◌≡◌, Global, map, string_bytes, subst, ◌∙◌, ap}
+use Rattle.std.proofs.Common.{Global, map, string_bytes, subst, ◌∙◌, ap}
 use Rattle.relative_path_moves.specs.Moves.{AreApart, moves_of}
 use Rattle.relmove_plan.specs.Directories.{AreTaken, moves_to_names}
 use Rattle.relmove_plan.proofs.plan.directories_made.Goals as goal

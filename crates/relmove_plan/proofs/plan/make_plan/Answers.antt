@@ -1,9 +1,8 @@
 -- What is accepted, or refused, of moves that may leave.
 use Rattle.relmove_plan.proofs.MovesLemmas.{IfErr-error}
-use Rattle.std.proofs.Common.{subst}
+use Rattle.std.proofs.Common.{map, subst}
 use Rattle.relative_path_moves.specs.Moves.{moves_of}
 use Rattle.relmove_plan.specs.Directories.{AreLeftByMoves}
-use Rattle.std.proofs.Common.{map}
 use Rattle.relative_path.specs.Steps.{components}
 use Rattle.relmove_plan.proofs.plan.make_plan.Goals as goal
 
