@@ -9,7 +9,8 @@ use Rattle.relative_path.specs.Slices.{IsFront}
 use Rattle.relative_path.specs.Steps.{Step, components}
 use Rattle.relative_path.specs.Walk.{IsSame}
 use Rattle.relative_path.specs.RelativePath.{path_components}
-use Rattle.relative_path.proofs.ForCallers.{IsSame-sym, IsSame-trans}
+use Rattle.relative_path.specs.Normalizing.{IsNormal, IsNormalText}
+use Rattle.relative_path.proofs.ForCallers.{IsNormal-append_left, IsSame-sym, IsSame-trans, spelled-front}
 use Rattle.relative_path.proofs.OnLiterals.{relative_path_on_literals}
 use Rattle.relative_path_moves.specs.declared.place_index.PlaceIndex.{PlaceIndex}
 use Rattle.relative_path_moves.specs.Moves.{Move}
@@ -38,14 +39,22 @@ components-front text front is some none =
     let shortest = is.shortest 0 (components-nil ∙ sym none ∙ is.same_components) in
     some (nil_from_length front (omega (arith, shortest)))
 
+-- the front of a normal text is normal
+pub IsNormalText-front : (text front : List ℕ) (last : Step) → IsNormalText text
+    → components text ≡ components front ++ last ∷ [] → IsFront text front → IsNormalText front
+IsNormalText-front text front last normal is is_front = record {
+  spelled = spelled-front text front normal.spelled is_front;
+  normal = IsNormal-append_left (components front) (last ∷ []) (subst IsNormal is normal.normal);
+}
+
 -- ---- the walk up from a path
 
-some_long : {X : Type 0} (xs : List X) → xs ≢ [] → 1 ≤ length xs
+pub some_long : {X : Type 0} (xs : List X) → xs ≢ [] → 1 ≤ length xs
 some_long [] some = absurd (some refl)
 some_long (x ∷ xs) some = omega arith
 
 -- equally long fronts of a list are equal
-same_front : (front other rest more : List Step) → front ++ rest ≡ other ++ more → length front ≡ length other
+pub same_front : (front other rest more : List Step) → front ++ rest ≡ other ++ more → length front ≡ length other
     → front ≡ other
 same_front front other rest more is count =
     sym (take_at front rest (length other) count) ∙ ap (take (length other)) is ∙ take_at other more (length other) refl

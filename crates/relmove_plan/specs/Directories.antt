@@ -56,7 +56,7 @@ pub record IsMissing (moves : List Move) (after : List (List Step)) (directory :
 abbrev pub IsMissingText : List Move → List (List Step) → List ℕ → Type 0
 IsMissingText moves after text = (directory : List Step) × IsMissing moves after directory × IsNormalTextOf directory text
 
--- each of the texts is
+-- each of the texts is the text of such a directory
 abbrev pub AreMissingTexts : List Move → List (List Step) → List (String Global) → Type 0
 AreMissingTexts moves after texts = All (λ text. IsMissingText moves after (string_bytes text)) texts
 

@@ -1,6 +1,8 @@
 //! The directories above a path.
-ghost use Rattle.std.specs.Prelude.{◌≡◌, ◌≢◌, ◌≤◌, ◌++◌, [], ◌∷◌, All, IfOk, MatchOption, length};
-ghost use Rattle.relative_path.specs.RelativePath.{path_components};
+ghost use Rattle.std.specs.Prelude.{◌≡◌, ◌≢◌, ◌≤◌, ◌++◌, List, [], ◌∷◌, All, IfOk, IfSome, MatchOption, length};
+ghost use Rattle.std.specs.List.{Any};
+ghost use Rattle.relative_path.specs.Normalizing.{IsNormalText};
+ghost use Rattle.relative_path.specs.RelativePath.{path_components, path_text};
 ghost use Rattle.relative_path.specs.Steps.{Step};
 ghost use Rattle.relmove_plan.specs.Directories.{HasDirectory};
 
@@ -12,8 +14,12 @@ pub(crate) fn directories_above<'a>(
     alloc: Global,
     path: RelativePath<'a>,
 ) -> Result<Vec<RelativePath<'a>>, AllocError>
-    ensures { IfOk result (λ directories. All (λ directory. HasDirectory (path_components path.entry)
+    ensures above { IfOk result (λ directories. All (λ directory. HasDirectory (path_components path.entry)
         (path_components directory)) directories.items) }
+    ensures all { IfOk result (λ directories. (front : List Step) → HasDirectory (path_components path.entry) front
+        → Any (λ directory. path_components directory ≡ front) directories.items) }
+    ensures normal { IfOk result (λ directories. IsNormalText (path_text path.entry)
+        → All (λ directory. IsNormalText (path_text directory)) directories.items) }
 {
     let mut directories = Vec::new(alloc);
     let mut left = path;
@@ -26,9 +32,11 @@ pub(crate) fn directories_above<'a>(
 
 // The path of the directory above a path. `None` if the path has no more than one component.
 pub(crate) fn directory_above<'a>(path: RelativePath<'a>) -> Option<RelativePath<'a>>
-    ensures { MatchOption result (length (path_components path.entry) ≤ 1)
+    ensures front { MatchOption result (length (path_components path.entry) ≤ 1)
         (λ directory. (path_components directory ≢ [])
         × ((last : Step) × (path_components path.entry ≡ path_components directory ++ last ∷ []))) }
+    ensures normal { IfSome result (λ directory. IsNormalText (path_text path.entry)
+        → IsNormalText (path_text directory)) }
 {
     let mut left = path.components();
     left.next_back()?;

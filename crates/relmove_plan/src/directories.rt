@@ -1,9 +1,12 @@
 //! The directories that a run makes, and those that it may empty.
-ghost use Rattle.std.specs.Prelude.{◌≡◌, ◌<◌, ℕ, List, IfOk, OnOk, length, map, string_bytes};
+ghost use Rattle.std.specs.Prelude.{◌≡◌, ◌<◌, ℕ, List, Contains, IfOk, OnOk, length, map, string_bytes};
 ghost use mathlib.Core.List.{reverse};
-ghost use Rattle.relative_path.specs.RelativePath.{path_components};
+ghost use Rattle.relative_path.specs.Normalizing.{IsNormalText, IsNormalTextOf};
+ghost use Rattle.relative_path.specs.RelativePath.{path_components, path_text};
+ghost use Rattle.relative_path.specs.Steps.{Step};
 ghost use Rattle.relative_path_moves.specs.Moves.{Move, move_at, moves_of};
-ghost use Rattle.relmove_plan.specs.Directories.{AreLeftByMoves};
+ghost use Rattle.relative_path_moves.specs.PlaceIndex.{Indexes, IsNoneAt};
+ghost use Rattle.relmove_plan.specs.Directories.{AreLeftByMoves, AreMissingTexts, AreTaken, HasDirectory, HaveTextOf};
 ghost use Rattle.relmove_plan.specs.Steps.{BelowFirst};
 
 use crate::above::directories_above;
@@ -20,7 +23,10 @@ pub(crate) fn directories_to_make(
     moves: &[(RelativePath<'_>, RelativePath<'_>)],
     after: &PlaceIndex,
     news: &TreeMoves<'_>,
-) -> Result<Vec<String>, AllocError> {
+) -> Result<Vec<String>, AllocError>
+    ensures { IfOk result (λ made. (paths : List (List Step)) → Indexes paths after.now
+        → AreTaken (moves_of moves.now) news.now paths (map string_bytes made.items)) }
+{
     let mut missing = BTreeSet::new(alloc);
     for (_, new) in moves {
         let new = NormalPath::of(alloc, *new)?;
@@ -40,7 +46,17 @@ fn add_missing(
     missing: &mut BTreeSet<String>,
     path: RelativePath<'_>,
     after: &PlaceIndex,
-) -> Result<(), AllocError> {
+) -> Result<(), AllocError>
+    requires { IsNormalText (path_text path) }
+    ensures kept { OnOk result ((text : List ℕ) → Contains (map string_bytes missing.old.keys) text
+        → Contains (map string_bytes missing.new.keys) text) }
+    ensures sound { OnOk result ((moves : List Move) (paths : List (List Step)) (k : ℕ) → Indexes paths after.now
+        → k < length moves → IsNormalTextOf (move_at moves k).new (path_text path.entry)
+        → AreMissingTexts moves paths missing.old.keys → AreMissingTexts moves paths missing.new.keys) }
+    ensures complete { OnOk result ((paths : List (List Step)) (directory : List Step) → Indexes paths after.now
+        → HasDirectory (path_components path.entry) directory → IsNoneAt paths directory
+        → HaveTextOf (map string_bytes missing.new.keys) directory) }
+{
     let directories = directories_above(alloc, path)?;
     for directory in &directories {
         let place = NormalPath::of(alloc, *directory)?;

@@ -1,7 +1,7 @@
 //! The plan of a run.
-ghost use Rattle.std.specs.Prelude.{◌≡◌, ◌<◌, All, IfErr, IfOk, List, OnOk, length, map, string_bytes};
+ghost use Rattle.std.specs.Prelude.{◌≡◌, ◌<◌, ℕ, All, IfErr, IfOk, List, OnOk, length, map, string_bytes};
 ghost use Rattle.relative_path_links.specs.Site.{HaveTargets, KeepTheirLinks};
-ghost use Rattle.relative_path.specs.Steps.{Step};
+ghost use Rattle.relative_path.specs.Steps.{Step, components};
 ghost use Rattle.relative_path_moves.specs.Moves.{moves_of};
 ghost use Rattle.relative_path_moves.specs.PlaceIndex.{Indexes};
 ghost use Rattle.relative_path_moves.specs.declared.place_index.PlaceIndex.{PlaceIndex};
@@ -10,8 +10,8 @@ ghost use Rattle.relmove_plan.specs.Pages.{changed_from, page_paths};
 ghost use Rattle.relmove_plan.specs.Plan.{IsAccepted, IsRefused};
 ghost use Rattle.relmove_plan.specs.Refusals.{IsStepsRefusal};
 ghost use Rattle.relmove_plan.specs.Moves.{EachMove};
-ghost use Rattle.relmove_plan.specs.Directories.{AreLeftByMoves};
-ghost use Rattle.relmove_plan.specs.Trees.{entry_paths};
+ghost use Rattle.relmove_plan.specs.Directories.{AreLeftByMoves, AreMade, LeaveToNames, MakesMissing};
+ghost use Rattle.relmove_plan.specs.Trees.{AreAfter, entry_paths};
 ghost use Rattle.relmove_plan.specs.Steps.{AboveFirst, BelowFirst, DoesMove, LosesNothing, OnlyTheseLeave, RemovesAt, ReplacesPages, changed_paths, names_left, rename_texts, step_texts};
 ghost use Rattle.relmove_plan.specs.BetweenNames.{AreDrawn, AreFreeNames};
 ghost use Rattle.relmove_plan.specs.WholeTrees.{IsWhole};
@@ -92,6 +92,9 @@ pub fn make_plan(
         → LeaveOnce (step_texts plan.steps)) }
     ensures files { IfOk result (λ plan. HaveOwnFiles (entry_paths tree.entry.entries.now)
         (changed_paths tree.entry.pages.now plan.changed.items) (step_texts plan.steps)) }
+    ensures made { IfOk result (λ plan. (after : List (List ℕ))
+        × AreAfter (moves_of moves.now) tree.entry.entries.now after × MakesMissing (moves_of moves.now)
+        (map components after) (step_texts plan.steps) (map string_bytes plan.steps.made.items)) }
     ensures refused { IfErr result (IsRefused tree.entry.entries.now (moves_of moves.now) any_name) }
 {
     let index = entry_index(alloc, tree.entries)?;
@@ -178,6 +181,8 @@ fn steps_of(
         → LeaveOnce (step_texts steps)) }
     ensures files { IfOk result (λ steps. (paths : List (List Step)) → Indexes paths now.entry.index.now
         → HaveOwnFiles paths (changed_paths pages.now now.entry.changed.now) (step_texts steps)) }
+    ensures made { IfOk result (λ steps. (paths : List (List Step)) → Indexes paths now.entry.after.now
+        → MakesMissing (moves_of moves.now) paths (step_texts steps) (map string_bytes steps.made.items)) }
     ensures refused { IfErr result IsStepsRefusal }
 {
     let mut names = FreeNames::new(now.index);
@@ -224,6 +229,8 @@ fn renames_of(
         → Indexes entries index
         → LeaveFromEntries entries (moves_of moves.now) (changed_paths pages.now now.entry.changed.now)
         → AreDrawn index names.old (map string_bytes between.now) → LeaveOnce (rename_texts renames)) }
+    ensures named { IfOk result (λ renames. LeaveToNames (moves_of moves.now) (map string_bytes between.now)
+        (rename_texts renames)) }
     ensures refused { IfErr result IsStepsRefusal }
 {
     let mut renames = Renames::new(alloc);
@@ -249,7 +256,10 @@ fn directories_made(
     between: &[String],
     after: &PlaceIndex,
 ) -> Result<Vec<String>, Refusal>
-    ensures { IfErr result IsStepsRefusal }
+    requires { length between.now ≡ length moves.now }
+    ensures made { IfOk result (λ made. (paths : List (List Step)) → Indexes paths after.now
+        → AreMade (moves_of moves.now) (map string_bytes between.now) paths (map string_bytes made.items)) }
+    ensures refused { IfErr result IsStepsRefusal }
 {
     let pairs = news_between(alloc, moves, between)?;
     // All new paths and names in between have a file name, and no two new paths are equal.

@@ -12,6 +12,7 @@ ghost use Rattle.relmove_plan.specs.Refusals.{IsStepsRefusal};
 ghost use Rattle.relmove_plan.specs.Steps.{AreAmong, DoesMove, LosesNothing, RemovesAt, RemovesMoved, ReplacesPage, ReplacesPages, OnlyTheseLeave, changed_paths, names_left, old_paths, rename_texts, with_carried, with_removed, with_text};
 ghost use Rattle.relmove_plan.specs.BetweenNames.{AreDrawn};
 ghost use Rattle.relmove_plan.specs.NewFiles.{AreFilesDrawn, DoNothingYet, LeaveFromEntries, LeaveOnce, LeavesToo, StaysThere};
+ghost use Rattle.relmove_plan.specs.Directories.{LeavesTo, LeaveToNames, moves_to_names};
 
 use crate::between::FreeNames;
 use crate::pages::ChangedPage;
@@ -45,7 +46,11 @@ pub(crate) fn news_between<'a>(
     alloc: Global,
     moves: &[(RelativePath<'a>, RelativePath<'a>)],
     between: &'a [String],
-) -> Result<Vec<(RelativePath<'a>, RelativePath<'a>)>, AllocError> {
+) -> Result<Vec<(RelativePath<'a>, RelativePath<'a>)>, AllocError>
+    requires { length between.now ≡ length moves.now }
+    ensures { IfOk result (λ pairs. moves_of pairs.items
+        ≡ moves_to_names (moves_of moves.now) (map string_bytes between.now)) }
+{
     let mut pairs = Vec::with_capacity(alloc, moves.len())?;
     for ((_, new), name) in moves.iter().zip(between) {
         pairs.push((*new, RelativePath::new(name)))?;
@@ -159,6 +164,8 @@ pub(crate) fn add_moves(
     ensures texts { OnOk result ((rename_texts renames.new).texts ≡ (rename_texts renames.old).texts) }
     ensures once { OnOk result (AreApart (moves_of moves.now) → DoNothingYet (rename_texts renames.old)
         → LeaveOnce (rename_texts renames.new)) }
+    ensures named { OnOk result (LeaveToNames (moves_of moves.now) (map string_bytes between.now)
+        (rename_texts renames.new)) }
 {
     for (number, (old, new)) in moves.iter().enumerate() {
         add_move(alloc, renames, *old, *new, &between[number], changed)?;
@@ -191,6 +198,7 @@ fn add_move(
     ensures texts { OnOk result ((rename_texts renames.new).texts ≡ (rename_texts renames.old).texts) }
     ensures once { OnOk result (StaysThere (path_components old.entry) (rename_texts renames.old)
         → LeaveOnce (rename_texts renames.old) → LeaveOnce (rename_texts renames.new)) }
+    ensures named { OnOk result (LeavesTo (rename_texts renames.new) (path_components old.entry) name.now) }
 {
     let old = NormalPath::of(alloc, old)?;
     let changes = changed.get(&old).is_some();

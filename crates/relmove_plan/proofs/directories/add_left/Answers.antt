@@ -10,7 +10,7 @@ pub loop-directory-preserved : goal.loop-directory-preserved
 loop-directory-preserved c = λ moves k l here before.
     let tree = c.args.tree.now in
     let normal = c.in_ok-path.path in
-    let above = rw (c.as_relative_path.ensures.text) at c.in_ok-directories.ensures in
+    let above = rw (c.as_relative_path.ensures.text) at c.in_ok-directories.ensures.above in
     let has = rw (sym c.deref-directory-items.ensures.value) at above in
     let text = string_bytes c.into_string.result in
     let same = c.into_string.ensures.text ∙ c.into_relative_path_buf.ensures.text in

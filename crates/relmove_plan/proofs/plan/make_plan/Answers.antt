@@ -1,10 +1,11 @@
 -- What is accepted, or refused, of moves that may leave.
 use Rattle.relmove_plan.proofs.MovesLemmas.{IfErr-error}
-use Rattle.std.proofs.Common.{subst}
+use Rattle.std.proofs.Common.{map, subst}
 use Rattle.relative_path_moves.specs.Moves.{moves_of}
 use Rattle.relmove_plan.specs.Directories.{AreLeftByMoves}
 use Rattle.relmove_plan.specs.Trees.{entry_paths}
 use Rattle.relmove_plan.proofs.OnceLemmas.{LeaveFromEntries-whole}
+use Rattle.relative_path.specs.Steps.{components}
 use Rattle.relmove_plan.proofs.plan.make_plan.Goals as goal
 
 pub returns-in_err-after-clause-refused : goal.returns-in_err-after-clause-refused
@@ -42,3 +43,8 @@ returns-clause-once c = λ whole.
     LeaveFromEntries-whole entries pages c.in_ok-pages.pages.items c.in_ok-pages.changed.items moves c.args.any_name
     accepted whole c.in_ok-pages.ensures.within c.in_ok-pages.ensures.changed in
     c.in_ok-steps.ensures.once (entry_paths entries) c.in_ok-index.ensures (rw c.deref-2.ensures.value leave)
+
+pub returns-clause-made : goal.returns-clause-made
+returns-clause-made c =
+    let (after, are, has) = c.in_ok-after.ensures.index in
+    (after, are, c.in_ok-steps.ensures.made (map components after) has)

@@ -5,6 +5,7 @@ use Rattle.relmove_plan.specs.Steps.{changed_paths, rename_texts}
 use Rattle.relmove_plan.specs.BetweenNames.{AreDrawn}
 use Rattle.relmove_plan.proofs.CarryLemmas.{DoesMove-among}
 use Rattle.relmove_plan.proofs.NewFilesLemmas.{AreFilesDrawn-none}
+use Rattle.relmove_plan.proofs.DirectoriesLemmas.{LeaveToNames-among}
 use Rattle.relmove_plan.proofs.plan.renames_of.Goals as goal
 
 pub returns-clause-moved : goal.returns-clause-moved
@@ -52,3 +53,9 @@ returns-clause-once c = λ index entries has leave drawn.
     (c.in_ok-add_moves.ensures.texts ∙ c.new-renames.ensures.none.texts))
     (c.in_ok-add_moves.ensures.only [] (c.new-renames.ensures.only moves []))
     (c.in_ok-add_moves.ensures.once leave.apart c.new-renames.ensures.none)
+
+pub returns-clause-named : goal.returns-clause-named
+returns-clause-named c =
+    LeaveToNames-among (rename_texts c.add_moves.new.renames) (rename_texts c.add_pages.new.renames)
+    c.in_ok-add_pages.ensures.among (moves_of c.args.moves.now) (map (string_bytes {Z = Global}) c.args.between.now)
+    c.in_ok-add_moves.ensures.named

@@ -12,6 +12,7 @@ use Rattle.relmove_plan.proofs.NamesLemmas.{AreFreeNames-IsPermutation}
 use Rattle.relmove_plan.proofs.OnlyLemmas.{OnlyTheseLeave-reordered}
 use Rattle.relmove_plan.proofs.NewFilesLemmas.{HaveOwnFiles-reordered}
 use Rattle.relmove_plan.proofs.OnceLemmas.{LeaveOnce-IsPermutation}
+use Rattle.relmove_plan.proofs.DirectoriesLemmas.{LeaveToNames-among}
 use Rattle.relmove_plan.proofs.plan.steps_of.Goals as goal
 
 -- the renames in order
@@ -103,3 +104,18 @@ returns-clause-once c = λ paths has leave.
     let between = c.in_ok-between.ensures.free index c.new-names.ensures in
     LeaveOnce-IsPermutation (rename_texts renames) steps c.in_ok-below_first.ensures.same
     (c.in_ok-renames.ensures.once index paths has leave (rw c.deref.ensures.value between))
+
+pub returns-clause-made : goal.returns-clause-made
+returns-clause-made c = λ paths has.
+    let renames = c.in_ok-renames.renames in
+    let steps = in_order renames c.in_ok-below_first.field-0 c.in_ok-above_first.field-0 in
+    let names = map (string_bytes {Z = Global}) c.in_ok-between.between.items in
+    let among =
+    AreAmong-reordered (rename_texts renames) steps c.in_ok-below_first.ensures.same c.in_ok-above_first.ensures.same
+    refl refl in
+    record {
+      between = names;
+      leave = LeaveToNames-among (rename_texts renames) steps among (moves_of c.args.moves.now) names
+          (rw c.deref.ensures.value at c.in_ok-renames.ensures.named);
+      are_made = rw c.deref-2.ensures.value at (c.in_ok-directories_made.ensures.made paths has);
+    }

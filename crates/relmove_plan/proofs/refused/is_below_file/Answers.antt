@@ -5,7 +5,7 @@ use Rattle.relmove_plan.proofs.refused.is_below_file.Goals as goal
 
 pub returns-then-has_file : goal.returns-then-has_file
 returns-then-has_file c = λ tree known.
-    let (some, ends) = c.in-Some.ensures in
+    let (some, ends) = c.in-Some.ensures.front in
     let (last, is) = ends in
     HasFileAbove-here tree c.args.entries.now (path_components c.args.path) (path_components c.loop-directory.left)
     (path_components c.in-Some.directory) last (c.loop-directory.invariant tree known) is some
@@ -13,7 +13,7 @@ returns-then-has_file c = λ tree known.
 
 pub loop-directory-preserved : goal.loop-directory-preserved
 loop-directory-preserved c = λ tree known.
-    let (some, ends) = c.in-Some.ensures in
+    let (some, ends) = c.in-Some.ensures.front in
     let (last, is) = ends in
     IsClearFrom-next tree c.args.entries.now (path_components c.args.path) (path_components c.loop-directory.left)
     (path_components c.in-Some.directory) last (c.loop-directory.invariant tree known) is
@@ -22,4 +22,4 @@ loop-directory-preserved c = λ tree known.
 pub returns : goal.returns
 returns c = λ tree known.
     IsClearFrom-end tree c.args.entries.now (path_components c.args.path) (path_components c.loop-directory.left)
-    c.in_default.ensures (c.loop-directory.invariant tree known)
+    c.in_default.ensures.front (c.loop-directory.invariant tree known)

@@ -10,6 +10,8 @@ use Rattle.relmove_plan.proofs.StepsLemmas.{LosesNothing-with_carried, LosesNoth
 use Rattle.relmove_plan.proofs.CarryLemmas.{AreAmong-with_carried, AreAmong-with_removed, DoesMove-carried, DoesMove-removed}
 use Rattle.relmove_plan.proofs.OnlyLemmas.{OnlyTheseLeave-with_carried, OnlyTheseLeave-with_removed}
 use Rattle.relmove_plan.proofs.OnceLemmas.{LeaveOnce-with_carried, LeaveOnce-with_removed}
+use Rattle.relmove_plan.specs.Directories.{LeavesTo}
+use Rattle.relmove_plan.proofs.DirectoriesLemmas.{LeavesTo-with_carried, LeavesTo-with_removed}
 use Rattle.relmove_plan.proofs.renames.add_move.Goals as goal
 
 pub returns-then-changes : goal.returns-then-changes
@@ -39,6 +41,9 @@ returns-then-changes c =
       texts = on_ok_weaker c.add_removed.result (λ is. ap (λ (all : StepTexts). all.texts) is) c.add_removed.ensures;
       once = on_ok_weaker c.add_removed.result
           (λ is stays once. subst LeaveOnce (sym is) (LeaveOnce-with_removed steps (path_components c.args.old) from name from_is stays once)) c.add_removed.ensures;
+      named = on_ok_weaker c.add_removed.result
+          (λ is. subst (λ all. LeavesTo all move.old name) (sym is)
+          (LeavesTo-with_removed steps move.old from name from_is)) c.add_removed.ensures;
     }
 
 pub returns : goal.returns
@@ -72,4 +77,7 @@ returns c =
       texts = on_ok_weaker c.add_carried.result (λ is. ap (λ (all : StepTexts). all.texts) is) c.add_carried.ensures;
       once = on_ok_weaker c.add_carried.result
           (λ is stays once. subst LeaveOnce (sym is) (LeaveOnce-with_carried steps (path_components c.args.old) from name from_is stays to once)) c.add_carried.ensures;
+      named = on_ok_weaker c.add_carried.result
+          (λ is. subst (λ all. LeavesTo all move.old name) (sym is)
+          (LeavesTo-with_carried steps move.old from name to from_is)) c.add_carried.ensures;
     }

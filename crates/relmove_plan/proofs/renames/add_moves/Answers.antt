@@ -1,5 +1,6 @@
 -- Each turn does the next move.
-use Rattle.std.proofs.Common.{◌<◌, ◌+◌, [], length, take, subst, ◌∙◌, arith}
+use Rattle.std.proofs.Common.{◌<◌, ◌+◌, [], Global, get_or, length, map, take, string_bytes, subst, sym, ◌∙◌, arith}
+use Rattle.std.proofs.lemmas.List.{length-map}
 use Rattle.relative_path_moves.specs.Moves.{Move, moves_of, move_at}
 use Rattle.relmove_plan.specs.NewFiles.{StaysThere}
 use Rattle.relmove_plan.specs.Steps.{DoesMove, names_left, rename_texts}
@@ -7,6 +8,9 @@ use Rattle.relmove_plan.proofs.MovesLemmas.{EachMove-next, length-moves_of, move
 use Rattle.relmove_plan.proofs.CarryLemmas.{DoesMove-among}
 use Rattle.relmove_plan.proofs.NamesLemmas.{names_left-all, names_left-next}
 use Rattle.relmove_plan.proofs.OnceLemmas.{OnlyTheseLeave-more_moves, StaysThere-move, count_more, move_at-take_more}
+use Rattle.relmove_plan.specs.Directories.{LeavesTo}
+use Rattle.relmove_plan.proofs.DirectoriesLemmas.{LeavesTo-among, LeavesTo-here}
+use borrow.Author.Count.{below_more}
 use Rattle.relmove_plan.proofs.renames.add_moves.Goals as goal
 
 pub loop-number-preserved : goal.loop-number-preserved
@@ -14,6 +18,7 @@ loop-number-preserved c =
     let steps = rename_texts c.loop-number.renames in
     let more = rename_texts c.add_move.new.renames in
     let moves = c.args.moves.now in
+    let between = c.args.between.now in
     let within : c.loop-number.number < length c.args.between.now = rw c.requires.count c.loop-number-test.true in
     let all = moves_of moves in
     let k = c.loop-number.number in
@@ -46,6 +51,12 @@ loop-number-preserved c =
           (StaysThere-move all k within_all steps apart (c.loop-number.invariant.texts ∙ none.texts)
           (c.loop-number.invariant.so_far none)))
           (c.loop-number.invariant.once apart none);
+      named = below_more (λ j. LeavesTo more (move_at (moves_of moves) j).old (get_or (map string_bytes between) j []))
+          c.loop-number.number
+          (λ j l. LeavesTo-among steps more c.in_ok-add_move.ensures.among (move_at (moves_of moves) j).old
+          (get_or (map string_bytes between) j []) (c.loop-number.invariant.named j l))
+          (LeavesTo-here more moves _ between c.loop-number.number c.index-between-number.result c.deref.result.now
+          c.loop-number-test.true within c.index-between-number.is c.deref.ensures c.in_ok-add_move.ensures.named);
     }
 
 pub returns-clause-left : goal.returns-clause-left
@@ -54,3 +65,14 @@ returns-clause-left c =
     let last = c.loop-number-test.false in
     names_left-all (names_left (rename_texts c.args.renames.now)) (names_left (rename_texts c.loop-number.renames))
     c.args.between.now c.loop-number.number (omega (arith, count, last)) c.loop-number.invariant.left
+
+pub returns-clause-named : goal.returns-clause-named
+returns-clause-named c =
+    let moves = c.args.moves.now in
+    let last = c.loop-number-test.false in
+    record {
+      count = length-map c.args.between.now (string_bytes {Z = Global}) ∙ c.requires.count ∙ sym (length-moves_of moves);
+      each = λ k l.
+          let within : k < length moves = rw length-moves_of at l in
+          c.loop-number.invariant.named k (omega (arith, within, last));
+    }

@@ -1,10 +1,11 @@
 -- So far nothing is lost, each move is done, with its name, and nothing leaves twice.
-use Rattle.std.proofs.Common.{◌≡◌, ◌++◌, ℕ, ◌<◌, List, [], map, take, string_bytes}
+use Rattle.std.proofs.Common.{◌≡◌, ◌++◌, ℕ, ◌<◌, [], List, get_or, map, take, string_bytes}
 use Rattle.relative_path.specs.Steps.{Step}
 use Rattle.relative_path_moves.specs.Moves.{AreApart, moves_of, move_at}
 use Rattle.relative_path_moves.specs.PlaceIndex.{Indexes}
 use Rattle.relmove_plan.specs.Steps.{DoesMove, LosesNothing, OnlyTheseLeave, names_left, rename_texts}
 use Rattle.relmove_plan.specs.NewFiles.{DoNothingYet, LeaveOnce}
+use Rattle.relmove_plan.specs.Directories.{LeavesTo}
 use Rattle.relmove_plan.proofs.renames.add_moves.Given as goal
 
 abbrev pub invariant-loop-number : goal.invariant-loop-number
@@ -20,4 +21,6 @@ invariant-loop-number l = record {
   so_far : DoNothingYet (rename_texts l.fn.renames)
       → OnlyTheseLeave (take l.number (moves_of l.moves)) [] (rename_texts l.renames);
   once : AreApart (moves_of l.moves) → DoNothingYet (rename_texts l.fn.renames) → LeaveOnce (rename_texts l.renames);
+  named : (j : ℕ) → j < l.number
+      → LeavesTo (rename_texts l.renames) (move_at (moves_of l.moves) j).old (get_or (map string_bytes l.between) j []);
 }
