@@ -1,23 +1,22 @@
 -- Each entry comes to where the moves take it, and each new text to the new path of its page.
-use Rattle.std.proofs.Common.{All, Bool, true, false, true≢false, ◌≡◌, ◌≢◌, ◌⊎◌, ℕ, zero, suc, ◌<◌, ◌≤◌, ◌+◌, List, [], ◌∷◌, ◌++◌, Contains, Option, Some, None, IsSome, codes, length, map, take, get_or, inl, inr, refl, sym, ap, subst, ◌∙◌, append_assoc, append-nil, arith, ◌||◌}
+use Rattle.std.proofs.Common.{All, Bool, true, false, true≢false, ◌≡◌, ◌≢◌, ℕ, ◌<◌, ◌≤◌, ◌+◌, List, [], ◌∷◌, ◌++◌, Contains, Option, Some, None, IsSome, length, map, take, get_or, inl, inr, refl, sym, ap, subst, ◌∙◌, append-nil, arith, ◌||◌}
 use Rattle.std.specs.Prelude.{string_bytes}
 use Rattle.std.specs.Option.{option_and_then}
-use Rattle.std.specs.List.{Any, AllPairs, AllZip, join_with_byte, list_any, starts_with}
-use Rattle.std.specs.List.Sorted.{IsPermutation}
+use Rattle.std.specs.List.{Any, AllPairs, AllZip, join_with_byte, list_any}
 use Rattle.std.proofs.lemmas.Bool.{cases_order}
 use Rattle.std.proofs.lemmas.List.{get_or-map, get_or_append_left, get_or_default, length-append, length-map, map-append}
 use Rattle.std.proofs.lemmas.List.Elements.{All-cons, All-map, All-nil, All-push, All-take}
 use Rattle.std.proofs.lemmas.List.Sorted.{All-permutation}
 use Rattle.relative_path.specs.Steps.{Step, cur, up, name, components, slash}
 use Rattle.relative_path.specs.RelativePath.{path_components}
-use Rattle.relative_path.specs.Walk.{IsSame, above, place_of, walk}
+use Rattle.relative_path.specs.Walk.{place_of, walk}
 use Rattle.relative_path.specs.Normalizing.{IsNormalTextOf}
 use Rattle.relative_path.specs.Editing.{kept}
 use Rattle.relative_path.specs.Naming.{last_name}
-use Rattle.relative_path.proofs.ForCallers.{IsSame-last_name, IsSame-place, IsSame-sym, IsSame-trans, walk-append, walk-append_some, walk-names}
+use Rattle.relative_path.proofs.ForCallers.{IsSame-last_name, IsSame-place, IsSame-trans, walk-append, walk-append_some, walk-names}
 use Rattle.relative_path_moves.specs.Moves.{Move, move_at}
 use Rattle.relative_path_moves.specs.PlaceIndex.{IsNoneAt, path_at}
-use Rattle.relative_path_moves.specs.TreeMoves.{AtTreePath, IsLeftInPlace, IsNearest, IsTakenTo, IsTreeTarget, TakesAlong}
+use Rattle.relative_path_moves.specs.TreeMoves.{AtTreePath, IsTakenTo, IsTreeTarget, TakesAlong}
 use Rattle.relative_path_links.specs.declared.site.MovedSitePage.{MovedSitePage}
 use Rattle.relative_path_links.specs.declared.site.SitePage.{SitePage}
 use Rattle.relmove_plan.specs.declared.entry.Entry.{Entry}
@@ -25,13 +24,13 @@ use Rattle.relmove_plan.specs.BetweenNames.{AreFreeNames, numbered_name}
 use Rattle.relmove_plan.specs.Moves.{EachMove, HasFinePaths, is_own_step}
 use Rattle.relmove_plan.specs.NewFiles.{HaveOwnFiles, LeaveOnce}
 use Rattle.relmove_plan.specs.Runs.{names_of, rename_places, carried, renames_of, ComesTo, EntriesArrive, TextArrives}
-use Rattle.relmove_plan.specs.Steps.{StepTexts, BelowFirst, Carries, CarriesMove, DoesMove, IsBelow, LeavesFrom, LosesNothing, OnlyTheseLeave, ReplacesPage, names_come, names_left}
+use Rattle.relmove_plan.specs.Steps.{StepTexts, BelowFirst, Carries, DoesMove, LeavesFrom, LosesNothing, OnlyTheseLeave, ReplacesPage, names_come, names_left}
 use Rattle.relmove_plan.specs.Trees.{AreAfter, IsAfter, IsOldFine, entry_paths, is_directory}
-use Rattle.relmove_plan.specs.WholeTrees.{IsAt, IsHeld, LeadsToFile, IsWhole}
+use Rattle.relmove_plan.specs.WholeTrees.{IsAt, LeadsToFile, IsWhole}
 use Rattle.relmove_plan.proofs.NamesLemmas.{AreFreeNames-IsPermutation}
 use Rattle.relmove_plan.proofs.PlacesLemmas.{IsBelow-joined, names_of-normal, names_of-names}
 use Rattle.relmove_plan.proofs.RunsLemmas.{IsUnder, TakesThrough, carried-through, carried-elsewhere, carried-append}
-use Rattle.relmove_plan.proofs.SourcesLemmas.{IsFrom, IsSource, IsSource-leaves, IsFrom-under, IsFrom-apart, IsUnder-first, element, first_of}
+use Rattle.relmove_plan.proofs.SourcesLemmas.{IsSource, IsSource-leaves, IsFrom-under, IsFrom-apart, IsUnder-first, element}
 use Rattle.relmove_plan.proofs.WholeTreesLemmas.{IsNoneAt-under, IsSame-one_place, LeadsToFile-under, not_empty, some_of}
 
 -- each element has one that is zipped with it

@@ -1,6 +1,6 @@
 -- The directories that a run makes come to those that are missing above new paths.
-use Rattle.std.proofs.Common.{All, Bool, true, false, ◌≡◌, ◌≢◌, ◌⊎◌, ℕ, zero, suc, ◌<◌, ◌≤◌, ◌+◌, ◌-◌, List, [], ◌∷◌, ◌++◌, Contains, Some, length, map, take, drop, get_or, inl, inr, refl, sym, ap, subst, ◌∙◌, append_assoc, append-nil, arith}
-use Rattle.std.specs.List.{AllZip, Any, zip}
+use Rattle.std.proofs.Common.{All, Bool, false, ◌≡◌, ◌≢◌, ◌⊎◌, ℕ, zero, suc, ◌<◌, ◌≤◌, ◌+◌, List, [], ◌∷◌, ◌++◌, Contains, Some, length, map, take, drop, get_or, inl, inr, refl, sym, ap, subst, ◌∙◌, append_assoc, append-nil, arith}
+use Rattle.std.specs.List.{AllZip, zip}
 use Rattle.std.proofs.Math.Seq.{drop-append_seam}
 use Rattle.std.proofs.lemmas.Bool.{cases_lt, cases_order}
 use Rattle.std.proofs.lemmas.List.{get_or-append-add, get_or-map, get_or_default, length-append, length-map, map-append, take_at, take-append-drop, take-map, drop-map}
@@ -9,27 +9,27 @@ use Rattle.std.proofs.lemmas.Slice.Zip.{get_or-zip}
 use Rattle.std.proofs.lemmas.List.Sorted.{Contains-permutation}
 use Rattle.relative_path.specs.Steps.{Step, name, components}
 use Rattle.relative_path.specs.RelativePath.{path_components}
-use Rattle.relative_path.specs.Walk.{IsSame, place_of}
+use Rattle.relative_path.specs.Walk.{place_of}
 use Rattle.relative_path.specs.Normalizing.{IsNormalTextOf}
-use Rattle.relative_path.proofs.ForCallers.{IsSame-sym, IsSame-trans, components-place, walk-names}
+use Rattle.relative_path.proofs.ForCallers.{components-place, walk-names}
 use Rattle.relative_path_moves.specs.Moves.{Move, move_at}
-use Rattle.relative_path_moves.specs.PlaceIndex.{IsNoneAt, path_at}
+use Rattle.relative_path_moves.specs.PlaceIndex.{IsNoneAt}
 use Rattle.relative_path_moves.specs.TreeMoves.{AtTreePath, IsTreeTarget, TakesAlong}
 use Rattle.relative_path_moves.specs.TreeMoves as trees
 use Rattle.relmove_plan.specs.declared.entry.Entry.{Entry}
 use Rattle.relmove_plan.specs.BetweenNames.{AreFreeNames}
-use Rattle.relmove_plan.specs.Directories.{AreMade, AreMissing, AreTaken, HasDirectory, IsAbove, IsMissing, IsMissingText, IsTakenTo, LeavesTo, LeaveToNames, MakesMissing, moves_to_names}
+use Rattle.relmove_plan.specs.Directories.{AreMade, HasDirectory, IsMissingText, IsTakenTo, LeavesTo, LeaveToNames, moves_to_names}
 use Rattle.relmove_plan.specs.Moves.{EachMove, HasFinePaths, move_of}
 use Rattle.relmove_plan.specs.NewFiles.{HaveOwnFiles, LeaveOnce}
 use Rattle.relmove_plan.specs.Runs.{names_of, rename_places, carried, IsMadeFor, DirectoriesArrive}
-use Rattle.relmove_plan.specs.Steps.{StepTexts, BelowFirst, Carries, DoesMove, LosesNothing, OnlyTheseLeave, names_come, names_left}
-use Rattle.relmove_plan.specs.Trees.{HasFileAbove, HasFileAt, IsBelowNoFile, IsFileAt, IsOldFine, entry_paths, is_directory}
-use Rattle.relmove_plan.specs.WholeTrees.{IsAt, LeadsToFile, IsWhole}
+use Rattle.relmove_plan.specs.Steps.{StepTexts, BelowFirst, DoesMove, LosesNothing, OnlyTheseLeave, names_come, names_left}
+use Rattle.relmove_plan.specs.Trees.{IsBelowNoFile, IsOldFine, entry_paths}
+use Rattle.relmove_plan.specs.WholeTrees.{LeadsToFile, IsWhole}
 use Rattle.relmove_plan.proofs.ArrivalsLemmas as arrivals
-use Rattle.relmove_plan.proofs.PlacesLemmas.{names_of-normal, names_of-names}
+use Rattle.relmove_plan.proofs.PlacesLemmas.{names_of-normal}
 use Rattle.relmove_plan.proofs.RunsLemmas.{IsUnder, carried-by, carried-elsewhere}
 use Rattle.relmove_plan.proofs.SourcesLemmas.{IsUnder-first, element}
-use Rattle.relmove_plan.proofs.WholeTreesLemmas.{IsSame-one_place, not_empty, some_of}
+use Rattle.relmove_plan.proofs.WholeTreesLemmas.{IsSame-one_place, some_of}
 
 -- a list has one normal text
 IsNormalTextOf-one : (cs : List Step) (one other : List ℕ) → IsNormalTextOf cs one → IsNormalTextOf cs other → one ≡ other

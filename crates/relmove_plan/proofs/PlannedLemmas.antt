@@ -1,13 +1,13 @@
 -- What the steps of a plan do to a whole tree, from what is known of the steps.
 use Rattle.std.proofs.Common.{All, Bool, ◌≡◌, ℕ, ◌<◌, List, [], ◌∷◌, Some, length, map, get_or, string_bytes, sym, ap, subst, ◌∙◌}
-use Rattle.std.specs.List.{AllZip, slice_get}
+use Rattle.std.specs.List.{slice_get}
 use Rattle.std.specs.Option.{IsSomeAnd, MatchOption}
 use Rattle.std.proofs.lemmas.List.{get_or-map, length-map}
 use Rattle.std.proofs.lemmas.List.Elements.{All-map}
 use Rattle.std.proofs.lemmas.Option.{get_or_from_slice_get, slice_get_within}
 use Rattle.std.proofs.lemmas.Simd.{map-map}
 use Rattle.std.proofs.lemmas.Slice.Zip.{AllZip-left}
-use Rattle.relative_path.specs.Steps.{Step, name, components}
+use Rattle.relative_path.specs.Steps.{name, components}
 use Rattle.relative_path.specs.Normalizing.{IsNormalTextOf}
 use Rattle.relative_path.specs.RelativePath.{path_components}
 use Rattle.relative_path_links.specs.Site.{ForMovedPage, KeepTheirLinks, KeepsLinks}
@@ -24,11 +24,13 @@ use Rattle.relmove_plan.specs.Moves.{EachMove}
 use Rattle.relmove_plan.specs.NewFiles.{HaveOwnFiles, LeaveOnce}
 use Rattle.relmove_plan.specs.Pages.{page_paths}
 use Rattle.relmove_plan.specs.Plan.{IsAccepted}
-use Rattle.relmove_plan.specs.Runs.{EntriesArrive, TextArrives, TextsArrive}
+use Rattle.relmove_plan.specs.Directories.{MakesMissing}
+use Rattle.relmove_plan.specs.Runs.{DirectoriesArrive, EntriesArrive, TextsArrive}
 use Rattle.relmove_plan.specs.Steps.{BelowFirst, DoesMove, LosesNothing, OnlyTheseLeave, ReplacesPages, changed_paths, names_left, rename_text, step_texts}
 use Rattle.relmove_plan.specs.Trees.{entry_paths}
 use Rattle.relmove_plan.specs.WholeTrees.{IsWhole, LeadsToFile}
 use Rattle.relmove_plan.proofs.ArrivalsLemmas.{EntriesArrive-steps, TextArrives-page}
+use Rattle.relmove_plan.proofs.MadeLemmas.{DirectoriesArrive-made}
 use Rattle.relmove_plan.proofs.NewFilesLemmas.{components-free}
 
 -- what is known of the steps of a plan for a whole tree
@@ -92,3 +94,11 @@ module _ (entries : List Entry) (pages : List SitePage) (changed : List ChangedP
             → AtTreePath moves (path_components page.path) (λ now. IsNormalTextOf now new.path)
         moved_page n page new at at_2 zipped =
             let (now, is, moved) = (rw (at, at_2) at zipped) in (now, is, moved.0)
+
+    pub DirectoriesArrive-plan : (after made : List (List ℕ)) → MakesMissing moves (map components after) (step_texts steps) made
+        → DirectoriesArrive moves (map components after) (step_texts steps) made
+    DirectoriesArrive-plan after made makes =
+        DirectoriesArrive-made entries (page_paths pages) (changed_paths pages changed) moves any_name (step_texts steps)
+        planned.whole changed_files accepted.apart.come.leave.paths accepted.apart.come.leave.olds below_first planned.once
+        planned.kept planned.only planned.names single planned.files planned.moved accepted.above (map components after)
+        makes.between makes.leave made makes.are_made

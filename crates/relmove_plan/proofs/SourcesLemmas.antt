@@ -1,24 +1,24 @@
 -- The places from which a run's renames lead, in a whole tree: entries, and new files, which are where no entry is.
-use Rattle.std.proofs.Common.{All, Bool, true, false, true≢false, ◌≡◌, ◌≢◌, ◌⊎◌, ℕ, zero, suc, ◌<◌, ◌≤◌, List, [], ◌∷◌, ◌++◌, Contains, Some, None, codes, length, map, take, get_or, inl, inr, refl, sym, ap, subst, ◌∙◌, append_assoc, append-nil, arith}
-use Rattle.std.specs.List.{Any, join_with_byte, list_any}
+use Rattle.std.proofs.Common.{All, Bool, false, ◌≡◌, ◌≢◌, ℕ, zero, suc, ◌<◌, List, [], ◌∷◌, ◌++◌, Contains, Some, length, map, get_or, inl, inr, refl, sym, ap, subst, ◌∙◌, arith}
+use Rattle.std.specs.List.{Any, join_with_byte}
 use Rattle.std.proofs.lemmas.List.{length-map, map-append}
-use Rattle.relative_path.specs.Steps.{Step, cur, up, name, components, slash}
+use Rattle.relative_path.specs.Steps.{Step, name, components, slash}
 use Rattle.relative_path.specs.RelativePath.{path_components}
-use Rattle.relative_path.specs.Walk.{IsSame, place_of, walk}
+use Rattle.relative_path.specs.Walk.{IsSame, place_of}
 use Rattle.relative_path.specs.Normalizing.{IsNormalTextOf}
-use Rattle.relative_path.proofs.ForCallers.{IsSame-sym, components-place, kept-name, walk-names}
+use Rattle.relative_path.proofs.ForCallers.{components-place, kept-name, walk-names}
 use Rattle.relative_path_moves.specs.Moves.{Move, move_at}
 use Rattle.relative_path_moves.specs.Places.{directory}
-use Rattle.relative_path_moves.specs.PlaceIndex.{IsFirstAt, IsNoneAt, path_at}
+use Rattle.relative_path_moves.specs.PlaceIndex.{IsNoneAt, path_at}
 use Rattle.relative_path_moves.specs.TreeMoves.{TakesAlong}
 use Rattle.relmove_plan.specs.declared.entry.Entry.{Entry}
-use Rattle.relmove_plan.specs.BetweenNames.{AreFreeNames, numbered_name}
+use Rattle.relmove_plan.specs.BetweenNames.{numbered_name}
 use Rattle.relmove_plan.specs.Moves.{EachMove}
 use Rattle.relmove_plan.specs.NewFiles.{HaveOwnFiles, IsNextTo}
 use Rattle.relmove_plan.specs.Runs.{names_of}
 use Rattle.relmove_plan.specs.Steps.{StepTexts, LeavesFrom, of_move, of_page, of_text, names_left}
 use Rattle.relmove_plan.specs.Trees.{IsThere, IsOldFine, entry_paths, is_directory}
-use Rattle.relmove_plan.specs.WholeTrees.{IsAt, HasDirectoryAt, IsHeld, LeadsToFile, IsWhole}
+use Rattle.relmove_plan.specs.WholeTrees.{IsAt, IsHeld, LeadsToFile, IsWhole}
 use Rattle.relmove_plan.proofs.PlacesLemmas.{joined-names, names_of-normal, names_of-names, spelled-place}
 use Rattle.relmove_plan.proofs.RunsLemmas.{IsUnder}
 use Rattle.relmove_plan.proofs.WholeTreesLemmas.{IsAt-some, IsNoneAt-under, IsSame-one_place, LeadsToFile-under, last_view, not_empty, path_at-entry, some_of}

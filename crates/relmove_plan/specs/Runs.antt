@@ -15,6 +15,7 @@ use Rattle.relmove_plan.specs.declared.entry.Entry.{Entry}
 use Rattle.relmove_plan.specs.declared.pages.ChangedPage.{ChangedPage}
 use Rattle.relmove_plan.specs.Directories.{AreMissing}
 use Rattle.relmove_plan.specs.Steps.{StepTexts}
+use Rattle.relmove_plan.specs.Trees.{AreAfter}
 use Rattle.relmove_plan.specs.WholeTrees.{IsAt}
 
 -- the names of a path, in order
@@ -92,3 +93,8 @@ pub record DirectoriesArrive (moves : List Move) (after : List (List Step)) (ste
   pub missing : List (List ℕ)
   pub are_missing : AreMissing moves after missing
   pub arrive : AllZip (IsMadeFor steps) missing made
+
+-- missing are those at which no entry is after the moves
+abbrev pub MakesDirectories : List Move → List Entry → StepTexts → List (List ℕ) → Type 0
+MakesDirectories moves entries steps made = (after : List (List ℕ)) × AreAfter moves entries after
+    × DirectoriesArrive moves (map components after) steps made

@@ -14,6 +14,7 @@ ghost use Rattle.relmove_plan.specs.Directories.{AreLeftByMoves, AreMade, LeaveT
 ghost use Rattle.relmove_plan.specs.Trees.{AreAfter, entry_paths};
 ghost use Rattle.relmove_plan.specs.Steps.{AboveFirst, BelowFirst, DoesMove, LosesNothing, OnlyTheseLeave, RemovesAt, ReplacesPages, changed_paths, names_left, rename_texts, step_texts};
 ghost use Rattle.relmove_plan.specs.BetweenNames.{AreDrawn, AreFreeNames};
+ghost use Rattle.relmove_plan.specs.Runs.{EntriesArrive, MakesDirectories, TextsArrive};
 ghost use Rattle.relmove_plan.specs.WholeTrees.{IsWhole};
 
 use crate::after::entry_index;
@@ -92,9 +93,15 @@ pub fn make_plan(
         → LeaveOnce (step_texts plan.steps)) }
     ensures files { IfOk result (λ plan. HaveOwnFiles (entry_paths tree.entry.entries.now)
         (changed_paths tree.entry.pages.now plan.changed.items) (step_texts plan.steps)) }
-    ensures made { IfOk result (λ plan. (after : List (List ℕ))
-        × AreAfter (moves_of moves.now) tree.entry.entries.now after × MakesMissing (moves_of moves.now)
-        (map components after) (step_texts plan.steps) (map string_bytes plan.steps.made.items)) }
+    ensures entries_arrive { IfOk result (λ plan. IsWhole tree.entry.entries.now (page_paths tree.entry.pages.now)
+        → EntriesArrive (moves_of moves.now) tree.entry.entries.now
+        (changed_paths tree.entry.pages.now plan.changed.items) (step_texts plan.steps)) }
+    ensures texts_arrive { IfOk result (λ plan. IsWhole tree.entry.entries.now (page_paths tree.entry.pages.now)
+        → TextsArrive (moves_of moves.now) tree.entry.pages.now plan.pages.items plan.changed.items
+        (step_texts plan.steps)) }
+    ensures made { IfOk result (λ plan. IsWhole tree.entry.entries.now (page_paths tree.entry.pages.now)
+        → MakesDirectories (moves_of moves.now) tree.entry.entries.now (step_texts plan.steps)
+        (map string_bytes plan.steps.made.items)) }
     ensures refused { IfErr result (IsRefused tree.entry.entries.now (moves_of moves.now) any_name) }
 {
     let index = entry_index(alloc, tree.entries)?;

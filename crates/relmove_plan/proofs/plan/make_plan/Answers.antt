@@ -1,10 +1,15 @@
 -- What is accepted, or refused, of moves that may leave.
 use Rattle.relmove_plan.proofs.MovesLemmas.{IfErr-error}
-use Rattle.std.proofs.Common.{map, subst}
+use Rattle.std.proofs.Common.{map, string_bytes, subst}
 use Rattle.relative_path_moves.specs.Moves.{moves_of}
 use Rattle.relmove_plan.specs.Directories.{AreLeftByMoves}
 use Rattle.relmove_plan.specs.Trees.{entry_paths}
+use Rattle.relmove_plan.specs.NewFiles.{LeaveOnce}
+use Rattle.relmove_plan.specs.Pages.{page_paths}
+use Rattle.relmove_plan.specs.Steps.{step_texts}
+use Rattle.relmove_plan.specs.WholeTrees.{IsWhole}
 use Rattle.relmove_plan.proofs.OnceLemmas.{LeaveFromEntries-whole}
+use Rattle.relmove_plan.proofs.PlannedLemmas.{IsPlanned, DirectoriesArrive-plan, EntriesArrive-plan, TextsArrive-plan}
 use Rattle.relative_path.specs.Steps.{components}
 use Rattle.relmove_plan.proofs.plan.make_plan.Goals as goal
 
@@ -33,8 +38,10 @@ returns-clause-files c =
     rw c.deref-2.ensures.value at
     (c.in_ok-steps.ensures.files (entry_paths c.args.tree.entries.now) c.in_ok-index.ensures)
 
-pub returns-clause-once : goal.returns-clause-once
-returns-clause-once c = λ whole.
+-- no path leaves twice
+leave_once : (c : goal.After-drop-index-2) → IsWhole c.args.tree.entries.now (page_paths c.args.tree.pages.now)
+    → LeaveOnce (step_texts c.in_ok-steps.steps)
+leave_once c whole =
     let entries = c.args.tree.entries.now in
     let pages = c.args.tree.pages.now in
     let moves = moves_of c.args.moves.now in
@@ -44,7 +51,46 @@ returns-clause-once c = λ whole.
     accepted whole c.in_ok-pages.ensures.within c.in_ok-pages.ensures.changed in
     c.in_ok-steps.ensures.once (entry_paths entries) c.in_ok-index.ensures (rw c.deref-2.ensures.value leave)
 
+pub returns-clause-once : goal.returns-clause-once
+returns-clause-once = leave_once
+
+-- what is known of the steps for a whole tree
+planned : (c : goal.After-drop-index-2) → IsWhole c.args.tree.entries.now (page_paths c.args.tree.pages.now)
+    → IsPlanned c.args.tree.entries.now c.args.tree.pages.now c.in_ok-pages.changed.items (moves_of c.args.moves.now)
+    c.in_ok-steps.steps
+planned c whole = record {
+  whole = whole;
+  within = c.in_ok-pages.ensures.within;
+  apart = c.in_ok-steps.ensures.apart;
+  once = leave_once c whole;
+  kept = c.in_ok-steps.ensures.kept;
+  moved = rw c.deref-2.ensures.value at c.in_ok-steps.ensures.moved;
+  only = rw c.deref-2.ensures.value at c.in_ok-steps.ensures.only;
+  names = c.in_ok-steps.ensures.names (entry_paths c.args.tree.entries.now) c.in_ok-index.ensures;
+  files = rw c.deref-2.ensures.value at
+      (c.in_ok-steps.ensures.files (entry_paths c.args.tree.entries.now) c.in_ok-index.ensures);
+}
+
+pub returns-clause-entries_arrive : goal.returns-clause-entries_arrive
+returns-clause-entries_arrive c = λ whole.
+    EntriesArrive-plan c.args.tree.entries.now c.args.tree.pages.now c.in_ok-pages.changed.items (moves_of c.args.moves.now)
+    c.args.any_name c.in_ok-steps.steps (c.in_ok-after.ensures.fine c.args.any_name c.in_ok-table.ensures.fine)
+    (planned c whole)
+
+pub returns-clause-texts_arrive : goal.returns-clause-texts_arrive
+returns-clause-texts_arrive c = λ whole.
+    TextsArrive-plan c.args.tree.entries.now c.args.tree.pages.now c.in_ok-pages.changed.items (moves_of c.args.moves.now)
+    c.args.any_name c.in_ok-steps.steps (c.in_ok-after.ensures.fine c.args.any_name c.in_ok-table.ensures.fine)
+    (planned c whole) c.in_ok-pages.pages.items (rw c.in_ok-table.ensures.table at c.in_ok-pages.ensures.links)
+    (rw (c.deref.ensures.value, c.deref-2.ensures.value) at c.in_ok-steps.ensures.replaced)
+
 pub returns-clause-made : goal.returns-clause-made
-returns-clause-made c =
-    let (after, are, has) = c.in_ok-after.ensures.index in
-    (after, are, c.in_ok-steps.ensures.made (map components after) has)
+returns-clause-made c = λ whole.
+    let (after, are, has) = c.in_ok-after.ensures.index in (
+      after,
+      are,
+      DirectoriesArrive-plan c.args.tree.entries.now c.args.tree.pages.now c.in_ok-pages.changed.items
+          (moves_of c.args.moves.now) c.args.any_name c.in_ok-steps.steps
+          (c.in_ok-after.ensures.fine c.args.any_name c.in_ok-table.ensures.fine) (planned c whole) after
+          (map string_bytes c.in_ok-steps.steps.made.items) (c.in_ok-steps.ensures.made (map components after) has),
+    )
