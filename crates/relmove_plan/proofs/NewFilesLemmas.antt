@@ -1,13 +1,15 @@
 -- New files: each one's name has a number of its own, and each is next to its page.
-use Rattle.std.proofs.Common.{false, ◌≡◌, ◌≢◌, ℕ, ◌<◌, ◌≤◌, ◌+◌, ◌%◌, ◌^◌, List, [], ◌∷◌, ◌++◌, Some, inl, inr, All, AllPairs, IsPermutation, codes, map, take, drop, get_or, refl, sym, ap, subst, ◌∙◌, append_assoc, append-nil, take-append-drop, arith}
+use Rattle.std.proofs.Common.{false, ◌≡◌, ◌≢◌, ℕ, ◌<◌, ◌≤◌, ◌+◌, ◌%◌, ◌^◌, List, [], ◌∷◌, ◌++◌, Some, inl, inr, All, AllPairs, IsPermutation, codes, length, map, take, drop, get_or, refl, sym, ap, subst, ◌∙◌, append_assoc, append-nil, take-append-drop, arith}
 use Rattle.std.specs.Prelude.{decimal}
-use Rattle.std.specs.List.{filter}
+use Rattle.std.specs.List.{AllZip, filter}
 use Rattle.std.proofs.lemmas.Bool.{cases_Bool, eqb-true}
 use Rattle.std.proofs.lemmas.Fmt.{decimal_by_steps}
 use Rattle.std.proofs.lemmas.List.Elements.{All-append, All-cons, All-from_recursion, All-nil, All-push, All-take, All-weaker, recursion_from_All}
 use Rattle.std.proofs.lemmas.List.Quantifiers.{all_pairs_push}
 use Rattle.std.proofs.lemmas.List.Sorted.{All-permutation, IsPermutation-map}
 use Rattle.std.proofs.lemmas.List.Splits.{slice_split_none}
+use Rattle.std.proofs.lemmas.List.{take_more}
+use Rattle.std.proofs.lemmas.Slice.Zip.{all_zipped_more}
 use Rattle.std.proofs.lemmas.Option.{same_Some}
 use Rattle.relative_path.specs.Editing.{kept_len, pushed}
 use Rattle.relative_path.specs.Naming.{last_name}
@@ -17,12 +19,12 @@ use Rattle.relative_path.specs.Walk.{IsSame}
 use Rattle.relative_path.proofs.ForCallers.{IsNormal-append_left, IsNormal-push_name, IsSame-refl, SpellThemselves-components, components-pushed, last_name-name, spell-pushed}
 use Rattle.relative_path.proofs.OnLiterals.{relative_path_on_literals}
 use Rattle.relative_path_moves.specs.Places.{directory}
-use Rattle.relative_path_moves.specs.PlaceIndex.{Indexes, IsNoneAt}
+use Rattle.relative_path_moves.specs.PlaceIndex.{Indexes, IsNoneAt, path_at}
 use Rattle.relative_path_moves.specs.declared.place_index.PlaceIndex.{PlaceIndex}
 use Rattle.relmove_plan.specs.declared.between.FreeNames.{FreeNames}
 use Rattle.relmove_plan.specs.BetweenNames.{numbered_name, IsNumbered, AreDrawn, AreFreeNames, IsDrawn, IsDrawnIn}
 use Rattle.relmove_plan.specs.NewFiles.{IsOneOf, IsNextTo, HaveOwnFiles, EndsBelow, AreFilesDrawn}
-use Rattle.relmove_plan.specs.Steps.{StepTexts, with_text, names_left}
+use Rattle.relmove_plan.specs.Steps.{StepTexts, WritesPage, WritesPages, with_text, names_left, pages_written}
 use Rattle.relmove_plan.proofs.AboveLemmas.{components-nil}
 use Rattle.relmove_plan.proofs.NamesLemmas.{bytes_eq-false, numbered_name-other}
 
@@ -62,6 +64,15 @@ components-numbered_name n fits =
     ap (λ pieces. map classed (filter is_not_empty pieces))
     (slice_split_none is_slash (numbered_name n) (no_slash-numbered_name n fits))
     ∙ ap (λ c. c ∷ []) (classed-name 46 114 (codes "elmove-" ++ decimal n) (λ same. absurd (omega (arith, same))))
+
+-- new texts of the pages up to the next are written
+pub WritesPages-next : (paths : List (List Step)) (k : ℕ) (cs : List Step) (steps more : StepTexts) → k < length paths
+    → path_at paths k ≡ cs → WritesPage cs steps more → WritesPages (take k paths) steps → WritesPages (take (k + 1) paths) more
+WritesPages-next paths k cs steps more within here (page, is, written) so_far =
+    subst (AllZip IsNormalTextOf (take (k + 1) paths)) (sym written)
+    (subst (λ all. AllZip IsNormalTextOf all (pages_written steps ++ page ∷ [])) (sym (take_more paths k [] within))
+    (all_zipped_more IsNormalTextOf (take k paths) (pages_written steps) (path_at paths k) page so_far
+    (subst (λ ds. IsNormalTextOf ds page) (sym here) is)))
 
 -- names in between are one component each
 pub components-free : (paths : List (List Step)) (names : List (List ℕ)) → AreFreeNames paths names

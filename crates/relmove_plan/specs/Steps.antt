@@ -1,5 +1,6 @@
 -- A run's renames: their order, that they lose nothing, and where they take things.
 use Rattle.std.specs.Prelude.{◌≡◌, ◌<◌, ℕ, List, [], ◌∷◌, ◌++◌, Some, String, All, Contains, IsPermutation, length, map, slice_get, slice_index_or, string_bytes}
+use Rattle.std.specs.List.{AllZip}
 use Rattle.std.specs.declared.alloc.Global.{Global}
 use Rattle.relative_path.specs.Steps.{Step, slash}
 use Rattle.relative_path.specs.Normalizing.{IsNormalTextOf}
@@ -166,6 +167,19 @@ old_paths moves = map (λ move. move.old) moves
 -- the paths of the pages that change
 abbrev pub changed_paths : List SitePage → List ChangedPage → List (List Step)
 changed_paths pages changed = map (λ change. path_at (page_paths pages) change.number) changed
+
+-- the pages of which new texts are written
+abbrev pub pages_written : StepTexts → List (List ℕ)
+pages_written steps = map (λ new. new.0) steps.texts
+
+-- new texts are written of these pages, one for one, in order
+abbrev pub WritesPages : List (List Step) → StepTexts → Type 0
+WritesPages paths steps = AllZip IsNormalTextOf paths (pages_written steps)
+
+-- one new text more is written, of this page
+abbrev pub WritesPage : List Step → StepTexts → StepTexts → Type 0
+WritesPage cs before after =
+    (page : List ℕ) × IsNormalTextOf cs page × (pages_written after ≡ pages_written before ++ page ∷ [])
 
 -- the new text of the page is written to a new file, which is carried to the page's new path
 pub record ReplacesPage (steps : StepTexts) (page : SitePage) (new : MovedSitePage) : Type 0 where

@@ -12,7 +12,7 @@ ghost use Rattle.relmove_plan.specs.Refusals.{IsStepsRefusal};
 ghost use Rattle.relmove_plan.specs.Moves.{EachMove};
 ghost use Rattle.relmove_plan.specs.Directories.{AreLeftByMoves, AreMade, LeaveToNames, MakesMissing};
 ghost use Rattle.relmove_plan.specs.Trees.{AreAfter, entry_paths};
-ghost use Rattle.relmove_plan.specs.Steps.{AboveFirst, BelowFirst, DoesMove, LosesNothing, OnlyTheseLeave, RemovesAt, ReplacesPages, changed_paths, names_left, rename_texts, step_texts};
+ghost use Rattle.relmove_plan.specs.Steps.{AboveFirst, BelowFirst, DoesMove, LosesNothing, OnlyTheseLeave, RemovesAt, ReplacesPages, WritesPages, changed_paths, names_left, rename_texts, step_texts};
 ghost use Rattle.relmove_plan.specs.BetweenNames.{AreDrawn, AreFreeNames};
 ghost use Rattle.relmove_plan.specs.Runs.{EntriesArrive, MakesDirectories, TextsArrive};
 ghost use Rattle.relmove_plan.specs.WholeTrees.{IsWhole};
@@ -89,6 +89,8 @@ pub fn make_plan(
         (changed_paths tree.entry.pages.now plan.changed.items) (step_texts plan.steps)) }
     ensures names { IfOk result
         (λ plan. AreFreeNames (entry_paths tree.entry.entries.now) (names_left (step_texts plan.steps))) }
+    ensures texts { IfOk result (λ plan. WritesPages
+        (changed_paths tree.entry.pages.now plan.changed.items) (step_texts plan.steps)) }
     ensures once { IfOk result (λ plan. IsWhole tree.entry.entries.now (page_paths tree.entry.pages.now)
         → LeaveOnce (step_texts plan.steps)) }
     ensures files { IfOk result (λ plan. HaveOwnFiles (entry_paths tree.entry.entries.now)
@@ -183,6 +185,8 @@ fn steps_of(
         (changed_paths pages.now now.entry.changed.now) (step_texts steps)) }
     ensures names { IfOk result (λ steps. (paths : List (List Step)) → Indexes paths now.entry.index.now
         → AreFreeNames paths (names_left (step_texts steps))) }
+    ensures texts { IfOk result (λ steps. WritesPages
+        (changed_paths pages.now now.entry.changed.now) (step_texts steps)) }
     ensures once { IfOk result (λ steps. (paths : List (List Step)) → Indexes paths now.entry.index.now
         → LeaveFromEntries paths (moves_of moves.now) (changed_paths pages.now now.entry.changed.now)
         → LeaveOnce (step_texts steps)) }
@@ -232,6 +236,8 @@ fn renames_of(
     ensures files { IfOk result (λ renames. (index : PlaceIndex)
         → AreDrawn index names.old (map string_bytes between.now)
         → AreFilesDrawn index (changed_paths pages.now now.entry.changed.now) names.new (rename_texts renames)) }
+    ensures texts { IfOk result (λ renames. WritesPages
+        (changed_paths pages.now now.entry.changed.now) (rename_texts renames)) }
     ensures once { IfOk result (λ renames. (index : PlaceIndex) (entries : List (List Step))
         → Indexes entries index
         → LeaveFromEntries entries (moves_of moves.now) (changed_paths pages.now now.entry.changed.now)

@@ -9,7 +9,7 @@ ghost use Rattle.relative_path_moves.specs.PlaceIndex.{Indexes, IsNoneAt, path_a
 ghost use Rattle.relative_path_moves.specs.declared.place_index.PlaceIndex.{PlaceIndex};
 ghost use Rattle.relmove_plan.specs.Moves.{EachMove, move_of};
 ghost use Rattle.relmove_plan.specs.Refusals.{IsStepsRefusal};
-ghost use Rattle.relmove_plan.specs.Steps.{AreAmong, DoesMove, LosesNothing, RemovesAt, RemovesMoved, ReplacesPage, ReplacesPages, OnlyTheseLeave, changed_paths, names_left, old_paths, rename_texts, with_carried, with_removed, with_text};
+ghost use Rattle.relmove_plan.specs.Steps.{AreAmong, DoesMove, LosesNothing, RemovesAt, RemovesMoved, ReplacesPage, ReplacesPages, OnlyTheseLeave, WritesPage, WritesPages, changed_paths, names_left, old_paths, rename_texts, with_carried, with_removed, with_text};
 ghost use Rattle.relmove_plan.specs.BetweenNames.{AreDrawn};
 ghost use Rattle.relmove_plan.specs.NewFiles.{AreFilesDrawn, DoNothingYet, LeaveFromEntries, LeaveOnce, LeavesToo, StaysThere};
 ghost use Rattle.relmove_plan.specs.Directories.{LeavesTo, LeaveToNames, moves_to_names};
@@ -267,6 +267,8 @@ pub(crate) fn add_pages(
         → AreFilesDrawn index (changed_paths pages.now changed.now) names.old (rename_texts renames.old)
         → OnlyTheseLeave moves [] (rename_texts renames.old)
         → LeaveOnce (rename_texts renames.old) → LeaveOnce (rename_texts renames.new)) }
+    ensures texts { OnOk result ((rename_texts renames.old).texts ≡ []
+        → WritesPages (changed_paths pages.now changed.now) (rename_texts renames.new)) }
     ensures refused { IfErr result IsStepsRefusal }
 {
     for page in changed {
@@ -312,6 +314,8 @@ fn add_page(
         → AreFilesDrawn index paths names.old (rename_texts renames.old)
         → OnlyTheseLeave moves (take k paths) (rename_texts renames.old)
         → LeaveOnce (rename_texts renames.old) → LeaveOnce (rename_texts renames.new)) }
+    ensures texts { OnOk result
+        (WritesPage (path_components page.entry.path) (rename_texts renames.old) (rename_texts renames.new)) }
     ensures refused { IfErr result IsStepsRefusal }
 {
     let old = NormalPath::of(alloc, page.path)?;
@@ -353,6 +357,7 @@ fn add_old_text(
         → Indexes (old_paths moves) olds.now → IsNormalTextOf cs page
         → (IsNoneAt (old_paths moves) cs → StaysThere cs (rename_texts renames.old))
         → LeaveOnce (rename_texts renames.old) → LeaveOnce (rename_texts renames.new)) }
+    ensures texts { OnOk result ((rename_texts renames.new).texts ≡ (rename_texts renames.old).texts) }
     ensures refused { IfErr result IsStepsRefusal }
 {
     if olds.get(&page).is_some() {

@@ -1,8 +1,9 @@
 -- Each turn replaces the next page.
-use Rattle.std.proofs.Common.{◌<◌, ◌≤◌, ◌+◌, [], length, take, get_or-take, ◌∙◌, arith}
-use Rattle.std.proofs.lemmas.List.{length-take-le}
-use Rattle.relmove_plan.specs.Steps.{RemovesAt, changed_paths, rename_texts}
+use Rattle.std.proofs.Common.{◌<◌, ◌≤◌, ◌+◌, [], length, take, get_or-take, subst, ◌∙◌, arith}
+use Rattle.std.proofs.lemmas.List.{length-take-le, take_all}
+use Rattle.relmove_plan.specs.Steps.{RemovesAt, WritesPages, changed_paths, rename_texts}
 use Rattle.relmove_plan.proofs.CarryLemmas.{All-RemovesAt-next, All-taken, AreAmong-trans, RemovesMoved-among, RemovesMoved-each, ReplacesPages-all, ReplacesPages-next, length-changed_paths, path_at-changed_paths}
+use Rattle.relmove_plan.proofs.NewFilesLemmas.{WritesPages-next}
 use Rattle.relmove_plan.proofs.OnceLemmas.{OnlyTheseLeave-more_pages}
 use Rattle.relmove_plan.proofs.renames.add_pages.Goals as goal
 
@@ -41,6 +42,10 @@ loop-page-preserved c =
           (c.requires.within k _ c.loop-page-test.true) in
           c.in_ok-add_page.ensures.files index paths k within here (c.loop-page.invariant.free index drawn)
           (c.loop-page.invariant.files index drawn files);
+      texts = λ none.
+          WritesPages-next paths k _ steps more within
+          (path_at-changed_paths pages changed k _ _ c.loop-page-test.true (c.requires.within k _ c.loop-page-test.true))
+          c.in_ok-add_page.ensures.texts (c.loop-page.invariant.texts none);
       so_far = λ moves only.
           let long = length-take-le (k + 1) paths (omega (arith, within)) in
           let more : k < length (take (k + 1) paths) = omega (arith, long) in
@@ -70,3 +75,11 @@ returns-clause-removed c = λ moves has does.
     let all : length paths ≤ c.loop-page.page-index = rw long (grind (arith, c.loop-page-test.false)) in
     All-taken (RemovesAt (rename_texts c.loop-page.renames)) paths c.loop-page.page-index all
     (c.loop-page.invariant.removed moves has does)
+
+pub returns-clause-texts : goal.returns-clause-texts
+returns-clause-texts c = λ none.
+    let paths = changed_paths c.args.pages.now c.args.changed.now in
+    let long = length-changed_paths c.args.pages.now c.args.changed.now in
+    let all : length paths ≤ c.loop-page.page-index = rw long (grind (arith, c.loop-page-test.false)) in
+    subst (λ some. WritesPages some (rename_texts c.loop-page.renames)) (take_all c.loop-page.page-index paths all)
+    (c.loop-page.invariant.texts none)

@@ -1,11 +1,11 @@
 -- So far nothing is lost, each page is replaced, its old text is removed, and nothing leaves twice.
-use Rattle.std.proofs.Common.{All, List, [], take}
+use Rattle.std.proofs.Common.{All, ◌≡◌, List, [], take}
 use Rattle.relative_path.specs.Steps.{Step}
 use Rattle.relative_path_moves.specs.Moves.{Move}
 use Rattle.relative_path_moves.specs.PlaceIndex.{Indexes}
 use Rattle.relative_path_moves.specs.declared.place_index.PlaceIndex.{PlaceIndex}
 use Rattle.relmove_plan.specs.Moves.{EachMove}
-use Rattle.relmove_plan.specs.Steps.{AreAmong, DoesMove, LosesNothing, OnlyTheseLeave, RemovesAt, ReplacesPages, changed_paths, names_left, old_paths, rename_texts}
+use Rattle.relmove_plan.specs.Steps.{AreAmong, DoesMove, LosesNothing, OnlyTheseLeave, RemovesAt, ReplacesPages, WritesPages, changed_paths, names_left, old_paths, rename_texts}
 use Rattle.relmove_plan.specs.BetweenNames.{AreDrawn}
 use Rattle.relmove_plan.specs.NewFiles.{AreFilesDrawn, LeaveFromEntries, LeaveOnce}
 use Rattle.relmove_plan.proofs.renames.add_pages.Given as goal
@@ -25,6 +25,8 @@ invariant-loop-page l = record {
   files : (index : PlaceIndex) → AreDrawn index l.fn.names (names_left (rename_texts l.fn.renames))
       → AreFilesDrawn index (changed_paths l.pages l.changed) l.fn.names (rename_texts l.fn.renames)
       → AreFilesDrawn index (changed_paths l.pages l.changed) l.names (rename_texts l.renames);
+  texts : (rename_texts l.fn.renames).texts ≡ []
+      → WritesPages (take l.page-index (changed_paths l.pages l.changed)) (rename_texts l.renames);
   so_far : (moves : List Move) → OnlyTheseLeave moves [] (rename_texts l.fn.renames)
       → OnlyTheseLeave moves (take l.page-index (changed_paths l.pages l.changed)) (rename_texts l.renames);
   once : (index : PlaceIndex) (entries : List (List Step)) (moves : List Move) → Indexes entries index
