@@ -9,3 +9,10 @@ pub mod CarryLemmas
 pub mod OnlyLemmas
 pub mod NamesLemmas
 pub mod DirectoriesLemmas
+pub mod RunsLemmas
+pub mod PlacesLemmas
+pub mod WholeTreesLemmas
+pub mod SourcesLemmas
+pub mod ArrivalsLemmas
+pub mod FirstsLemmas
+pub mod WaysLemmas

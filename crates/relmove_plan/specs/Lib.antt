@@ -6,3 +6,6 @@ pub mod Plan
 pub mod Steps
 pub mod BetweenNames
 pub mod Directories
+pub mod NewFiles
+pub mod WholeTrees
+pub mod Runs

@@ -1,0 +1,199 @@
+-- The places from which a run's renames lead, in a whole tree: entries, and new files, which are where no entry is.
+use Rattle.std.proofs.Common.{All, Bool, true, false, true≢false, ◌≡◌, ◌≢◌, ◌⊎◌, ℕ, zero, suc, ◌<◌, ◌≤◌, List, [], ◌∷◌, ◌++◌, Contains, Some, None, codes, length, map, take, get_or, inl, inr, refl, sym, ap, subst, ◌∙◌, append_assoc, append-nil, arith}
+use Rattle.std.specs.List.{Any, join_with_byte, list_any}
+use Rattle.std.proofs.lemmas.List.{length-map, map-append}
+use Rattle.relative_path.specs.Steps.{Step, cur, up, name, components, slash}
+use Rattle.relative_path.specs.RelativePath.{path_components}
+use Rattle.relative_path.specs.Walk.{IsSame, place_of, walk}
+use Rattle.relative_path.specs.Normalizing.{IsNormalTextOf}
+use Rattle.relative_path.proofs.ForCallers.{IsSame-sym, components-place, kept-name, walk-names}
+use Rattle.relative_path_moves.specs.Moves.{Move, move_at}
+use Rattle.relative_path_moves.specs.Places.{directory}
+use Rattle.relative_path_moves.specs.PlaceIndex.{IsFirstAt, IsNoneAt, path_at}
+use Rattle.relative_path_moves.specs.TreeMoves.{TakesAlong}
+use Rattle.relmove_plan.specs.declared.entry.Entry.{Entry}
+use Rattle.relmove_plan.specs.BetweenNames.{AreFreeNames, numbered_name}
+use Rattle.relmove_plan.specs.Moves.{EachMove}
+use Rattle.relmove_plan.specs.NewFiles.{HaveOwnFiles, IsNextTo}
+use Rattle.relmove_plan.specs.Runs.{names_of}
+use Rattle.relmove_plan.specs.Steps.{StepTexts, LeavesFrom, of_move, of_page, of_text, names_left}
+use Rattle.relmove_plan.specs.Trees.{IsThere, IsOldFine, entry_paths, is_directory}
+use Rattle.relmove_plan.specs.WholeTrees.{IsAt, HasDirectoryAt, IsHeld, LeadsToFile, IsWhole}
+use Rattle.relmove_plan.proofs.PlacesLemmas.{joined-names, names_of-normal, names_of-names, spelled-place}
+use Rattle.relmove_plan.proofs.RunsLemmas.{IsUnder}
+use Rattle.relmove_plan.proofs.WholeTreesLemmas.{IsAt-some, IsNoneAt-under, IsSame-one_place, LeadsToFile-under, last_view, not_empty, path_at-entry, some_of}
+
+-- an element by its number
+pub element : {X : Type 0} (xs : List X) (k : ℕ) → k < length xs → (x : X) × (get_or xs k x ≡ x)
+element [] k within = absurd (let w : k < 0 = within in omega (arith, w))
+element (x ∷ xs) zero within = (x, refl)
+element (x ∷ xs) (suc k) within = let (y, is) = element xs k (omega (arith, within)) in (y, is)
+
+-- a place under another begins with the same name
+pub IsUnder-first : (n m : List ℕ) (ns ms : List (List ℕ)) → IsUnder (n ∷ ns) (m ∷ ms) → n ≡ m
+IsUnder-first n m ns ms (below, is) = ap (λ place. get_or place 0 n) is
+
+-- a place that isn't the top has a first name
+pub first_of : (place : List (List ℕ)) → place ≢ [] → (n : List ℕ) × (ns : List (List ℕ)) × (place ≡ n ∷ ns)
+first_of [] some = absurd (some refl)
+first_of (n ∷ ns) some = (n, ns, refl)
+
+-- the place from which something leaves: an entry is there, or a new file
+pub data IsFrom (entries : List Entry) (moves : List Move) (changed : List (List Step)) (names : List (List ℕ))
+    (place : List (List ℕ)) : Type 0 where
+  from_move : (k : ℕ) → k < length moves → place_of (move_at moves k).old ≡ Some place
+      → IsFrom entries moves changed names place
+  from_page : (k : ℕ) → k < length changed → (file : LeadsToFile entries (path_at changed k)) → place ≡ file.place
+      → IsFrom entries moves changed names place
+  from_file : (k : ℕ) → k < length changed → (top : LeadsToFile entries (path_at changed k)) (front : List (List ℕ)) (n last : List ℕ)
+      → top.place ≡ front ++ last ∷ [] → place ≡ front ++ n ∷ [] → IsNoneAt (entry_paths entries) (map name place)
+      → All (λ between. place ≢ between ∷ []) names → IsFrom entries moves changed names place
+
+-- what is known of the path from which something leaves
+pub record IsSource (entries : List Entry) (moves : List Move) (changed : List (List Step)) (names : List (List ℕ))
+    (from : List ℕ) : Type 0 where
+  pub place : List (List ℕ)
+  pub some : place ≢ []
+  pub named : names_of from ≡ place
+  pub spelled : from ≡ join_with_byte slash place
+  pub leads : place_of (components from) ≡ Some place
+  pub is_from : IsFrom entries moves changed names place
+
+module _ (entries : List Entry) (pages : List (List Step)) (whole : IsWhole entries pages) where
+  -- an entry that is somewhere is at a place
+  pub IsThere-place : (cs : List Step) → IsThere entries cs
+      → (b : Bool) × (place : List (List ℕ)) × (place_of cs ≡ Some place) × Any (IsAt b place) entries
+  IsThere-place cs (e, first) =
+      let within : e < length entries = rw (length-map entries (λ (entry : Entry). path_components entry.path)) at first.within in
+      let (entry, is) = element entries e within in
+      let held : IsHeld entries entry = subst (IsHeld entries) is (whole.held e entry within) in
+      let same : IsSame cs (path_components entry.path) =
+      subst (IsSame cs) (path_at-entry entries e entry within is) first.same in (
+        is_directory entry.kind,
+        held.directory ++ held.name ∷ [],
+        same.everywhere [] ∙ held.leads,
+        (e, entry, within, is, record { kind = refl; leads = held.leads }),
+      )
+
+  module _ (moves : List Move) (changed : List (List Step)) (files : All (LeadsToFile entries) changed)
+      (olds : EachMove (λ move. IsOldFine entries move.old) moves) (steps : StepTexts)
+      (own : HaveOwnFiles (entry_paths entries) changed steps)
+    where
+      file_of : (k : ℕ) → k < length changed → LeadsToFile entries (path_at changed k)
+      file_of k within = files k [] within
+
+      IsSource-normal : (cs : List Step) (from : List ℕ) (place : List (List ℕ)) → IsNormalTextOf cs from
+          → place_of cs ≡ Some place → place ≢ [] → IsFrom entries moves changed (names_left steps) place
+          → IsSource entries moves changed (names_left steps) from
+      IsSource-normal cs from place is leads some is_from = record {
+        place = place;
+        some = some;
+        named = names_of-normal cs from place is leads;
+        spelled = spelled-place cs from place is leads;
+        leads = sym (is.same.everywhere []) ∙ leads;
+        is_from = is_from;
+      }
+
+      -- what leaves is known
+      pub IsSource-leaves : (from : List ℕ) → LeavesFrom moves changed steps.texts from
+          → IsSource entries moves changed (names_left steps) from
+      IsSource-leaves from (of_move k within is) =
+          let (b, place, leads, at) = IsThere-place (move_at moves k).old (olds k within).there in
+          IsSource-normal (move_at moves k).old from place is leads (IsAt-some entries pages whole b place at)
+          (IsFrom.from_move k within leads)
+      IsSource-leaves from (of_page k within is) =
+          let top = file_of k within in
+          IsSource-normal (path_at changed k) from top.place is top.leads
+          (IsAt-some entries pages whole false top.place top.file) (IsFrom.from_page k within top refl)
+      IsSource-leaves from (of_text old text (j, less, is)) =
+          by (own.of_pages j (old, from, text) less) (own.next_to j (old, from, text) less)
+          (own.unused j (old, from, text) less) (own.no_name j (old, from, text) less)
+        where
+          new : List ℕ × List ℕ × List ℕ
+          new = get_or steps.texts j (old, from, text)
+
+          by : (k : ℕ) × (k < length changed) × IsNormalTextOf (path_at changed k) new.0 → IsNextTo new.0 new.1
+              → IsNoneAt (entry_paths entries) (components new.1) → All (λ between. new.1 ≢ between) (names_left steps)
+              → IsSource entries moves changed (names_left steps) from
+          by (k, within, is_page) next_to unused no_name =
+              let top = file_of k within in
+              elim (last_view top.place) [
+                | inl none ↦ absurd (IsAt-some entries pages whole false top.place top.file none)
+                | inr (front, last, split) ↦
+                    let n = numbered_name next_to.number in
+                    let place : List (List ℕ) = front ++ n ∷ [] in
+                    let spelled : components new.0 ≡ map name front ++ name last ∷ [] =
+                    components-place is_page top.leads ∙ ap (map name) split ∙ map-append name front (last ∷ []) in
+                    let from_is : new.1 ≡ from = ap (λ (new : List ℕ × List ℕ × List ℕ). new.1) is in
+                    let file_is : components new.1 ≡ map name place =
+                    next_to.next
+                    ∙ ap (λ ds. ds ++ name n ∷ []) (ap directory spelled ∙ kept-name (map name front) last)
+                    ∙ sym (map-append name front (n ∷ [])) in
+                    let cs : components from ≡ map name place = sym (ap components from_is) ∙ file_is in
+                    let joined : from ≡ join_with_byte slash place =
+                    sym from_is ∙ joined-names new.1 place next_to.spelled file_is in
+                    let none : IsNoneAt (entry_paths entries) (map name place) =
+                    subst (IsNoneAt (entry_paths entries)) file_is unused in
+                    let no_name_2 : All (λ between. place ≢ between ∷ []) (names_left steps) =
+                    λ j d l same. no_name j d l (from_is ∙ joined ∙ ap (join_with_byte slash) same) in
+                    record {
+                      place = place;
+                      some = not_empty front n [];
+                      named = names_of-names from place cs;
+                      spelled = joined;
+                      leads = ap place_of cs ∙ walk-names [] place;
+                      is_from = IsFrom.from_file k within top front n last split refl none no_name_2;
+                    }
+              ]
+
+      -- what takes an entry along that isn't a page that changes is a move
+      pub IsFrom-under : (b : Bool) (place top below : List (List ℕ)) → IsFrom entries moves changed (names_left steps) top
+          → Any (IsAt b place) entries → IsNoneAt changed (map name place) → place ≡ top ++ below → top ≢ []
+          → (k : ℕ) × TakesAlong moves place k below
+      IsFrom-under b place top below (IsFrom.from_move k within leads) at other under some =
+          (k, record { within = within; top = top; old = leads; down = under })
+      IsFrom-under b place top below (IsFrom.from_page k within file is) at other under some =
+          let here : place ≡ file.place =
+          LeadsToFile-under entries pages whole (path_at changed k) b place file at (below, under ∙ ap (λ top. top ++ below) is) in
+          absurd (other k within (IsSame-one_place place (walk-names [] place) (file.leads ∙ ap Some (sym here))))
+      IsFrom-under b place top below (IsFrom.from_file k within top_file front n last split is none no_name) at other under some =
+          absurd (IsNoneAt-under entries pages whole (map name top) b place top none (walk-names [] top) some at (below, under))
+
+      -- nothing leaves from below a name where no entry is, if the name isn't a new file's
+      pub IsFrom-apart : (between : List ℕ) (below top : List (List ℕ)) → IsFrom entries moves changed (names_left steps) top
+          → top ≢ [] → IsNoneAt (entry_paths entries) (map name (between ∷ [])) → Contains (names_left steps) between
+          → ¬ IsUnder (between ∷ below) top
+      IsFrom-apart between below top from some none (i, within, is) under = by top from some under
+        where
+          no_entry : (b : Bool) (place : List (List ℕ)) → Any (IsAt b (between ∷ place)) entries → ⊥
+          no_entry b place at =
+              IsNoneAt-under entries pages whole (map name (between ∷ [])) b (between ∷ place) (between ∷ []) none
+              (walk-names [] (between ∷ [])) (not_empty [] between []) at (place, refl)
+
+          begins : (top : List (List ℕ)) → top ≢ [] → IsUnder (between ∷ below) top → (place : List (List ℕ)) × (top ≡ between ∷ place)
+          begins [] some under = absurd (some refl)
+          begins (n ∷ place) some under = (place, ap (λ first. first ∷ place) (sym (IsUnder-first between n below place under)))
+
+          by : (top : List (List ℕ)) → IsFrom entries moves changed (names_left steps) top → top ≢ []
+              → IsUnder (between ∷ below) top → ⊥
+          by top (IsFrom.from_move k within leads) some under =
+              let (b, place, leads_2, at) = IsThere-place (move_at moves k).old (olds k within).there in
+              let (rest, is) = begins top some under in
+              let here : place ≡ between ∷ rest = some_of (sym leads_2 ∙ leads) ∙ is in
+              no_entry b rest (subst (λ place. Any (IsAt b place) entries) here at)
+          by top (IsFrom.from_page k within file same) some under =
+              let (rest, is) = begins top some under in
+              no_entry false rest (subst (λ place. Any (IsAt false place) entries) (sym same ∙ is) file.file)
+          by top (IsFrom.from_file k inside top_file front n last split same none no_name) some under =
+              let (rest, is) = begins top some under in
+              next_to front split same rest (sym same ∙ is)
+            where
+              next_to : (front : List (List ℕ)) → top_file.place ≡ front ++ last ∷ [] → top ≡ front ++ n ∷ []
+                  → (rest : List (List ℕ)) → front ++ n ∷ [] ≡ between ∷ rest → ⊥
+              next_to [] split here rest is_2 =
+                  no_name i between within
+                  (here ∙ ap (λ first. first ∷ []) (ap (λ place. get_or place 0 n) is_2 ∙ sym is))
+              next_to (d ∷ front) split here rest is =
+                  no_entry false (front ++ last ∷ [])
+                  (subst (λ place. Any (IsAt false place) entries)
+                  (split ∙ ap (λ first. first ∷ front ++ last ∷ []) (ap (λ place. get_or place 0 d) is)) top_file.file)
