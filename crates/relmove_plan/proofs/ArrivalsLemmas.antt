@@ -48,7 +48,7 @@ All-zip {X} {Y} R (x ∷ xs) (y ∷ ys) each =
 abbrev pub is_own : List ℕ → Bool
 is_own n = is_own_step (name n)
 
-is_own-numbered : (number : ℕ) → is_own (numbered_name number) ≡ true
+pub is_own-numbered : (number : ℕ) → is_own (numbered_name number) ≡ true
 is_own-numbered number = refl
 
 -- none of the names of a place is one of a run's own
@@ -453,52 +453,58 @@ module _ (entries : List Entry) (pages changed : List (List Step)) (moves : List
 
     -- ---- new texts
 
+    -- what leaves its own path comes to another
+    pub carried-from : (from to : List ℕ) (target : List (List ℕ)) → Carries steps from to → names_of to ≡ target
+        → HasNoName entries target → carried (renames_of steps) (names_of from) ≡ target
+    carried-from from to target carries arrives ends =
+        carried-carries from to (names_of from) [] target carries (sym (append-nil (names_of from)))
+        (λ j d l under.
+        let (below, is) = under in
+        let long = ap length is ∙ length-append (names_of (get_or steps.apart j d).0) below in
+        omega (arith, long))
+        arrives (subst (HasNoName entries) (sym (append-nil target)) ends)
+        ∙ append-nil target
+
+    -- the place to which the moves take a file: no name in between is there
+    pub target_place : (cs target : List Step) → LeadsToFile entries cs → IsTreeTarget moves cs target
+        → (place : List (List ℕ)) × (place_of target ≡ Some place) × HasNoName entries place
+    target_place cs target file (inl taken) =
+        let j = taken.move in
+        let (top, leads, some, fine_top) = new_place j taken.nearest.takes.within in (
+          top ++ taken.below,
+          ap place_of taken.new ∙ place-below (move_at moves j).new top taken.below leads,
+          HasNoName-own top taken.below some fine_top,
+        )
+    target_place cs target file (inr (left, same)) =
+        (file.place, ap place_of same ∙ file.leads, HasNoName-entry false file.place file.file)
+
     TextArrives-target : (page : SitePage) (new : MovedSitePage) (target : List Step)
         → LeadsToFile entries (path_components page.path) → IsTreeTarget moves (path_components page.path) target
         → IsNormalTextOf target new.path → ReplacesPage steps page new
         → TextArrives moves steps page (string_bytes new.page.text)
-    TextArrives-target page new target file is normal replaces = record {
-      old = replaces.old;
-      file = replaces.file;
-      old_of = replaces.old_of;
-      written = replaces.written;
-      arrives = (target, is, by is);
-    }
-      where
-        from : List ℕ
-        from = replaces.file
-
-        src : IsSource entries moves changed (names_left steps) from
-        src = source replaces.carries.leaves.0 (from, replaces.carries.between) replaces.carries.leaves.1
-            replaces.carries.leaves.2
-
-        to : (place : List (List ℕ)) → place_of target ≡ Some place → HasNoName entries (place ++ [])
-            → ComesTo (renames_of steps) (components from) target
-        to place leads ends = record {
-          from = src.place;
-          to = place;
-          leaves = src.leads;
-          arrives = leads;
-          carries = carried-carries from new.path src.place [] place replaces.carries
-              (sym (append-nil src.place) ∙ ap (λ top. top ++ []) (sym src.named))
-              (λ j d l under.
-              let (below, is) = under in
-              let long = ap length is ∙ length-append (names_of (get_or steps.apart j d).0) below in
-              let long_2 = ap length src.named in
-              omega (arith, long, long_2))
-              (names_of-normal target new.path place normal leads) ends ∙ append-nil place;
+    TextArrives-target page new target file is normal replaces =
+        let (i, within, here) = replaces.carries.leaves in
+        let src = source i (replaces.file, replaces.carries.between) within here in
+        let (place, leads, ends) = target_place (path_components page.path) target file is in
+        record {
+          old = replaces.old;
+          file = replaces.file;
+          old_of = replaces.old_of;
+          written = replaces.written;
+          arrives = (
+            target,
+            is,
+            record {
+              from = src.place;
+              to = place;
+              leaves = src.leads;
+              arrives = leads;
+              carries = ap (carried (renames_of steps)) (sym src.named)
+                  ∙ carried-from replaces.file new.path place replaces.carries
+                  (names_of-normal target new.path place normal leads) ends;
+            },
+          );
         }
-
-        by : IsTreeTarget moves (path_components page.path) target → ComesTo (renames_of steps) (components from) target
-        by (inl taken) =
-            let j = taken.move in
-            let (top, leads, some, fine_top) = new_place j taken.nearest.takes.within in
-            let there = ap place_of taken.new ∙ place-below (move_at moves j).new top taken.below leads in
-            to (top ++ taken.below) there
-            (subst (HasNoName entries) (sym (append-nil (top ++ taken.below))) (HasNoName-own top taken.below some fine_top))
-        by (inr (left, same)) =
-            to file.place (ap place_of same ∙ file.leads)
-            (subst (HasNoName entries) (sym (append-nil file.place)) (HasNoName-entry false file.place file.file))
 
     pub TextArrives-page : (page : SitePage) (new : MovedSitePage) → LeadsToFile entries (path_components page.path)
         → AtTreePath moves (path_components page.path) (λ now. IsNormalTextOf now new.path) → ReplacesPage steps page new

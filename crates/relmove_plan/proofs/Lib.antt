@@ -16,3 +16,4 @@ pub mod SourcesLemmas
 pub mod ArrivalsLemmas
 pub mod FirstsLemmas
 pub mod WaysLemmas
+pub mod FreeWaysLemmas

@@ -69,7 +69,7 @@ module _ (entries : List Entry) (pages changed : List (List Step)) (moves : List
 
     -- ---- what leaves
 
-    leaves : (i : ℕ) (step : List ℕ × List ℕ) → i < length steps.apart → get_or steps.apart i step ≡ step
+    pub leaves : (i : ℕ) (step : List ℕ × List ℕ) → i < length steps.apart → get_or steps.apart i step ≡ step
         → LeavesFrom moves changed steps.texts step.0
     leaves i step within is =
         subst (λ (step : List ℕ × List ℕ). LeavesFrom moves changed steps.texts step.0) is (only i step within)
@@ -130,7 +130,7 @@ module _ (entries : List Entry) (pages changed : List (List Step)) (moves : List
 
     -- ---- the names in between
 
-    left_at : (i : ℕ) (step : List ℕ × List ℕ) (d : List ℕ) → i < length steps.apart → get_or steps.apart i step ≡ step
+    pub left_at : (i : ℕ) (step : List ℕ × List ℕ) (d : List ℕ) → i < length steps.apart → get_or steps.apart i step ≡ step
         → get_or (names_left steps) i d ≡ step.1
     left_at i step d within is =
         get_or-map (λ (step : List ℕ × List ℕ). step.1) steps.apart i step d within
@@ -147,7 +147,7 @@ module _ (entries : List Entry) (pages changed : List (List Step)) (moves : List
         → names_of step.1 ≡ step.1 ∷ []
     left_place i step within is = names_of-names step.1 (step.1 ∷ []) (left_single i step within is)
 
-    left_unused : (i : ℕ) (step : List ℕ × List ℕ) → i < length steps.apart → get_or steps.apart i step ≡ step
+    pub left_unused : (i : ℕ) (step : List ℕ × List ℕ) → i < length steps.apart → get_or steps.apart i step ≡ step
         → IsNoneAt (entry_paths entries) (map name (step.1 ∷ []))
     left_unused i step within is =
         subst (IsNoneAt (entry_paths entries)) (left_single i step within is)
