@@ -32,29 +32,8 @@ use Rattle.relmove_plan.proofs.SourcesLemmas.{IsThere-place, IsUnder-first, elem
 use Rattle.relmove_plan.proofs.WaysLemmas.{IsThing, coming, leaving, renames-coming}
 use Rattle.relmove_plan.proofs.WaysLemmas as ways
 use Rattle.relmove_plan.proofs.WholeTreesLemmas.{IsSame-one_place, path_at-entry, some_of}
-
--- the new text of the page where the components lead is written to a file, and carried to where the moves take the page
-pub record IsReplaced (moves : List Move) (steps : StepTexts) (cs : List Step) : Type 0 where
-  pub old : List ℕ
-  pub old_of : IsNormalTextOf cs old
-  pub file : List ℕ
-  pub text : List ℕ
-  pub written : Contains steps.texts (old, file, text)
-  pub to : List ℕ
-  pub carries : Carries steps file to
-  pub goes : AtTreePath moves cs (λ now. IsNormalTextOf now to)
-
--- elements with equal keys are one element, if no two elements have the same key
-one_by_key : {X : Type 0} (key : X → List ℕ) (xs : List X) → AllPairs (λ one other. key one ≢ key other) xs → (x y : X)
-    → Contains xs x → Contains xs y → key x ≡ key y → x ≡ y
-one_by_key key xs differ x y (i, within, is) (j, within_2, is_2) same = elim (cases_order i j) [
-  | inl equal ↦
-      sym is ∙ ap (λ k. get_or xs k x) equal ∙ get_or_default xs j x y within_2 ∙ is_2
-  | inr (inl less) ↦
-      absurd (differ i j x less within_2 (ap key is ∙ same ∙ ap key (sym is_2 ∙ get_or_default xs j y x within_2)))
-  | inr (inr more) ↦
-      absurd (differ j i y more within (ap key is_2 ∙ sym same ∙ ap key (sym is ∙ get_or_default xs i x y within)))
-]
+use Rattle.relmove_plan.proofs.ComingLemmas.{IsReplaced, one_by_key}
+use Rattle.relmove_plan.proofs.ComingLemmas as coming_names
 
 -- a new file of the page at the place
 record IsFileOf (changed : List (List Step)) (steps : StepTexts) (file place : List (List ℕ)) : Type 0 where
@@ -90,123 +69,6 @@ module _ (entries : List Entry) (pages changed : List (List Step)) (moves : List
     (apart : AreApart moves) (after : List (List ℕ)) (are_after : AreAfter moves entries after)
     (distinct : AreDistinct (map components after))
   where
-    -- ---- the renames from names in between
-
-    come : List (List ℕ)
-    come = names_come steps ++ steps.removed
-
-    free_come : AreFreeNames (entry_paths entries) (names_come steps ++ steps.removed)
-    free_come = arrivals.free_come entries pages changed moves any_name steps whole files fine olds below_first once nothing_lost only names single own
-
-    -- from a name something comes once
-    come_once : AllPairs (λ one other. one.0 ≢ other.0) steps.together
-    come_once i j d less within same =
-        let within_2 : i < length steps.together = omega (arith, less, within) in
-        let (step, is) = element steps.together i within_2 in
-        let (other, is_2) = element steps.together j within in
-        arrivals.name_other entries pages changed moves any_name steps whole files fine olds below_first once nothing_lost only names single own i j step other (λ equal. absurd (omega (arith, equal, less))) within_2 within is is_2
-        (ap (λ (step : List ℕ × List ℕ). step.0) (sym is ∙ get_or_default steps.together i step d within_2) ∙ same
-        ∙ ap (λ (step : List ℕ × List ℕ). step.0) (get_or_default steps.together j d other within ∙ is_2))
-
-    -- what is removed doesn't come
-    come_kept : (between to : List ℕ) → Contains steps.together (between, to) → ¬ Contains steps.removed between
-    come_kept between to (k, within, is) (r, within_2, is_2) =
-        let count : length (names_come steps) ≡ length steps.together =
-        length-map steps.together (λ (step : List ℕ × List ℕ). step.0) in
-        let long = length-append (names_come steps) steps.removed in
-        free_come.different k (length (names_come steps) + r) between (omega (arith, within, count))
-        (omega (arith, within_2, long))
-        (arrivals.come_at entries pages changed moves any_name steps whole files fine olds below_first once nothing_lost only names single own k (between, to) between within is ∙ sym is_2
-        ∙ sym (get_or-append-add (names_come steps) steps.removed r between))
-
-    -- a thing leaves a path to one name
-    left_one : (from one other : List ℕ) → Contains steps.apart (from, one) → Contains steps.apart (from, other)
-        → one ≡ other
-    left_one from one other has has_2 =
-        ap (λ (step : List ℕ × List ℕ). step.1)
-        (one_by_key (λ (step : List ℕ × List ℕ). step.0) steps.apart once (from, one) (from, other) has has_2 refl)
-
-    -- a thing comes to one path
-    carries_one : (from between to other : List ℕ) → Contains steps.apart (from, between)
-        → Contains steps.together (between, to) → Carries steps from other → other ≡ to
-    carries_one from between to other left comes carries =
-        let same : carries.between ≡ between = left_one from carries.between between carries.leaves left in
-        ap (λ (step : List ℕ × List ℕ). step.1)
-        (one_by_key (λ (step : List ℕ × List ℕ). step.0) steps.together come_once (carries.between, other) (between, to)
-        carries.comes comes same)
-
-    -- ---- new files
-
-    -- the file of a new text is carried to where the moves take the page
-    file_carries : (new : List ℕ × List ℕ × List ℕ) → Contains steps.texts new
-        → (c : ℕ) × (c < length changed) × IsNormalTextOf (path_at changed c) new.0 × (to : List ℕ) × Carries steps new.1 to
-        × AtTreePath moves (path_at changed c) (λ now. IsNormalTextOf now to)
-    file_carries new (t, within, is) =
-        let (c, inside, old_of) = own.of_pages t new within in
-        let old_of_2 : IsNormalTextOf (path_at changed c) new.0 =
-        subst (λ (new : List ℕ × List ℕ × List ℕ). IsNormalTextOf (path_at changed c) new.0) is old_of in
-        let one = replaced c [] inside in
-        let same : (one.old, one.file, one.text) ≡ new =
-        one_by_key (λ (new : List ℕ × List ℕ × List ℕ). new.0) steps.texts one_text (one.old, one.file, one.text) new
-        one.written (t, within, is) (old_of_2.only one.old one.old_of.normal_text one.old_of.same) in (
-          c,
-          inside,
-          old_of_2,
-          one.to,
-          subst (λ (new : List ℕ × List ℕ × List ℕ). Carries steps new.1 one.to) same one.carries,
-          one.goes,
-        )
-
-    -- ---- where the renames lead
-
-    changed_or : (b : Bool) (place : List (List ℕ)) → Any (IsAt b place) entries
-        → IsNoneAt changed (map name place) ⊎ ((k : ℕ) × (k < length changed) × (place_of (path_at changed k) ≡ Some place))
-    changed_or b place at = one_at_or entries pages whole b place at changed files
-
-    -- no name in between is where a rename from one leads to
-    comes_fine : (from between to : List ℕ) → LeavesFrom moves changed steps.texts from
-        → Contains steps.apart (from, between) → Contains steps.together (between, to) → HasNoName entries (names_of to)
-    comes_fine from between to (of_move m inside normal) left comes =
-        let (b, place, leads, at) = IsThere-place entries pages whole (move_at moves m).old (olds m inside).there in
-        by b place leads at (changed_or b place at)
-      where
-        by : (b : Bool) (place : List (List ℕ)) → place_of (move_at moves m).old ≡ Some place → Any (IsAt b place) entries
-            → IsNoneAt changed (map name place) ⊎ ((k : ℕ) × (k < length changed) × (place_of (path_at changed k) ≡ Some place))
-            → HasNoName entries (names_of to)
-        by b place leads at (inl none) =
-            let carries = (moved m inside).carries
-            (λ k within same. none k within (IsSame-trans (IsSame-sym (IsSame-place leads)) same)) in
-            let (top, leads_2, some, fine_top) = arrivals.new_place entries pages changed moves any_name steps whole files fine olds below_first once nothing_lost only names single own m inside in
-            let here : from ≡ carries.old = carries.old_of.only from normal.normal_text normal.same in
-            let to_is : carries.new ≡ to =
-            carries_one from between to carries.new left comes
-            (subst (λ old. Carries steps old carries.new) (sym here) carries.carries) in
-            subst (HasNoName entries)
-            (append-nil top ∙ sym (names_of-normal (move_at moves m).new carries.new top carries.new_of leads_2)
-            ∙ ap names_of to_is)
-            (arrivals.HasNoName-own entries pages changed moves any_name steps whole files fine olds below_first once nothing_lost only names single own top [] some fine_top)
-        by b place leads at (inr (k, within, leads_2)) =
-            let gone = (moved m inside).removes (λ none. none k within (IsSame-one_place place leads leads_2)) in
-            let here : from ≡ gone.old = gone.old_of.only from normal.normal_text normal.same in
-            let same : gone.removes.between ≡ between =
-            left_one from gone.removes.between between
-            (subst (λ old. Contains steps.apart (old, gone.removes.between)) (sym here) gone.removes.leaves) left in
-            absurd (come_kept between to comes (subst (Contains steps.removed) same gone.removes.removed))
-    comes_fine from between to (of_page c inside normal) left comes =
-        let gone = removed c [] inside in
-        let here : from ≡ gone.old = gone.old_of.only from normal.normal_text normal.same in
-        let same : gone.removes.between ≡ between =
-        left_one from gone.removes.between between
-        (subst (λ old. Contains steps.apart (old, gone.removes.between)) (sym here) gone.removes.leaves) left in
-        absurd (come_kept between to comes (subst (Contains steps.removed) same gone.removes.removed))
-    comes_fine from between to (of_text old text has) left comes =
-        let (c, inside, old_of, other, carries, goes) = file_carries (old, from, text) has in
-        let (target, is, normal) = goes in
-        let (place, leads, ends) = arrivals.target_place entries pages changed moves any_name steps whole files fine olds below_first once nothing_lost only names single own (path_at changed c) target (files c [] inside) is in
-        subst (HasNoName entries)
-        (sym (names_of-normal target other place normal leads) ∙ ap names_of (carries_one from between to other left comes carries))
-        ends
-
     -- ---- what comes to an end
 
     -- after the moves the entry leads there
@@ -215,6 +77,19 @@ module _ (entries : List Entry) (pages changed : List (List Step)) (moves : List
     after_is e entry within is =
         subst (λ entry. IsAfter moves entry (get_or after e [])) is
         (AllZip-at (IsAfter moves) entries after e entry [] are_after within)
+
+    -- so the normal path of an entry leads to where a file that leads to the entry is
+    after_leads : (e : ℕ) (entry : Entry) (cs target : List Step) (end : List (List ℕ)) → e < length entries
+        → get_or entries e entry ≡ entry → IsSame cs (path_components entry.path) → IsTreeTarget moves cs target
+        → place_of target ≡ Some end → place_of (components (get_or after e [])) ≡ Some end
+    after_leads e entry cs target end within is same target_is leads =
+        let (one, one_is, normal) = after_is e entry within is in
+        let (other, other_is, leads_2) =
+        AtTreePath-same moves cs (path_components entry.path) (λ now. place_of now ≡ Some end)
+        (λ now. place_of now ≡ Some end) same (λ t u same leads. sym (same.everywhere []) ∙ leads)
+        (target, target_is, leads) in
+        sym (normal.same.everywhere [])
+        ∙ ap place_of (IsTreeTarget-only moves (path_components entry.path) other one apart other_is one_is) ∙ leads_2
 
     -- none of the renames from names in between leads from there
     together_clear : (place : List (List ℕ)) → ((step : List ℕ × List ℕ) → Contains steps.together step
@@ -252,13 +127,13 @@ module _ (entries : List Entry) (pages changed : List (List Step)) (moves : List
         ∙ carried-elsewhere (coming steps) (between ∷ [])
         (together_clear (between ∷ [])
         (λ step has under.
-        come_kept step.0 step.1 has
+        coming_names.come_kept entries pages changed moves any_name steps whole files fine olds below_first once nothing_lost only names single own moved removed replaced one_text step.0 step.1 has
         (subst (Contains steps.removed) (IsUnder-first between step.0 [] [] under) gone.removes.removed))) in
         ends between is_name (ways.left_unused entries pages changed moves any_name steps whole files fine olds below_first once nothing_lost only names single own i (gone.old, between) within is) ([], sym comes ∙ here)
 
     entry_belongs : (start end : List (List ℕ)) (b : Bool) → Any (IsAt b start) entries
         → carried (renames_of steps) start ≡ end → HasNoName entries end → BelongsTo entries changed steps after start end
-    entry_belongs start end b at comes ends = by at (changed_or b start at)
+    entry_belongs start end b at comes ends = by at (coming_names.changed_or entries pages changed moves any_name steps whole files fine olds below_first once nothing_lost only names single own moved removed replaced one_text b start at)
       where
         by : Any (IsAt b start) entries
             → IsNoneAt changed (map name start) ⊎ ((k : ℕ) × (k < length changed) × (place_of (path_at changed k) ≡ Some start))
@@ -282,7 +157,7 @@ module _ (entries : List Entry) (pages changed : List (List Step)) (moves : List
     file_belongs : (start end : List (List ℕ)) (new : List ℕ × List ℕ × List ℕ) → Contains steps.texts new
         → names_of new.1 ≡ start → carried (renames_of steps) start ≡ end → BelongsTo entries changed steps after start end
     file_belongs start end new has here comes =
-        let (c, inside, old_of, to, carries, goes) = file_carries new has in
+        let (c, inside, old_of, to, carries, goes) = coming_names.file_carries entries pages changed moves any_name steps whole files fine olds below_first once nothing_lost only names single own moved removed replaced one_text new has in
         let (target, is, normal) = goes in
         let file = files c [] inside in
         let (place, leads, ends) = arrivals.target_place entries pages changed moves any_name steps whole files fine olds below_first once nothing_lost only names single own (path_at changed c) target file is in
@@ -290,19 +165,13 @@ module _ (entries : List Entry) (pages changed : List (List Step)) (moves : List
         sym (arrivals.carried-from entries pages changed moves any_name steps whole files fine olds below_first once nothing_lost only names single own new.1 to place carries (names_of-normal target to place normal leads) ends)
         ∙ ap (carried (renames_of steps)) here ∙ comes in
         let (e, entry, within, entry_is, at) = file.file in
-        let (target_2, is_2, normal_2) = after_is e entry within entry_is in
-        let (target_3, is_3, leads_3) =
-        AtTreePath-same moves (path_at changed c) (path_components entry.path) (λ now. place_of now ≡ Some end)
-        (λ now. place_of now ≡ Some end) (IsSame-one_place file.place file.leads at.leads)
-        (λ t u same leads. sym (same.everywhere []) ∙ leads) (target, is, leads ∙ ap Some end_is) in
-        let one : target_2 ≡ target_3 =
-        IsTreeTarget-only moves (path_components entry.path) target_3 target_2 apart is_3 is_2 in
         record {
           number = e;
           within = within;
           place = file.place;
           leads = ap place_of (path_at-entry entries e entry within entry_is) ∙ at.leads;
-          arrives = sym (normal_2.same.everywhere []) ∙ ap place_of {y = target_3} one ∙ leads_3;
+          arrives = after_leads e entry (path_at changed c) target end within entry_is
+              (IsSame-one_place file.place file.leads at.leads) is (leads ∙ ap Some end_is);
           thing = inr (record {
             new = new;
             written = has;
@@ -394,7 +263,7 @@ module _ (entries : List Entry) (pages changed : List (List Step)) (moves : List
             comes = (k, within, is)
 
             ends : HasNoName entries (names_of step.1)
-            ends = comes_fine other.0 step.0 step.1 (ways.leaves entries pages changed moves any_name steps whole files fine olds below_first once nothing_lost only names single own i other within_2 is_2) left comes
+            ends = coming_names.comes_fine entries pages changed moves any_name steps whole files fine olds below_first once nothing_lost only names single own moved removed replaced one_text other.0 step.0 step.1 (ways.leaves entries pages changed moves any_name steps whole files fine olds below_first once nothing_lost only names single own i other within_2 is_2) left comes
 
             -- what is there stays there
             still : carried (renames_of steps) there.start ≡ names_of step.1

@@ -16,4 +16,5 @@ pub mod SourcesLemmas
 pub mod ArrivalsLemmas
 pub mod FirstsLemmas
 pub mod WaysLemmas
+pub mod ComingLemmas
 pub mod FreeWaysLemmas
