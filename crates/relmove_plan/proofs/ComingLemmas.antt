@@ -1,37 +1,29 @@
 -- The renames from names in between: each name is taken once, and none of them is where a rename leads to.
-use Rattle.std.proofs.Common.{All, Bool, true, false, ◌≡◌, ◌≢◌, ◌⊎◌, ℕ, zero, suc, ◌<◌, ◌≤◌, ◌+◌, ◌-◌, List, [], ◌∷◌, ◌++◌, Contains, Some, drop, length, map, take, get_or, inl, inr, refl, sym, ap, subst, ◌∙◌, append-nil, arith}
+use Rattle.std.proofs.Common.{All, Bool, ◌≡◌, ◌≢◌, ◌⊎◌, ℕ, ◌<◌, ◌+◌, List, [], ◌∷◌, ◌++◌, Contains, Some, length, map, get_or, inl, inr, refl, sym, ap, subst, ◌∙◌, append-nil, arith}
 use Rattle.std.specs.List.{Any, AllPairs}
-use Rattle.std.proofs.lemmas.Bool.{cases_lt, cases_order}
-use Rattle.std.proofs.lemmas.List.{get_or-append-add, get_or-map, get_or_append_left, get_or_default, length-append, length-map, map-append, take-append-drop}
-use Rattle.std.proofs.lemmas.List.Elements.{All-drop, All-map}
-use Rattle.std.proofs.lemmas.Slice.Zip.{AllZip-long}
+use Rattle.std.proofs.lemmas.Bool.{cases_order}
+use Rattle.std.proofs.lemmas.List.{get_or-append-add, get_or_default, length-append, length-map}
 use Rattle.relative_path.specs.Steps.{Step, name, components}
-use Rattle.relative_path.specs.RelativePath.{path_components}
-use Rattle.relative_path.specs.Walk.{IsSame, place_of}
+use Rattle.relative_path.specs.Walk.{place_of}
 use Rattle.relative_path.specs.Normalizing.{IsNormalTextOf}
 use Rattle.relative_path.proofs.ForCallers.{IsSame-place, IsSame-sym, IsSame-trans}
-use Rattle.relative_path_moves.specs.Moves.{Move, AreApart, move_at}
+use Rattle.relative_path_moves.specs.Moves.{Move, move_at}
 use Rattle.relative_path_moves.specs.PlaceIndex.{IsNoneAt, path_at}
-use Rattle.relative_path_moves.specs.TreeMoves.{AtTreePath, IsTreeTarget}
-use Rattle.relative_path_moves.proofs.ForCallers.{AtTreePath-same, IsTreeTarget-only}
+use Rattle.relative_path_moves.specs.TreeMoves.{AtTreePath}
 use Rattle.relmove_plan.specs.declared.entry.Entry.{Entry}
 use Rattle.relmove_plan.specs.BetweenNames.{AreFreeNames}
 use Rattle.relmove_plan.specs.Moves.{EachMove, HasFinePaths}
 use Rattle.relmove_plan.specs.NewFiles.{HaveOwnFiles, LeaveOnce}
-use Rattle.relmove_plan.specs.Runs.{names_of, rename_places, carried, renames_of, ComesTo, IsThereAfter, NothingInTheWay}
+use Rattle.relmove_plan.specs.Runs.{names_of}
 use Rattle.relmove_plan.specs.Steps.{StepTexts, BelowFirst, Carries, DoesMove, LeavesFrom, of_move, of_page, of_text, LosesNothing, OnlyTheseLeave, RemovesAt, names_come, names_left}
-use Rattle.relmove_plan.specs.Trees.{AreAfter, AreDistinct, IsAfter, IsOldFine, entry_paths}
+use Rattle.relmove_plan.specs.Trees.{IsOldFine, entry_paths}
 use Rattle.relmove_plan.specs.WholeTrees.{IsAt, LeadsToFile, IsWhole}
-use Rattle.relmove_plan.proofs.AboveLemmas.{AllZip-at}
 use Rattle.relmove_plan.proofs.ArrivalsLemmas.{HasNoName, is_own, is_own-numbered}
 use Rattle.relmove_plan.proofs.ArrivalsLemmas as arrivals
 use Rattle.relmove_plan.proofs.FirstsLemmas.{one_at_or}
 use Rattle.relmove_plan.proofs.PlacesLemmas.{names_of-normal}
-use Rattle.relmove_plan.proofs.RunsLemmas.{IsUnder, carried-append, carried-elsewhere}
-use Rattle.relmove_plan.proofs.SourcesLemmas.{IsThere-place, IsUnder-first, element}
-use Rattle.relmove_plan.proofs.WaysLemmas.{IsThing, coming, leaving, renames-coming}
-use Rattle.relmove_plan.proofs.WaysLemmas as ways
-use Rattle.relmove_plan.proofs.WholeTreesLemmas.{IsSame-one_place, path_at-entry, some_of}
+use Rattle.relmove_plan.proofs.SourcesLemmas.{IsThere-place, element}
+use Rattle.relmove_plan.proofs.WholeTreesLemmas.{IsSame-one_place}
 
 -- the new text of the page where the components lead is written to a file, and carried to where the moves take the page
 pub record IsReplaced (moves : List Move) (steps : StepTexts) (cs : List Step) : Type 0 where

@@ -1,5 +1,5 @@
 -- Nothing is in the way of a run's renames: each leads from where something is to where nothing is.
-use Rattle.std.proofs.Common.{All, Bool, true, false, ◌≡◌, ◌≢◌, ◌⊎◌, ℕ, zero, suc, ◌<◌, ◌≤◌, ◌+◌, ◌-◌, List, [], ◌∷◌, ◌++◌, Contains, Some, drop, length, map, take, get_or, inl, inr, refl, sym, ap, subst, ◌∙◌, append-nil, arith}
+use Rattle.std.proofs.Common.{All, Bool, true, ◌≡◌, ◌≢◌, ◌⊎◌, ℕ, ◌<◌, ◌≤◌, ◌+◌, ◌-◌, List, [], ◌∷◌, ◌++◌, Contains, Some, drop, length, map, take, get_or, inl, inr, refl, sym, ap, subst, ◌∙◌, arith}
 use Rattle.std.specs.List.{Any, AllPairs}
 use Rattle.std.proofs.lemmas.Bool.{cases_lt, cases_order}
 use Rattle.std.proofs.lemmas.List.{get_or-append-add, get_or-map, get_or_append_left, get_or_default, length-append, length-map, map-append, take-append-drop}
@@ -10,25 +10,24 @@ use Rattle.relative_path.specs.RelativePath.{path_components}
 use Rattle.relative_path.specs.Walk.{IsSame, place_of}
 use Rattle.relative_path.specs.Normalizing.{IsNormalTextOf}
 use Rattle.relative_path.proofs.ForCallers.{IsSame-place, IsSame-sym, IsSame-trans}
-use Rattle.relative_path_moves.specs.Moves.{Move, AreApart, move_at}
+use Rattle.relative_path_moves.specs.Moves.{Move, AreApart}
 use Rattle.relative_path_moves.specs.PlaceIndex.{IsNoneAt, path_at}
-use Rattle.relative_path_moves.specs.TreeMoves.{AtTreePath, IsTreeTarget}
+use Rattle.relative_path_moves.specs.TreeMoves.{IsTreeTarget}
 use Rattle.relative_path_moves.proofs.ForCallers.{AtTreePath-same, IsTreeTarget-only}
 use Rattle.relmove_plan.specs.declared.entry.Entry.{Entry}
 use Rattle.relmove_plan.specs.BetweenNames.{AreFreeNames}
 use Rattle.relmove_plan.specs.Moves.{EachMove, HasFinePaths}
 use Rattle.relmove_plan.specs.NewFiles.{HaveOwnFiles, LeaveOnce}
-use Rattle.relmove_plan.specs.Runs.{names_of, rename_places, carried, renames_of, ComesTo, IsThereAfter, NothingInTheWay}
-use Rattle.relmove_plan.specs.Steps.{StepTexts, BelowFirst, Carries, DoesMove, LeavesFrom, of_move, of_page, of_text, LosesNothing, OnlyTheseLeave, RemovesAt, names_come, names_left}
+use Rattle.relmove_plan.specs.Runs.{names_of, rename_places, carried, renames_of, IsThereAfter, NothingInTheWay}
+use Rattle.relmove_plan.specs.Steps.{StepTexts, BelowFirst, DoesMove, LosesNothing, OnlyTheseLeave, RemovesAt, names_left}
 use Rattle.relmove_plan.specs.Trees.{AreAfter, AreDistinct, IsAfter, IsOldFine, entry_paths}
 use Rattle.relmove_plan.specs.WholeTrees.{IsAt, LeadsToFile, IsWhole}
 use Rattle.relmove_plan.proofs.AboveLemmas.{AllZip-at}
 use Rattle.relmove_plan.proofs.ArrivalsLemmas.{HasNoName, is_own, is_own-numbered}
 use Rattle.relmove_plan.proofs.ArrivalsLemmas as arrivals
-use Rattle.relmove_plan.proofs.FirstsLemmas.{one_at_or}
 use Rattle.relmove_plan.proofs.PlacesLemmas.{names_of-normal}
 use Rattle.relmove_plan.proofs.RunsLemmas.{IsUnder, carried-append, carried-elsewhere}
-use Rattle.relmove_plan.proofs.SourcesLemmas.{IsThere-place, IsUnder-first, element}
+use Rattle.relmove_plan.proofs.SourcesLemmas.{IsUnder-first, element}
 use Rattle.relmove_plan.proofs.WaysLemmas.{IsThing, coming, leaving, renames-coming}
 use Rattle.relmove_plan.proofs.WaysLemmas as ways
 use Rattle.relmove_plan.proofs.WholeTreesLemmas.{IsSame-one_place, path_at-entry, some_of}
@@ -251,10 +250,12 @@ module _ (entries : List Entry) (pages changed : List (List Step)) (moves : List
         by : (i : ℕ) (other : List ℕ × List ℕ) → i < length steps.apart → get_or steps.apart i other ≡ other
             → other.1 ≡ step.0 → ⊥
         by i other within_2 is_2 same =
-            ends step.0 (arrivals.name_own entries pages changed moves any_name steps whole files fine olds below_first once nothing_lost only names single own k step within is) (arrivals.name_unused entries pages changed moves any_name steps whole files fine olds below_first once nothing_lost only names single own k step within is)
-            ([], sym there.now ∙ ap (carried (take count (renames_of steps))) one
-            ∙ ways.carried-before entries pages changed moves any_name steps whole files fine olds below_first once nothing_lost only names single own k i step other within is within_2 is_2 same
-            ∙ arrivals.name_place entries pages changed moves any_name steps whole files fine olds below_first once nothing_lost only names single own k step within is)
+            ends step.0 (arrivals.name_own entries pages changed moves any_name steps whole files fine olds below_first once nothing_lost only names single own k step within is) (arrivals.name_unused entries pages changed moves any_name steps whole files fine olds below_first once nothing_lost only names single own k step within is) (
+              [],
+              sym there.now ∙ ap (carried (take count (renames_of steps))) one
+                  ∙ ways.carried-before entries pages changed moves any_name steps whole files fine olds below_first once nothing_lost only names single own k i step other within is within_2 is_2 same
+                  ∙ arrivals.name_place entries pages changed moves any_name steps whole files fine olds below_first once nothing_lost only names single own k step within is,
+            )
           where
             left : Contains steps.apart (other.0, step.0)
             left = (i, within_2, subst (λ b. get_or steps.apart i (other.0, b) ≡ (other.0, b)) same is_2)

@@ -1,11 +1,10 @@
 -- Each rename leads from where something is, and each rename to a name in between leads to where nothing is.
-use Rattle.std.proofs.Common.{All, Bool, true, false, ◌≡◌, ◌≢◌, ◌⊎◌, ℕ, zero, suc, ◌<◌, ◌≤◌, ◌+◌, List, [], ◌∷◌, ◌++◌, Contains, Some, length, map, take, get_or, inl, inr, refl, sym, ap, subst, ◌∙◌, append-nil, arith}
+use Rattle.std.proofs.Common.{All, Bool, false, ◌≡◌, ◌≢◌, ◌⊎◌, ℕ, ◌<◌, ◌≤◌, ◌+◌, List, [], ◌∷◌, ◌++◌, Contains, length, map, take, get_or, inl, inr, refl, sym, ap, subst, ◌∙◌, append-nil, arith}
 use Rattle.std.specs.List.{Any, AllPairs, join_with_byte}
 use Rattle.std.proofs.lemmas.List.{get_or-map, get_or-take, get_or_default, length-map, length-take-le, map-append, take-append-le, take_all}
 use Rattle.std.proofs.lemmas.List.Elements.{All-map, All-take}
 use Rattle.std.proofs.lemmas.List.Sorted.{All-permutation}
 use Rattle.relative_path.specs.Steps.{Step, name, components, slash}
-use Rattle.relative_path.specs.Walk.{place_of}
 use Rattle.relative_path.proofs.ForCallers.{walk-names}
 use Rattle.relative_path_moves.specs.Moves.{Move, move_at}
 use Rattle.relative_path_moves.specs.PlaceIndex.{IsNoneAt, path_at}
@@ -19,7 +18,7 @@ use Rattle.relmove_plan.specs.Trees.{IsOldFine, entry_paths}
 use Rattle.relmove_plan.specs.WholeTrees.{IsAt, LeadsToFile, IsWhole}
 use Rattle.relmove_plan.proofs.ArrivalsLemmas as arrivals
 use Rattle.relmove_plan.proofs.FirstsLemmas.{FirstUnder, first_under, take-append_more}
-use Rattle.relmove_plan.proofs.PlacesLemmas.{joined-names, names_of-normal, names_of-names}
+use Rattle.relmove_plan.proofs.PlacesLemmas.{names_of-normal, names_of-names}
 use Rattle.relmove_plan.proofs.RunsLemmas.{IsUnder, carried-append, carried-by, carried-elsewhere}
 use Rattle.relmove_plan.proofs.SourcesLemmas.{IsSource, IsFrom-apart, IsThere-place, IsUnder-first, element}
 use Rattle.relmove_plan.proofs.WholeTreesLemmas.{IsNoneAt-under, not_empty}
