@@ -1,9 +1,9 @@
--- The renames from names in between: each name is taken once, and none of them is where a rename leads to.
-use Rattle.std.proofs.Common.{All, Bool, ◌≡◌, ◌≢◌, ◌⊎◌, ℕ, ◌<◌, ◌+◌, List, [], ◌∷◌, ◌++◌, Contains, Some, length, map, get_or, inl, inr, refl, sym, ap, subst, ◌∙◌, append-nil, arith}
+-- The renames from names in between: none of those names is where such a rename leads to, or above it.
+use Rattle.std.proofs.Common.{All, Bool, ◌≡◌, ◌≢◌, ◌⊎◌, ℕ, ◌<◌, ◌+◌, List, [], ◌++◌, Contains, Some, length, map, get_or, inl, inr, refl, sym, ap, subst, ◌∙◌, append-nil, arith}
 use Rattle.std.specs.List.{Any, AllPairs}
 use Rattle.std.proofs.lemmas.Bool.{cases_order}
 use Rattle.std.proofs.lemmas.List.{get_or-append-add, get_or_default, length-append, length-map}
-use Rattle.relative_path.specs.Steps.{Step, name, components}
+use Rattle.relative_path.specs.Steps.{Step, name}
 use Rattle.relative_path.specs.Walk.{place_of}
 use Rattle.relative_path.specs.Normalizing.{IsNormalTextOf}
 use Rattle.relative_path.proofs.ForCallers.{IsSame-place, IsSame-sym, IsSame-trans}
@@ -11,15 +11,13 @@ use Rattle.relative_path_moves.specs.Moves.{Move, move_at}
 use Rattle.relative_path_moves.specs.PlaceIndex.{IsNoneAt, path_at}
 use Rattle.relative_path_moves.specs.TreeMoves.{AtTreePath}
 use Rattle.relmove_plan.specs.declared.entry.Entry.{Entry}
-use Rattle.relmove_plan.specs.BetweenNames.{AreFreeNames}
-use Rattle.relmove_plan.specs.Moves.{EachMove, HasFinePaths}
-use Rattle.relmove_plan.specs.NewFiles.{HaveOwnFiles, LeaveOnce}
+use Rattle.relmove_plan.specs.Moves.{EachMove}
 use Rattle.relmove_plan.specs.Runs.{names_of}
-use Rattle.relmove_plan.specs.Steps.{StepTexts, BelowFirst, Carries, DoesMove, LeavesFrom, of_move, of_page, of_text, LosesNothing, OnlyTheseLeave, RemovesAt, names_come, names_left}
-use Rattle.relmove_plan.specs.Trees.{IsOldFine, entry_paths}
-use Rattle.relmove_plan.specs.WholeTrees.{IsAt, LeadsToFile, IsWhole}
-use Rattle.relmove_plan.proofs.ArrivalsLemmas.{HasNoName, is_own, is_own-numbered}
-use Rattle.relmove_plan.proofs.ArrivalsLemmas as arrivals
+use Rattle.relmove_plan.specs.Steps.{StepTexts, Carries, DoesMove, LeavesFrom, of_move, of_page, of_text, RemovesAt, names_come}
+use Rattle.relmove_plan.specs.WholeTrees.{IsAt}
+use Rattle.relmove_plan.proofs.ArrivalsLemmas.{HasNoName}
+use Rattle.relmove_plan.proofs.KnownRunsLemmas.{IsKnownRun}
+use Rattle.relmove_plan.proofs.KnownRunsLemmas as known
 use Rattle.relmove_plan.proofs.FirstsLemmas.{one_at_or}
 use Rattle.relmove_plan.proofs.PlacesLemmas.{names_of-normal}
 use Rattle.relmove_plan.proofs.SourcesLemmas.{IsThere-place, element}
@@ -48,22 +46,13 @@ one_by_key key xs differ x y (i, within, is) (j, within_2, is_2) same = elim (ca
       absurd (differ j i y more within (ap key is_2 ∙ sym same ∙ ap key (sym is ∙ get_or_default xs i x y within)))
 ]
 
-module _ (entries : List Entry) (pages changed : List (List Step)) (moves : List Move) (any_name : Bool) (steps : StepTexts)
-    (whole : IsWhole entries pages) (files : All (LeadsToFile entries) changed)
-    (fine : EachMove (HasFinePaths any_name) moves) (olds : EachMove (λ move. IsOldFine entries move.old) moves)
-    (below_first : BelowFirst (map (λ step. step.0) steps.apart)) (once : LeaveOnce steps) (nothing_lost : LosesNothing steps)
-    (only : OnlyTheseLeave moves changed steps)
-    (names : AreFreeNames (entry_paths entries) (names_left steps))
-    (single : All (λ between. components between ≡ name between ∷ []) (names_left steps))
-    (own : HaveOwnFiles (entry_paths entries) changed steps)
+module _ {entries : List Entry} {pages changed : List (List Step)} {moves : List Move} {any_name : Bool} {steps : StepTexts}
+    (run : IsKnownRun entries pages changed moves any_name steps)
     (moved : EachMove (DoesMove changed steps) moves) (removed : All (RemovesAt steps) changed)
     (replaced : All (IsReplaced moves steps) changed)
     (one_text : AllPairs (λ one other. one.0 ≢ other.0) steps.texts)
   where
     -- ---- the renames from names in between
-
-    free_come : AreFreeNames (entry_paths entries) (names_come steps ++ steps.removed)
-    free_come = arrivals.free_come entries pages changed moves any_name steps whole files fine olds below_first once nothing_lost only names single own
 
     -- from a name something comes once
     come_once : AllPairs (λ one other. one.0 ≢ other.0) steps.together
@@ -71,7 +60,7 @@ module _ (entries : List Entry) (pages changed : List (List Step)) (moves : List
         let within_2 : i < length steps.together = omega (arith, less, within) in
         let (step, is) = element steps.together i within_2 in
         let (other, is_2) = element steps.together j within in
-        arrivals.name_other entries pages changed moves any_name steps whole files fine olds below_first once nothing_lost only names single own i j step other (λ equal. absurd (omega (arith, equal, less))) within_2 within is is_2
+        known.name_other run i j step other (λ equal. absurd (omega (arith, equal, less))) within_2 within is is_2
         (ap (λ (step : List ℕ × List ℕ). step.0) (sym is ∙ get_or_default steps.together i step d within_2) ∙ same
         ∙ ap (λ (step : List ℕ × List ℕ). step.0) (get_or_default steps.together j d other within ∙ is_2))
 
@@ -81,9 +70,9 @@ module _ (entries : List Entry) (pages changed : List (List Step)) (moves : List
         let count : length (names_come steps) ≡ length steps.together =
         length-map steps.together (λ (step : List ℕ × List ℕ). step.0) in
         let long = length-append (names_come steps) steps.removed in
-        free_come.different k (length (names_come steps) + r) between (omega (arith, within, count))
+        (known.free_come run).different k (length (names_come steps) + r) between (omega (arith, within, count))
         (omega (arith, within_2, long))
-        (arrivals.come_at entries pages changed moves any_name steps whole files fine olds below_first once nothing_lost only names single own k (between, to) between within is ∙ sym is_2
+        (known.come_at run k (between, to) between within is ∙ sym is_2
         ∙ sym (get_or-append-add (names_come steps) steps.removed r between))
 
     -- a thing leaves a path to one name
@@ -91,7 +80,7 @@ module _ (entries : List Entry) (pages changed : List (List Step)) (moves : List
         → one ≡ other
     left_one from one other has has_2 =
         ap (λ (step : List ℕ × List ℕ). step.1)
-        (one_by_key (λ (step : List ℕ × List ℕ). step.0) steps.apart once (from, one) (from, other) has has_2 refl)
+        (one_by_key (λ (step : List ℕ × List ℕ). step.0) steps.apart run.once (from, one) (from, other) has has_2 refl)
 
     -- a thing comes to one path
     carries_one : (from between to other : List ℕ) → Contains steps.apart (from, between)
@@ -109,7 +98,7 @@ module _ (entries : List Entry) (pages changed : List (List Step)) (moves : List
         → (c : ℕ) × (c < length changed) × IsNormalTextOf (path_at changed c) new.0 × (to : List ℕ) × Carries steps new.1 to
         × AtTreePath moves (path_at changed c) (λ now. IsNormalTextOf now to)
     file_carries new (t, within, is) =
-        let (c, inside, old_of) = own.of_pages t new within in
+        let (c, inside, old_of) = run.own.of_pages t new within in
         let old_of_2 : IsNormalTextOf (path_at changed c) new.0 =
         subst (λ (new : List ℕ × List ℕ × List ℕ). IsNormalTextOf (path_at changed c) new.0) is old_of in
         let one = replaced c [] inside in
@@ -126,15 +115,16 @@ module _ (entries : List Entry) (pages changed : List (List Step)) (moves : List
 
     -- ---- where the renames lead
 
+    -- an entry is one of the pages that change, or none of them
     pub changed_or : (b : Bool) (place : List (List ℕ)) → Any (IsAt b place) entries
         → IsNoneAt changed (map name place) ⊎ ((k : ℕ) × (k < length changed) × (place_of (path_at changed k) ≡ Some place))
-    changed_or b place at = one_at_or entries pages whole b place at changed files
+    changed_or b place at = one_at_or entries pages run.whole b place at changed run.files
 
     -- no name in between is where a rename from one leads to
     pub comes_fine : (from between to : List ℕ) → LeavesFrom moves changed steps.texts from
         → Contains steps.apart (from, between) → Contains steps.together (between, to) → HasNoName entries (names_of to)
     comes_fine from between to (of_move m inside normal) left comes =
-        let (b, place, leads, at) = IsThere-place entries pages whole (move_at moves m).old (olds m inside).there in
+        let (b, place, leads, at) = IsThere-place entries pages run.whole (move_at moves m).old (run.olds m inside).there in
         by b place leads at (changed_or b place at)
       where
         by : (b : Bool) (place : List (List ℕ)) → place_of (move_at moves m).old ≡ Some place → Any (IsAt b place) entries
@@ -143,7 +133,7 @@ module _ (entries : List Entry) (pages changed : List (List Step)) (moves : List
         by b place leads at (inl none) =
             let carries = (moved m inside).carries
             (λ k within same. none k within (IsSame-trans (IsSame-sym (IsSame-place leads)) same)) in
-            let (top, leads_2, some, fine_top) = arrivals.new_place entries pages changed moves any_name steps whole files fine olds below_first once nothing_lost only names single own m inside in
+            let (top, leads_2, some, fine_top) = known.new_place run m inside in
             let here : from ≡ carries.old = carries.old_of.only from normal.normal_text normal.same in
             let to_is : carries.new ≡ to =
             carries_one from between to carries.new left comes
@@ -151,7 +141,7 @@ module _ (entries : List Entry) (pages changed : List (List Step)) (moves : List
             subst (HasNoName entries)
             (append-nil top ∙ sym (names_of-normal (move_at moves m).new carries.new top carries.new_of leads_2)
             ∙ ap names_of to_is)
-            (arrivals.HasNoName-own entries pages changed moves any_name steps whole files fine olds below_first once nothing_lost only names single own top [] some fine_top)
+            (known.HasNoName-own run top [] some fine_top)
         by b place leads at (inr (k, within, leads_2)) =
             let gone = (moved m inside).removes (λ none. none k within (IsSame-one_place place leads leads_2)) in
             let here : from ≡ gone.old = gone.old_of.only from normal.normal_text normal.same in
@@ -169,7 +159,8 @@ module _ (entries : List Entry) (pages changed : List (List Step)) (moves : List
     comes_fine from between to (of_text old text has) left comes =
         let (c, inside, old_of, other, carries, goes) = file_carries (old, from, text) has in
         let (target, is, normal) = goes in
-        let (place, leads, ends) = arrivals.target_place entries pages changed moves any_name steps whole files fine olds below_first once nothing_lost only names single own (path_at changed c) target (files c [] inside) is in
+        let (place, leads, ends) = known.target_place run (path_at changed c) target (run.files c [] inside) is in
         subst (HasNoName entries)
-        (sym (names_of-normal target other place normal leads) ∙ ap names_of (carries_one from between to other left comes carries))
+        (sym (names_of-normal target other place normal leads)
+        ∙ ap names_of (carries_one from between to other left comes carries))
         ends

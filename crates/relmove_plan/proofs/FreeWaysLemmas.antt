@@ -15,16 +15,15 @@ use Rattle.relative_path_moves.specs.PlaceIndex.{IsNoneAt, path_at}
 use Rattle.relative_path_moves.specs.TreeMoves.{IsTreeTarget}
 use Rattle.relative_path_moves.proofs.ForCallers.{AtTreePath-same, IsTreeTarget-only}
 use Rattle.relmove_plan.specs.declared.entry.Entry.{Entry}
-use Rattle.relmove_plan.specs.BetweenNames.{AreFreeNames}
-use Rattle.relmove_plan.specs.Moves.{EachMove, HasFinePaths}
-use Rattle.relmove_plan.specs.NewFiles.{HaveOwnFiles, LeaveOnce}
+use Rattle.relmove_plan.specs.Moves.{EachMove}
 use Rattle.relmove_plan.specs.Runs.{names_of, rename_places, carried, renames_of, IsThereAfter, NothingInTheWay}
-use Rattle.relmove_plan.specs.Steps.{StepTexts, BelowFirst, DoesMove, LosesNothing, OnlyTheseLeave, RemovesAt, names_left}
-use Rattle.relmove_plan.specs.Trees.{AreAfter, AreDistinct, IsAfter, IsOldFine, entry_paths}
-use Rattle.relmove_plan.specs.WholeTrees.{IsAt, LeadsToFile, IsWhole}
+use Rattle.relmove_plan.specs.Steps.{StepTexts, DoesMove, RemovesAt}
+use Rattle.relmove_plan.specs.Trees.{AreAfter, AreDistinct, IsAfter, entry_paths}
+use Rattle.relmove_plan.specs.WholeTrees.{IsAt}
 use Rattle.relmove_plan.proofs.AboveLemmas.{AllZip-at}
 use Rattle.relmove_plan.proofs.ArrivalsLemmas.{HasNoName, is_own, is_own-numbered}
-use Rattle.relmove_plan.proofs.ArrivalsLemmas as arrivals
+use Rattle.relmove_plan.proofs.KnownRunsLemmas.{IsKnownRun}
+use Rattle.relmove_plan.proofs.KnownRunsLemmas as known
 use Rattle.relmove_plan.proofs.PlacesLemmas.{names_of-normal}
 use Rattle.relmove_plan.proofs.RunsLemmas.{IsUnder, carried-append, carried-elsewhere}
 use Rattle.relmove_plan.proofs.SourcesLemmas.{IsUnder-first, element}
@@ -54,14 +53,8 @@ record BelongsTo (entries : List Entry) (changed : List (List Step)) (steps : St
   pub arrives : place_of (components (get_or after number [])) ≡ Some end
   pub thing : ((start ≡ place) × IsNoneAt changed (map name place)) ⊎ IsFileOf changed steps start place
 
-module _ (entries : List Entry) (pages changed : List (List Step)) (moves : List Move) (any_name : Bool) (steps : StepTexts)
-    (whole : IsWhole entries pages) (files : All (LeadsToFile entries) changed)
-    (fine : EachMove (HasFinePaths any_name) moves) (olds : EachMove (λ move. IsOldFine entries move.old) moves)
-    (below_first : BelowFirst (map (λ step. step.0) steps.apart)) (once : LeaveOnce steps) (nothing_lost : LosesNothing steps)
-    (only : OnlyTheseLeave moves changed steps)
-    (names : AreFreeNames (entry_paths entries) (names_left steps))
-    (single : All (λ between. components between ≡ name between ∷ []) (names_left steps))
-    (own : HaveOwnFiles (entry_paths entries) changed steps)
+module _ {entries : List Entry} {pages changed : List (List Step)} {moves : List Move} {any_name : Bool} {steps : StepTexts}
+    (run : IsKnownRun entries pages changed moves any_name steps)
     (moved : EachMove (DoesMove changed steps) moves) (removed : All (RemovesAt steps) changed)
     (replaced : All (IsReplaced moves steps) changed)
     (one_text : AllPairs (λ one other. one.0 ≢ other.0) steps.texts)
@@ -100,12 +93,13 @@ module _ (entries : List Entry) (pages changed : List (List Step)) (moves : List
         let same : get_or steps.together j d ≡ step = get_or_default steps.together j d step l ∙ is in
         none step (j, l, is)
         (subst (IsUnder place)
-        (ap (λ (step : List ℕ × List ℕ). names_of step.0) same ∙ arrivals.name_place entries pages changed moves any_name steps whole files fine olds below_first once nothing_lost only names single own j step l is) under))
+        (ap (λ (step : List ℕ × List ℕ). names_of step.0) same ∙ known.name_place run j step l is) under))
 
+    -- nor from where no name in between is
     end_clear : (place : List (List ℕ)) → HasNoName entries place → All (λ step. ¬ IsUnder place step.0) (coming steps)
     end_clear place ends =
         together_clear place
-        (λ step (j, l, is). ends step.0 (arrivals.name_own entries pages changed moves any_name steps whole files fine olds below_first once nothing_lost only names single own j step l is) (arrivals.name_unused entries pages changed moves any_name steps whole files fine olds below_first once nothing_lost only names single own j step l is))
+        (λ step (j, l, is). ends step.0 (known.name_own run j step l is) (known.name_unused run j step l is))
 
     -- a page's old text stays at its name in between
     stays_away : (c : ℕ) (place end : List (List ℕ)) → c < length changed → place_of (path_at changed c) ≡ Some place
@@ -114,32 +108,33 @@ module _ (entries : List Entry) (pages changed : List (List Step)) (moves : List
         let gone = removed c [] inside in
         let between = gone.removes.between in
         let (i, within, is) = gone.removes.leaves in
-        let (number, numbered) = names.numbered i [] (rw length-map within) in
+        let (number, numbered) = run.names.numbered i [] (rw length-map within) in
         let is_name : is_own between ≡ true =
-        ap is_own (sym (ways.left_at entries pages changed moves any_name steps whole files fine olds below_first once nothing_lost only names single own i (gone.old, between) [] within is) ∙ numbered) ∙ is_own-numbered number in
+        ap is_own (sym (ways.left_at run i (gone.old, between) [] within is) ∙ numbered) ∙ is_own-numbered number in
         let old_is : names_of gone.old ≡ place = names_of-normal (path_at changed c) gone.old place gone.old_of leads in
         let here : carried (renames_of steps) place ≡ between ∷ [] =
         ap (λ renames. carried renames place) (map-append rename_places steps.apart steps.together)
         ∙ carried-append (leaving steps) (coming steps) place
         ∙ ap (carried (coming steps))
-        (ap (carried (leaving steps)) (sym old_is) ∙ ways.carried-left entries pages changed moves any_name steps whole files fine olds below_first once nothing_lost only names single own i (gone.old, between) within is)
+        (ap (carried (leaving steps)) (sym old_is) ∙ ways.carried-left run i (gone.old, between) within is)
         ∙ carried-elsewhere (coming steps) (between ∷ [])
         (together_clear (between ∷ [])
         (λ step has under.
-        coming_names.come_kept entries pages changed moves any_name steps whole files fine olds below_first once nothing_lost only names single own moved removed replaced one_text step.0 step.1 has
+        coming_names.come_kept run moved removed replaced one_text step.0 step.1 has
         (subst (Contains steps.removed) (IsUnder-first between step.0 [] [] under) gone.removes.removed))) in
-        ends between is_name (ways.left_unused entries pages changed moves any_name steps whole files fine olds below_first once nothing_lost only names single own i (gone.old, between) within is) ([], sym comes ∙ here)
+        ends between is_name (ways.left_unused run i (gone.old, between) within is) ([], sym comes ∙ here)
 
+    -- an entry that comes to an end without a name in between belongs to itself
     entry_belongs : (start end : List (List ℕ)) (b : Bool) → Any (IsAt b start) entries
         → carried (renames_of steps) start ≡ end → HasNoName entries end → BelongsTo entries changed steps after start end
-    entry_belongs start end b at comes ends = by at (coming_names.changed_or entries pages changed moves any_name steps whole files fine olds below_first once nothing_lost only names single own moved removed replaced one_text b start at)
+    entry_belongs start end b at comes ends = by at (coming_names.changed_or run moved removed replaced one_text b start at)
       where
         by : Any (IsAt b start) entries
             → IsNoneAt changed (map name start) ⊎ ((k : ℕ) × (k < length changed) × (place_of (path_at changed k) ≡ Some start))
             → BelongsTo entries changed steps after start end
         by (e, entry, within, is, here) (inl none) =
             let (target, target_is, normal) = after_is e entry within is in
-            let come = arrivals.ComesTo-target entries pages changed moves any_name steps whole files fine olds below_first once nothing_lost only names single own moved b (path_components entry.path) start here.leads at
+            let come = known.ComesTo-target run moved b (path_components entry.path) start here.leads at
             (λ k inside same. none k inside (IsSame-trans (IsSame-sym (IsSame-place here.leads)) same)) target target_is in
             let from_is : come.from ≡ start = some_of (sym come.leaves ∙ here.leads) in
             record {
@@ -153,15 +148,16 @@ module _ (entries : List Entry) (pages changed : List (List Step)) (moves : List
             }
         by found (inr (c, inside, leads)) = absurd (stays_away c start end inside leads comes ends)
 
+    -- a new file belongs to the entry of its page
     file_belongs : (start end : List (List ℕ)) (new : List ℕ × List ℕ × List ℕ) → Contains steps.texts new
         → names_of new.1 ≡ start → carried (renames_of steps) start ≡ end → BelongsTo entries changed steps after start end
     file_belongs start end new has here comes =
-        let (c, inside, old_of, to, carries, goes) = coming_names.file_carries entries pages changed moves any_name steps whole files fine olds below_first once nothing_lost only names single own moved removed replaced one_text new has in
+        let (c, inside, old_of, to, carries, goes) = coming_names.file_carries run moved removed replaced one_text new has in
         let (target, is, normal) = goes in
-        let file = files c [] inside in
-        let (place, leads, ends) = arrivals.target_place entries pages changed moves any_name steps whole files fine olds below_first once nothing_lost only names single own (path_at changed c) target file is in
+        let file = run.files c [] inside in
+        let (place, leads, ends) = known.target_place run (path_at changed c) target file is in
         let end_is : place ≡ end =
-        sym (arrivals.carried-from entries pages changed moves any_name steps whole files fine olds below_first once nothing_lost only names single own new.1 to place carries (names_of-normal target to place normal leads) ends)
+        sym (known.carried-from run new.1 to place carries (names_of-normal target to place normal leads) ends)
         ∙ ap (carried (renames_of steps)) here ∙ comes in
         let (e, entry, within, entry_is, at) = file.file in
         record {
@@ -182,6 +178,7 @@ module _ (entries : List Entry) (pages changed : List (List Step)) (moves : List
           });
         }
 
+    -- what comes to an end without a name in between belongs to an entry
     belongs : (start end : List (List ℕ)) → IsThing entries steps start → carried (renames_of steps) start ≡ end
         → HasNoName entries end → BelongsTo entries changed steps after start end
     belongs start end (inl (b, at)) comes ends = entry_belongs start end b at comes ends
@@ -238,7 +235,7 @@ module _ (entries : List Entry) (pages changed : List (List Step)) (moves : List
     IsFree-comes : (k : ℕ) (step : List ℕ × List ℕ) → k < length steps.together → get_or steps.together k step ≡ step
         → ¬ IsThereAfter entries steps (length steps.apart + k) (names_of step.1)
     IsFree-comes k step within is there =
-        let (i, other, within_2, is_2, same) = ways.left_before entries pages changed moves any_name steps whole files fine olds below_first once nothing_lost only names single own k step within is in
+        let (i, other, within_2, is_2, same) = ways.left_before run k step within is in
         by i other within_2 is_2 same
       where
         end : List (List ℕ)
@@ -250,11 +247,11 @@ module _ (entries : List Entry) (pages changed : List (List Step)) (moves : List
         by : (i : ℕ) (other : List ℕ × List ℕ) → i < length steps.apart → get_or steps.apart i other ≡ other
             → other.1 ≡ step.0 → ⊥
         by i other within_2 is_2 same =
-            ends step.0 (arrivals.name_own entries pages changed moves any_name steps whole files fine olds below_first once nothing_lost only names single own k step within is) (arrivals.name_unused entries pages changed moves any_name steps whole files fine olds below_first once nothing_lost only names single own k step within is) (
+            ends step.0 (known.name_own run k step within is) (known.name_unused run k step within is) (
               [],
               sym there.now ∙ ap (carried (take count (renames_of steps))) one
-                  ∙ ways.carried-before entries pages changed moves any_name steps whole files fine olds below_first once nothing_lost only names single own k i step other within is within_2 is_2 same
-                  ∙ arrivals.name_place entries pages changed moves any_name steps whole files fine olds below_first once nothing_lost only names single own k step within is,
+                  ∙ ways.carried-before run k i step other within is within_2 is_2 same
+                  ∙ known.name_place run k step within is,
             )
           where
             left : Contains steps.apart (other.0, step.0)
@@ -264,7 +261,9 @@ module _ (entries : List Entry) (pages changed : List (List Step)) (moves : List
             comes = (k, within, is)
 
             ends : HasNoName entries (names_of step.1)
-            ends = coming_names.comes_fine entries pages changed moves any_name steps whole files fine olds below_first once nothing_lost only names single own moved removed replaced one_text other.0 step.0 step.1 (ways.leaves entries pages changed moves any_name steps whole files fine olds below_first once nothing_lost only names single own i other within_2 is_2) left comes
+            ends =
+                coming_names.comes_fine run moved removed replaced one_text other.0 step.0 step.1
+                (ways.leaves run i other within_2 is_2) left comes
 
             -- what is there stays there
             still : carried (renames_of steps) there.start ≡ names_of step.1
@@ -281,14 +280,14 @@ module _ (entries : List Entry) (pages changed : List (List Step)) (moves : List
 
             arrives : carried (renames_of steps) (names_of other.0) ≡ names_of step.1
             arrives =
-                arrivals.carried-from entries pages changed moves any_name steps whole files fine olds below_first once nothing_lost only names single own other.0 step.1 (names_of step.1)
+                known.carried-from run other.0 step.1 (names_of step.1)
                 (record { between = step.0; leaves = left; comes = comes }) refl ends
 
             one : there.start ≡ names_of other.0
             one =
                 thing_one there.start (names_of other.0) (names_of step.1)
                 (belongs there.start (names_of step.1) there.thing still ends)
-                (belongs (names_of other.0) (names_of step.1) (ways.IsThing-leaves entries pages changed moves any_name steps whole files fine olds below_first once nothing_lost only names single own i other within_2 is_2) arrives ends)
+                (belongs (names_of other.0) (names_of step.1) (ways.IsThing-leaves run i other within_2 is_2) arrives ends)
 
     -- each rename leads from where something is to where nothing is
     pub NothingInTheWay-steps : NothingInTheWay entries steps
@@ -318,7 +317,7 @@ module _ (entries : List Entry) (pages changed : List (List Step)) (moves : List
         first less =
             let (step, at) = element steps.apart k less in
             of step (here step (get_or_append_left steps.apart steps.together step k less ∙ at))
-            (ways.IsThere-leaves entries pages changed moves any_name steps whole files fine olds below_first once nothing_lost only names single own k step less at, ways.IsFree-leaves entries pages changed moves any_name steps whole files fine olds below_first once nothing_lost only names single own k step less at)
+            (ways.IsThere-leaves run k step less at, ways.IsFree-leaves run k step less at)
 
         second : length steps.apart ≤ k
             → IsThereAfter entries steps k place.0 × (¬ IsThereAfter entries steps k place.1)
@@ -331,6 +330,6 @@ module _ (entries : List Entry) (pages changed : List (List Step)) (moves : List
             ap (λ n. get_or (steps.apart ++ steps.together) n step) (sym k_is)
             ∙ get_or-append-add steps.apart steps.together m step ∙ at in
             of step (here step at_2) (
-              subst (λ n. IsThereAfter entries steps n (names_of step.0)) k_is (ways.IsThere-comes entries pages changed moves any_name steps whole files fine olds below_first once nothing_lost only names single own m step inside at),
+              subst (λ n. IsThereAfter entries steps n (names_of step.0)) k_is (ways.IsThere-comes run m step inside at),
               subst (λ n. ¬ IsThereAfter entries steps n (names_of step.1)) k_is (IsFree-comes m step inside at),
             )

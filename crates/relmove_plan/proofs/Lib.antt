@@ -15,6 +15,7 @@ pub mod WholeTreesLemmas
 pub mod SourcesLemmas
 pub mod ArrivalsLemmas
 pub mod FirstsLemmas
+pub mod KnownRunsLemmas
 pub mod WaysLemmas
 pub mod ComingLemmas
 pub mod FreeWaysLemmas

@@ -1,6 +1,6 @@
 -- Each rename leads from where something is, and each rename to a name in between leads to where nothing is.
 use Rattle.std.proofs.Common.{All, Bool, false, ◌≡◌, ◌≢◌, ◌⊎◌, ℕ, ◌<◌, ◌≤◌, ◌+◌, List, [], ◌∷◌, ◌++◌, Contains, length, map, take, get_or, inl, inr, refl, sym, ap, subst, ◌∙◌, append-nil, arith}
-use Rattle.std.specs.List.{Any, AllPairs, join_with_byte}
+use Rattle.std.specs.List.{Any, join_with_byte}
 use Rattle.std.proofs.lemmas.List.{get_or-map, get_or-take, get_or_default, length-map, length-take-le, map-append, take-append-le, take_all}
 use Rattle.std.proofs.lemmas.List.Elements.{All-map, All-take}
 use Rattle.std.proofs.lemmas.List.Sorted.{All-permutation}
@@ -9,18 +9,16 @@ use Rattle.relative_path.proofs.ForCallers.{walk-names}
 use Rattle.relative_path_moves.specs.Moves.{Move, move_at}
 use Rattle.relative_path_moves.specs.PlaceIndex.{IsNoneAt, path_at}
 use Rattle.relmove_plan.specs.declared.entry.Entry.{Entry}
-use Rattle.relmove_plan.specs.BetweenNames.{AreFreeNames}
-use Rattle.relmove_plan.specs.Moves.{EachMove, HasFinePaths}
-use Rattle.relmove_plan.specs.NewFiles.{HaveOwnFiles, LeaveOnce}
 use Rattle.relmove_plan.specs.Runs.{names_of, rename_places, carried, renames_of, IsThereAfter}
-use Rattle.relmove_plan.specs.Steps.{StepTexts, BelowFirst, LeavesFrom, of_move, of_page, of_text, LosesNothing, OnlyTheseLeave, names_left}
-use Rattle.relmove_plan.specs.Trees.{IsOldFine, entry_paths}
-use Rattle.relmove_plan.specs.WholeTrees.{IsAt, LeadsToFile, IsWhole}
-use Rattle.relmove_plan.proofs.ArrivalsLemmas as arrivals
+use Rattle.relmove_plan.specs.Steps.{StepTexts, LeavesFrom, of_move, of_page, of_text, names_come, names_left}
+use Rattle.relmove_plan.specs.Trees.{entry_paths}
+use Rattle.relmove_plan.specs.WholeTrees.{IsAt}
+use Rattle.relmove_plan.proofs.KnownRunsLemmas.{IsKnownRun}
+use Rattle.relmove_plan.proofs.KnownRunsLemmas as known
 use Rattle.relmove_plan.proofs.FirstsLemmas.{FirstUnder, first_under, take-append_more}
 use Rattle.relmove_plan.proofs.PlacesLemmas.{names_of-normal, names_of-names}
 use Rattle.relmove_plan.proofs.RunsLemmas.{IsUnder, carried-append, carried-by, carried-elsewhere}
-use Rattle.relmove_plan.proofs.SourcesLemmas.{IsSource, IsFrom-apart, IsThere-place, IsUnder-first, element}
+use Rattle.relmove_plan.proofs.SourcesLemmas.{IsFrom-apart, IsThere-place, IsUnder-first, element}
 use Rattle.relmove_plan.proofs.WholeTreesLemmas.{IsNoneAt-under, not_empty}
 
 -- an entry is at the place before the run, or the place is a new file's
@@ -50,28 +48,16 @@ renames-coming steps m =
     ∙ ap (λ n. take (n + m) (leaving steps ++ coming steps)) (sym (length-map steps.apart rename_places))
     ∙ take-append_more (leaving steps) (coming steps) m
 
-module _ (entries : List Entry) (pages changed : List (List Step)) (moves : List Move) (any_name : Bool) (steps : StepTexts)
-    (whole : IsWhole entries pages) (files : All (LeadsToFile entries) changed)
-    (fine : EachMove (HasFinePaths any_name) moves) (olds : EachMove (λ move. IsOldFine entries move.old) moves)
-    (below_first : BelowFirst (map (λ step. step.0) steps.apart)) (once : LeaveOnce steps) (nothing_lost : LosesNothing steps)
-    (only : OnlyTheseLeave moves changed steps)
-    (names : AreFreeNames (entry_paths entries) (names_left steps))
-    (single : All (λ between. components between ≡ name between ∷ []) (names_left steps))
-    (own : HaveOwnFiles (entry_paths entries) changed steps)
+module _ {entries : List Entry} {pages changed : List (List Step)} {moves : List Move} {any_name : Bool} {steps : StepTexts}
+    (run : IsKnownRun entries pages changed moves any_name steps)
   where
-    source : (i : ℕ) (step : List ℕ × List ℕ) → i < length steps.apart → get_or steps.apart i step ≡ step
-        → IsSource entries moves changed (names_left steps) step.0
-    source = arrivals.source entries pages changed moves any_name steps whole files fine olds below_first once nothing_lost only names single own
-
-    order : AllPairs (λ one other. ¬ IsUnder other.0 one.0) (leaving steps)
-    order = arrivals.order entries pages changed moves any_name steps whole files fine olds below_first once nothing_lost only names single own
-
     -- ---- what leaves
 
+    -- why something leaves the path from which this rename leads
     pub leaves : (i : ℕ) (step : List ℕ × List ℕ) → i < length steps.apart → get_or steps.apart i step ≡ step
         → LeavesFrom moves changed steps.texts step.0
     leaves i step within is =
-        subst (λ (step : List ℕ × List ℕ). LeavesFrom moves changed steps.texts step.0) is (only i step within)
+        subst (λ (step : List ℕ × List ℕ). LeavesFrom moves changed steps.texts step.0) is (run.only i step within)
 
     -- something is at the path from which something leaves
     pub IsThing-leaves : (i : ℕ) (step : List ℕ × List ℕ) → i < length steps.apart → get_or steps.apart i step ≡ step
@@ -80,16 +66,17 @@ module _ (entries : List Entry) (pages changed : List (List Step)) (moves : List
       where
         by : LeavesFrom moves changed steps.texts step.0 → IsThing entries steps (names_of step.0)
         by (of_move k inside normal) =
-            let (b, place, leads, at) = IsThere-place entries pages whole (move_at moves k).old (olds k inside).there in
+            let (b, place, leads, at) = IsThere-place entries pages run.whole (move_at moves k).old (run.olds k inside).there in
             let here : place ≡ names_of step.0 = sym (names_of-normal (move_at moves k).old step.0 place normal leads) in
             inl (b, subst (λ place. Any (IsAt b place) entries) here at)
         by (of_page k inside normal) =
-            let file = files k [] inside in
+            let file = run.files k [] inside in
             let here : file.place ≡ names_of step.0 =
             sym (names_of-normal (path_at changed k) step.0 file.place normal file.leads) in
             inl (false, subst (λ place. Any (IsAt false place) entries) here file.file)
         by (of_text old text (j, less, is_2)) = inr (j, (old, step.0, text), less, is_2, refl)
 
+    -- a rename to a name in between, as places
     leaving_at : (i : ℕ) (step : List ℕ × List ℕ) (d : List (List ℕ) × List (List ℕ)) → i < length steps.apart
         → get_or steps.apart i step ≡ step → get_or (leaving steps) i d ≡ rename_places step
     leaving_at i step d within is = get_or-map rename_places steps.apart i step d within ∙ ap rename_places is
@@ -112,7 +99,7 @@ module _ (entries : List Entry) (pages changed : List (List Step)) (moves : List
               subst (λ (other : List (List ℕ) × List (List ℕ)). ¬ IsUnder (names_of step.0) other.0)
               (sym (get_or-take k (leaving steps) j d less_2))
               (subst (λ (other : List (List ℕ) × List (List ℕ)). ¬ IsUnder other.0 (get_or (leaving steps) j d).0)
-              (leaving_at i step d within is) (order j i d below (rw length-map within)));
+              (leaving_at i step d within is) (known.order run j i d below (rw length-map within)));
         }
 
     -- none of the first renames leads from the path or from above it
@@ -125,34 +112,38 @@ module _ (entries : List Entry) (pages changed : List (List Step)) (moves : List
         subst (λ (other : List (List ℕ) × List (List ℕ)). ¬ IsUnder (names_of step.0) other.0)
         (sym (get_or-take i (leaving steps) j d less))
         (subst (λ (other : List (List ℕ) × List (List ℕ)). ¬ IsUnder other.0 (get_or (leaving steps) j d).0)
-        (leaving_at i step d within is) (order j i d less (rw length-map within)))
+        (leaving_at i step d within is) (known.order run j i d less (rw length-map within)))
 
     -- ---- the names in between
 
+    -- the name to which a rename leads, by its number
     pub left_at : (i : ℕ) (step : List ℕ × List ℕ) (d : List ℕ) → i < length steps.apart → get_or steps.apart i step ≡ step
         → get_or (names_left steps) i d ≡ step.1
     left_at i step d within is =
         get_or-map (λ (step : List ℕ × List ℕ). step.1) steps.apart i step d within
         ∙ ap (λ (step : List ℕ × List ℕ). step.1) is
 
+    -- the name is one name
     left_single : (i : ℕ) (step : List ℕ × List ℕ) → i < length steps.apart → get_or steps.apart i step ≡ step
         → components step.1 ≡ name step.1 ∷ []
     left_single i step within is =
         subst (λ between. components between ≡ name between ∷ []) (left_at i step [] within is)
-        (single i [] (rw length-map within))
+        (run.single i [] (rw length-map within))
 
     -- a name to which something leaves, as a place
     pub left_place : (i : ℕ) (step : List ℕ × List ℕ) → i < length steps.apart → get_or steps.apart i step ≡ step
         → names_of step.1 ≡ step.1 ∷ []
     left_place i step within is = names_of-names step.1 (step.1 ∷ []) (left_single i step within is)
 
+    -- no entry is at the name
     pub left_unused : (i : ℕ) (step : List ℕ × List ℕ) → i < length steps.apart → get_or steps.apart i step ≡ step
         → IsNoneAt (entry_paths entries) (map name (step.1 ∷ []))
     left_unused i step within is =
         subst (IsNoneAt (entry_paths entries)) (left_single i step within is)
         (subst (λ between. IsNoneAt (entry_paths entries) (components between)) (left_at i step [] within is)
-        (names.unused i [] (rw length-map within)))
+        (run.names.unused i [] (rw length-map within)))
 
+    -- the name is one of those to which something leaves
     has_name : (i : ℕ) (step : List ℕ × List ℕ) → i < length steps.apart → get_or steps.apart i step ≡ step
         → Contains (names_left steps) step.1
     has_name i step within is = (i, rw length-map within, left_at i step step.1 within is)
@@ -165,9 +156,9 @@ module _ (entries : List Entry) (pages changed : List (List Step)) (moves : List
         All-map (λ other. ¬ IsUnder (names_of step.1 ++ below) other.0) rename_places steps.apart
         (λ j d l under.
         let (other, is_2) = element steps.apart j l in
-        let src = source j other l is_2 in
+        let src = known.source run j other l is_2 in
         let same : get_or steps.apart j d ≡ other = get_or_default steps.apart j d other l ∙ is_2 in
-        IsFrom-apart entries pages whole moves changed files olds steps own step.1 below src.place src.is_from src.some
+        IsFrom-apart entries pages run.whole moves changed run.files run.olds steps run.own step.1 below src.place src.is_from src.some
         (left_unused i step within is) (has_name i step within is)
         (subst (IsUnder (step.1 ∷ below)) (ap (λ (step : List ℕ × List ℕ). names_of step.0) same ∙ src.named)
         (subst (λ top. IsUnder (top ++ below) (names_of (get_or steps.apart j d).0)) (left_place i step within is) under)))
@@ -219,13 +210,13 @@ module _ (entries : List Entry) (pages changed : List (List Step)) (moves : List
     no_thing : (i : ℕ) (step : List ℕ × List ℕ) (place : List (List ℕ)) → i < length steps.apart
         → get_or steps.apart i step ≡ step → IsThing entries steps place → place ≢ step.1 ∷ []
     no_thing i step place within is (inl (b, at)) same =
-        IsNoneAt-under entries pages whole (map name (step.1 ∷ [])) b place (step.1 ∷ []) (left_unused i step within is)
+        IsNoneAt-under entries pages run.whole (map name (step.1 ∷ [])) b place (step.1 ∷ []) (left_unused i step within is)
         (walk-names [] (step.1 ∷ [])) (not_empty [] step.1 []) at ([], same ∙ sym (append-nil (step.1 ∷ [])))
     no_thing i step place within is (inr (t, new, inside, is_2, here)) same =
-        own.no_name t new inside i [] (rw length-map within)
+        run.own.no_name t new inside i [] (rw length-map within)
         (ap (λ (new : List ℕ × List ℕ × List ℕ). new.1) is_2
         ∙ subst (λ (new : List ℕ × List ℕ × List ℕ). new.1 ≡ join_with_byte slash (names_of new.1)) is_2
-        (own.next_to t new inside).spelled
+        (run.own.next_to t new inside).spelled
         ∙ ap (join_with_byte slash) (here ∙ same) ∙ sym (left_at i step [] within is))
 
     -- ---- the renames to names in between
@@ -261,7 +252,7 @@ module _ (entries : List Entry) (pages changed : List (List Step)) (moves : List
             let (other, less, is_2, comes) = carried-leaving i there.start fits first in
             let within_2 : first.number < length steps.apart = omega (arith, less, within) in
             let same : other.1 ≡ step.1 = ap (λ place. get_or place 0 other.1) (sym comes ∙ now) in
-            names.different first.number i [] less (rw length-map within)
+            run.names.different first.number i [] less (rw length-map within)
             (left_at first.number other [] within_2 is_2 ∙ same ∙ sym (left_at i step [] within is))
 
     -- ---- the renames from names in between
@@ -271,13 +262,13 @@ module _ (entries : List Entry) (pages changed : List (List Step)) (moves : List
         → (i : ℕ) × (other : List ℕ × List ℕ) × (i < length steps.apart) × (get_or steps.apart i other ≡ other)
         × (other.1 ≡ step.0)
     left_before k step within is =
-        let come = arrivals.come entries pages changed moves any_name steps whole files fine olds below_first once nothing_lost only names single own in
+        let come = names_come steps ++ steps.removed in
         let all : All (Contains (names_left steps)) come =
-        All-permutation (Contains (names_left steps)) (names_left steps) come nothing_lost
+        All-permutation (Contains (names_left steps)) (names_left steps) come run.nothing_lost
         (λ i d l. (i, l, get_or_default (names_left steps) i (get_or (names_left steps) i d) d l)) in
         let (i, inside, here) = subst (Contains (names_left steps))
-        (arrivals.come_at entries pages changed moves any_name steps whole files fine olds below_first once nothing_lost only names single own k step [] within is)
-        (all k [] (arrivals.inside entries pages changed moves any_name steps whole files fine olds below_first once nothing_lost only names single own k within)) in
+        (known.come_at run k step [] within is)
+        (all k [] (known.inside run k within)) in
         let inside_2 : i < length steps.apart = rw length-map at inside in
         let (other, is_2) = element steps.apart i inside_2 in
         (i, other, inside_2, is_2, sym (left_at i other step.0 inside_2 is_2) ∙ here)
@@ -302,11 +293,11 @@ module _ (entries : List Entry) (pages changed : List (List Step)) (moves : List
         let there : get_or (take k (coming steps)) j d ≡ rename_places third =
         get_or-take k (coming steps) j d less_2 ∙ get_or-map rename_places steps.together j third d within_3
         ∙ ap rename_places is_3 in
-        arrivals.name_other entries pages changed moves any_name steps whole files fine olds below_first once nothing_lost only names single own j k third step (λ equal. absurd (omega (arith, equal, less_2))) within_3 within is_3 is
+        known.name_other run j k third step (λ equal. absurd (omega (arith, equal, less_2))) within_3 within is_3 is
         (sym (IsUnder-first step.0 third.0 [] []
         (subst (IsUnder (step.0 ∷ [])) (ap (λ (step : List (List ℕ) × List (List ℕ)). step.0) there
-        ∙ arrivals.name_place entries pages changed moves any_name steps whole files fine olds below_first once nothing_lost only names single own j third within_3 is_3) under))))
-        ∙ sym (arrivals.name_place entries pages changed moves any_name steps whole files fine olds below_first once nothing_lost only names single own k step within is)
+        ∙ known.name_place run j third within_3 is_3) under))))
+        ∙ sym (known.name_place run k step within is)
 
     -- something is where the rename leads from
     pub IsThere-comes : (k : ℕ) (step : List ℕ × List ℕ) → k < length steps.together → get_or steps.together k step ≡ step
