@@ -118,7 +118,7 @@ IsClearFrom-end moves entries cs front short above has =
 -- ---- the entry where components lead, after the moves
 
 -- R holds of the elements at each place
-AllZip-at : {A B : Type 0} (R : A → B → Type 0) (xs : List A) (ys : List B) (k : ℕ) (x : A) (y : B) → AllZip R xs ys
+pub AllZip-at : {A B : Type 0} (R : A → B → Type 0) (xs : List A) (ys : List B) (k : ℕ) (x : A) (y : B) → AllZip R xs ys
     → k < length xs → R (get_or xs k x) (get_or ys k y)
 AllZip-at R [] ys k x y zipped within = absurd (omega (arith, within))
 AllZip-at R (a ∷ xs) [] k x y zipped within = absurd zipped

@@ -47,7 +47,7 @@ All-zip {X} {Y} R (x ∷ xs) (y ∷ ys) each =
 abbrev pub is_own : List ℕ → Bool
 is_own n = is_own_step (name n)
 
-is_own-numbered : (number : ℕ) → is_own (numbered_name number) ≡ true
+pub is_own-numbered : (number : ℕ) → is_own (numbered_name number) ≡ true
 is_own-numbered number = refl
 
 -- none of the names of a place is one of a run's own
@@ -87,7 +87,7 @@ module _ (entries : List Entry) (pages changed : List (List Step)) (moves : List
     (own : HaveOwnFiles (entry_paths entries) changed steps)
   where
     -- the paths from which something leaves, in order
-    source : (i : ℕ) (step : List ℕ × List ℕ) → i < length steps.apart → get_or steps.apart i step ≡ step
+    pub source : (i : ℕ) (step : List ℕ × List ℕ) → i < length steps.apart → get_or steps.apart i step ≡ step
         → IsSource entries moves changed (names_left steps) step.0
     source i step within is =
         IsSource-leaves entries pages whole moves changed files olds steps own step.0
@@ -98,7 +98,7 @@ module _ (entries : List Entry) (pages changed : List (List Step)) (moves : List
     source_place i step within is = (source i step within is).named
 
     -- what is above a path leaves after it, and nothing leaves twice
-    order : AllPairs (λ one other. ¬ IsUnder other.0 one.0) (map rename_places steps.apart)
+    pub order : AllPairs (λ one other. ¬ IsUnder other.0 one.0) (map rename_places steps.apart)
     order = λ i j d less within under.
         let w : j < length steps.apart = rw length-map at within in
         let v : i < length steps.apart = omega (arith, less, w) in
@@ -145,10 +145,10 @@ module _ (entries : List Entry) (pages changed : List (List Step)) (moves : List
     pub free_come : AreFreeNames (entry_paths entries) come
     free_come = AreFreeNames-IsPermutation (entry_paths entries) (names_left steps) come nothing_lost names
 
-    single_come : All (λ between. components between ≡ name between ∷ []) come
+    pub single_come : All (λ between. components between ≡ name between ∷ []) come
     single_come = All-permutation (λ between. components between ≡ name between ∷ []) (names_left steps) come nothing_lost single
 
-    long_come : length come ≡ length steps.together + length steps.removed
+    pub long_come : length come ≡ length steps.together + length steps.removed
     long_come = length-append (names_come steps) steps.removed ∙ ap (λ n. n + length steps.removed)
         (length-map steps.together (λ (step : List ℕ × List ℕ). step.0))
 
@@ -160,7 +160,7 @@ module _ (entries : List Entry) (pages changed : List (List Step)) (moves : List
         ∙ get_or-map (λ (step : List ℕ × List ℕ). step.0) steps.together k step d within
         ∙ ap (λ (step : List ℕ × List ℕ). step.0) is
 
-    inside : (k : ℕ) → k < length steps.together → k < length come
+    pub inside : (k : ℕ) → k < length steps.together → k < length come
     inside k within = omega (arith, within, long_come)
 
     -- a name as a place
@@ -201,7 +201,7 @@ module _ (entries : List Entry) (pages changed : List (List Step)) (moves : List
     -- ---- what is carried
 
     -- something leaves with what is above its place, to a name in between, and comes from there to another path
-    carried-carries : (from to : List ℕ) (place below target : List (List ℕ)) → (carries : Carries steps from to)
+    pub carried-carries : (from to : List ℕ) (place below target : List (List ℕ)) → (carries : Carries steps from to)
         → place ≡ names_of from ++ below
         → All (λ step. IsUnder place (names_of step.0) → length (names_of step.0) ≤ length (names_of from)) steps.apart
         → names_of to ≡ target → HasNoName entries (target ++ below)
@@ -291,7 +291,7 @@ module _ (entries : List Entry) (pages changed : List (List Step)) (moves : List
 
     -- ---- what doesn't move
 
-    carried-stays : (place : List (List ℕ)) → All (λ step. ¬ IsUnder place (names_of step.0)) steps.apart
+    pub carried-stays : (place : List (List ℕ)) → All (λ step. ¬ IsUnder place (names_of step.0)) steps.apart
         → HasNoName entries place → carried (renames_of steps) place ≡ place
     carried-stays place apart ends =
         ap (λ renames. carried renames place) (map-append rename_places steps.apart steps.together)
@@ -309,7 +309,7 @@ module _ (entries : List Entry) (pages changed : List (List Step)) (moves : List
 
     -- ---- new paths
 
-    value : (o : Option (List (List ℕ))) → IsSome o → (place : List (List ℕ)) × (o ≡ Some place)
+    pub value : (o : Option (List (List ℕ))) → IsSome o → (place : List (List ℕ)) × (o ≡ Some place)
     value None some = absurd (true≢false (sym some))
     value (Some place) some = (place, refl)
 
@@ -419,7 +419,7 @@ module _ (entries : List Entry) (pages changed : List (List Step)) (moves : List
                 (taken.below, here ∙ ap (λ top. top ++ taken.below) top_is) in
                 unchanged k within (IsSame-one_place place leads (file.leads ∙ ap Some (sym place_is)))
 
-        ComesTo-target : (target : List Step) → IsTreeTarget moves cs target → ComesTo (renames_of steps) cs target
+        pub ComesTo-target : (target : List Step) → IsTreeTarget moves cs target → ComesTo (renames_of steps) cs target
         ComesTo-target target (inl taken) = ComesTo-taken target taken
         ComesTo-target target (inr (left, same)) = record {
           from = place;
@@ -452,52 +452,58 @@ module _ (entries : List Entry) (pages changed : List (List Step)) (moves : List
 
     -- ---- new texts
 
+    -- what leaves its own path comes to another
+    pub carried-from : (from to : List ℕ) (target : List (List ℕ)) → Carries steps from to → names_of to ≡ target
+        → HasNoName entries target → carried (renames_of steps) (names_of from) ≡ target
+    carried-from from to target carries arrives ends =
+        carried-carries from to (names_of from) [] target carries (sym (append-nil (names_of from)))
+        (λ j d l under.
+        let (below, is) = under in
+        let long = ap length is ∙ length-append (names_of (get_or steps.apart j d).0) below in
+        omega (arith, long))
+        arrives (subst (HasNoName entries) (sym (append-nil target)) ends)
+        ∙ append-nil target
+
+    -- the place to which the moves take a file: no name in between is there
+    pub target_place : (cs target : List Step) → LeadsToFile entries cs → IsTreeTarget moves cs target
+        → (place : List (List ℕ)) × (place_of target ≡ Some place) × HasNoName entries place
+    target_place cs target file (inl taken) =
+        let j = taken.move in
+        let (top, leads, some, fine_top) = new_place j taken.nearest.takes.within in (
+          top ++ taken.below,
+          ap place_of taken.new ∙ place-below (move_at moves j).new top taken.below leads,
+          HasNoName-own top taken.below some fine_top,
+        )
+    target_place cs target file (inr (left, same)) =
+        (file.place, ap place_of same ∙ file.leads, HasNoName-entry false file.place file.file)
+
     TextArrives-target : (page : SitePage) (new : MovedSitePage) (target : List Step)
         → LeadsToFile entries (path_components page.path) → IsTreeTarget moves (path_components page.path) target
         → IsNormalTextOf target new.path → ReplacesPage steps page new
         → TextArrives moves steps page (string_bytes new.page.text)
-    TextArrives-target page new target file is normal replaces = record {
-      old = replaces.old;
-      file = replaces.file;
-      old_of = replaces.old_of;
-      written = replaces.written;
-      arrives = (target, is, by is);
-    }
-      where
-        from : List ℕ
-        from = replaces.file
-
-        src : IsSource entries moves changed (names_left steps) from
-        src = source replaces.carries.leaves.0 (from, replaces.carries.between) replaces.carries.leaves.1
-            replaces.carries.leaves.2
-
-        to : (place : List (List ℕ)) → place_of target ≡ Some place → HasNoName entries (place ++ [])
-            → ComesTo (renames_of steps) (components from) target
-        to place leads ends = record {
-          from = src.place;
-          to = place;
-          leaves = src.leads;
-          arrives = leads;
-          carries = carried-carries from new.path src.place [] place replaces.carries
-              (sym (append-nil src.place) ∙ ap (λ top. top ++ []) (sym src.named))
-              (λ j d l under.
-              let (below, is) = under in
-              let long = ap length is ∙ length-append (names_of (get_or steps.apart j d).0) below in
-              let long_2 = ap length src.named in
-              omega (arith, long, long_2))
-              (names_of-normal target new.path place normal leads) ends ∙ append-nil place;
+    TextArrives-target page new target file is normal replaces =
+        let (i, within, here) = replaces.carries.leaves in
+        let src = source i (replaces.file, replaces.carries.between) within here in
+        let (place, leads, ends) = target_place (path_components page.path) target file is in
+        record {
+          old = replaces.old;
+          file = replaces.file;
+          old_of = replaces.old_of;
+          written = replaces.written;
+          arrives = (
+            target,
+            is,
+            record {
+              from = src.place;
+              to = place;
+              leaves = src.leads;
+              arrives = leads;
+              carries = ap (carried (renames_of steps)) (sym src.named)
+                  ∙ carried-from replaces.file new.path place replaces.carries
+                  (names_of-normal target new.path place normal leads) ends;
+            },
+          );
         }
-
-        by : IsTreeTarget moves (path_components page.path) target → ComesTo (renames_of steps) (components from) target
-        by (inl taken) =
-            let j = taken.move in
-            let (top, leads, some, fine_top) = new_place j taken.nearest.takes.within in
-            let there = ap place_of taken.new ∙ place-below (move_at moves j).new top taken.below leads in
-            to (top ++ taken.below) there
-            (subst (HasNoName entries) (sym (append-nil (top ++ taken.below))) (HasNoName-own top taken.below some fine_top))
-        by (inr (left, same)) =
-            to file.place (ap place_of same ∙ file.leads)
-            (subst (HasNoName entries) (sym (append-nil file.place)) (HasNoName-entry false file.place file.file))
 
     pub TextArrives-page : (page : SitePage) (new : MovedSitePage) → LeadsToFile entries (path_components page.path)
         → AtTreePath moves (path_components page.path) (λ now. IsNormalTextOf now new.path) → ReplacesPage steps page new

@@ -16,5 +16,10 @@ pub mod PlacesLemmas
 pub mod WholeTreesLemmas
 pub mod SourcesLemmas
 pub mod ArrivalsLemmas
+pub mod FirstsLemmas
+pub mod KnownRunsLemmas
+pub mod WaysLemmas
+pub mod ComingLemmas
+pub mod FreeWaysLemmas
 pub mod MadeLemmas
 pub mod PlannedLemmas

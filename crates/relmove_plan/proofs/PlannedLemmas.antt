@@ -1,15 +1,17 @@
 -- What the steps of a plan do to a whole tree, from what is known of the steps.
-use Rattle.std.proofs.Common.{All, Bool, ◌≡◌, ℕ, ◌<◌, List, [], ◌∷◌, Some, length, map, get_or, string_bytes, sym, ap, subst, ◌∙◌}
+use Rattle.std.proofs.Common.{All, AllPairs, Bool, ◌≡◌, ◌≢◌, ℕ, ◌<◌, List, [], ◌∷◌, Some, length, map, get_or, string_bytes, sym, ap, subst, ◌∙◌, arith}
 use Rattle.std.specs.List.{slice_get}
 use Rattle.std.specs.Option.{IsSomeAnd, MatchOption}
 use Rattle.std.proofs.lemmas.List.{get_or-map, length-map}
 use Rattle.std.proofs.lemmas.List.Elements.{All-map}
-use Rattle.std.proofs.lemmas.Option.{get_or_from_slice_get, slice_get_within}
+use Rattle.std.proofs.lemmas.Option.{get_or_from_slice_get, slice_get-get_or, slice_get_within}
 use Rattle.std.proofs.lemmas.Simd.{map-map}
-use Rattle.std.proofs.lemmas.Slice.Zip.{AllZip-left}
+use Rattle.std.proofs.lemmas.Slice.Zip.{AllZip-left, AllZip-long}
 use Rattle.relative_path.specs.Steps.{name, components}
 use Rattle.relative_path.specs.Normalizing.{IsNormalTextOf}
 use Rattle.relative_path.specs.RelativePath.{path_components}
+use Rattle.relative_path.specs.Walk.{IsSame}
+use Rattle.relative_path.proofs.ForCallers.{IsSame-sym, IsSame-trans}
 use Rattle.relative_path_links.specs.Site.{ForMovedPage, KeepTheirLinks, KeepsLinks}
 use Rattle.relative_path_links.specs.declared.site.MovedSitePage.{MovedSitePage}
 use Rattle.relative_path_links.specs.declared.site.SitePage.{SitePage}
@@ -25,10 +27,15 @@ use Rattle.relmove_plan.specs.NewFiles.{HaveOwnFiles, LeaveOnce}
 use Rattle.relmove_plan.specs.Pages.{page_paths}
 use Rattle.relmove_plan.specs.Plan.{IsAccepted}
 use Rattle.relmove_plan.specs.Directories.{MakesMissing}
-use Rattle.relmove_plan.specs.Runs.{DirectoriesArrive, EntriesArrive, TextsArrive}
-use Rattle.relmove_plan.specs.Steps.{BelowFirst, DoesMove, LosesNothing, OnlyTheseLeave, ReplacesPages, changed_paths, names_left, rename_text, step_texts}
-use Rattle.relmove_plan.specs.Trees.{entry_paths}
+use Rattle.relmove_plan.specs.Runs.{DirectoriesArrive, EntriesArrive, NothingInTheWay, TextsArrive}
+use Rattle.relmove_plan.specs.Steps.{BelowFirst, DoesMove, LosesNothing, OnlyTheseLeave, RemovesAt, ReplacesPages, WritesPages, changed_paths, names_left, pages_written, rename_text, step_texts}
+use Rattle.relmove_plan.specs.Trees.{AreDistinct, entry_paths}
 use Rattle.relmove_plan.specs.WholeTrees.{IsWhole, LeadsToFile}
+use Rattle.relmove_plan.proofs.AboveLemmas.{AllZip-at}
+use Rattle.relmove_plan.proofs.ComingLemmas.{IsReplaced}
+use Rattle.relmove_plan.proofs.FreeWaysLemmas.{NothingInTheWay-steps}
+use Rattle.relmove_plan.proofs.KnownRunsLemmas.{IsKnownRun}
+use Rattle.relmove_plan.proofs.SourcesLemmas.{element}
 use Rattle.relmove_plan.proofs.ArrivalsLemmas.{EntriesArrive-steps, TextArrives-page}
 use Rattle.relmove_plan.proofs.MadeLemmas.{DirectoriesArrive-made}
 use Rattle.relmove_plan.proofs.NewFilesLemmas.{components-free}
@@ -45,6 +52,9 @@ pub record IsPlanned (entries : List Entry) (pages : List SitePage) (changed : L
   pub only : OnlyTheseLeave moves (changed_paths pages changed) (step_texts steps)
   pub names : AreFreeNames (entry_paths entries) (names_left (step_texts steps))
   pub files : HaveOwnFiles (entry_paths entries) (changed_paths pages changed) (step_texts steps)
+  pub removed : All (RemovesAt (step_texts steps)) (changed_paths pages changed)
+  pub texts : WritesPages (changed_paths pages changed) (step_texts steps)
+  pub distinct : AreDistinct (changed_paths pages changed)
 
 module _ (entries : List Entry) (pages : List SitePage) (changed : List ChangedPage) (moves : List Move) (any_name : Bool)
     (steps : Steps) (accepted : IsAccepted entries moves any_name) (planned : IsPlanned entries pages changed moves steps)
@@ -70,6 +80,14 @@ module _ (entries : List Entry) (pages : List SitePage) (changed : List ChangedP
     single : All (λ between. components between ≡ name between ∷ []) (names_left (step_texts steps))
     single = components-free (entry_paths entries) (names_left (step_texts steps)) planned.names
 
+    -- where a page is after the moves
+    moved_page : (n : ℕ) (page : SitePage) (new : MovedSitePage) → slice_get pages n ≡ Some page
+        → (news : List MovedSitePage) → slice_get news n ≡ Some new
+        → MatchOption (slice_get pages n) (Unit {0}) (λ page. IsSomeAnd (slice_get news n) (ForMovedPage KeepsLinks moves page))
+        → AtTreePath moves (path_components page.path) (λ now. IsNormalTextOf now new.path)
+    moved_page n page new at news at_2 zipped =
+        let (now, is, moved) = (rw (at, at_2) at zipped) in (now, is, moved.0)
+
     pub EntriesArrive-plan : EntriesArrive moves entries (changed_paths pages changed) (step_texts steps)
     EntriesArrive-plan =
         EntriesArrive-steps entries (page_paths pages) (changed_paths pages changed) moves any_name (step_texts steps)
@@ -84,16 +102,9 @@ module _ (entries : List Entry) (pages : List SitePage) (changed : List ChangedP
         planned.whole changed_files accepted.apart.come.leave.paths accepted.apart.come.leave.olds below_first planned.once
         planned.kept planned.only planned.names single planned.files page new
         (page_file (get_or changed k d).number page at)
-        (moved_page (get_or changed k d).number page new at at_2 (AllZip-left (ForMovedPage KeepsLinks moves) pages news links
+        (moved_page (get_or changed k d).number page new at news at_2 (AllZip-left (ForMovedPage KeepsLinks moves) pages news links
         (get_or changed k d).number))
         (replaced k d l page new at at_2)
-      where
-        moved_page : (n : ℕ) (page : SitePage) (new : MovedSitePage) → slice_get pages n ≡ Some page
-            → slice_get news n ≡ Some new
-            → MatchOption (slice_get pages n) (Unit {0}) (λ page. IsSomeAnd (slice_get news n) (ForMovedPage KeepsLinks moves page))
-            → AtTreePath moves (path_components page.path) (λ now. IsNormalTextOf now new.path)
-        moved_page n page new at at_2 zipped =
-            let (now, is, moved) = (rw (at, at_2) at zipped) in (now, is, moved.0)
 
     pub DirectoriesArrive-plan : (after made : List (List ℕ)) → MakesMissing moves (map components after) (step_texts steps) made
         → DirectoriesArrive moves (map components after) (step_texts steps) made
@@ -102,3 +113,76 @@ module _ (entries : List Entry) (pages : List SitePage) (changed : List ChangedP
         planned.whole changed_files accepted.apart.come.leave.paths accepted.apart.come.leave.olds below_first planned.once
         planned.kept planned.only planned.names single planned.files planned.moved accepted.above (map components after)
         makes.between makes.leave made makes.are_made
+
+    -- ---- nothing is in the way
+
+    known : IsKnownRun entries (page_paths pages) (changed_paths pages changed) moves any_name (step_texts steps)
+    known = record {
+      whole = planned.whole;
+      files = changed_files;
+      fine = accepted.apart.come.leave.paths;
+      olds = accepted.apart.come.leave.olds;
+      below_first = below_first;
+      once = planned.once;
+      nothing_lost = planned.kept;
+      only = planned.only;
+      names = planned.names;
+      single = single;
+      own = planned.files;
+    }
+
+    -- no page has two new texts
+    one_text : AllPairs (λ one other. one.0 ≢ other.0) (step_texts steps).texts
+    one_text = λ i j d less within same.
+        let texts = (step_texts steps).texts in
+        let paths = changed_paths pages changed in
+        let long : length (pages_written (step_texts steps)) ≡ length paths =
+        AllZip-long IsNormalTextOf paths (pages_written (step_texts steps)) planned.texts in
+        let count = length-map texts (λ (new : List ℕ × List ℕ × List ℕ). new.0) in
+        let within_2 : j < length paths = omega (arith, within, long, count) in
+        let within_3 : i < length paths = omega (arith, less, within_2) in
+        let one : IsNormalTextOf (path_at paths i) (get_or texts i d).0 =
+        subst (IsNormalTextOf (path_at paths i))
+        (get_or-map (λ (new : List ℕ × List ℕ × List ℕ). new.0) texts i d [] (omega (arith, less, within)))
+        (AllZip-at IsNormalTextOf paths (pages_written (step_texts steps)) i [] [] planned.texts within_3) in
+        let two : IsNormalTextOf (path_at paths j) (get_or texts j d).0 =
+        subst (IsNormalTextOf (path_at paths j))
+        (get_or-map (λ (new : List ℕ × List ℕ × List ℕ). new.0) texts j d [] within)
+        (AllZip-at IsNormalTextOf paths (pages_written (step_texts steps)) j [] [] planned.texts within_2) in
+        (planned.distinct j within_2).first i less
+        (IsSame-trans two.same (IsSame-sym (subst (λ text. IsSame (path_at paths i) (components text)) same one.same)))
+
+    -- each page that changes is replaced
+    are_replaced : (news : List MovedSitePage) → length news ≡ length pages → KeepTheirLinks moves pages news
+        → ReplacesPages pages news changed (step_texts steps)
+        → All (IsReplaced moves (step_texts steps)) (changed_paths pages changed)
+    are_replaced news long links replaced =
+        All-map (IsReplaced moves (step_texts steps)) (λ (change : ChangedPage). path_at (page_paths pages) change.number) changed
+        (λ k d l.
+        let n = (get_or changed k d).number in
+        let within : n < length pages = planned.within k d l in
+        let (page, is) = element pages n within in
+        let (new, is_2) = element news n (rw long within) in
+        let at : slice_get pages n ≡ Some page = slice_get-get_or pages n page within ∙ ap Some is in
+        let at_2 : slice_get news n ≡ Some new = slice_get-get_or news n new (rw long within) ∙ ap Some is_2 in
+        let replaces = replaced k d l page new at at_2 in
+        let here : path_at (page_paths pages) n ≡ path_components page.path =
+        get_or-map (λ (page : SitePage). path_components page.path) pages n page [] within
+        ∙ ap (λ (page : SitePage). path_components page.path) is in
+        subst (IsReplaced moves (step_texts steps)) (sym here) (record {
+          old = replaces.old;
+          old_of = replaces.old_of;
+          file = replaces.file;
+          text = string_bytes new.page.text;
+          written = replaces.written;
+          to = new.path;
+          carries = replaces.carries;
+          goes = moved_page n page new at news at_2
+              (AllZip-left (ForMovedPage KeepsLinks moves) pages news links n);
+        }))
+
+    pub NothingInTheWay-plan : (news : List MovedSitePage) → length news ≡ length pages → KeepTheirLinks moves pages news
+        → ReplacesPages pages news changed (step_texts steps) → NothingInTheWay entries (step_texts steps)
+    NothingInTheWay-plan news long links replaced =
+        NothingInTheWay-steps known planned.moved planned.removed (are_replaced news long links replaced) one_text
+        accepted.apart.come.leave.apart accepted.apart.after accepted.apart.are_after accepted.apart.distinct

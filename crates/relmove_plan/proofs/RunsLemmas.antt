@@ -15,7 +15,7 @@ IsUnder place top = (below : List (List ℕ)) × (place ≡ top ++ below)
 
 -- ---- one rename
 
-starts : (place top : List (List ℕ)) → (starts_with bytes_eq place top ≡ true → place ≡ top ++ drop (length top) place)
+pub starts : (place top : List (List ℕ)) → (starts_with bytes_eq place top ≡ true → place ≡ top ++ drop (length top) place)
     × ((rest : List (List ℕ)) → place ≡ top ++ rest → starts_with bytes_eq place top ≡ true)
 starts place top = starts_is bytes_eq-Decides place top (starts_with bytes_eq place top) refl
 

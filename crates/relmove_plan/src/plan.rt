@@ -14,7 +14,7 @@ ghost use Rattle.relmove_plan.specs.Directories.{AreLeftByMoves, AreMade, LeaveT
 ghost use Rattle.relmove_plan.specs.Trees.{AreAfter, entry_paths};
 ghost use Rattle.relmove_plan.specs.Steps.{AboveFirst, BelowFirst, DoesMove, LosesNothing, OnlyTheseLeave, RemovesAt, ReplacesPages, WritesPages, changed_paths, names_left, rename_texts, step_texts};
 ghost use Rattle.relmove_plan.specs.BetweenNames.{AreDrawn, AreFreeNames};
-ghost use Rattle.relmove_plan.specs.Runs.{EntriesArrive, MakesDirectories, TextsArrive};
+ghost use Rattle.relmove_plan.specs.Runs.{EntriesArrive, MakesDirectories, NothingInTheWay, TextsArrive};
 ghost use Rattle.relmove_plan.specs.WholeTrees.{IsWhole};
 
 use crate::after::entry_index;
@@ -101,6 +101,8 @@ pub fn make_plan(
     ensures texts_arrive { IfOk result (λ plan. IsWhole tree.entry.entries.now (page_paths tree.entry.pages.now)
         → TextsArrive (moves_of moves.now) tree.entry.pages.now plan.pages.items plan.changed.items
         (step_texts plan.steps)) }
+    ensures clear { IfOk result (λ plan. IsWhole tree.entry.entries.now (page_paths tree.entry.pages.now)
+        → NothingInTheWay tree.entry.entries.now (step_texts plan.steps)) }
     ensures made { IfOk result (λ plan. IsWhole tree.entry.entries.now (page_paths tree.entry.pages.now)
         → MakesDirectories (moves_of moves.now) tree.entry.entries.now (step_texts plan.steps)
         (map string_bytes plan.steps.made.items)) }

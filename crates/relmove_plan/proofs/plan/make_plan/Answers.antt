@@ -4,12 +4,12 @@ use Rattle.std.proofs.Common.{map, string_bytes, subst}
 use Rattle.relative_path_moves.specs.Moves.{moves_of}
 use Rattle.relmove_plan.specs.Directories.{AreLeftByMoves}
 use Rattle.relmove_plan.specs.Trees.{entry_paths}
-use Rattle.relmove_plan.specs.NewFiles.{LeaveOnce}
+use Rattle.relmove_plan.specs.NewFiles.{LeaveFromEntries, LeaveOnce}
 use Rattle.relmove_plan.specs.Pages.{page_paths}
-use Rattle.relmove_plan.specs.Steps.{step_texts}
+use Rattle.relmove_plan.specs.Steps.{changed_paths, step_texts}
 use Rattle.relmove_plan.specs.WholeTrees.{IsWhole}
 use Rattle.relmove_plan.proofs.OnceLemmas.{LeaveFromEntries-whole}
-use Rattle.relmove_plan.proofs.PlannedLemmas.{IsPlanned, DirectoriesArrive-plan, EntriesArrive-plan, TextsArrive-plan}
+use Rattle.relmove_plan.proofs.PlannedLemmas.{IsPlanned, DirectoriesArrive-plan, EntriesArrive-plan, NothingInTheWay-plan, TextsArrive-plan}
 use Rattle.relative_path.specs.Steps.{components}
 use Rattle.relmove_plan.proofs.plan.make_plan.Goals as goal
 
@@ -38,18 +38,22 @@ returns-clause-files c =
     rw c.deref-2.ensures.value at
     (c.in_ok-steps.ensures.files (entry_paths c.args.tree.entries.now) c.in_ok-index.ensures)
 
+-- entries are where something leaves
+from_entries : (c : goal.After-drop-index-2) → IsWhole c.args.tree.entries.now (page_paths c.args.tree.pages.now)
+    → LeaveFromEntries (entry_paths c.args.tree.entries.now) (moves_of c.args.moves.now)
+    (changed_paths c.args.tree.pages.now c.in_ok-pages.changed.items)
+from_entries c whole =
+    LeaveFromEntries-whole c.args.tree.entries.now c.args.tree.pages.now c.in_ok-pages.pages.items
+    c.in_ok-pages.changed.items (moves_of c.args.moves.now) c.args.any_name
+    (c.in_ok-after.ensures.fine c.args.any_name c.in_ok-table.ensures.fine) whole c.in_ok-pages.ensures.within
+    c.in_ok-pages.ensures.changed
+
 -- no path leaves twice
 leave_once : (c : goal.After-drop-index-2) → IsWhole c.args.tree.entries.now (page_paths c.args.tree.pages.now)
     → LeaveOnce (step_texts c.in_ok-steps.steps)
 leave_once c whole =
-    let entries = c.args.tree.entries.now in
-    let pages = c.args.tree.pages.now in
-    let moves = moves_of c.args.moves.now in
-    let accepted = c.in_ok-after.ensures.fine c.args.any_name c.in_ok-table.ensures.fine in
-    let leave =
-    LeaveFromEntries-whole entries pages c.in_ok-pages.pages.items c.in_ok-pages.changed.items moves c.args.any_name
-    accepted whole c.in_ok-pages.ensures.within c.in_ok-pages.ensures.changed in
-    c.in_ok-steps.ensures.once (entry_paths entries) c.in_ok-index.ensures (rw c.deref-2.ensures.value leave)
+    c.in_ok-steps.ensures.once (entry_paths c.args.tree.entries.now) c.in_ok-index.ensures
+    (rw c.deref-2.ensures.value (from_entries c whole))
 
 pub returns-clause-once : goal.returns-clause-once
 returns-clause-once = leave_once
@@ -69,6 +73,9 @@ planned c whole = record {
   names = c.in_ok-steps.ensures.names (entry_paths c.args.tree.entries.now) c.in_ok-index.ensures;
   files = rw c.deref-2.ensures.value at
       (c.in_ok-steps.ensures.files (entry_paths c.args.tree.entries.now) c.in_ok-index.ensures);
+  removed = rw c.deref-2.ensures.value at c.in_ok-steps.ensures.removed;
+  texts = rw c.deref-2.ensures.value at c.in_ok-steps.ensures.texts;
+  distinct = (from_entries c whole).distinct;
 }
 
 pub returns-clause-entries_arrive : goal.returns-clause-entries_arrive
@@ -94,3 +101,11 @@ returns-clause-made c = λ whole.
           (c.in_ok-after.ensures.fine c.args.any_name c.in_ok-table.ensures.fine) (planned c whole) after
           (map string_bytes c.in_ok-steps.steps.made.items) (c.in_ok-steps.ensures.made (map components after) has),
     )
+
+pub returns-clause-clear : goal.returns-clause-clear
+returns-clause-clear c = λ whole.
+    NothingInTheWay-plan c.args.tree.entries.now c.args.tree.pages.now c.in_ok-pages.changed.items
+    (moves_of c.args.moves.now) c.args.any_name c.in_ok-steps.steps
+    (c.in_ok-after.ensures.fine c.args.any_name c.in_ok-table.ensures.fine) (planned c whole) c.in_ok-pages.pages.items
+    c.in_ok-pages.ensures.long (rw c.in_ok-table.ensures.table at c.in_ok-pages.ensures.links)
+    (rw (c.deref.ensures.value, c.deref-2.ensures.value) at c.in_ok-steps.ensures.replaced)

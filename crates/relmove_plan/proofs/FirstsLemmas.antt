@@ -1,0 +1,103 @@
+-- The first of several renames that takes a place along, if one does.
+use Rattle.std.proofs.Common.{All, Bool, true, false, true≢false, ◌≡◌, ◌⊎◌, ℕ, zero, suc, ◌<◌, ◌+◌, List, [], ◌∷◌, ◌++◌, Some, append-nil, length, drop, map, take, get_or, inl, inr, refl, sym, ap, ◌∙◌, arith}
+use Rattle.std.specs.List.{Any, starts_with}
+use Rattle.std.specs.Str.{bytes_eq}
+use Rattle.std.proofs.lemmas.List.Elements.{All-cons, All-nil, All-tail}
+use Rattle.relative_path.specs.Steps.{Step, name}
+use Rattle.relative_path.specs.Walk.{IsSame, place_of}
+use Rattle.relative_path.proofs.ForCallers.{walk-names}
+use Rattle.relative_path_moves.specs.PlaceIndex.{IsNoneAt, path_at}
+use Rattle.relmove_plan.specs.declared.entry.Entry.{Entry}
+use Rattle.relmove_plan.specs.WholeTrees.{IsAt, LeadsToFile, IsWhole}
+use Rattle.relmove_plan.proofs.RunsLemmas.{IsUnder, starts}
+use Rattle.relmove_plan.proofs.WholeTreesLemmas.{LeadsToFile-under, some_of}
+
+-- a place is under another, or it isn't
+pub under_or : (place top : List (List ℕ)) → IsUnder place top ⊎ (¬ IsUnder place top)
+under_or place top = by (starts_with bytes_eq place top) refl
+  where
+    by : (b : Bool) → starts_with bytes_eq place top ≡ b → IsUnder place top ⊎ (¬ IsUnder place top)
+    by true is = inl (drop (length top) place, (starts place top).0 is)
+    by false is = inr (λ under. true≢false (sym ((starts place top).1 under.0 under.1) ∙ is))
+
+-- of the renames, this one is the first from the place or from above it
+pub record FirstUnder (steps : List (List (List ℕ) × List (List ℕ))) (place : List (List ℕ)) : Type 0 where
+  pub number : ℕ
+  pub step : List (List ℕ) × List (List ℕ)
+  pub below : List (List ℕ)
+  pub within : number < length steps
+  pub here : get_or steps number step ≡ step
+  pub under : place ≡ step.0 ++ below
+  pub before : (j : ℕ) (d : List (List ℕ) × List (List ℕ)) → j < number → ¬ IsUnder place (get_or steps j d).0
+
+-- no rename leads from the place or from above it, or one is the first that does
+pub first_under : (steps : List (List (List ℕ) × List (List ℕ))) (place : List (List ℕ))
+    → All (λ step. ¬ IsUnder place step.0) steps ⊎ FirstUnder steps place
+first_under [] place = inl (All-nil (λ (step : List (List ℕ) × List (List ℕ)). ¬ IsUnder place step.0))
+first_under (step ∷ steps) place = by (under_or place step.0) (first_under steps place)
+  where
+    before_next : (m : ℕ) → ¬ IsUnder place step.0
+        → ((j : ℕ) (d : List (List ℕ) × List (List ℕ)) → j < m → ¬ IsUnder place (get_or steps j d).0)
+        → (j : ℕ) (d : List (List ℕ) × List (List ℕ)) → j < suc m → ¬ IsUnder place (get_or (step ∷ steps) j d).0
+    before_next m none before zero d less = none
+    before_next m none before (suc j) d less = before j d (omega (arith, less))
+
+    by : IsUnder place step.0 ⊎ (¬ IsUnder place step.0)
+        → All (λ step. ¬ IsUnder place step.0) steps ⊎ FirstUnder steps place
+        → All (λ step. ¬ IsUnder place step.0) (step ∷ steps) ⊎ FirstUnder (step ∷ steps) place
+    by (inl (below, under)) rest = inr (record {
+      number = 0;
+      step = step;
+      below = below;
+      within = omega arith;
+      here = refl;
+      under = under;
+      before = λ j d less. absurd (omega (arith, less));
+    })
+    by (inr none) (inl others) =
+        inl (All-cons (λ (step : List (List ℕ) × List (List ℕ)). ¬ IsUnder place step.0) step steps none others)
+    by (inr none) (inr first) =
+        let inside = first.within in
+        inr (record {
+          number = suc first.number;
+          step = first.step;
+          below = first.below;
+          within = omega (arith, inside);
+          here = first.here;
+          under = first.under;
+          before = before_next first.number none first.before;
+        })
+
+-- the first of two lists and some of the second
+pub take-append_more : {X : Type 0} (xs ys : List X) (m : ℕ) → take (length xs + m) (xs ++ ys) ≡ xs ++ take m ys
+take-append_more {X} [] ys m = let none : 0 + m ≡ m = omega arith in ap (λ n. take n ys) none
+take-append_more {X} (x ∷ xs) ys m =
+    let next : suc (length xs) + m ≡ suc (length xs + m) = omega arith in
+    ap (λ n. take n (x ∷ xs ++ ys)) next ∙ ap (λ rest. x ∷ rest) (take-append_more xs ys m)
+
+-- one of the paths leads to the place of an entry, or none does
+pub one_at_or : (entries : List Entry) (pages : List (List Step)) → IsWhole entries pages → (b : Bool)
+    (place : List (List ℕ)) → Any (IsAt b place) entries → (paths : List (List Step)) → All (LeadsToFile entries) paths
+    → IsNoneAt paths (map name place) ⊎ ((k : ℕ) × (k < length paths) × (place_of (path_at paths k) ≡ Some place))
+one_at_or entries pages whole b place at [] files = inl (λ k within. absurd (let w : k < 0 = within in omega (arith, w)))
+one_at_or entries pages whole b place at (cs ∷ paths) files =
+    by (under_or place file.place)
+    (one_at_or entries pages whole b place at paths (All-tail (LeadsToFile entries) cs paths files))
+  where
+    file : LeadsToFile entries cs
+    file = files 0 [] (omega arith)
+
+    none_next : ¬ IsUnder place file.place → IsNoneAt paths (map name place) → (k : ℕ) → k < length (cs ∷ paths)
+        → ¬ IsSame (map name place) (path_at (cs ∷ paths) k)
+    none_next elsewhere none zero within same =
+        elsewhere ([], some_of (sym (walk-names [] place) ∙ same.everywhere [] ∙ file.leads) ∙ sym (append-nil file.place))
+    none_next elsewhere none (suc k) within same = none k (omega (arith, within)) same
+
+    by : IsUnder place file.place ⊎ (¬ IsUnder place file.place)
+        → IsNoneAt paths (map name place) ⊎ ((k : ℕ) × (k < length paths) × (place_of (path_at paths k) ≡ Some place))
+        → IsNoneAt (cs ∷ paths) (map name place)
+        ⊎ ((k : ℕ) × (k < length (cs ∷ paths)) × (place_of (path_at (cs ∷ paths) k) ≡ Some place))
+    by (inl under) rest =
+        inr (0, omega arith, file.leads ∙ ap Some (sym (LeadsToFile-under entries pages whole cs b place file at under)))
+    by (inr elsewhere) (inl none) = inl (none_next elsewhere none)
+    by (inr elsewhere) (inr (k, within, leads)) = inr (suc k, omega (arith, within), leads)

@@ -1,0 +1,311 @@
+-- Each rename leads from where something is, and each rename to a name in between leads to where nothing is.
+use Rattle.std.proofs.Common.{All, Bool, false, ◌≡◌, ◌≢◌, ◌⊎◌, ℕ, ◌<◌, ◌≤◌, ◌+◌, List, [], ◌∷◌, ◌++◌, Contains, length, map, take, get_or, inl, inr, refl, sym, ap, subst, ◌∙◌, append-nil, arith}
+use Rattle.std.specs.List.{Any, join_with_byte}
+use Rattle.std.proofs.lemmas.List.{get_or-map, get_or-take, get_or_default, length-map, length-take-le, map-append, take-append-le, take_all}
+use Rattle.std.proofs.lemmas.List.Elements.{All-map, All-take}
+use Rattle.std.proofs.lemmas.List.Sorted.{All-permutation}
+use Rattle.relative_path.specs.Steps.{Step, name, components, slash}
+use Rattle.relative_path.proofs.ForCallers.{walk-names}
+use Rattle.relative_path_moves.specs.Moves.{Move, move_at}
+use Rattle.relative_path_moves.specs.PlaceIndex.{IsNoneAt, path_at}
+use Rattle.relmove_plan.specs.declared.entry.Entry.{Entry}
+use Rattle.relmove_plan.specs.Runs.{names_of, rename_places, carried, renames_of, IsThereAfter}
+use Rattle.relmove_plan.specs.Steps.{StepTexts, LeavesFrom, of_move, of_page, of_text, names_come, names_left}
+use Rattle.relmove_plan.specs.Trees.{entry_paths}
+use Rattle.relmove_plan.specs.WholeTrees.{IsAt}
+use Rattle.relmove_plan.proofs.KnownRunsLemmas.{IsKnownRun}
+use Rattle.relmove_plan.proofs.KnownRunsLemmas as known
+use Rattle.relmove_plan.proofs.FirstsLemmas.{FirstUnder, first_under, take-append_more}
+use Rattle.relmove_plan.proofs.PlacesLemmas.{names_of-normal, names_of-names}
+use Rattle.relmove_plan.proofs.RunsLemmas.{IsUnder, carried-append, carried-by, carried-elsewhere}
+use Rattle.relmove_plan.proofs.SourcesLemmas.{IsFrom-apart, IsThere-place, IsUnder-first, element}
+use Rattle.relmove_plan.proofs.WholeTreesLemmas.{IsNoneAt-under, not_empty}
+
+-- an entry is at the place before the run, or the place is a new file's
+abbrev pub IsThing : List Entry → StepTexts → List (List ℕ) → Type 0
+IsThing entries steps start =
+    ((b : Bool) × Any (IsAt b start) entries) ⊎ Any (λ new. names_of new.1 ≡ start) steps.texts
+
+-- the renames to the names in between, as places
+abbrev pub leaving : StepTexts → List (List (List ℕ) × List (List ℕ))
+leaving steps = map rename_places steps.apart
+
+-- the renames from the names in between, as places
+abbrev pub coming : StepTexts → List (List (List ℕ) × List (List ℕ))
+coming steps = map rename_places steps.together
+
+-- the first renames are those to the names in between
+pub renames-leaving : (steps : StepTexts) (k : ℕ) → k ≤ length steps.apart → take k (renames_of steps) ≡ take k (leaving steps)
+renames-leaving steps k within =
+    ap (take k) (map-append rename_places steps.apart steps.together)
+    ∙ take-append-le k (leaving steps) (coming steps) (rw length-map within)
+
+-- those from the names in between come after them
+pub renames-coming : (steps : StepTexts) (m : ℕ)
+    → take (length steps.apart + m) (renames_of steps) ≡ leaving steps ++ take m (coming steps)
+renames-coming steps m =
+    ap (take (length steps.apart + m)) (map-append rename_places steps.apart steps.together)
+    ∙ ap (λ n. take (n + m) (leaving steps ++ coming steps)) (sym (length-map steps.apart rename_places))
+    ∙ take-append_more (leaving steps) (coming steps) m
+
+module _ {entries : List Entry} {pages changed : List (List Step)} {moves : List Move} {any_name : Bool} {steps : StepTexts}
+    (run : IsKnownRun entries pages changed moves any_name steps)
+  where
+    -- ---- what leaves
+
+    -- why something leaves the path from which this rename leads
+    pub leaves : (i : ℕ) (step : List ℕ × List ℕ) → i < length steps.apart → get_or steps.apart i step ≡ step
+        → LeavesFrom moves changed steps.texts step.0
+    leaves i step within is =
+        subst (λ (step : List ℕ × List ℕ). LeavesFrom moves changed steps.texts step.0) is (run.only i step within)
+
+    -- something is at the path from which something leaves
+    pub IsThing-leaves : (i : ℕ) (step : List ℕ × List ℕ) → i < length steps.apart → get_or steps.apart i step ≡ step
+        → IsThing entries steps (names_of step.0)
+    IsThing-leaves i step within is = by (leaves i step within is)
+      where
+        by : LeavesFrom moves changed steps.texts step.0 → IsThing entries steps (names_of step.0)
+        by (of_move k inside normal) =
+            let (b, place, leads, at) = IsThere-place entries pages run.whole (move_at moves k).old (run.olds k inside).there in
+            let here : place ≡ names_of step.0 = sym (names_of-normal (move_at moves k).old step.0 place normal leads) in
+            inl (b, subst (λ place. Any (IsAt b place) entries) here at)
+        by (of_page k inside normal) =
+            let file = run.files k [] inside in
+            let here : file.place ≡ names_of step.0 =
+            sym (names_of-normal (path_at changed k) step.0 file.place normal file.leads) in
+            inl (false, subst (λ place. Any (IsAt false place) entries) here file.file)
+        by (of_text old text (j, less, is_2)) = inr (j, (old, step.0, text), less, is_2, refl)
+
+    -- a rename to a name in between, as places
+    leaving_at : (i : ℕ) (step : List ℕ × List ℕ) (d : List (List ℕ) × List (List ℕ)) → i < length steps.apart
+        → get_or steps.apart i step ≡ step → get_or (leaving steps) i d ≡ rename_places step
+    leaving_at i step d within is = get_or-map rename_places steps.apart i step d within ∙ ap rename_places is
+
+    -- the rename from a path is the first that takes along what is there
+    pub FirstUnder-leaves : (k i : ℕ) (step : List ℕ × List ℕ) → i < k → k ≤ length steps.apart
+        → get_or steps.apart i step ≡ step → FirstUnder (take k (leaving steps)) (names_of step.0)
+    FirstUnder-leaves k i step less fits is =
+        let within : i < length steps.apart = omega (arith, less, fits) in
+        let long : length (take k (leaving steps)) ≡ k = length-take-le k (leaving steps) (rw length-map fits) in
+        record {
+          number = i;
+          step = rename_places step;
+          below = [];
+          within = omega (arith, less, long);
+          here = get_or-take k (leaving steps) i (rename_places step) less ∙ leaving_at i step (rename_places step) within is;
+          under = sym (append-nil (names_of step.0));
+          before = λ j d below.
+              let less_2 : j < k = omega (arith, less, below) in
+              subst (λ (other : List (List ℕ) × List (List ℕ)). ¬ IsUnder (names_of step.0) other.0)
+              (sym (get_or-take k (leaving steps) j d less_2))
+              (subst (λ (other : List (List ℕ) × List (List ℕ)). ¬ IsUnder other.0 (get_or (leaving steps) j d).0)
+              (leaving_at i step d within is) (known.order run j i d below (rw length-map within)));
+        }
+
+    -- none of the first renames leads from the path or from above it
+    pub elsewhere-leaves : (i : ℕ) (step : List ℕ × List ℕ) → i < length steps.apart → get_or steps.apart i step ≡ step
+        → All (λ other. ¬ IsUnder (names_of step.0) other.0) (take i (leaving steps))
+    elsewhere-leaves i step within is j d inside =
+        let long : length (take i (leaving steps)) ≡ i =
+        length-take-le i (leaving steps) (rw length-map (omega (arith, within))) in
+        let less : j < i = omega (arith, inside, long) in
+        subst (λ (other : List (List ℕ) × List (List ℕ)). ¬ IsUnder (names_of step.0) other.0)
+        (sym (get_or-take i (leaving steps) j d less))
+        (subst (λ (other : List (List ℕ) × List (List ℕ)). ¬ IsUnder other.0 (get_or (leaving steps) j d).0)
+        (leaving_at i step d within is) (known.order run j i d less (rw length-map within)))
+
+    -- ---- the names in between
+
+    -- the name to which a rename leads, by its number
+    pub left_at : (i : ℕ) (step : List ℕ × List ℕ) (d : List ℕ) → i < length steps.apart → get_or steps.apart i step ≡ step
+        → get_or (names_left steps) i d ≡ step.1
+    left_at i step d within is =
+        get_or-map (λ (step : List ℕ × List ℕ). step.1) steps.apart i step d within
+        ∙ ap (λ (step : List ℕ × List ℕ). step.1) is
+
+    -- the name is one name
+    left_single : (i : ℕ) (step : List ℕ × List ℕ) → i < length steps.apart → get_or steps.apart i step ≡ step
+        → components step.1 ≡ name step.1 ∷ []
+    left_single i step within is =
+        subst (λ between. components between ≡ name between ∷ []) (left_at i step [] within is)
+        (run.single i [] (rw length-map within))
+
+    -- a name to which something leaves, as a place
+    pub left_place : (i : ℕ) (step : List ℕ × List ℕ) → i < length steps.apart → get_or steps.apart i step ≡ step
+        → names_of step.1 ≡ step.1 ∷ []
+    left_place i step within is = names_of-names step.1 (step.1 ∷ []) (left_single i step within is)
+
+    -- no entry is at the name
+    pub left_unused : (i : ℕ) (step : List ℕ × List ℕ) → i < length steps.apart → get_or steps.apart i step ≡ step
+        → IsNoneAt (entry_paths entries) (map name (step.1 ∷ []))
+    left_unused i step within is =
+        subst (IsNoneAt (entry_paths entries)) (left_single i step within is)
+        (subst (λ between. IsNoneAt (entry_paths entries) (components between)) (left_at i step [] within is)
+        (run.names.unused i [] (rw length-map within)))
+
+    -- the name is one of those to which something leaves
+    has_name : (i : ℕ) (step : List ℕ × List ℕ) → i < length steps.apart → get_or steps.apart i step ≡ step
+        → Contains (names_left steps) step.1
+    has_name i step within is = (i, rw length-map within, left_at i step step.1 within is)
+
+    -- nothing leaves from such a name or from below it
+    clear : (i : ℕ) (step : List ℕ × List ℕ) (below : List (List ℕ)) → i < length steps.apart
+        → get_or steps.apart i step ≡ step
+        → All (λ other. ¬ IsUnder (names_of step.1 ++ below) other.0) (leaving steps)
+    clear i step below within is =
+        All-map (λ other. ¬ IsUnder (names_of step.1 ++ below) other.0) rename_places steps.apart
+        (λ j d l under.
+        let (other, is_2) = element steps.apart j l in
+        let src = known.source run j other l is_2 in
+        let same : get_or steps.apart j d ≡ other = get_or_default steps.apart j d other l ∙ is_2 in
+        IsFrom-apart entries pages run.whole moves changed run.files run.olds steps run.own step.1 below src.place src.is_from src.some
+        (left_unused i step within is) (has_name i step within is)
+        (subst (IsUnder (step.1 ∷ below)) (ap (λ (step : List ℕ × List ℕ). names_of step.0) same ∙ src.named)
+        (subst (λ top. IsUnder (top ++ below) (names_of (get_or steps.apart j d).0)) (left_place i step within is) under)))
+
+    -- what the first rename takes along comes to a name in between
+    pub carried-leaving : (k : ℕ) (place : List (List ℕ)) → k ≤ length steps.apart
+        → (first : FirstUnder (take k (leaving steps)) place)
+        → (step : List ℕ × List ℕ) × (first.number < k) × (get_or steps.apart first.number step ≡ step)
+        × (carried (take k (leaving steps)) place ≡ step.1 ∷ first.below)
+    carried-leaving k place fits first =
+        let i = first.number in
+        let inside = first.within in
+        let long : length (take k (leaving steps)) ≡ k = length-take-le k (leaving steps) (rw length-map fits) in
+        let less : i < k = omega (arith, inside, long) in
+        let within : i < length steps.apart = omega (arith, less, fits) in
+        let (step, is) = element steps.apart i within in
+        let here : get_or (take k (leaving steps)) i first.step ≡ rename_places step =
+        get_or-take k (leaving steps) i first.step less ∙ leaving_at i step first.step within is in
+        let one : first.step ≡ rename_places step = sym first.here ∙ here in (
+          step,
+          less,
+          is,
+          carried-by (take k (leaving steps)) i first.step place first.below first.within
+              (first.under ∙ ap (λ (other : List (List ℕ) × List (List ℕ)). other.0 ++ first.below) (sym first.here))
+              (λ j l. first.before j first.step l)
+              (λ j l m.
+              subst (λ (other : List (List ℕ) × List (List ℕ)). ¬ IsUnder (other.1 ++ first.below)
+              (get_or (take k (leaving steps)) j first.step).0) (sym here)
+              (All-take (λ (other : List (List ℕ) × List (List ℕ)). ¬ IsUnder (names_of step.1 ++ first.below) other.0) k
+              (leaving steps) (clear i step first.below within is) j first.step m))
+              ∙ ap (λ (other : List (List ℕ) × List (List ℕ)). other.1 ++ first.below) here
+              ∙ ap (λ top. top ++ first.below) (left_place i step within is),
+        )
+
+    -- what leaves comes to its name in between
+    pub carried-left : (i : ℕ) (step : List ℕ × List ℕ) → i < length steps.apart → get_or steps.apart i step ≡ step
+        → carried (leaving steps) (names_of step.0) ≡ step.1 ∷ []
+    unfolding FirstUnder-leaves
+    carried-left i step within is =
+        let first = FirstUnder-leaves (length steps.apart) i step within (omega arith) is in
+        let (one, less, is_one, comes) = carried-leaving (length steps.apart) (names_of step.0) (omega arith) first in
+        let step_is : one ≡ step = sym is_one ∙ get_or_default steps.apart i one step within ∙ is in
+        let all : take (length steps.apart) (leaving steps) ≡ leaving steps =
+        take_all (length steps.apart) (leaving steps) (rw length-map (omega arith)) in
+        ap (λ renames. carried renames (names_of step.0)) (sym all) ∙ comes
+        ∙ ap (λ (step : List ℕ × List ℕ). step.1 ∷ []) step_is
+
+    -- nothing is at a name in between before the run
+    no_thing : (i : ℕ) (step : List ℕ × List ℕ) (place : List (List ℕ)) → i < length steps.apart
+        → get_or steps.apart i step ≡ step → IsThing entries steps place → place ≢ step.1 ∷ []
+    no_thing i step place within is (inl (b, at)) same =
+        IsNoneAt-under entries pages run.whole (map name (step.1 ∷ [])) b place (step.1 ∷ []) (left_unused i step within is)
+        (walk-names [] (step.1 ∷ [])) (not_empty [] step.1 []) at ([], same ∙ sym (append-nil (step.1 ∷ [])))
+    no_thing i step place within is (inr (t, new, inside, is_2, here)) same =
+        run.own.no_name t new inside i [] (rw length-map within)
+        (ap (λ (new : List ℕ × List ℕ × List ℕ). new.1) is_2
+        ∙ subst (λ (new : List ℕ × List ℕ × List ℕ). new.1 ≡ join_with_byte slash (names_of new.1)) is_2
+        (run.own.next_to t new inside).spelled
+        ∙ ap (join_with_byte slash) (here ∙ same) ∙ sym (left_at i step [] within is))
+
+    -- ---- the renames to names in between
+
+    -- something is where the rename leads from
+    pub IsThere-leaves : (i : ℕ) (step : List ℕ × List ℕ) → i < length steps.apart → get_or steps.apart i step ≡ step
+        → IsThereAfter entries steps i (names_of step.0)
+    IsThere-leaves i step within is = record {
+      start = names_of step.0;
+      thing = IsThing-leaves i step within is;
+      now = ap (λ renames. carried renames (names_of step.0)) (renames-leaving steps i (omega (arith, within)))
+          ∙ carried-elsewhere (take i (leaving steps)) (names_of step.0) (elsewhere-leaves i step within is);
+    }
+
+    -- nothing is where the rename leads to
+    pub IsFree-leaves : (i : ℕ) (step : List ℕ × List ℕ) → i < length steps.apart → get_or steps.apart i step ≡ step
+        → ¬ IsThereAfter entries steps i (names_of step.1)
+    IsFree-leaves i step within is there = by (first_under (take i (leaving steps)) there.start)
+      where
+        fits : i ≤ length steps.apart
+        fits = omega (arith, within)
+
+        now : carried (take i (leaving steps)) there.start ≡ step.1 ∷ []
+        now = ap (λ renames. carried renames there.start) (sym (renames-leaving steps i fits)) ∙ there.now
+            ∙ left_place i step within is
+
+        by : All (λ other. ¬ IsUnder there.start other.0) (take i (leaving steps))
+            ⊎ FirstUnder (take i (leaving steps)) there.start → ⊥
+        by (inl none) =
+            no_thing i step there.start within is there.thing
+            (sym (carried-elsewhere (take i (leaving steps)) there.start none) ∙ now)
+        by (inr first) =
+            let (other, less, is_2, comes) = carried-leaving i there.start fits first in
+            let within_2 : first.number < length steps.apart = omega (arith, less, within) in
+            let same : other.1 ≡ step.1 = ap (λ place. get_or place 0 other.1) (sym comes ∙ now) in
+            run.names.different first.number i [] less (rw length-map within)
+            (left_at first.number other [] within_2 is_2 ∙ same ∙ sym (left_at i step [] within is))
+
+    -- ---- the renames from names in between
+
+    -- what comes from a name in between left to there
+    pub left_before : (k : ℕ) (step : List ℕ × List ℕ) → k < length steps.together → get_or steps.together k step ≡ step
+        → (i : ℕ) × (other : List ℕ × List ℕ) × (i < length steps.apart) × (get_or steps.apart i other ≡ other)
+        × (other.1 ≡ step.0)
+    left_before k step within is =
+        let come = names_come steps ++ steps.removed in
+        let all : All (Contains (names_left steps)) come =
+        All-permutation (Contains (names_left steps)) (names_left steps) come run.nothing_lost
+        (λ i d l. (i, l, get_or_default (names_left steps) i (get_or (names_left steps) i d) d l)) in
+        let (i, inside, here) = subst (Contains (names_left steps))
+        (known.come_at run k step [] within is)
+        (all k [] (known.inside run k within)) in
+        let inside_2 : i < length steps.apart = rw length-map at inside in
+        let (other, is_2) = element steps.apart i inside_2 in
+        (i, other, inside_2, is_2, sym (left_at i other step.0 inside_2 is_2) ∙ here)
+
+    -- before that rename, what left to there is still there
+    pub carried-before : (k i : ℕ) (step other : List ℕ × List ℕ) → k < length steps.together
+        → get_or steps.together k step ≡ step → i < length steps.apart → get_or steps.apart i other ≡ other
+        → other.1 ≡ step.0 → carried (take (length steps.apart + k) (renames_of steps)) (names_of other.0) ≡ names_of step.0
+    carried-before k i step other within is within_2 is_2 same =
+        let here : carried (leaving steps) (names_of other.0) ≡ step.0 ∷ [] =
+        carried-left i other within_2 is_2 ∙ ap (λ top. top ∷ []) same in
+        ap (λ renames. carried renames (names_of other.0)) (renames-coming steps k)
+        ∙ carried-append (leaving steps) (take k (coming steps)) (names_of other.0)
+        ∙ ap (carried (take k (coming steps))) here
+        ∙ carried-elsewhere (take k (coming steps)) (step.0 ∷ [])
+        (λ j d inside under.
+        let long : length (take k (coming steps)) ≡ k =
+        length-take-le k (coming steps) (rw length-map (omega (arith, within))) in
+        let less_2 : j < k = omega (arith, inside, long) in
+        let within_3 : j < length steps.together = omega (arith, less_2, within) in
+        let (third, is_3) = element steps.together j within_3 in
+        let there : get_or (take k (coming steps)) j d ≡ rename_places third =
+        get_or-take k (coming steps) j d less_2 ∙ get_or-map rename_places steps.together j third d within_3
+        ∙ ap rename_places is_3 in
+        known.name_other run j k third step (λ equal. absurd (omega (arith, equal, less_2))) within_3 within is_3 is
+        (sym (IsUnder-first step.0 third.0 [] []
+        (subst (IsUnder (step.0 ∷ [])) (ap (λ (step : List (List ℕ) × List (List ℕ)). step.0) there
+        ∙ known.name_place run j third within_3 is_3) under))))
+        ∙ sym (known.name_place run k step within is)
+
+    -- something is where the rename leads from
+    pub IsThere-comes : (k : ℕ) (step : List ℕ × List ℕ) → k < length steps.together → get_or steps.together k step ≡ step
+        → IsThereAfter entries steps (length steps.apart + k) (names_of step.0)
+    IsThere-comes k step within is =
+        let (i, other, within_2, is_2, same) = left_before k step within is in
+        record {
+          start = names_of other.0;
+          thing = IsThing-leaves i other within_2 is_2;
+          now = carried-before k i step other within is within_2 is_2 same;
+        }
