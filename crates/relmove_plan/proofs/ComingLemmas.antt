@@ -1,38 +1,27 @@
 -- The renames from names in between: none of those names is where such a rename leads to, or above it.
-use Rattle.std.proofs.Common.{All, Bool, ◌≡◌, ◌≢◌, ◌⊎◌, ℕ, ◌<◌, ◌+◌, List, [], Contains, Some, length, map, get_or, inl, inr, refl, sym, ap, subst, ◌∙◌, append-nil, arith}
-use Rattle.std.specs.List.{Any, AllPairs}
+use Rattle.std.proofs.Common.{Bool, ◌≡◌, ◌≢◌, ◌⊎◌, ℕ, ◌<◌, ◌+◌, List, [], Contains, Some, length, map, get_or, inl, inr, refl, sym, ap, subst, ◌∙◌, append-nil, arith}
+use Rattle.std.specs.List.{Any, AllPairs, join_with_byte}
 use Rattle.std.proofs.lemmas.Bool.{cases_order}
 use Rattle.std.proofs.lemmas.List.{get_or-append-add, get_or_default, length-append, length-map}
-use Rattle.relative_path.specs.Steps.{Step, name}
+use Rattle.relative_path.specs.Steps.{Step, name, slash}
 use Rattle.relative_path.specs.Walk.{place_of}
 use Rattle.relative_path.specs.Normalizing.{IsNormalTextOf}
 use Rattle.relative_path.proofs.ForCallers.{IsSame-place, IsSame-sym, IsSame-trans}
 use Rattle.relative_path_moves.specs.Moves.{Move, move_at}
 use Rattle.relative_path_moves.specs.PlaceIndex.{IsNoneAt, path_at}
-use Rattle.relative_path_moves.specs.TreeMoves.{AtTreePath}
+use Rattle.relative_path_moves.specs.TreeMoves.{AtTreePath, IsTreeTarget}
 use Rattle.relmove_plan.specs.declared.entry.Entry.{Entry}
-use Rattle.relmove_plan.specs.Moves.{EachMove}
 use Rattle.relmove_plan.specs.Runs.{names_of}
-use Rattle.relmove_plan.specs.Steps.{StepTexts, Carries, DoesMove, LeavesFrom, of_move, of_page, of_text, RemovesAt, names_come}
+use Rattle.relmove_plan.specs.Steps.{StepTexts, Carries, LeavesFrom, of_move, of_page, of_text, names_come}
 use Rattle.relmove_plan.specs.WholeTrees.{IsAt}
-use Rattle.relmove_plan.proofs.ArrivalsLemmas.{HasNoName}
+use Rattle.relmove_plan.proofs.CarriedLemmas.{HasNoName}
+use Rattle.relmove_plan.proofs.CarriedLemmas as carrying
+use Rattle.relmove_plan.proofs.ArrivalsLemmas as arrivals
 use Rattle.relmove_plan.proofs.KnownRunsLemmas.{IsKnownRun}
-use Rattle.relmove_plan.proofs.KnownRunsLemmas as known
 use Rattle.relmove_plan.proofs.FirstsLemmas.{one_at_or}
-use Rattle.relmove_plan.proofs.PlacesLemmas.{names_of-normal}
+use Rattle.relmove_plan.proofs.PlacesLemmas.{names_of-normal, spelled-place}
 use Rattle.relmove_plan.proofs.SourcesLemmas.{IsThere-place, element}
 use Rattle.relmove_plan.proofs.WholeTreesLemmas.{IsSame-one_place}
-
--- the new text of the page where the components lead is written to a file, and carried to where the moves take the page
-pub record IsReplaced (moves : List Move) (steps : StepTexts) (cs : List Step) : Type 0 where
-  pub old : List ℕ
-  pub old_of : IsNormalTextOf cs old
-  pub file : List ℕ
-  pub text : List ℕ
-  pub written : Contains steps.texts (old, file, text)
-  pub to : List ℕ
-  pub carries : Carries steps file to
-  pub goes : AtTreePath moves cs (λ now. IsNormalTextOf now to)
 
 -- elements with equal keys are one element, if no two elements have the same key
 pub one_by_key : {X : Type 0} (key : X → List ℕ) (xs : List X) → AllPairs (λ one other. key one ≢ key other) xs → (x y : X)
@@ -46,11 +35,19 @@ one_by_key key xs differ x y (i, within, is) (j, within_2, is_2) same = elim (ca
       absurd (differ j i y more within (ap key is_2 ∙ sym same ∙ ap key (sym is ∙ get_or_default xs i x y within)))
 ]
 
+-- the new path of a move, or the path of a page that changes after the moves: no name in between is there
+pub record IsDestination (entries : List Entry) (moves : List Move) (changed : List (List Step)) (to : List ℕ) : Type 0 where
+  pub place : List (List ℕ)
+  pub some : place ≢ []
+  pub named : names_of to ≡ place
+  pub spelled : to ≡ join_with_byte slash place
+  pub ends : HasNoName entries place
+  pub why : ((k : ℕ) × (k < length moves) × (place_of (move_at moves k).new ≡ Some place))
+      ⊎ ((c : ℕ) × (c < length changed) × (target : List Step) × IsTreeTarget moves (path_at changed c) target
+      × (place_of target ≡ Some place))
+
 module _ {entries : List Entry} {pages changed : List (List Step)} {moves : List Move} {any_name : Bool} {steps : StepTexts}
     (run : IsKnownRun entries pages changed moves any_name steps)
-    (moved : EachMove (DoesMove changed steps) moves) (removed : All (RemovesAt steps) changed)
-    (replaced : All (IsReplaced moves steps) changed)
-    (one_text : AllPairs (λ one other. one.0 ≢ other.0) steps.texts)
   where
     -- ---- the renames from names in between
 
@@ -60,7 +57,7 @@ module _ {entries : List Entry} {pages changed : List (List Step)} {moves : List
         let within_2 : i < length steps.together = omega (arith, less, within) in
         let (step, is) = element steps.together i within_2 in
         let (other, is_2) = element steps.together j within in
-        known.name_other run i j step other (λ equal. absurd (omega (arith, equal, less))) within_2 within is is_2
+        carrying.name_other run i j step other (λ equal. absurd (omega (arith, equal, less))) within_2 within is is_2
         (ap (λ (step : List ℕ × List ℕ). step.0) (sym is ∙ get_or_default steps.together i step d within_2) ∙ same
         ∙ ap (λ (step : List ℕ × List ℕ). step.0) (get_or_default steps.together j d other within ∙ is_2))
 
@@ -70,13 +67,13 @@ module _ {entries : List Entry} {pages changed : List (List Step)} {moves : List
         let count : length (names_come steps) ≡ length steps.together =
         length-map steps.together (λ (step : List ℕ × List ℕ). step.0) in
         let long = length-append (names_come steps) steps.removed in
-        (known.free_come run).different k (length (names_come steps) + r) between (omega (arith, within, count))
+        (carrying.free_come run).different k (length (names_come steps) + r) between (omega (arith, within, count))
         (omega (arith, within_2, long))
-        (known.come_at run k (between, to) between within is ∙ sym is_2
+        (carrying.come_at run k (between, to) between within is ∙ sym is_2
         ∙ sym (get_or-append-add (names_come steps) steps.removed r between))
 
     -- a thing leaves a path to one name
-    left_one : (from one other : List ℕ) → Contains steps.apart (from, one) → Contains steps.apart (from, other)
+    pub left_one : (from one other : List ℕ) → Contains steps.apart (from, one) → Contains steps.apart (from, other)
         → one ≡ other
     left_one from one other has has_2 =
         ap (λ (step : List ℕ × List ℕ). step.1)
@@ -101,9 +98,9 @@ module _ {entries : List Entry} {pages changed : List (List Step)} {moves : List
         let (c, inside, old_of) = run.own.of_pages t new within in
         let old_of_2 : IsNormalTextOf (path_at changed c) new.0 =
         subst (λ (new : List ℕ × List ℕ × List ℕ). IsNormalTextOf (path_at changed c) new.0) is old_of in
-        let one = replaced c [] inside in
+        let one = run.replaced c [] inside in
         let same : (one.old, one.file, one.text) ≡ new =
-        one_by_key (λ (new : List ℕ × List ℕ × List ℕ). new.0) steps.texts one_text (one.old, one.file, one.text) new
+        one_by_key (λ (new : List ℕ × List ℕ × List ℕ). new.0) steps.texts run.one_text (one.old, one.file, one.text) new
         one.written (t, within, is) (old_of_2.only one.old one.old_of.normal_text one.old_of.same) in (
           c,
           inside,
@@ -118,49 +115,59 @@ module _ {entries : List Entry} {pages changed : List (List Step)} {moves : List
     -- an entry is one of the pages that change, or none of them
     pub changed_or : (b : Bool) (place : List (List ℕ)) → Any (IsAt b place) entries
         → IsNoneAt changed (map name place) ⊎ ((k : ℕ) × (k < length changed) × (place_of (path_at changed k) ≡ Some place))
-    changed_or b place at = one_at_or entries pages run.whole b place at changed run.files
+    changed_or b place at = one_at_or changed (λ k d within. let file = run.files k d within in (file.place, file.leads)) place
 
-    -- no name in between is where a rename from one leads to
-    pub comes_fine : (from between to : List ℕ) → LeavesFrom moves changed steps.texts from
-        → Contains steps.apart (from, between) → Contains steps.together (between, to) → HasNoName entries (names_of to)
-    comes_fine from between to (of_move m inside normal) left comes =
-        let (b, place, leads, at) = IsThere-place entries pages run.whole (move_at moves m).old (run.olds m inside).there in
+    -- where a rename from a name in between leads to
+    pub destination : (from between to : List ℕ) → LeavesFrom moves changed steps.texts from
+        → Contains steps.apart (from, between) → Contains steps.together (between, to)
+        → IsDestination entries moves changed to
+    destination from between to (of_move m inside normal) left comes =
+        let (b, place, leads, at) =
+        IsThere-place entries pages run.whole (move_at moves m).old (run.accepted.apart.come.leave.olds m inside).there in
         by b place leads at (changed_or b place at)
       where
         by : (b : Bool) (place : List (List ℕ)) → place_of (move_at moves m).old ≡ Some place → Any (IsAt b place) entries
             → IsNoneAt changed (map name place) ⊎ ((k : ℕ) × (k < length changed) × (place_of (path_at changed k) ≡ Some place))
-            → HasNoName entries (names_of to)
+            → IsDestination entries moves changed to
         by b place leads at (inl none) =
-            let carries = (moved m inside).carries
+            let carries = (run.moved m inside).carries
             (λ k within same. none k within (IsSame-trans (IsSame-sym (IsSame-place leads)) same)) in
-            let (top, leads_2, some, fine_top) = known.new_place run m inside in
+            let (top, leads_2, some, fine) = arrivals.new_place run m inside in
             let here : from ≡ carries.old = carries.old_of.only from normal.normal_text normal.same in
             let to_is : carries.new ≡ to =
             carries_one from between to carries.new left comes
             (subst (λ old. Carries steps old carries.new) (sym here) carries.carries) in
-            subst (HasNoName entries)
-            (append-nil top ∙ sym (names_of-normal (move_at moves m).new carries.new top carries.new_of leads_2)
-            ∙ ap names_of to_is)
-            (known.HasNoName-own run top [] some fine_top)
+            subst (IsDestination entries moves changed) to_is (record {
+              place = top;
+              some = some;
+              named = names_of-normal (move_at moves m).new carries.new top carries.new_of leads_2;
+              spelled = spelled-place (move_at moves m).new carries.new top carries.new_of leads_2;
+              ends = subst (HasNoName entries) (append-nil top) (arrivals.HasNoName-own run top [] some fine);
+              why = inl (m, inside, leads_2);
+            })
         by b place leads at (inr (k, within, leads_2)) =
-            let gone = (moved m inside).removes (λ none. none k within (IsSame-one_place place leads leads_2)) in
+            let gone = (run.moved m inside).removes (λ none. none k within (IsSame-one_place place leads leads_2)) in
             let here : from ≡ gone.old = gone.old_of.only from normal.normal_text normal.same in
             let same : gone.removes.between ≡ between =
             left_one from gone.removes.between between
             (subst (λ old. Contains steps.apart (old, gone.removes.between)) (sym here) gone.removes.leaves) left in
             absurd (come_kept between to comes (subst (Contains steps.removed) same gone.removes.removed))
-    comes_fine from between to (of_page c inside normal) left comes =
-        let gone = removed c [] inside in
+    destination from between to (of_page c inside normal) left comes =
+        let gone = run.removed c [] inside in
         let here : from ≡ gone.old = gone.old_of.only from normal.normal_text normal.same in
         let same : gone.removes.between ≡ between =
         left_one from gone.removes.between between
         (subst (λ old. Contains steps.apart (old, gone.removes.between)) (sym here) gone.removes.leaves) left in
         absurd (come_kept between to comes (subst (Contains steps.removed) same gone.removes.removed))
-    comes_fine from between to (of_text old text has) left comes =
+    destination from between to (of_text old text has) left comes =
         let (c, inside, old_of, other, carries, goes) = file_carries (old, from, text) has in
         let (target, is, normal) = goes in
-        let (place, leads, ends) = known.target_place run (path_at changed c) target (run.files c [] inside) is in
-        subst (HasNoName entries)
-        (sym (names_of-normal target other place normal leads)
-        ∙ ap names_of (carries_one from between to other left comes carries))
-        ends
+        let (place, leads, some, ends) = arrivals.target_place run (path_at changed c) target (run.files c [] inside) is in
+        subst (IsDestination entries moves changed) (carries_one from between to other left comes carries) (record {
+          place = place;
+          some = some;
+          named = names_of-normal target other place normal leads;
+          spelled = spelled-place target other place normal leads;
+          ends = ends;
+          why = inr (c, inside, target, is, leads);
+        })

@@ -1,24 +1,12 @@
 -- The first of several renames that takes a place along, if one does.
-use Rattle.std.proofs.Common.{All, Bool, true, false, true≢false, ◌≡◌, ◌⊎◌, ℕ, zero, suc, ◌<◌, ◌+◌, List, [], ◌∷◌, ◌++◌, Some, append-nil, length, drop, map, take, get_or, inl, inr, refl, sym, ap, ◌∙◌, arith}
-use Rattle.std.specs.List.{Any, starts_with}
-use Rattle.std.specs.Str.{bytes_eq}
+use Rattle.std.proofs.Common.{All, ◌≡◌, ◌≢◌, ◌⊎◌, ℕ, zero, suc, ◌<◌, ◌+◌, List, [], ◌∷◌, ◌++◌, Some, length, map, take, get_or, inl, inr, refl, sym, ap, ◌∙◌, arith}
 use Rattle.std.proofs.lemmas.List.Elements.{All-cons, All-nil, All-tail}
 use Rattle.relative_path.specs.Steps.{Step, name}
 use Rattle.relative_path.specs.Walk.{IsSame, place_of}
 use Rattle.relative_path.proofs.ForCallers.{walk-names}
 use Rattle.relative_path_moves.specs.PlaceIndex.{IsNoneAt, path_at}
-use Rattle.relmove_plan.specs.declared.entry.Entry.{Entry}
-use Rattle.relmove_plan.specs.WholeTrees.{IsAt, LeadsToFile, IsWhole}
-use Rattle.relmove_plan.proofs.RunsLemmas.{IsUnder, starts}
-use Rattle.relmove_plan.proofs.WholeTreesLemmas.{LeadsToFile-under, some_of}
-
--- a place is under another, or it isn't
-pub under_or : (place top : List (List ℕ)) → IsUnder place top ⊎ (¬ IsUnder place top)
-under_or place top = by (starts_with bytes_eq place top) refl
-  where
-    by : (b : Bool) → starts_with bytes_eq place top ≡ b → IsUnder place top ⊎ (¬ IsUnder place top)
-    by true is = inl (drop (length top) place, (starts place top).0 is)
-    by false is = inr (λ under. true≢false (sym ((starts place top).1 under.0 under.1) ∙ is))
+use Rattle.relmove_plan.proofs.RunsLemmas.{IsUnder, place_or, under_or}
+use Rattle.relmove_plan.proofs.WholeTreesLemmas.{some_of}
 
 -- of the renames, this one is the first from the place or from above it
 pub record FirstUnder (steps : List (List (List ℕ) × List (List ℕ))) (place : List (List ℕ)) : Type 0 where
@@ -75,29 +63,28 @@ take-append_more {X} (x ∷ xs) ys m =
     let next : suc (length xs) + m ≡ suc (length xs + m) = omega arith in
     ap (λ n. take n (x ∷ xs ++ ys)) next ∙ ap (λ rest. x ∷ rest) (take-append_more xs ys m)
 
--- one of the paths leads to the place of an entry, or none does
-pub one_at_or : (entries : List Entry) (pages : List (List Step)) → IsWhole entries pages → (b : Bool)
-    (place : List (List ℕ)) → Any (IsAt b place) entries → (paths : List (List Step)) → All (LeadsToFile entries) paths
+-- one of several paths, each of which leads to a place, leads to this one, or none does
+pub one_at_or : (paths : List (List Step)) → All (λ cs. (p : List (List ℕ)) × (place_of cs ≡ Some p)) paths
+    → (place : List (List ℕ))
     → IsNoneAt paths (map name place) ⊎ ((k : ℕ) × (k < length paths) × (place_of (path_at paths k) ≡ Some place))
-one_at_or entries pages whole b place at [] files = inl (λ k within. absurd (let w : k < 0 = within in omega (arith, w)))
-one_at_or entries pages whole b place at (cs ∷ paths) files =
-    by (under_or place file.place)
-    (one_at_or entries pages whole b place at paths (All-tail (LeadsToFile entries) cs paths files))
+one_at_or [] placed place = inl (λ k within. absurd (let w : k < 0 = within in omega (arith, w)))
+one_at_or (cs ∷ paths) placed place =
+    by (place_or place here.0)
+    (one_at_or paths (All-tail (λ (cs : List Step). (p : List (List ℕ)) × (place_of cs ≡ Some p)) cs paths placed) place)
   where
-    file : LeadsToFile entries cs
-    file = files 0 [] (omega arith)
+    here : (p : List (List ℕ)) × (place_of cs ≡ Some p)
+    here = placed 0 [] (omega arith)
 
-    none_next : ¬ IsUnder place file.place → IsNoneAt paths (map name place) → (k : ℕ) → k < length (cs ∷ paths)
+    none_next : place ≢ here.0 → IsNoneAt paths (map name place) → (k : ℕ) → k < length (cs ∷ paths)
         → ¬ IsSame (map name place) (path_at (cs ∷ paths) k)
     none_next elsewhere none zero within same =
-        elsewhere ([], some_of (sym (walk-names [] place) ∙ same.everywhere [] ∙ file.leads) ∙ sym (append-nil file.place))
+        elsewhere (some_of (sym (walk-names [] place) ∙ same.everywhere [] ∙ here.1))
     none_next elsewhere none (suc k) within same = none k (omega (arith, within)) same
 
-    by : IsUnder place file.place ⊎ (¬ IsUnder place file.place)
+    by : (place ≡ here.0) ⊎ (place ≢ here.0)
         → IsNoneAt paths (map name place) ⊎ ((k : ℕ) × (k < length paths) × (place_of (path_at paths k) ≡ Some place))
         → IsNoneAt (cs ∷ paths) (map name place)
         ⊎ ((k : ℕ) × (k < length (cs ∷ paths)) × (place_of (path_at (cs ∷ paths) k) ≡ Some place))
-    by (inl under) rest =
-        inr (0, omega arith, file.leads ∙ ap Some (sym (LeadsToFile-under entries pages whole cs b place file at under)))
+    by (inl same) rest = inr (0, omega arith, here.1 ∙ ap Some (sym same))
     by (inr elsewhere) (inl none) = inl (none_next elsewhere none)
     by (inr elsewhere) (inr (k, within, leads)) = inr (suc k, omega (arith, within), leads)

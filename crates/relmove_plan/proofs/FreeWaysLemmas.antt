@@ -1,40 +1,40 @@
 -- Nothing is in the way of a run's renames: each leads from where something is to where nothing is.
-use Rattle.std.proofs.Common.{All, Bool, true, ◌≡◌, ◌≢◌, ◌⊎◌, ℕ, ◌<◌, ◌≤◌, ◌+◌, ◌-◌, List, [], ◌∷◌, ◌++◌, Contains, Some, drop, length, map, take, get_or, inl, inr, refl, sym, ap, subst, ◌∙◌, arith}
-use Rattle.std.specs.List.{Any, AllPairs}
+use Rattle.std.proofs.Common.{Bool, true, ◌≡◌, ◌⊎◌, ℕ, ◌<◌, ◌≤◌, ◌+◌, ◌-◌, List, [], ◌∷◌, ◌++◌, Contains, Some, drop, length, map, take, get_or, inl, inr, refl, sym, ap, subst, ◌∙◌, arith}
+use Rattle.std.specs.List.{Any}
 use Rattle.std.proofs.lemmas.Bool.{cases_lt, cases_order}
-use Rattle.std.proofs.lemmas.List.{get_or-append-add, get_or-map, get_or_append_left, get_or_default, length-append, length-map, map-append, take-append-drop}
-use Rattle.std.proofs.lemmas.List.Elements.{All-drop, All-map}
+use Rattle.std.proofs.lemmas.List.{get_or-append-add, get_or-map, get_or_append_left, length-append, length-map, map-append, take-append-drop}
+use Rattle.std.proofs.lemmas.List.Elements.{All-drop}
 use Rattle.std.proofs.lemmas.Slice.Zip.{AllZip-long}
 use Rattle.relative_path.specs.Steps.{Step, name, components}
 use Rattle.relative_path.specs.RelativePath.{path_components}
 use Rattle.relative_path.specs.Walk.{IsSame, place_of}
 use Rattle.relative_path.specs.Normalizing.{IsNormalTextOf}
 use Rattle.relative_path.proofs.ForCallers.{IsSame-place, IsSame-sym, IsSame-trans}
-use Rattle.relative_path_moves.specs.Moves.{Move, AreApart}
+use Rattle.relative_path_moves.specs.Moves.{Move}
 use Rattle.relative_path_moves.specs.PlaceIndex.{IsNoneAt, path_at}
 use Rattle.relative_path_moves.specs.TreeMoves.{IsTreeTarget}
 use Rattle.relative_path_moves.proofs.ForCallers.{AtTreePath-same, IsTreeTarget-only}
 use Rattle.relmove_plan.specs.declared.entry.Entry.{Entry}
-use Rattle.relmove_plan.specs.Moves.{EachMove}
 use Rattle.relmove_plan.specs.Runs.{names_of, rename_places, carried, renames_of, IsThereAfter, NothingInTheWay}
-use Rattle.relmove_plan.specs.Steps.{StepTexts, DoesMove, RemovesAt}
-use Rattle.relmove_plan.specs.Trees.{AreAfter, AreDistinct, IsAfter, entry_paths}
+use Rattle.relmove_plan.specs.Steps.{StepTexts}
+use Rattle.relmove_plan.specs.Trees.{IsAfter, entry_paths}
 use Rattle.relmove_plan.specs.WholeTrees.{IsAt}
 use Rattle.relmove_plan.proofs.AboveLemmas.{AllZip-at}
-use Rattle.relmove_plan.proofs.ArrivalsLemmas.{HasNoName, is_own, is_own-numbered}
+use Rattle.relmove_plan.proofs.CarriedLemmas.{HasNoName, coming, is_own, is_own-numbered, leaving}
+use Rattle.relmove_plan.proofs.CarriedLemmas as carrying
+use Rattle.relmove_plan.proofs.ArrivalsLemmas as arrivals
 use Rattle.relmove_plan.proofs.KnownRunsLemmas.{IsKnownRun}
-use Rattle.relmove_plan.proofs.KnownRunsLemmas as known
 use Rattle.relmove_plan.proofs.PlacesLemmas.{names_of-normal}
 use Rattle.relmove_plan.proofs.RunsLemmas.{IsUnder, carried-append, carried-elsewhere}
 use Rattle.relmove_plan.proofs.SourcesLemmas.{IsUnder-first, element}
-use Rattle.relmove_plan.proofs.WaysLemmas.{IsThing, coming, leaving, renames-coming}
+use Rattle.relmove_plan.proofs.WaysLemmas.{IsThing, renames-coming}
 use Rattle.relmove_plan.proofs.WaysLemmas as ways
 use Rattle.relmove_plan.proofs.WholeTreesLemmas.{IsSame-one_place, path_at-entry, some_of}
-use Rattle.relmove_plan.proofs.ComingLemmas.{IsReplaced, one_by_key}
+use Rattle.relmove_plan.proofs.ComingLemmas.{one_by_key}
 use Rattle.relmove_plan.proofs.ComingLemmas as coming_names
 
 -- a new file of the page at the place
-record IsFileOf (changed : List (List Step)) (steps : StepTexts) (file place : List (List ℕ)) : Type 0 where
+pub record IsFileOf (changed : List (List Step)) (steps : StepTexts) (file place : List (List ℕ)) : Type 0 where
   pub new : List ℕ × List ℕ × List ℕ
   pub written : Contains steps.texts new
   pub here : names_of new.1 ≡ file
@@ -44,7 +44,7 @@ record IsFileOf (changed : List (List Step)) (steps : StepTexts) (file place : L
   pub leads : place_of (path_at changed page) ≡ Some place
 
 -- what starts there is an entry that doesn't change, or the new file of one that does, and the entry comes to the end
-record BelongsTo (entries : List Entry) (changed : List (List Step)) (steps : StepTexts) (after : List (List ℕ))
+pub record BelongsTo (entries : List Entry) (changed : List (List Step)) (steps : StepTexts) (after : List (List ℕ))
     (start end : List (List ℕ)) : Type 0 where
   pub number : ℕ
   pub within : number < length entries
@@ -55,23 +55,22 @@ record BelongsTo (entries : List Entry) (changed : List (List Step)) (steps : St
 
 module _ {entries : List Entry} {pages changed : List (List Step)} {moves : List Move} {any_name : Bool} {steps : StepTexts}
     (run : IsKnownRun entries pages changed moves any_name steps)
-    (moved : EachMove (DoesMove changed steps) moves) (removed : All (RemovesAt steps) changed)
-    (replaced : All (IsReplaced moves steps) changed)
-    (one_text : AllPairs (λ one other. one.0 ≢ other.0) steps.texts)
-    (apart : AreApart moves) (after : List (List ℕ)) (are_after : AreAfter moves entries after)
-    (distinct : AreDistinct (map components after))
   where
+    -- the paths of the entries after the moves
+    abbrev pub after : List (List ℕ)
+    after = run.accepted.apart.after
+
     -- ---- what comes to an end
 
     -- after the moves the entry leads there
-    after_is : (e : ℕ) (entry : Entry) → e < length entries → get_or entries e entry ≡ entry
+    pub after_is : (e : ℕ) (entry : Entry) → e < length entries → get_or entries e entry ≡ entry
         → IsAfter moves entry (get_or after e [])
     after_is e entry within is =
         subst (λ entry. IsAfter moves entry (get_or after e [])) is
-        (AllZip-at (IsAfter moves) entries after e entry [] are_after within)
+        (AllZip-at (IsAfter moves) entries after e entry [] run.accepted.apart.are_after within)
 
     -- so the normal path of an entry leads to where a file that leads to the entry is
-    after_leads : (e : ℕ) (entry : Entry) (cs target : List Step) (end : List (List ℕ)) → e < length entries
+    pub after_leads : (e : ℕ) (entry : Entry) (cs target : List Step) (end : List (List ℕ)) → e < length entries
         → get_or entries e entry ≡ entry → IsSame cs (path_components entry.path) → IsTreeTarget moves cs target
         → place_of target ≡ Some end → place_of (components (get_or after e [])) ≡ Some end
     after_leads e entry cs target end within is same target_is leads =
@@ -81,36 +80,20 @@ module _ {entries : List Entry} {pages changed : List (List Step)} {moves : List
         (λ now. place_of now ≡ Some end) same (λ t u same leads. sym (same.everywhere []) ∙ leads)
         (target, target_is, leads) in
         sym (normal.same.everywhere [])
-        ∙ ap place_of (IsTreeTarget-only moves (path_components entry.path) other one apart other_is one_is) ∙ leads_2
-
-    -- none of the renames from names in between leads from there
-    together_clear : (place : List (List ℕ)) → ((step : List ℕ × List ℕ) → Contains steps.together step
-        → ¬ IsUnder place (step.0 ∷ [])) → All (λ step. ¬ IsUnder place step.0) (coming steps)
-    together_clear place none =
-        All-map (λ step. ¬ IsUnder place step.0) rename_places steps.together
-        (λ j d l under.
-        let (step, is) = element steps.together j l in
-        let same : get_or steps.together j d ≡ step = get_or_default steps.together j d step l ∙ is in
-        none step (j, l, is)
-        (subst (IsUnder place)
-        (ap (λ (step : List ℕ × List ℕ). names_of step.0) same ∙ known.name_place run j step l is) under))
-
-    -- nor from where no name in between is
-    end_clear : (place : List (List ℕ)) → HasNoName entries place → All (λ step. ¬ IsUnder place step.0) (coming steps)
-    end_clear place ends =
-        together_clear place
-        (λ step (j, l, is). ends step.0 (known.name_own run j step l is) (known.name_unused run j step l is))
+        ∙ ap place_of
+        (IsTreeTarget-only moves (path_components entry.path) other one run.accepted.apart.come.leave.apart other_is one_is)
+        ∙ leads_2
 
     -- a page's old text stays at its name in between
     stays_away : (c : ℕ) (place end : List (List ℕ)) → c < length changed → place_of (path_at changed c) ≡ Some place
         → carried (renames_of steps) place ≡ end → ¬ HasNoName entries end
     stays_away c place end inside leads comes ends =
-        let gone = removed c [] inside in
+        let gone = run.removed c [] inside in
         let between = gone.removes.between in
         let (i, within, is) = gone.removes.leaves in
         let (number, fits, numbered) = run.names.numbered i [] (rw length-map within) in
         let is_name : is_own between ≡ true =
-        ap is_own (sym (ways.left_at run i (gone.old, between) [] within is) ∙ numbered) ∙ is_own-numbered number in
+        ap is_own (sym (carrying.left_at run i (gone.old, between) [] within is) ∙ numbered) ∙ is_own-numbered number in
         let old_is : names_of gone.old ≡ place = names_of-normal (path_at changed c) gone.old place gone.old_of leads in
         let here : carried (renames_of steps) place ≡ between ∷ [] =
         ap (λ renames. carried renames place) (map-append rename_places steps.apart steps.together)
@@ -118,23 +101,23 @@ module _ {entries : List Entry} {pages changed : List (List Step)} {moves : List
         ∙ ap (carried (coming steps))
         (ap (carried (leaving steps)) (sym old_is) ∙ ways.carried-left run i (gone.old, between) within is)
         ∙ carried-elsewhere (coming steps) (between ∷ [])
-        (together_clear (between ∷ [])
+        (carrying.together_clear run (between ∷ [])
         (λ step has under.
-        coming_names.come_kept run moved removed replaced one_text step.0 step.1 has
+        coming_names.come_kept run step.0 step.1 has
         (subst (Contains steps.removed) (IsUnder-first between step.0 [] [] under) gone.removes.removed))) in
-        ends between is_name (ways.left_unused run i (gone.old, between) within is) ([], sym comes ∙ here)
+        ends between is_name (carrying.left_unused run i (gone.old, between) within is) ([], sym comes ∙ here)
 
     -- an entry that comes to an end without a name in between belongs to itself
     entry_belongs : (start end : List (List ℕ)) (b : Bool) → Any (IsAt b start) entries
         → carried (renames_of steps) start ≡ end → HasNoName entries end → BelongsTo entries changed steps after start end
-    entry_belongs start end b at comes ends = by at (coming_names.changed_or run moved removed replaced one_text b start at)
+    entry_belongs start end b at comes ends = by at (coming_names.changed_or run b start at)
       where
         by : Any (IsAt b start) entries
             → IsNoneAt changed (map name start) ⊎ ((k : ℕ) × (k < length changed) × (place_of (path_at changed k) ≡ Some start))
             → BelongsTo entries changed steps after start end
         by (e, entry, within, is, here) (inl none) =
             let (target, target_is, normal) = after_is e entry within is in
-            let come = known.ComesTo-target run moved b (path_components entry.path) start here.leads at
+            let come = arrivals.ComesTo-target run b (path_components entry.path) start here.leads at
             (λ k inside same. none k inside (IsSame-trans (IsSame-sym (IsSame-place here.leads)) same)) target target_is in
             let from_is : come.from ≡ start = some_of (sym come.leaves ∙ here.leads) in
             record {
@@ -152,12 +135,12 @@ module _ {entries : List Entry} {pages changed : List (List Step)} {moves : List
     file_belongs : (start end : List (List ℕ)) (new : List ℕ × List ℕ × List ℕ) → Contains steps.texts new
         → names_of new.1 ≡ start → carried (renames_of steps) start ≡ end → BelongsTo entries changed steps after start end
     file_belongs start end new has here comes =
-        let (c, inside, old_of, to, carries, goes) = coming_names.file_carries run moved removed replaced one_text new has in
+        let (c, inside, old_of, to, carries, goes) = coming_names.file_carries run new has in
         let (target, is, normal) = goes in
         let file = run.files c [] inside in
-        let (place, leads, ends) = known.target_place run (path_at changed c) target file is in
+        let (place, leads, some, ends) = arrivals.target_place run (path_at changed c) target file is in
         let end_is : place ≡ end =
-        sym (known.carried-from run new.1 to place carries (names_of-normal target to place normal leads) ends)
+        sym (carrying.carried-from run new.1 to place carries (names_of-normal target to place normal leads) ends)
         ∙ ap (carried (renames_of steps)) here ∙ comes in
         let (e, entry, within, entry_is, at) = file.file in
         record {
@@ -179,7 +162,7 @@ module _ {entries : List Entry} {pages changed : List (List Step)} {moves : List
         }
 
     -- what comes to an end without a name in between belongs to an entry
-    belongs : (start end : List (List ℕ)) → IsThing entries steps start → carried (renames_of steps) start ≡ end
+    pub belongs : (start end : List (List ℕ)) → IsThing entries steps start → carried (renames_of steps) start ≡ end
         → HasNoName entries end → BelongsTo entries changed steps after start end
     belongs start end (inl (b, at)) comes ends = entry_belongs start end b at comes ends
     belongs start end (inr (t, new, within, is, here)) comes ends = file_belongs start end new (t, within, is) here comes
@@ -188,12 +171,21 @@ module _ {entries : List Entry} {pages changed : List (List Step)} {moves : List
     after_apart : (e f : ℕ) (end : List (List ℕ)) → e < f → f < length entries
         → place_of (components (get_or after e [])) ≡ Some end → place_of (components (get_or after f [])) ≡ Some end → ⊥
     after_apart e f end less within one other =
-        let long : length after ≡ length entries = AllZip-long (IsAfter moves) entries after are_after in
+        let long : length after ≡ length entries = AllZip-long (IsAfter moves) entries after run.accepted.apart.are_after in
         let within_2 : f < length after = omega (arith, within, long) in
         let here = get_or-map components after e [] [] (omega (arith, less, within_2)) in
         let here_2 = get_or-map components after f [] [] within_2 in
-        (distinct f (rw length-map within_2)).first e less
+        (run.accepted.apart.distinct f (rw length-map within_2)).first e less
         (IsSame-one_place end (ap place_of here_2 ∙ other) (ap place_of here ∙ one))
+
+    -- so two entries that come to one place are one entry
+    pub after_one : (e f : ℕ) (end : List (List ℕ)) → e < length entries → f < length entries
+        → place_of (components (get_or after e [])) ≡ Some end → place_of (components (get_or after f [])) ≡ Some end → e ≡ f
+    after_one e f end within within_2 one other = elim (cases_order e f) [
+      | inl same ↦ same
+      | inr (inl less) ↦ absurd (after_apart e f end less within_2 one other)
+      | inr (inr more) ↦ absurd (after_apart f e end more within other one)
+    ]
 
     -- what belongs to one entry is one thing
     thing_one : (one other end : List (List ℕ)) → BelongsTo entries changed steps after one end
@@ -225,14 +217,14 @@ module _ {entries : List Entry} {pages changed : List (List Step)} {moves : List
             file_2.old_of.only file.new.0 file.old_of.normal_text (IsSame-trans together file.old_of.same) in
             sym file.here
             ∙ ap (λ (new : List ℕ × List ℕ × List ℕ). names_of new.1)
-            (one_by_key (λ (new : List ℕ × List ℕ × List ℕ). new.0) steps.texts one_text file.new file_2.new file.written
+            (one_by_key (λ (new : List ℕ × List ℕ × List ℕ). new.0) steps.texts run.one_text file.new file_2.new file.written
             file_2.written text)
             ∙ file_2.here
 
     -- ---- each rename
 
     -- nothing is where a rename from a name in between leads to
-    IsFree-comes : (k : ℕ) (step : List ℕ × List ℕ) → k < length steps.together → get_or steps.together k step ≡ step
+    pub IsFree-comes : (k : ℕ) (step : List ℕ × List ℕ) → k < length steps.together → get_or steps.together k step ≡ step
         → ¬ IsThereAfter entries steps (length steps.apart + k) (names_of step.1)
     IsFree-comes k step within is there =
         let (i, other, within_2, is_2, same) = ways.left_before run k step within is in
@@ -247,11 +239,11 @@ module _ {entries : List Entry} {pages changed : List (List Step)} {moves : List
         by : (i : ℕ) (other : List ℕ × List ℕ) → i < length steps.apart → get_or steps.apart i other ≡ other
             → other.1 ≡ step.0 → ⊥
         by i other within_2 is_2 same =
-            ends step.0 (known.name_own run k step within is) (known.name_unused run k step within is) (
+            ends step.0 (carrying.name_own run k step within is) (carrying.name_unused run k step within is) (
               [],
               sym there.now ∙ ap (carried (take count (renames_of steps))) one
                   ∙ ways.carried-before run k i step other within is within_2 is_2 same
-                  ∙ known.name_place run k step within is,
+                  ∙ carrying.name_place run k step within is,
             )
           where
             left : Contains steps.apart (other.0, step.0)
@@ -262,8 +254,8 @@ module _ {entries : List Entry} {pages changed : List (List Step)} {moves : List
 
             ends : HasNoName entries (names_of step.1)
             ends =
-                coming_names.comes_fine run moved removed replaced one_text other.0 step.0 step.1
-                (ways.leaves run i other within_2 is_2) left comes
+                let to = coming_names.destination run other.0 step.0 step.1 (ways.leaves run i other within_2 is_2) left comes in
+                subst (HasNoName entries) (sym to.named) to.ends
 
             -- what is there stays there
             still : carried (renames_of steps) there.start ≡ names_of step.1
@@ -276,11 +268,11 @@ module _ {entries : List Entry} {pages changed : List (List Step)} {moves : List
                 (sym (carried-append (leaving steps) (take k (coming steps)) there.start)
                 ∙ ap (λ renames. carried renames there.start) (sym (renames-coming steps k)) ∙ there.now)
                 ∙ carried-elsewhere (drop k (coming steps)) (names_of step.1)
-                (All-drop (λ other. ¬ IsUnder (names_of step.1) other.0) k (coming steps) (end_clear (names_of step.1) ends))
+                (All-drop (λ other. ¬ IsUnder (names_of step.1) other.0) k (coming steps) (carrying.end_clear run (names_of step.1) ends))
 
             arrives : carried (renames_of steps) (names_of other.0) ≡ names_of step.1
             arrives =
-                known.carried-from run other.0 step.1 (names_of step.1)
+                carrying.carried-from run other.0 step.1 (names_of step.1)
                 (record { between = step.0; leaves = left; comes = comes }) refl ends
 
             one : there.start ≡ names_of other.0

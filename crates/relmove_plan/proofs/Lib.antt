@@ -15,11 +15,14 @@ pub mod RunsLemmas
 pub mod PlacesLemmas
 pub mod WholeTreesLemmas
 pub mod SourcesLemmas
+pub mod KnownRunsLemmas
+pub mod CarriedLemmas
 pub mod ArrivalsLemmas
 pub mod FirstsLemmas
-pub mod KnownRunsLemmas
 pub mod WaysLemmas
 pub mod ComingLemmas
 pub mod FreeWaysLemmas
 pub mod MadeLemmas
+pub mod EndsLemmas
+pub mod OpenLemmas
 pub mod PlannedLemmas

@@ -1,34 +1,31 @@
 -- The directories that a run makes come to those that are missing above new paths.
-use Rattle.std.proofs.Common.{All, Bool, false, ◌≡◌, ◌≢◌, ◌⊎◌, ℕ, zero, suc, ◌<◌, ◌≤◌, ◌+◌, List, [], ◌∷◌, ◌++◌, Contains, Some, length, map, take, drop, get_or, inl, inr, refl, sym, ap, subst, ◌∙◌, append_assoc, append-nil, arith}
-use Rattle.std.specs.List.{AllZip, zip}
+use Rattle.std.proofs.Common.{All, Bool, false, ◌≡◌, ◌≢◌, ◌⊎◌, ℕ, zero, suc, ◌<◌, ◌≤◌, List, [], ◌∷◌, ◌++◌, Contains, Some, length, map, take, drop, get_or, inl, inr, refl, sym, ap, subst, ◌∙◌, append_assoc, append-nil, arith}
+use Rattle.std.specs.List.{AllZip, join_with_byte, zip}
 use Rattle.std.proofs.Math.Seq.{drop-append_seam}
-use Rattle.std.proofs.lemmas.Bool.{cases_lt, cases_order}
-use Rattle.std.proofs.lemmas.List.{get_or-append-add, get_or-map, get_or_default, length-append, length-map, map-append, take_at, take-append-drop, take-map, drop-map}
-use Rattle.std.proofs.lemmas.List.Elements.{All-map, All-tail, All-take}
+use Rattle.std.proofs.lemmas.List.{get_or-map, length-map, map-append, take_at, take-append-drop, take-map, drop-map}
+use Rattle.std.proofs.lemmas.List.Elements.{All-tail, All-take}
 use Rattle.std.proofs.lemmas.Slice.Zip.{get_or-zip}
-use Rattle.std.proofs.lemmas.List.Sorted.{Contains-permutation}
-use Rattle.relative_path.specs.Steps.{Step, name, components}
+use Rattle.relative_path.specs.Steps.{Step, name, components, slash}
 use Rattle.relative_path.specs.RelativePath.{path_components}
 use Rattle.relative_path.specs.Walk.{place_of}
 use Rattle.relative_path.specs.Normalizing.{IsNormalTextOf}
-use Rattle.relative_path.proofs.ForCallers.{components-place, walk-names}
+use Rattle.relative_path.proofs.ForCallers.{IsSame-place, IsSame-sym, IsSame-trans, components-place, walk-names}
 use Rattle.relative_path_moves.specs.Moves.{Move, move_at}
 use Rattle.relative_path_moves.specs.PlaceIndex.{IsNoneAt}
 use Rattle.relative_path_moves.specs.TreeMoves.{AtTreePath, IsTreeTarget, TakesAlong}
-use Rattle.relative_path_moves.specs.TreeMoves as trees
 use Rattle.relmove_plan.specs.declared.entry.Entry.{Entry}
-use Rattle.relmove_plan.specs.BetweenNames.{AreFreeNames}
-use Rattle.relmove_plan.specs.Directories.{AreMade, HasDirectory, IsMissingText, IsTakenTo, LeavesTo, LeaveToNames, moves_to_names}
-use Rattle.relmove_plan.specs.Moves.{EachMove, HasFinePaths, move_of}
-use Rattle.relmove_plan.specs.NewFiles.{HaveOwnFiles, LeaveOnce}
-use Rattle.relmove_plan.specs.Runs.{names_of, rename_places, carried, IsMadeFor, DirectoriesArrive}
-use Rattle.relmove_plan.specs.Steps.{StepTexts, BelowFirst, DoesMove, LosesNothing, OnlyTheseLeave, names_come, names_left}
-use Rattle.relmove_plan.specs.Trees.{IsBelowNoFile, IsOldFine, entry_paths}
-use Rattle.relmove_plan.specs.WholeTrees.{LeadsToFile, IsWhole}
+use Rattle.relmove_plan.specs.Directories.{AreMade, IsMissingText, IsTakenTo, LeavesTo, LeaveToNames, moves_to_names}
+use Rattle.relmove_plan.specs.Moves.{move_of}
+use Rattle.relmove_plan.specs.Runs.{names_of, carried, IsMadeFor, DirectoriesArrive}
+use Rattle.relmove_plan.specs.Steps.{StepTexts, names_left}
+use Rattle.relmove_plan.specs.Trees.{HasFileAt}
+use Rattle.relmove_plan.proofs.CarriedLemmas.{HasNoName, coming, is_own}
+use Rattle.relmove_plan.proofs.CarriedLemmas as carrying
 use Rattle.relmove_plan.proofs.ArrivalsLemmas as arrivals
-use Rattle.relmove_plan.proofs.PlacesLemmas.{names_of-normal}
-use Rattle.relmove_plan.proofs.RunsLemmas.{IsUnder, carried-by, carried-elsewhere}
-use Rattle.relmove_plan.proofs.SourcesLemmas.{IsUnder-first, element}
+use Rattle.relmove_plan.proofs.ComingLemmas as coming_names
+use Rattle.relmove_plan.proofs.KnownRunsLemmas.{IsKnownRun}
+use Rattle.relmove_plan.proofs.PlacesLemmas.{names_of-normal, spelled-place}
+use Rattle.relmove_plan.proofs.SourcesLemmas.{IsThere-place}
 use Rattle.relmove_plan.proofs.WholeTreesLemmas.{IsSame-one_place, some_of}
 
 -- a list has one normal text
@@ -46,6 +43,26 @@ right-empty : {X : Type 0} (xs ys : List X) → xs ++ ys ≡ [] → ys ≡ []
 right-empty [] ys none = none
 right-empty (x ∷ xs) ys none = absurd (let count = ap length none in omega (arith, count))
 
+pub map-some : (place : List (List ℕ)) → place ≢ [] → map name place ≢ []
+map-some [] some = absurd (some refl)
+map-some (n ∷ place) some = λ none. absurd (let count = ap length none in omega (arith, count))
+
+-- ---- two lists, zipped
+
+zip-left : {X Y : Type 0} (xs : List X) (ys : List Y) (j : ℕ) → j < length (zip xs ys) → j < length xs
+zip-left [] ys j l = l
+zip-left (x ∷ xs) [] j l = absurd (let w : j < 0 = l in omega (arith, w))
+zip-left (x ∷ xs) (y ∷ ys) zero l = omega arith
+zip-left (x ∷ xs) (y ∷ ys) (suc j) l =
+    let rest = zip-left xs ys j (omega (arith, l)) in omega (arith, rest)
+
+zip-both : {X Y : Type 0} (xs : List X) (ys : List Y) (j : ℕ) → j < length xs → j < length ys → j < length (zip xs ys)
+zip-both [] ys j l m = l
+zip-both (x ∷ xs) [] j l m = absurd (let w : j < 0 = m in omega (arith, w))
+zip-both (x ∷ xs) (y ∷ ys) zero l m = omega arith
+zip-both (x ∷ xs) (y ∷ ys) (suc j) l m =
+    let rest = zip-both xs ys j (omega (arith, l)) (omega (arith, m)) in omega (arith, rest)
+
 -- what holds of both elements holds of the lists, place by place
 AllZip-with : {X Y : Type 0} (P : X → Type 0) (R Q : X → Y → Type 0) → ((x : X) (y : Y) → P x → R x y → Q x y)
     → (xs : List X) (ys : List Y) → All P xs → AllZip R xs ys → AllZip Q xs ys
@@ -57,231 +74,159 @@ AllZip-with P R Q next (x ∷ xs) (y ∷ ys) each zipped = (
   AllZip-with P R Q next xs ys (All-tail P x xs each) zipped.1,
 )
 
-module _ (entries : List Entry) (pages changed : List (List Step)) (moves : List Move) (any_name : Bool) (steps : StepTexts)
-    (whole : IsWhole entries pages) (files : All (LeadsToFile entries) changed)
-    (fine : EachMove (HasFinePaths any_name) moves) (olds : EachMove (λ move. IsOldFine entries move.old) moves)
-    (below_first : BelowFirst (map (λ step. step.0) steps.apart)) (once : LeaveOnce steps) (nothing_lost : LosesNothing steps)
-    (only : OnlyTheseLeave moves changed steps)
-    (names : AreFreeNames (entry_paths entries) (names_left steps))
-    (single : All (λ between. components between ≡ name between ∷ []) (names_left steps))
-    (own : HaveOwnFiles (entry_paths entries) changed steps)
-    (moved : EachMove (DoesMove changed steps) moves)
-    (free : EachMove (λ move. IsBelowNoFile moves entries move.new) moves)
+-- ---- directories above new paths
+
+-- the place is at the new path of move number j, or below it
+pub record IsUnderNew (moves : List Move) (place : List (List ℕ)) (j : ℕ) (below : List (List ℕ)) : Type 0 where
+  pub within : j < length moves
+  pub top : List (List ℕ)
+  pub leads : place_of (move_at moves j).new ≡ Some top
+  pub down : place ≡ top ++ below
+
+-- before the renames of `together`, what comes to the place is there already, if no new path is there or above; or it is at
+-- the name to which the move with the nearest such path leaves, or below it
+pub data IsMadeFrom (moves : List Move) (between : List (List ℕ)) (place made : List (List ℕ)) : Type 0 where
+  from_place : ((j : ℕ) (below : List (List ℕ)) → ¬ IsUnderNew moves place j below) → made ≡ place
+      → IsMadeFrom moves between place made
+  from_name : (j : ℕ) (below : List (List ℕ)) → IsUnderNew moves place j below
+      → ((k : ℕ) (others : List (List ℕ)) → IsUnderNew moves place k others → length below ≤ length others)
+      → made ≡ get_or between j [] ∷ below → IsMadeFrom moves between place made
+
+-- the directory of the text is above the new path of a move, and none of the paths after the moves leads there
+pub record IsMissingAt (moves : List Move) (after : List (List Step)) (text : List ℕ) : Type 0 where
+  pub move : ℕ
+  pub within : move < length moves
+  pub place : List (List ℕ)
+  pub named : names_of text ≡ place
+  pub spelled : text ≡ join_with_byte slash place
+  pub leads : place_of (components text) ≡ Some place
+  pub rest : List (List ℕ)
+  pub new : place_of (move_at moves move).new ≡ Some (place ++ rest)
+  pub some : place ≢ []
+  pub some_rest : rest ≢ []
+  pub fine : arrivals.NotOwn place
+  pub none : IsNoneAt after (map name place)
+
+module _ {entries : List Entry} {pages changed : List (List Step)} {moves : List Move} {any_name : Bool} {steps : StepTexts}
+    (run : IsKnownRun entries pages changed moves any_name steps)
   where
-    name_place : (k : ℕ) (step : List ℕ × List ℕ) → k < length steps.together → get_or steps.together k step ≡ step
-        → names_of step.0 ≡ step.0 ∷ []
-    name_place =
-        arrivals.name_place entries pages changed moves any_name steps whole files fine olds below_first once nothing_lost
-        only names single own
-
-    new_place : (j : ℕ) → j < length moves
-        → (place : List (List ℕ)) × (place_of (move_at moves j).new ≡ Some place) × (place ≢ []) × arrivals.NotOwn place
-    new_place =
-        arrivals.new_place entries pages changed moves any_name steps whole files fine olds below_first once nothing_lost
-        only names single own
-
-    -- ---- renames of `together`
-
-    no_name : (place : List (List ℕ)) → arrivals.HasNoName entries place
-        → All (λ step. ¬ IsUnder place step.0) (map rename_places steps.together)
-    no_name place ends =
-        All-map (λ step. ¬ IsUnder place step.0) rename_places steps.together
-        (λ j d l under.
-        let (step, is) = element steps.together j l in
-        let same : get_or steps.together j d ≡ step = get_or_default steps.together j d step l ∙ is in
-        ends step.0
-        (arrivals.name_own entries pages changed moves any_name steps whole files fine olds below_first once nothing_lost
-        only names single own j step l is)
-        (arrivals.name_unused entries pages changed moves any_name steps whole files fine olds below_first once nothing_lost
-        only names single own j step l is)
-        (subst (IsUnder place) (ap (λ (step : List ℕ × List ℕ). names_of step.0) same ∙ name_place j step l is) under))
-
-    carried-unmoved : (place : List (List ℕ)) → arrivals.HasNoName entries place
-        → carried (map rename_places steps.together) place ≡ place
-    carried-unmoved place ends = carried-elsewhere (map rename_places steps.together) place (no_name place ends)
-
-    carried-on : (between to : List ℕ) (below target : List (List ℕ)) → Contains steps.together (between, to)
-        → names_of to ≡ target → arrivals.HasNoName entries (target ++ below)
-        → carried (map rename_places steps.together) (between ∷ below) ≡ target ++ below
-    carried-on between to below target (k, within, is) arrives ends =
-        carried-by (map rename_places steps.together) k comes (between ∷ below) below (rw length-map within)
-        (ap (λ top. top ++ below) (sym name_is)
-        ∙ ap (λ (step : List (List ℕ) × List (List ℕ)). step.0 ++ below) (sym here))
-        (λ j l under.
-        let w : j < length steps.together = omega (arith, l, within) in
-        let (step, is_2) = element steps.together j w in
-        let here_2 : get_or (map rename_places steps.together) j comes ≡ rename_places step =
-        get_or-map rename_places steps.together j step comes w ∙ ap rename_places is_2 in
-        arrivals.name_other entries pages changed moves any_name steps whole files fine olds below_first once nothing_lost
-        only names single own j k step (between, to) (λ same. absurd (omega (arith, l, same))) w within is_2 is
-        (sym (IsUnder-first between step.0 below []
-        (subst (IsUnder (between ∷ below))
-        (ap (λ (step : List (List ℕ) × List (List ℕ)). step.0) here_2 ∙ name_place j step w is_2) under))))
-        (λ j l m.
-        subst (λ top. ¬ IsUnder (top ++ below) (get_or (map rename_places steps.together) j comes).0)
-        (sym arrives ∙ ap (λ (step : List (List ℕ) × List (List ℕ)). step.1) (sym here))
-        (no_name (target ++ below) ends j comes m))
-        ∙ ap (λ (step : List (List ℕ) × List (List ℕ)). step.1 ++ below) here
-        ∙ ap (λ top. top ++ below) arrives
-      where
-        comes : List (List ℕ) × List (List ℕ)
-        comes = rename_places (between, to)
-
-        name_is : names_of between ≡ between ∷ []
-        name_is = name_place k (between, to) within is
-
-        here : get_or (map rename_places steps.together) k comes ≡ comes
-        here = get_or-map rename_places steps.together k (between, to) comes within ∙ ap rename_places is
-
     -- ---- what leaves to a name, and what comes from there
-
-    -- nothing leaves twice
-    leaves-one : (from one other : List ℕ) → Contains steps.apart (from, one) → Contains steps.apart (from, other)
-        → one ≡ other
-    leaves-one from one other (i, within, is) (j, within_2, is_2) = elim (cases_order i j) [
-      | inl same ↦
-          ap (λ (step : List ℕ × List ℕ). step.1)
-          (sym is ∙ get_or_default steps.apart i (from, one) (from, other) within
-          ∙ ap (λ k. get_or steps.apart k (from, other)) same ∙ is_2)
-      | inr (inl less) ↦
-          absurd (once i j (from, one) less within_2
-          (ap (λ (step : List ℕ × List ℕ). step.0) is
-          ∙ ap (λ (step : List ℕ × List ℕ). step.0)
-          (sym (get_or_default steps.apart j (from, one) (from, other) within_2 ∙ is_2))))
-      | inr (inr more) ↦
-          absurd (once j i (from, one) more within
-          (ap (λ (step : List ℕ × List ℕ). step.0)
-          (get_or_default steps.apart j (from, one) (from, other) within_2 ∙ is_2)
-          ∙ ap (λ (step : List ℕ × List ℕ). step.0) (sym is)))
-    ]
-
-    abbrev come : List (List ℕ)
-    come = names_come steps ++ steps.removed
-
-    come_together : (between to : List ℕ) (c : ℕ) → Contains steps.together (between, to) → length steps.together ≤ c
-        → c < length come → get_or come c between ≢ between
-    come_together between to c (k, within, is) late inside here =
-        (arrivals.free_come entries pages changed moves any_name steps whole files fine olds below_first once nothing_lost
-        only names single own).different k c between (omega (arith, within, late)) inside
-        (arrivals.come_at entries pages changed moves any_name steps whole files fine olds below_first once nothing_lost
-        only names single own k (between, to) between within is ∙ sym here)
 
     -- what leaves from the old path of a move comes to its new path, or a page that changes is there
     comes-move : (k : ℕ) → k < length moves → (between : List ℕ) → LeavesTo steps (move_at moves k).old between
         → ((to : List ℕ) × IsNormalTextOf (move_at moves k).new to × Contains steps.together (between, to))
         ⊎ (¬ IsNoneAt changed (move_at moves k).old)
-    comes-move k within between (old, is, leaves) = by has_come
+    comes-move k within between (old, is, leaves) =
+        let (b, place, leads, at) =
+        IsThere-place entries pages run.whole (move_at moves k).old (run.accepted.apart.come.leave.olds k within).there in
+        elim (coming_names.changed_or run b place at) [
+          | inl none ↦ inl (carries-to (λ c inside same. none c inside (IsSame-trans (IsSame-sym (IsSame-place leads)) same)))
+          | inr (c, inside, leads_2) ↦ inr (λ none. none c inside (IsSame-one_place place leads leads_2))
+        ]
       where
-        has_name : Contains (names_left steps) between
-        has_name = (
-          leaves.0,
-          rw length-map leaves.1,
-          get_or-map (λ (step : List ℕ × List ℕ). step.1) steps.apart leaves.0 (old, between) between leaves.1
-              ∙ ap (λ (step : List ℕ × List ℕ). step.1) leaves.2,
-        )
-
-        has_come : Contains come between
-        has_come = Contains-permutation (names_left steps) come between nothing_lost has_name
-
-        -- the name to which the old path leaves
-        is_between : (other other_old : List ℕ) → IsNormalTextOf (move_at moves k).old other_old
-            → Contains steps.apart (other_old, other) → other ≡ between
-        is_between other other_old is_2 leaves_2 =
-            leaves-one old other between
-            (subst (λ from. Contains steps.apart (from, other)) (IsNormalTextOf-one (move_at moves k).old other_old old is_2 is) leaves_2)
-            leaves
-
         carries-to : IsNoneAt changed (move_at moves k).old
             → (to : List ℕ) × IsNormalTextOf (move_at moves k).new to × Contains steps.together (between, to)
         carries-to none =
-            let carries = (moved k within).carries none in (
+            let carries = (run.moved k within).carries none in
+            let same : carries.carries.between ≡ between =
+            coming_names.left_one run old carries.carries.between between
+            (subst (λ from. Contains steps.apart (from, carries.carries.between))
+            (IsNormalTextOf-one (move_at moves k).old carries.old old carries.old_of is) carries.carries.leaves)
+            leaves in (
               carries.new,
               carries.new_of,
-              subst (λ name. Contains steps.together (name, carries.new))
-                  (is_between carries.carries.between carries.old carries.old_of carries.carries.leaves) carries.carries.comes,
+              subst (λ name. Contains steps.together (name, carries.new)) same carries.carries.comes,
             )
-
-        by : Contains come between
-            → ((to : List ℕ) × IsNormalTextOf (move_at moves k).new to × Contains steps.together (between, to))
-            ⊎ (¬ IsNoneAt changed (move_at moves k).old)
-        by (c, inside, here) = elim (cases_lt c (length steps.together)) [
-          | inr late ↦
-              inr (λ none. let (to, to_is, comes) = carries-to none in come_together between to c comes late inside here)
-          | inl early ↦
-              let (step, is_step) = element steps.together c early in
-              let name_here : step.0 ≡ between =
-              sym (arrivals.come_at entries pages changed moves any_name steps whole files fine olds below_first once nothing_lost
-              only names single own c step between early is_step) ∙ here in
-              inl (carries-to (λ j l same.
-              let removes = (moved k within).removes (λ none. none j l same) in
-              let name_is = is_between removes.removes.between removes.old removes.old_of removes.removes.leaves in
-              let (r, within_r, is_r) = removes.removes.removed in
-              let late : length (names_come steps) ≡ length steps.together = length-map steps.together (λ (step : List ℕ × List ℕ). step.0) in
-              let long = length-append (names_come steps) steps.removed in
-              let there : get_or come (length (names_come steps) + r) between ≡ between =
-              get_or-append-add (names_come steps) steps.removed r between
-              ∙ get_or_default steps.removed r between removes.removes.between within_r ∙ is_r ∙ name_is in
-              come_together between step.1 (length (names_come steps) + r) (
-                c,
-                early,
-                get_or_default steps.together c (between, step.1) step early ∙ is_step
-                    ∙ ap (λ (name : List ℕ). (name, step.1)) name_here,
-              )
-              (omega (arith, late)) (omega (arith, long, within_r)) there))
-        ]
 
     -- ---- directories above new paths
 
-    -- nothing is missing above a new path where a page that changes comes
-    not-above-page : (k j : ℕ) → k < length moves → j < length moves → (normal : List ℕ)
-        → IsNormalTextOf (move_at moves k).new normal → (top below rest : List (List ℕ)) → place_of (move_at moves j).new ≡ Some top
-        → components normal ≡ map name top ++ map name (below ++ rest) → top ≢ [] → below ++ rest ≢ []
-        → IsNoneAt changed (move_at moves j).old
-    not-above-page k j within within_2 normal normal_is top below rest leads split some some_rest = λ c l same.
-        let above = free k within in
-        let file = files c [] l in
-        let (e, entry, within_3, is, at) = file.file in
-        let old : place_of (move_at moves j).old ≡ Some file.place = same.everywhere [] ∙ file.leads in
-        let there : place_of ((move_at moves j).new ++ map name []) ≡ Some top =
-        arrivals.place-below entries pages changed moves any_name steps whole files fine olds below_first once nothing_lost
-        only names single own (move_at moves j).new top [] leads ∙ ap Some (append-nil top) in
-        let taken : trees.IsTakenTo moves (path_components entry.path) ((move_at moves j).new ++ map name []) =
-        record {
-          place = file.place;
-          leads = at.leads;
-          move = j;
-          below = [];
-          nearest = record {
-            takes = record { within = within_2; top = file.place; old = old; down = sym (append-nil file.place) };
-            nearest = λ k others takes. omega arith;
-          };
-          new = refl;
-        } in
-        above.2 (record {
-          front = map name top;
-          rest = map name (below ++ rest);
-          split = ap components (IsNormalTextOf-one (move_at moves k).new above.0 normal above.1 normal_is) ∙ split;
-          some_front = map-some top some;
-          some_rest = map-some (below ++ rest) some_rest;
-          file = (
-            e,
-            entry,
-            within_3,
-            is,
-            record {
-              file = at.kind;
-              there = (
-                (move_at moves j).new ++ map name [],
-                inl taken,
-                IsSame-one_place top there (walk-names [] top),
-              );
-            },
-          );
+    -- after the moves no file is above a new path
+    pub no_file-above : (k : ℕ) → k < length moves → (front rest : List (List ℕ))
+        → place_of (move_at moves k).new ≡ Some (front ++ rest) → front ≢ [] → rest ≢ []
+        → ¬ HasFileAt moves entries (map name front)
+    no_file-above k within front rest leads some some_rest file =
+        let (normal, normal_is, none) = run.accepted.above k within in
+        none (record {
+          front = map name front;
+          rest = map name rest;
+          split = components-place normal_is leads ∙ map-append name front rest;
+          some_front = map-some front some;
+          some_rest = map-some rest some_rest;
+          file = file;
         })
-      where
-        map-some : (place : List (List ℕ)) → place ≢ [] → map name place ≢ []
-        map-some [] some = absurd (some refl)
-        map-some (n ∷ place) some = λ none. absurd (let count = ap length none in omega (arith, count))
+
+    -- what is at the old path of a move comes to its new path
+    pub AtTreePath-move : (j : ℕ) (cs : List Step) (place top : List (List ℕ)) → j < length moves → place_of cs ≡ Some place
+        → place_of (move_at moves j).old ≡ Some place → place_of (move_at moves j).new ≡ Some top
+        → AtTreePath moves cs (λ target. place_of target ≡ Some top)
+    AtTreePath-move j cs place top within leads old new = (
+      (move_at moves j).new ++ map name [],
+      inl (record {
+        place = place;
+        leads = leads;
+        move = j;
+        below = [];
+        nearest = record {
+          takes = record { within = within; top = place; old = old; down = sym (append-nil place) };
+          nearest = λ k others takes. omega arith;
+        };
+        new = refl;
+      }),
+      arrivals.place-below run (move_at moves j).new top [] new ∙ ap Some (append-nil top),
+    )
+
+    -- so no page that changes comes to above a new path
+    unchanged-above : (k j : ℕ) → k < length moves → j < length moves → (top below : List (List ℕ))
+        → place_of (move_at moves j).new ≡ Some top → place_of (move_at moves k).new ≡ Some (top ++ below) → top ≢ []
+        → below ≢ [] → IsNoneAt changed (move_at moves j).old
+    unchanged-above k j within within_2 top below leads new some some_below = λ c l same.
+        let file = run.files c [] l in
+        let (e, entry, within_3, is, at) = file.file in
+        let (target, target_is, arrives) =
+        AtTreePath-move j (path_components entry.path) file.place top within_2 at.leads
+        (same.everywhere [] ∙ file.leads) leads in
+        no_file-above k within top below new some some_below (
+          e,
+          entry,
+          within_3,
+          is,
+          record { file = at.kind; there = (target, target_is, IsSame-one_place top arrives (walk-names [] top)) },
+        )
+
+    -- what is known of a directory that is missing above a new path
+    pub missing-at : (after : List (List Step)) (text : List ℕ) → IsMissingText moves after text → IsMissingAt moves after text
+    missing-at after text (ds, missing, is) =
+        let k = missing.move in
+        let (top, new, some_top, fine) = arrivals.new_place run k missing.within in
+        let above = missing.above.above in
+        let normal : components missing.above.normal ≡ map name top = components-place missing.above.normal_of new in
+        let split : map name top ≡ ds ++ above.rest = sym normal ∙ above.split in
+        let place : List (List ℕ) = take (length ds) top in
+        let names_are : ds ≡ map name place = front-names top ds above.rest split in
+        let leads : place_of ds ≡ Some place = ap place_of names_are ∙ walk-names [] place in
+        let rest_is : above.rest ≡ map name (drop (length ds) top) =
+        sym (drop-append_seam ds above.rest) ∙ ap (drop (length ds)) (sym split) ∙ drop-map name (length ds) top in
+        record {
+          move = k;
+          within = missing.within;
+          place = place;
+          named = names_of-normal ds text place is leads;
+          spelled = spelled-place ds text place is leads;
+          leads = sym (is.same.everywhere []) ∙ leads;
+          rest = drop (length ds) top;
+          new = new ∙ ap Some (sym (take-append-drop (length ds) top));
+          some = λ none. above.some_front (names_are ∙ ap (map name) none);
+          some_rest = λ none. above.some_rest (rest_is ∙ ap (map name) none);
+          fine = All-take (λ n. is_own n ≡ false) (length ds) top fine;
+          none = subst (IsNoneAt after) names_are missing.none;
+        }
+
+    -- no name in between is at a missing directory or above it
+    pub HasNoName-missing : (after : List (List Step)) (text : List ℕ) (missing : IsMissingAt moves after text)
+        → HasNoName entries missing.place
+    HasNoName-missing after text missing =
+        subst (HasNoName entries) (append-nil missing.place)
+        (arrivals.HasNoName-own run missing.place [] missing.some missing.fine)
 
     module _ (after : List (List Step)) (between : List (List ℕ)) (leave : LeaveToNames moves between steps) where
       -- the name to which the old path of a move leaves is one name
@@ -293,20 +238,16 @@ module _ (entries : List Entry) (pages changed : List (List Step)) (moves : List
           get_or-map (λ (step : List ℕ × List ℕ). step.1) steps.apart leaves.0 (old, get_or between j []) [] leaves.1
           ∙ ap (λ (step : List ℕ × List ℕ). step.1) leaves.2 in
           subst (λ between. components between ≡ name between ∷ []) here
-          (single leaves.0 [] (rw length-map leaves.1))
+          (run.single leaves.0 [] (rw length-map leaves.1))
 
       abbrev news : List Move
       news = moves_to_names moves between
 
       length-news : (j : ℕ) → j < length news → j < length moves
-      length-news j within = let w : j < length (zip moves between) = rw length-map at within in length-zip_left moves between j w
-        where
-          length-zip_left : {X Y : Type 0} (xs : List X) (ys : List Y) (j : ℕ) → j < length (zip xs ys) → j < length xs
-          length-zip_left [] ys j l = l
-          length-zip_left (x ∷ xs) [] j l = absurd (let w : j < 0 = l in omega (arith, w))
-          length-zip_left (x ∷ xs) (y ∷ ys) zero l = omega arith
-          length-zip_left (x ∷ xs) (y ∷ ys) (suc j) l =
-              let rest = length-zip_left xs ys j (omega (arith, l)) in omega (arith, rest)
+      length-news j within = let w : j < length (zip moves between) = rw length-map at within in zip-left moves between j w
+
+      length-news_all : (j : ℕ) → j < length moves → j < length news
+      length-news_all j within = rw length-map (zip-both moves between j within (rw leave.count within))
 
       -- a move from a new path to a name
       new_at : (j : ℕ) → j < length moves
@@ -317,126 +258,79 @@ module _ (entries : List Entry) (pages changed : List (List Step)) (moves : List
           let pairs : get_or (zip moves between) j (none, []) ≡ (get_or moves j none, get_or between j []) =
           get_or-zip moves between j (none, []) within within_2 in
           get_or-map (λ (pair : Move × List ℕ). move_of pair.0.new (components pair.1)) (zip moves between) j (none, []) none
-          (length-zip moves between j within within_2)
+          (zip-both moves between j within within_2)
           ∙ ap (λ (pair : Move × List ℕ). move_of pair.0.new (components pair.1)) pairs
+
+      -- the moves from the new paths to the names take along what is at the new paths and below them
+      takes-new : (place : List (List ℕ)) (j : ℕ) (below : List (List ℕ)) → IsUnderNew moves place j below
+          → TakesAlong news place j below
+      takes-new place j below under = record {
+        within = length-news_all j under.within;
+        top = under.top;
+        old = ap (λ (move : Move). place_of move.old) (new_at j under.within) ∙ under.leads;
+        down = under.down;
+      }
+
+      new-takes : (place : List (List ℕ)) (j : ℕ) (below : List (List ℕ)) → TakesAlong news place j below
+          → IsUnderNew moves place j below
+      new-takes place j below takes =
+          let within : j < length moves = length-news j takes.within in
+          record {
+            within = within;
+            top = takes.top;
+            leads = ap (λ (move : Move). place_of move.old) (sym (new_at j within)) ∙ takes.old;
+            down = takes.down;
+          }
+
+      -- where a missing directory is made
+      pub made-from : (directory made : List ℕ) (missing : IsMissingAt moves after directory) → IsTakenTo news directory made
+          → IsMadeFrom moves between missing.place (names_of made)
+      made-from directory made missing (target, is, made_is) = by is
         where
-          length-zip : {X Y : Type 0} (xs : List X) (ys : List Y) (j : ℕ) → j < length xs → j < length ys
-              → j < length (zip xs ys)
-          length-zip [] ys j l m = l
-          length-zip (x ∷ xs) [] j l m = absurd (let w : j < 0 = m in omega (arith, w))
-          length-zip (x ∷ xs) (y ∷ ys) zero l m = omega arith
-          length-zip (x ∷ xs) (y ∷ ys) (suc j) l m =
-              let rest = length-zip xs ys j (omega (arith, l)) (omega (arith, m)) in omega (arith, rest)
-
-      -- the directory that is made comes to the missing one
-      IsMadeFor-taken : (directory made : List ℕ) → IsMissingText moves after directory
-          → IsTakenTo news directory made → IsMadeFor steps directory made
-      IsMadeFor-taken directory made (ds, missing, directory_is) (target, is, made_is) = by is
-        where
-          k : ℕ
-          k = missing.move
-
-          top : List (List ℕ)
-          top = (new_place k missing.within).0
-
-          normal_names : components missing.above.normal ≡ map name top
-          normal_names = components-place missing.above.normal_of (new_place k missing.within).1
-
-          above : HasDirectory (components missing.above.normal) ds
-          above = missing.above.above
-
-          place : List (List ℕ)
-          place = take (length ds) top
-
-          names_are : ds ≡ map name place
-          names_are = front-names top ds above.rest (sym normal_names ∙ above.split)
-
-          fine_place : arrivals.NotOwn place
-          fine_place = All-take (λ n. arrivals.is_own n ≡ false) (length ds) top (new_place k missing.within).3
-
-          some_place : place ≢ []
-          some_place = λ none. above.some_front (names_are ∙ ap (map name) none)
-
-          leads : place_of ds ≡ Some place
-          leads = ap place_of names_are ∙ walk-names [] place
-
-          directory_place : place_of (components directory) ≡ Some place
-          directory_place = sym (directory_is.same.everywhere []) ∙ leads
-
-          named : names_of directory ≡ place
-          named = names_of-normal ds directory place directory_is leads
-
-          -- no name in between is at the place or above it
-          ends : arrivals.HasNoName entries place
-          ends =
-              subst (arrivals.HasNoName entries) (append-nil place)
-              (arrivals.HasNoName-own entries pages changed moves any_name steps whole files fine olds below_first once
-              nothing_lost only names single own place [] some_place fine_place)
-
-          made_place : (made_at : List (List ℕ)) → place_of target ≡ Some made_at → names_of made ≡ made_at
-          made_place made_at leads_2 = names_of-normal target made made_at made_is leads_2
-
-          by : IsTreeTarget news (components directory) target → IsMadeFor steps directory made
+          by : IsTreeTarget news (components directory) target → IsMadeFrom moves between missing.place (names_of made)
           by (inr (left, same)) =
-              ap (carried (map rename_places steps.together)) (made_place place (ap place_of same ∙ directory_place))
-              ∙ carried-unmoved place ends ∙ sym named
-          by (inl taken) = elim (comes-move j within_j between_j (leave.each j within_j)) [
+              IsMadeFrom.from_place
+              (λ j below under. left missing.place j below missing.leads (takes-new missing.place j below under))
+              (names_of-normal target made missing.place made_is (ap place_of same ∙ missing.leads))
+          by (inl taken) =
+              let j = taken.move in
+              let place_is : taken.place ≡ missing.place = some_of (sym taken.leads ∙ missing.leads) in
+              let within : j < length moves = length-news j taken.nearest.takes.within in
+              let target_is : target ≡ map name (get_or between j [] ∷ taken.below) =
+              taken.new ∙ ap (λ (move : Move). move.new ++ map name taken.below) (new_at j within)
+              ∙ ap (λ cs. cs ++ map name taken.below) (single_name j within) in
+              IsMadeFrom.from_name j taken.below
+              (new-takes missing.place j taken.below
+              (subst (λ place. TakesAlong news place j taken.below) place_is taken.nearest.takes))
+              (λ k others under.
+              taken.nearest.nearest k others
+              (subst (λ place. TakesAlong news place k others) (sym place_is) (takes-new missing.place k others under)))
+              (names_of-normal target made (get_or between j [] ∷ taken.below) made_is
+              (ap place_of target_is ∙ walk-names [] (get_or between j [] ∷ taken.below)))
+
+      -- a directory that is made there comes to the missing one
+      pub carried-made : (directory : List ℕ) (missing : IsMissingAt moves after directory) (made : List (List ℕ))
+          → IsMadeFrom moves between missing.place made → carried (coming steps) made ≡ missing.place
+      carried-made directory missing made (IsMadeFrom.from_place none here) =
+          ap (carried (coming steps)) here
+          ∙ carrying.carried-unmoved run missing.place (HasNoName-missing after directory missing)
+      carried-made directory missing made (IsMadeFrom.from_name j below under nearest here) =
+          elim (comes-move j under.within (get_or between j []) (leave.each j under.within)) [
             | inl (to, to_is, comes) ↦
-                ap (carried (map rename_places steps.together)) made_is_at
-                ∙ carried-on between_j to taken.below takes.top comes
-                (names_of-normal (move_at moves j).new to takes.top to_is old) (subst (arrivals.HasNoName entries) place_is ends)
-                ∙ sym place_is ∙ sym named
+                ap (carried (coming steps)) here
+                ∙ carrying.carried-on run (get_or between j []) to below under.top comes
+                (names_of-normal (move_at moves j).new to under.top to_is under.leads)
+                (subst (HasNoName entries) under.down (HasNoName-missing after directory missing))
+                ∙ sym under.down
             | inr changes ↦
-                absurd (changes (not-above-page k j missing.within within_j missing.above.normal missing.above.normal_of takes.top
-                taken.below (drop (length ds) top) old split some_top some_rest))
+                absurd (changes (unchanged-above missing.move j missing.within under.within under.top (below ++ missing.rest)
+                under.leads
+                (missing.new ∙ ap Some (ap (λ place. place ++ missing.rest) under.down
+                ∙ append_assoc under.top below missing.rest))
+                (λ none. (arrivals.new_place run j under.within).2
+                (some_of (sym (arrivals.new_place run j under.within).1 ∙ under.leads) ∙ none))
+                (λ none. missing.some_rest (right-empty below missing.rest none))))
           ]
-            where
-              j : ℕ
-              j = taken.move
-
-              takes : TakesAlong news taken.place j taken.below
-              takes = taken.nearest.takes
-
-              within_j : j < length moves
-              within_j = length-news j takes.within
-
-              between_j : List ℕ
-              between_j = get_or between j []
-
-              old : place_of (move_at moves j).new ≡ Some takes.top
-              old = ap (λ (move : Move). place_of move.old) (sym (new_at j within_j)) ∙ takes.old
-
-              place_is : place ≡ takes.top ++ taken.below
-              place_is = some_of (sym directory_place ∙ taken.leads) ∙ takes.down
-
-              target_is : target ≡ map name (between_j ∷ taken.below)
-              target_is =
-                  taken.new ∙ ap (λ (move : Move). move.new ++ map name taken.below) (new_at j within_j)
-                  ∙ ap (λ cs. cs ++ map name taken.below) (single_name j within_j)
-
-              made_is_at : names_of made ≡ between_j ∷ taken.below
-              made_is_at =
-                  made_place (between_j ∷ taken.below) (ap place_of target_is ∙ walk-names [] (between_j ∷ taken.below))
-
-              some_top : takes.top ≢ []
-              some_top = λ none. (new_place j within_j).2 (some_of (sym (new_place j within_j).1 ∙ old) ∙ none)
-
-              rest_is : above.rest ≡ map name (drop (length ds) top)
-              rest_is =
-                  sym (drop-append_seam ds above.rest) ∙ ap (drop (length ds)) (sym (sym normal_names ∙ above.split))
-                  ∙ drop-map name (length ds) top
-
-              some_rest : taken.below ++ drop (length ds) top ≢ []
-              some_rest = λ none. above.some_rest (rest_is ∙ ap (map name) (right-empty taken.below (drop (length ds) top) none))
-
-              split : components missing.above.normal
-                  ≡ map name takes.top ++ map name (taken.below ++ drop (length ds) top)
-              split =
-                  normal_names
-                  ∙ ap (map name) (sym (take-append-drop (length ds) top)
-                  ∙ ap (λ front. front ++ drop (length ds) top) place_is
-                  ∙ append_assoc takes.top taken.below (drop (length ds) top))
-                  ∙ map-append name takes.top (taken.below ++ drop (length ds) top)
 
       -- the directories that are made come to the missing ones
       pub DirectoriesArrive-made : (made : List (List ℕ)) → AreMade moves between after made
@@ -444,6 +338,9 @@ module _ (entries : List Entry) (pages changed : List (List Step)) (moves : List
       DirectoriesArrive-made made are = record {
         missing = are.taken.missing;
         are_missing = are.taken.are_missing;
-        arrive = AllZip-with (IsMissingText moves after) (IsTakenTo news) (IsMadeFor steps) IsMadeFor-taken are.taken.missing
-            made are.taken.are_missing.sound are.taken.taken;
+        arrive = AllZip-with (IsMissingText moves after) (IsTakenTo news) (IsMadeFor steps)
+            (λ directory made missing taken.
+            let at = missing-at after directory missing in
+            carried-made directory at (names_of made) (made-from directory made at taken) ∙ sym at.named)
+            are.taken.missing made are.taken.are_missing.sound are.taken.taken;
       }

@@ -37,7 +37,9 @@ module _ {X : Type 0} (key : X → List ℕ) (other : X → X → Ordering) (xs 
     -- a later path has no earlier one below it
     not_below : (i j : ℕ) (d : X) → i ≤ j → j < length xs → ¬ IsBelow (key (get_or xs i d)) (key (get_or xs j d))
     not_below i j d order within (rest, below) =
-        let far = sorted_far (λ a b. is_lt (slice_cmp nat_cmp (key a) (key b))) (ranks_by (lists_total nat_cmp_total) key) xs by_key i j d order within in
+        let far =
+        sorted_far (λ a b. is_lt (slice_cmp nat_cmp (key a) (key b))) (ranks_by (lists_total nat_cmp_total) key) xs by_key i j d
+        order within in
         let less : slice_cmp nat_cmp (key (get_or xs j d)) (key (get_or xs i d)) ≡ Less =
         rw below (slice_cmp-longer (key (get_or xs j d)) slash rest) in
         true≢false (sym (ap is_lt less) ∙ far)

@@ -40,8 +40,10 @@ module _ (pages : List SitePage) (news : List MovedSitePage) (k : ℕ) (p : Site
         → bytes_eq (get_or pages k p).text.now (string_bytes (get_or news k n).page.text) ≡ false
         → ChangedSoFar pages news k changed → ChangedSoFar pages news (k + 1) (changed ++ page ∷ [])
     ChangedSoFar-differs changed page is differs so_far =
-        ap (λ numbers. numbers ++ changed_from (k + 1) (drop (k + 1) pages) (drop (k + 1) news)) (map_push (λ page. page.number) changed page)
-        ∙ append_assoc (map (λ page. page.number) changed) (page.number ∷ []) (changed_from (k + 1) (drop (k + 1) pages) (drop (k + 1) news))
+        ap (λ numbers. numbers ++ changed_from (k + 1) (drop (k + 1) pages) (drop (k + 1) news))
+        (map_push (λ page. page.number) changed page)
+        ∙ append_assoc (map (λ page. page.number) changed) (page.number ∷ [])
+        (changed_from (k + 1) (drop (k + 1) pages) (drop (k + 1) news))
         ∙ ap (λ j. map (λ page. page.number) changed ++ j ∷ changed_from (k + 1) (drop (k + 1) pages) (drop (k + 1) news)) is
         ∙ ap (λ more. map (λ page. page.number) changed ++ more) (sym (changed_from-differs differs)) ∙ so_far
 

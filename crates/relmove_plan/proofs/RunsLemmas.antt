@@ -1,8 +1,7 @@
 -- Where renames carry a place: the first rename whose path is the place's or above it takes the place along.
-use Rattle.std.proofs.Common.{All, Bool, true, false, ◌≡◌, ◌≢◌, ℕ, zero, suc, ◌<◌, ◌≤◌, List, [], ◌∷◌, ◌++◌, length, drop, take, get_or, refl, sym, ap, subst, ◌∙◌, arith}
-use Rattle.std.specs.List.{AllPairs}
+use Rattle.std.proofs.Common.{All, Bool, true, false, true≢false, ◌≡◌, ◌≢◌, ◌⊎◌, ℕ, zero, suc, ◌<◌, ◌≤◌, List, [], ◌∷◌, ◌++◌, length, drop, take, get_or, inl, inr, refl, sym, ap, subst, ◌∙◌, append-nil, arith}
 use Rattle.std.proofs.Math.Seq.{drop-append_seam, take-append_seam}
-use Rattle.std.proofs.lemmas.List.{get_or_default, take-append-drop, take-append-le}
+use Rattle.std.proofs.lemmas.List.{get_or_default, length-append, take-append-drop, take-append-le}
 use Rattle.std.proofs.lemmas.List.Elements.{All-tail}
 use Rattle.std.proofs.lemmas.Slice.Eq.{bytes_eq-Decides, starts_is}
 use Rattle.std.specs.List.{starts_with}
@@ -13,11 +12,36 @@ use Rattle.relmove_plan.specs.Runs.{renamed, carried}
 abbrev pub IsUnder : List (List ℕ) → List (List ℕ) → Type 0
 IsUnder place top = (below : List (List ℕ)) × (place ≡ top ++ below)
 
--- ---- one rename
-
 pub starts : (place top : List (List ℕ)) → (starts_with bytes_eq place top ≡ true → place ≡ top ++ drop (length top) place)
     × ((rest : List (List ℕ)) → place ≡ top ++ rest → starts_with bytes_eq place top ≡ true)
 starts place top = starts_is bytes_eq-Decides place top (starts_with bytes_eq place top) refl
+
+-- a place is under another, or it isn't
+pub under_or : (place top : List (List ℕ)) → IsUnder place top ⊎ (¬ IsUnder place top)
+under_or place top = by (starts_with bytes_eq place top) refl
+  where
+    by : (b : Bool) → starts_with bytes_eq place top ≡ b → IsUnder place top ⊎ (¬ IsUnder place top)
+    by true is = inl (drop (length top) place, (starts place top).0 is)
+    by false is = inr (λ under. true≢false (sym ((starts place top).1 under.0 under.1) ∙ is))
+
+-- two places are one place, or they aren't
+pub place_or : (one other : List (List ℕ)) → (one ≡ other) ⊎ (one ≢ other)
+place_or one other = by (under_or one other) (under_or other one)
+  where
+    both : (below rest : List (List ℕ)) → one ≡ other ++ below → other ≡ one ++ rest → one ≡ other
+    both [] rest is is_2 = is ∙ append-nil other
+    both (n ∷ below) rest is is_2 =
+        let long = ap length is ∙ length-append other (n ∷ below) in
+        let long_2 = ap length is_2 ∙ length-append one rest in
+        absurd (omega (arith, long, long_2))
+
+    by : IsUnder one other ⊎ (¬ IsUnder one other) → IsUnder other one ⊎ (¬ IsUnder other one)
+        → (one ≡ other) ⊎ (one ≢ other)
+    by (inr none) back = inr (λ same. none ([], same ∙ sym (append-nil other)))
+    by (inl under) (inr none) = inr (λ same. none ([], sym same ∙ sym (append-nil one)))
+    by (inl (below, is)) (inl (rest, is_2)) = inl (both below rest is is_2)
+
+-- ---- one rename
 
 pub renamed-under : (from to place below : List (List ℕ)) → place ≡ from ++ below → renamed (from, to) place ≡ to ++ below
 renamed-under from to place below is =
@@ -43,7 +67,8 @@ pub carried-elsewhere : (steps : List (List (List ℕ) × List (List ℕ))) (pla
 carried-elsewhere [] place elsewhere = refl
 carried-elsewhere (step ∷ steps) place elsewhere =
     ap (carried steps) (renamed-elsewhere step.0 step.1 place (elsewhere zero step (omega arith)))
-    ∙ carried-elsewhere steps place (All-tail (λ (step : List (List ℕ) × List (List ℕ)). ¬ IsUnder place step.0) step steps elsewhere)
+    ∙ carried-elsewhere steps place
+    (All-tail (λ (step : List (List ℕ) × List (List ℕ)). ¬ IsUnder place step.0) step steps elsewhere)
 
 -- the place is taken along by rename number i, by none before it, and by none after it
 pub carried-by : (steps : List (List (List ℕ) × List (List ℕ))) (i : ℕ) (d : List (List ℕ) × List (List ℕ))
@@ -63,6 +88,20 @@ carried-by (step ∷ steps) (suc i) d place below within is before after =
     ∙ carried-by steps i d place below (omega (arith, within)) is (λ j l. before (suc j) (omega (arith, l)))
     (λ j l m. after (suc j) (omega (arith, l)) (omega (arith, m)))
 
+-- what comes to a place is there already, if no rename leads to there or to above
+pub carried-still : (steps : List (List (List ℕ) × List (List ℕ))) (place end : List (List ℕ))
+    → All (λ step. ¬ IsUnder end step.1) steps → carried steps place ≡ end → place ≡ end
+carried-still [] place end none comes = comes
+carried-still (step ∷ steps) place end none comes =
+    by (under_or place step.0)
+    (carried-still steps (renamed step place) end
+    (All-tail (λ (step : List (List ℕ) × List (List ℕ)). ¬ IsUnder end step.1) step steps none) comes)
+  where
+    by : IsUnder place step.0 ⊎ (¬ IsUnder place step.0) → renamed step place ≡ end → place ≡ end
+    by (inl (below, is)) there =
+        absurd (none zero step (omega arith) (below, sym there ∙ renamed-under step.0 step.1 place below is))
+    by (inr elsewhere) there = sym (renamed-elsewhere step.0 step.1 place elsewhere) ∙ there
+
 -- ---- places above one place
 
 -- of two places above a third, the one with fewer names is above the other
@@ -75,54 +114,3 @@ IsUnder-shorter place one other (below, is) (below_2, is_2) short =
       drop (length one) other,
       sym (take-append-drop (length one) other) ∙ ap (λ top. top ++ drop (length one) other) front,
     )
-
--- ---- first the one list of renames, and then the other
-
--- of the renames of `apart`, number i takes the place along to a place in between, and number k of `together` takes it on
-pub record TakesThrough (apart together : List (List (List ℕ) × List (List ℕ))) (place below : List (List ℕ)) (i k : ℕ)
-    (leaves comes : List (List ℕ) × List (List ℕ)) : Type 0 where
-  pub within : i < length apart
-  pub here : get_or apart i leaves ≡ leaves
-  pub within_2 : k < length together
-  pub here_2 : get_or together k comes ≡ comes
-  pub under : place ≡ leaves.0 ++ below
-  pub on : comes.0 ≡ leaves.1
-  -- what is above a path leaves after it
-  pub order : AllPairs (λ one other. ¬ IsUnder other.0 one.0) apart
-  pub nearest : All (λ step. IsUnder place step.0 → length step.0 ≤ length leaves.0) apart
-  pub stays : All (λ step. ¬ IsUnder (leaves.1 ++ below) step.0) apart
-  pub only : (j : ℕ) → j < length together → j ≢ k → ¬ IsUnder (comes.0 ++ below) (get_or together j comes).0
-  pub ends : All (λ step. ¬ IsUnder (comes.1 ++ below) step.0) together
-
-pub carried-through : (apart together : List (List (List ℕ) × List (List ℕ))) (place below : List (List ℕ)) (i k : ℕ)
-    (leaves comes : List (List ℕ) × List (List ℕ)) → TakesThrough apart together place below i k leaves comes
-    → carried (apart ++ together) place ≡ comes.1 ++ below
-carried-through apart together place below i k leaves comes takes =
-    carried-append apart together place ∙ ap (carried together) first ∙ second
-  where
-    first : carried apart place ≡ leaves.1 ++ below
-    first =
-        carried-by apart i leaves place below takes.within
-        (takes.under ∙ ap (λ (step : List (List ℕ) × List (List ℕ)). step.0 ++ below) (sym takes.here))
-        (λ j l under.
-        takes.order j i leaves l takes.within
-        (subst (λ (step : List (List ℕ) × List (List ℕ)). IsUnder step.0 (get_or apart j leaves).0) (sym takes.here)
-        (IsUnder-shorter place (get_or apart j leaves).0 leaves.0 under (below, takes.under)
-        (takes.nearest j leaves (omega (arith, l, takes.within)) under))))
-        (λ j l m.
-        subst (λ (step : List (List ℕ) × List (List ℕ)). ¬ IsUnder (step.1 ++ below) (get_or apart j leaves).0)
-        (sym takes.here) (takes.stays j leaves m))
-        ∙ ap (λ (step : List (List ℕ) × List (List ℕ)). step.1 ++ below) takes.here
-
-    second : carried together (leaves.1 ++ below) ≡ comes.1 ++ below
-    second =
-        carried-by together k comes (leaves.1 ++ below) below takes.within_2
-        (ap (λ top. top ++ below) (sym takes.on)
-        ∙ ap (λ (step : List (List ℕ) × List (List ℕ)). step.0 ++ below) (sym takes.here_2))
-        (λ j l.
-        subst (λ top. ¬ IsUnder (top ++ below) (get_or together j comes).0) takes.on
-        (takes.only j (omega (arith, l, takes.within_2)) (λ same. absurd (omega (arith, l, same)))))
-        (λ j l m.
-        subst (λ (step : List (List ℕ) × List (List ℕ)). ¬ IsUnder (step.1 ++ below) (get_or together j comes).0)
-        (sym takes.here_2) (takes.ends j comes m))
-        ∙ ap (λ (step : List (List ℕ) × List (List ℕ)). step.1 ++ below) takes.here_2

@@ -45,8 +45,9 @@ pub data IsFrom (entries : List Entry) (moves : List Move) (changed : List (List
       → IsFrom entries moves changed names place
   from_page : (k : ℕ) → k < length changed → (file : LeadsToFile entries (path_at changed k)) → place ≡ file.place
       → IsFrom entries moves changed names place
-  from_file : (k : ℕ) → k < length changed → (top : LeadsToFile entries (path_at changed k)) (front : List (List ℕ)) (n last : List ℕ)
-      → top.place ≡ front ++ last ∷ [] → place ≡ front ++ n ∷ [] → IsNoneAt (entry_paths entries) (map name place)
+  from_file : (k : ℕ) → k < length changed → (top : LeadsToFile entries (path_at changed k)) (front : List (List ℕ))
+      (n last : List ℕ) → top.place ≡ front ++ last ∷ [] → place ≡ front ++ n ∷ []
+      → IsNoneAt (entry_paths entries) (map name place)
       → All (λ between. place ≢ between ∷ []) names → IsFrom entries moves changed names place
 
 -- what is known of the path from which something leaves
@@ -170,7 +171,8 @@ module _ (entries : List Entry) (pages : List (List Step)) (whole : IsWhole entr
               IsNoneAt-under entries pages whole (map name (between ∷ [])) b (between ∷ place) (between ∷ []) none
               (walk-names [] (between ∷ [])) (not_empty [] between []) at (place, refl)
 
-          begins : (top : List (List ℕ)) → top ≢ [] → IsUnder (between ∷ below) top → (place : List (List ℕ)) × (top ≡ between ∷ place)
+          begins : (top : List (List ℕ)) → top ≢ [] → IsUnder (between ∷ below) top
+              → (place : List (List ℕ)) × (top ≡ between ∷ place)
           begins [] some under = absurd (some refl)
           begins (n ∷ place) some under = (place, ap (λ first. first ∷ place) (sym (IsUnder-first between n below place under)))
 

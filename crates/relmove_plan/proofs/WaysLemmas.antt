@@ -2,37 +2,29 @@
 use Rattle.std.proofs.Common.{All, Bool, false, ◌≡◌, ◌≢◌, ◌⊎◌, ℕ, ◌<◌, ◌≤◌, ◌+◌, List, [], ◌∷◌, ◌++◌, Contains, length, map, take, get_or, inl, inr, refl, sym, ap, subst, ◌∙◌, append-nil, arith}
 use Rattle.std.specs.List.{Any, join_with_byte}
 use Rattle.std.proofs.lemmas.List.{get_or-map, get_or-take, get_or_default, length-map, length-take-le, map-append, take-append-le, take_all}
-use Rattle.std.proofs.lemmas.List.Elements.{All-map, All-take}
+use Rattle.std.proofs.lemmas.List.Elements.{All-take}
 use Rattle.std.proofs.lemmas.List.Sorted.{All-permutation}
-use Rattle.relative_path.specs.Steps.{Step, name, components, slash}
+use Rattle.relative_path.specs.Steps.{Step, name, slash}
 use Rattle.relative_path.proofs.ForCallers.{walk-names}
 use Rattle.relative_path_moves.specs.Moves.{Move, move_at}
-use Rattle.relative_path_moves.specs.PlaceIndex.{IsNoneAt, path_at}
+use Rattle.relative_path_moves.specs.PlaceIndex.{path_at}
 use Rattle.relmove_plan.specs.declared.entry.Entry.{Entry}
 use Rattle.relmove_plan.specs.Runs.{names_of, rename_places, carried, renames_of, IsThereAfter}
 use Rattle.relmove_plan.specs.Steps.{StepTexts, LeavesFrom, of_move, of_page, of_text, names_come, names_left}
-use Rattle.relmove_plan.specs.Trees.{entry_paths}
 use Rattle.relmove_plan.specs.WholeTrees.{IsAt}
+use Rattle.relmove_plan.proofs.CarriedLemmas.{HasNoName, coming, is_own, leaving}
+use Rattle.relmove_plan.proofs.CarriedLemmas as carrying
 use Rattle.relmove_plan.proofs.KnownRunsLemmas.{IsKnownRun}
-use Rattle.relmove_plan.proofs.KnownRunsLemmas as known
 use Rattle.relmove_plan.proofs.FirstsLemmas.{FirstUnder, first_under, take-append_more}
-use Rattle.relmove_plan.proofs.PlacesLemmas.{names_of-normal, names_of-names}
+use Rattle.relmove_plan.proofs.PlacesLemmas.{names_of-normal}
 use Rattle.relmove_plan.proofs.RunsLemmas.{IsUnder, carried-append, carried-by, carried-elsewhere}
-use Rattle.relmove_plan.proofs.SourcesLemmas.{IsFrom-apart, IsThere-place, IsUnder-first, element}
+use Rattle.relmove_plan.proofs.SourcesLemmas.{IsThere-place, IsUnder-first, element}
 use Rattle.relmove_plan.proofs.WholeTreesLemmas.{IsNoneAt-under, not_empty}
 
 -- an entry is at the place before the run, or the place is a new file's
 abbrev pub IsThing : List Entry → StepTexts → List (List ℕ) → Type 0
 IsThing entries steps start =
     ((b : Bool) × Any (IsAt b start) entries) ⊎ Any (λ new. names_of new.1 ≡ start) steps.texts
-
--- the renames to the names in between, as places
-abbrev pub leaving : StepTexts → List (List (List ℕ) × List (List ℕ))
-leaving steps = map rename_places steps.apart
-
--- the renames from the names in between, as places
-abbrev pub coming : StepTexts → List (List (List ℕ) × List (List ℕ))
-coming steps = map rename_places steps.together
 
 -- the first renames are those to the names in between
 pub renames-leaving : (steps : StepTexts) (k : ℕ) → k ≤ length steps.apart → take k (renames_of steps) ≡ take k (leaving steps)
@@ -66,7 +58,8 @@ module _ {entries : List Entry} {pages changed : List (List Step)} {moves : List
       where
         by : LeavesFrom moves changed steps.texts step.0 → IsThing entries steps (names_of step.0)
         by (of_move k inside normal) =
-            let (b, place, leads, at) = IsThere-place entries pages run.whole (move_at moves k).old (run.olds k inside).there in
+            let (b, place, leads, at) =
+            IsThere-place entries pages run.whole (move_at moves k).old (run.accepted.apart.come.leave.olds k inside).there in
             let here : place ≡ names_of step.0 = sym (names_of-normal (move_at moves k).old step.0 place normal leads) in
             inl (b, subst (λ place. Any (IsAt b place) entries) here at)
         by (of_page k inside normal) =
@@ -99,7 +92,7 @@ module _ {entries : List Entry} {pages changed : List (List Step)} {moves : List
               subst (λ (other : List (List ℕ) × List (List ℕ)). ¬ IsUnder (names_of step.0) other.0)
               (sym (get_or-take k (leaving steps) j d less_2))
               (subst (λ (other : List (List ℕ) × List (List ℕ)). ¬ IsUnder other.0 (get_or (leaving steps) j d).0)
-              (leaving_at i step d within is) (known.order run j i d below (rw length-map within)));
+              (leaving_at i step d within is) (carrying.order run j i d below (rw length-map within)));
         }
 
     -- none of the first renames leads from the path or from above it
@@ -112,56 +105,7 @@ module _ {entries : List Entry} {pages changed : List (List Step)} {moves : List
         subst (λ (other : List (List ℕ) × List (List ℕ)). ¬ IsUnder (names_of step.0) other.0)
         (sym (get_or-take i (leaving steps) j d less))
         (subst (λ (other : List (List ℕ) × List (List ℕ)). ¬ IsUnder other.0 (get_or (leaving steps) j d).0)
-        (leaving_at i step d within is) (known.order run j i d less (rw length-map within)))
-
-    -- ---- the names in between
-
-    -- the name to which a rename leads, by its number
-    pub left_at : (i : ℕ) (step : List ℕ × List ℕ) (d : List ℕ) → i < length steps.apart → get_or steps.apart i step ≡ step
-        → get_or (names_left steps) i d ≡ step.1
-    left_at i step d within is =
-        get_or-map (λ (step : List ℕ × List ℕ). step.1) steps.apart i step d within
-        ∙ ap (λ (step : List ℕ × List ℕ). step.1) is
-
-    -- the name is one name
-    left_single : (i : ℕ) (step : List ℕ × List ℕ) → i < length steps.apart → get_or steps.apart i step ≡ step
-        → components step.1 ≡ name step.1 ∷ []
-    left_single i step within is =
-        subst (λ between. components between ≡ name between ∷ []) (left_at i step [] within is)
-        (run.single i [] (rw length-map within))
-
-    -- a name to which something leaves, as a place
-    pub left_place : (i : ℕ) (step : List ℕ × List ℕ) → i < length steps.apart → get_or steps.apart i step ≡ step
-        → names_of step.1 ≡ step.1 ∷ []
-    left_place i step within is = names_of-names step.1 (step.1 ∷ []) (left_single i step within is)
-
-    -- no entry is at the name
-    pub left_unused : (i : ℕ) (step : List ℕ × List ℕ) → i < length steps.apart → get_or steps.apart i step ≡ step
-        → IsNoneAt (entry_paths entries) (map name (step.1 ∷ []))
-    left_unused i step within is =
-        subst (IsNoneAt (entry_paths entries)) (left_single i step within is)
-        (subst (λ between. IsNoneAt (entry_paths entries) (components between)) (left_at i step [] within is)
-        (run.names.unused i [] (rw length-map within)))
-
-    -- the name is one of those to which something leaves
-    has_name : (i : ℕ) (step : List ℕ × List ℕ) → i < length steps.apart → get_or steps.apart i step ≡ step
-        → Contains (names_left steps) step.1
-    has_name i step within is = (i, rw length-map within, left_at i step step.1 within is)
-
-    -- nothing leaves from such a name or from below it
-    clear : (i : ℕ) (step : List ℕ × List ℕ) (below : List (List ℕ)) → i < length steps.apart
-        → get_or steps.apart i step ≡ step
-        → All (λ other. ¬ IsUnder (names_of step.1 ++ below) other.0) (leaving steps)
-    clear i step below within is =
-        All-map (λ other. ¬ IsUnder (names_of step.1 ++ below) other.0) rename_places steps.apart
-        (λ j d l under.
-        let (other, is_2) = element steps.apart j l in
-        let src = known.source run j other l is_2 in
-        let same : get_or steps.apart j d ≡ other = get_or_default steps.apart j d other l ∙ is_2 in
-        IsFrom-apart entries pages run.whole moves changed run.files run.olds steps run.own step.1 below src.place src.is_from src.some
-        (left_unused i step within is) (has_name i step within is)
-        (subst (IsUnder (step.1 ∷ below)) (ap (λ (step : List ℕ × List ℕ). names_of step.0) same ∙ src.named)
-        (subst (λ top. IsUnder (top ++ below) (names_of (get_or steps.apart j d).0)) (left_place i step within is) under)))
+        (leaving_at i step d within is) (carrying.order run j i d less (rw length-map within)))
 
     -- what the first rename takes along comes to a name in between
     pub carried-leaving : (k : ℕ) (place : List (List ℕ)) → k ≤ length steps.apart
@@ -188,9 +132,9 @@ module _ {entries : List Entry} {pages changed : List (List Step)} {moves : List
               subst (λ (other : List (List ℕ) × List (List ℕ)). ¬ IsUnder (other.1 ++ first.below)
               (get_or (take k (leaving steps)) j first.step).0) (sym here)
               (All-take (λ (other : List (List ℕ) × List (List ℕ)). ¬ IsUnder (names_of step.1 ++ first.below) other.0) k
-              (leaving steps) (clear i step first.below within is) j first.step m))
+              (leaving steps) (carrying.clear run i step first.below within is) j first.step m))
               ∙ ap (λ (other : List (List ℕ) × List (List ℕ)). other.1 ++ first.below) here
-              ∙ ap (λ top. top ++ first.below) (left_place i step within is),
+              ∙ ap (λ top. top ++ first.below) (carrying.left_place run i step within is),
         )
 
     -- what leaves comes to its name in between
@@ -210,14 +154,15 @@ module _ {entries : List Entry} {pages changed : List (List Step)} {moves : List
     no_thing : (i : ℕ) (step : List ℕ × List ℕ) (place : List (List ℕ)) → i < length steps.apart
         → get_or steps.apart i step ≡ step → IsThing entries steps place → place ≢ step.1 ∷ []
     no_thing i step place within is (inl (b, at)) same =
-        IsNoneAt-under entries pages run.whole (map name (step.1 ∷ [])) b place (step.1 ∷ []) (left_unused i step within is)
+        IsNoneAt-under entries pages run.whole (map name (step.1 ∷ [])) b place (step.1 ∷ [])
+        (carrying.left_unused run i step within is)
         (walk-names [] (step.1 ∷ [])) (not_empty [] step.1 []) at ([], same ∙ sym (append-nil (step.1 ∷ [])))
     no_thing i step place within is (inr (t, new, inside, is_2, here)) same =
         run.own.no_name t new inside i [] (rw length-map within)
         (ap (λ (new : List ℕ × List ℕ × List ℕ). new.1) is_2
         ∙ subst (λ (new : List ℕ × List ℕ × List ℕ). new.1 ≡ join_with_byte slash (names_of new.1)) is_2
         (run.own.next_to t new inside).spelled
-        ∙ ap (join_with_byte slash) (here ∙ same) ∙ sym (left_at i step [] within is))
+        ∙ ap (join_with_byte slash) (here ∙ same) ∙ sym (carrying.left_at run i step [] within is))
 
     -- ---- the renames to names in between
 
@@ -241,7 +186,7 @@ module _ {entries : List Entry} {pages changed : List (List Step)} {moves : List
 
         now : carried (take i (leaving steps)) there.start ≡ step.1 ∷ []
         now = ap (λ renames. carried renames there.start) (sym (renames-leaving steps i fits)) ∙ there.now
-            ∙ left_place i step within is
+            ∙ carrying.left_place run i step within is
 
         by : All (λ other. ¬ IsUnder there.start other.0) (take i (leaving steps))
             ⊎ FirstUnder (take i (leaving steps)) there.start → ⊥
@@ -253,7 +198,7 @@ module _ {entries : List Entry} {pages changed : List (List Step)} {moves : List
             let within_2 : first.number < length steps.apart = omega (arith, less, within) in
             let same : other.1 ≡ step.1 = ap (λ place. get_or place 0 other.1) (sym comes ∙ now) in
             run.names.different first.number i [] less (rw length-map within)
-            (left_at first.number other [] within_2 is_2 ∙ same ∙ sym (left_at i step [] within is))
+            (carrying.left_at run first.number other [] within_2 is_2 ∙ same ∙ sym (carrying.left_at run i step [] within is))
 
     -- ---- the renames from names in between
 
@@ -267,11 +212,11 @@ module _ {entries : List Entry} {pages changed : List (List Step)} {moves : List
         All-permutation (Contains (names_left steps)) (names_left steps) come run.nothing_lost
         (λ i d l. (i, l, get_or_default (names_left steps) i (get_or (names_left steps) i d) d l)) in
         let (i, inside, here) = subst (Contains (names_left steps))
-        (known.come_at run k step [] within is)
-        (all k [] (known.inside run k within)) in
+        (carrying.come_at run k step [] within is)
+        (all k [] (carrying.inside run k within)) in
         let inside_2 : i < length steps.apart = rw length-map at inside in
         let (other, is_2) = element steps.apart i inside_2 in
-        (i, other, inside_2, is_2, sym (left_at i other step.0 inside_2 is_2) ∙ here)
+        (i, other, inside_2, is_2, sym (carrying.left_at run i other step.0 inside_2 is_2) ∙ here)
 
     -- before that rename, what left to there is still there
     pub carried-before : (k i : ℕ) (step other : List ℕ × List ℕ) → k < length steps.together
@@ -293,11 +238,11 @@ module _ {entries : List Entry} {pages changed : List (List Step)} {moves : List
         let there : get_or (take k (coming steps)) j d ≡ rename_places third =
         get_or-take k (coming steps) j d less_2 ∙ get_or-map rename_places steps.together j third d within_3
         ∙ ap rename_places is_3 in
-        known.name_other run j k third step (λ equal. absurd (omega (arith, equal, less_2))) within_3 within is_3 is
+        carrying.name_other run j k third step (λ equal. absurd (omega (arith, equal, less_2))) within_3 within is_3 is
         (sym (IsUnder-first step.0 third.0 [] []
         (subst (IsUnder (step.0 ∷ [])) (ap (λ (step : List (List ℕ) × List (List ℕ)). step.0) there
-        ∙ known.name_place run j third within_3 is_3) under))))
-        ∙ sym (known.name_place run k step within is)
+        ∙ carrying.name_place run j third within_3 is_3) under))))
+        ∙ sym (carrying.name_place run k step within is)
 
     -- something is where the rename leads from
     pub IsThere-comes : (k : ℕ) (step : List ℕ × List ℕ) → k < length steps.together → get_or steps.together k step ≡ step

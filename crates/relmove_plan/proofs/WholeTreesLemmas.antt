@@ -34,9 +34,21 @@ push_front (z ∷ xs) (w ∷ ys) x y same =
     let rest = push_front xs ys x y (ap (λ zs. drop 1 zs) same) in
     ap (λ v. v ∷ xs) first ∙ ap (λ vs. w ∷ vs) rest
 
+pub push_last : {X : Type 0} (xs ys : List X) (x y : X) → xs ++ x ∷ [] ≡ ys ++ y ∷ [] → x ≡ y
+push_last [] [] x y same = ap (λ zs. get_or zs 0 x) same
+push_last [] (z ∷ ys) x y same =
+    absurd (let count = ap length same in let long = length-append ys (y ∷ []) in omega (arith, count, long))
+push_last (z ∷ xs) [] x y same =
+    absurd (let count = ap length same in let long = length-append xs (x ∷ []) in omega (arith, count, long))
+push_last (z ∷ xs) (w ∷ ys) x y same = push_last xs ys x y (ap (λ zs. drop 1 zs) same)
+
 pub not_empty : {X : Type 0} (xs : List X) (y : X) (ys : List X) → xs ++ y ∷ ys ≢ []
 not_empty xs y ys none =
     absurd (let count = ap length none in let long = length-append xs (y ∷ ys) in omega (arith, count, long))
+
+pub some_append : {X : Type 0} (xs ys : List X) → xs ≢ [] → xs ++ ys ≢ []
+some_append [] ys some = absurd (some refl)
+some_append (x ∷ xs) ys some = not_empty [] x (xs ++ ys)
 
 -- ---- entries at places
 
@@ -64,7 +76,7 @@ module _ (entries : List Entry) where
       (subst (IsSame cs) (sym (path_at-entry k entry within is)) (IsSame-one_place place leads at.leads))
 
 module _ (entries : List Entry) (pages : List (List Step)) (whole : IsWhole entries pages) where
-  held_at : (k : ℕ) (entry : Entry) → k < length entries → get_or entries k entry ≡ entry → IsHeld entries entry
+  pub held_at : (k : ℕ) (entry : Entry) → k < length entries → get_or entries k entry ≡ entry → IsHeld entries entry
   held_at k entry within is = subst (IsHeld entries) is (whole.held k entry within)
 
   -- the entries at one place are one entry
@@ -105,7 +117,8 @@ module _ (entries : List Entry) (pages : List (List Step)) (whole : IsWhole entr
       same : held.directory ++ held.name ∷ [] ≡ top ++ n ∷ rest
       same = some_of (sym held.leads ∙ at.leads)
 
-      by : (rest ≡ []) ⊎ ((front : List (List ℕ)) × (end : List ℕ) × (rest ≡ front ++ end ∷ [])) → HasDirectoryAt entries top
+      by : (rest ≡ []) ⊎ ((front : List (List ℕ)) × (end : List ℕ) × (rest ≡ front ++ end ∷ []))
+          → HasDirectoryAt entries top
       by (inl none) =
           let is_top : held.directory ≡ top =
           push_front held.directory top held.name n (same ∙ ap (λ rest. top ++ n ∷ rest) none) in

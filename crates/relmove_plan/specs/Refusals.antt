@@ -25,7 +25,8 @@ abbrev pub IsPathRefusal : Bool → ℕ → Move → Refusal → Type 0
 IsPathRefusal any_name k move (NoFileName j) = (j ≡ k) × LacksFileName move
 IsPathRefusal any_name k move (LeavesRoot j) = (j ≡ k) × (¬ LacksFileName move) × paths.LeavesRoot move
 IsPathRefusal any_name k move (IntoItself j) = (j ≡ k) × IsPlaced move × LeadsIntoItself move
-IsPathRefusal any_name k move (NotPlain j) = (j ≡ k) × IsPlaced move × StaysOutside move × (any_name ≡ false) × (¬ All (IfName IsPlainName) move.new)
+IsPathRefusal any_name k move (NotPlain j) =
+    (j ≡ k) × IsPlaced move × StaysOutside move × (any_name ≡ false) × (¬ All (IfName IsPlainName) move.new)
 IsPathRefusal any_name k move (OwnName j) = (j ≡ k) × IsPlaced move × StaysOutside move × (list_any is_own_step move.new ≡ true)
 IsPathRefusal any_name k move (SameOld i j) = ⊥
 IsPathRefusal any_name k move (NotThere j) = ⊥

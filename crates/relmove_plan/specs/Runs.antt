@@ -1,5 +1,5 @@
 -- Where things go while a run renames, one step after another. A rename takes along all that is below a directory.
-use Rattle.std.specs.Prelude.{◌≡◌, ◌⊎◌, ◌<◌, ℕ, Bool, List, [], ◌∷◌, ◌++◌, Contains, map, length, drop, take, slice_get, slice_index_or, Some, string_bytes, if◌then◌else◌}
+use Rattle.std.specs.Prelude.{◌≡◌, ◌⊎◌, ◌<◌, ℕ, Bool, List, [], ◌∷◌, ◌++◌, ◌+◌, Contains, map, length, drop, take, slice_get, slice_index_or, Some, string_bytes, if◌then◌else◌}
 use Rattle.std.specs.List.{All, AllZip, Any, starts_with}
 use Rattle.std.specs.Str.{bytes_eq}
 use Rattle.relative_path.specs.Steps.{Step, step_text, components}
@@ -16,7 +16,7 @@ use Rattle.relmove_plan.specs.declared.pages.ChangedPage.{ChangedPage}
 use Rattle.relmove_plan.specs.Directories.{AreMissing}
 use Rattle.relmove_plan.specs.Steps.{StepTexts}
 use Rattle.relmove_plan.specs.Trees.{AreAfter}
-use Rattle.relmove_plan.specs.WholeTrees.{IsAt}
+use Rattle.relmove_plan.specs.WholeTrees.{HasDirectoryAt, IsAt}
 
 -- the names of a path, in order
 abbrev pub names_of : List ℕ → List (List ℕ)
@@ -98,3 +98,35 @@ pub record DirectoriesArrive (moves : List Move) (after : List (List Step)) (ste
 abbrev pub MakesDirectories : List Move → List Entry → StepTexts → List (List ℕ) → Type 0
 MakesDirectories moves entries steps made = (after : List (List ℕ)) × AreAfter moves entries after
     × DirectoriesArrive moves (map components after) steps made
+
+-- ---- what can be put at a place while `together` is done
+
+-- after the first m renames of `together`, a directory of the tree is at the place
+abbrev pub HasOldDirectory : List Entry → StepTexts → ℕ → List (List ℕ) → Type 0
+HasOldDirectory entries steps m place = (start : List (List ℕ)) × HasDirectoryAt entries start
+    × (carried (take (length steps.apart + m) (renames_of steps)) start ≡ place)
+
+-- then one of the directories that were made is at the place
+abbrev pub HasMadeDirectory : StepTexts → List (List ℕ) → ℕ → List (List ℕ) → Type 0
+HasMadeDirectory steps made m place =
+    Any (λ text. carried (take m (map rename_places steps.together)) (names_of text) ≡ place) made
+
+-- then nothing is at the place, and it is in the root, or in a directory that is there
+pub record IsOpen (entries : List Entry) (steps : StepTexts) (made : List (List ℕ)) (m : ℕ) (place : List (List ℕ))
+    : Type 0 where
+  pub directory : List (List ℕ)
+  pub last : List ℕ
+  pub split : place ≡ directory ++ last ∷ []
+  pub held : (directory ≡ []) ⊎ (HasOldDirectory entries steps m directory ⊎ HasMadeDirectory steps made m directory)
+  pub free : ¬ IsThereAfter entries steps (length steps.apart + m) place
+  pub unmade : ¬ HasMadeDirectory steps made m place
+
+-- each rename of `together` leads to such a place
+abbrev pub CanCome : List Entry → StepTexts → List (List ℕ) → Type 0
+CanCome entries steps made = (m : ℕ) (step : List ℕ × List ℕ) → m < length steps.together
+    → slice_index_or steps.together m step ≡ step → IsOpen entries steps made m (names_of step.1)
+
+-- each directory is made at such a place, after those before it
+abbrev pub CanBeMade : List Entry → StepTexts → List (List ℕ) → Type 0
+CanBeMade entries steps made = (i : ℕ) (text : List ℕ) → i < length made
+    → slice_index_or made i text ≡ text → IsOpen entries steps (take i made) 0 (names_of text)

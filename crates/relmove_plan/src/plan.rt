@@ -14,7 +14,7 @@ ghost use Rattle.relmove_plan.specs.Directories.{AreLeftByMoves, AreMade, LeaveT
 ghost use Rattle.relmove_plan.specs.Trees.{AreAfter, entry_paths};
 ghost use Rattle.relmove_plan.specs.Steps.{AboveFirst, BelowFirst, DoesMove, LosesNothing, OnlyTheseLeave, RemovesAt, ReplacesPages, WritesPages, changed_paths, names_left, rename_texts, step_texts};
 ghost use Rattle.relmove_plan.specs.BetweenNames.{AreDrawn, AreFreeNames};
-ghost use Rattle.relmove_plan.specs.Runs.{EntriesArrive, MakesDirectories, NothingInTheWay, TextsArrive};
+ghost use Rattle.relmove_plan.specs.Runs.{CanBeMade, CanCome, EntriesArrive, MakesDirectories, NothingInTheWay, TextsArrive};
 ghost use Rattle.relmove_plan.specs.WholeTrees.{IsWhole};
 
 use crate::after::entry_index;
@@ -106,6 +106,10 @@ pub fn make_plan(
     ensures made { IfOk result (λ plan. IsWhole tree.entry.entries.now (page_paths tree.entry.pages.now)
         → MakesDirectories (moves_of moves.now) tree.entry.entries.now (step_texts plan.steps)
         (map string_bytes plan.steps.made.items)) }
+    ensures can_make { IfOk result (λ plan. IsWhole tree.entry.entries.now (page_paths tree.entry.pages.now)
+        → CanBeMade tree.entry.entries.now (step_texts plan.steps) (map string_bytes plan.steps.made.items)) }
+    ensures can_come { IfOk result (λ plan. IsWhole tree.entry.entries.now (page_paths tree.entry.pages.now)
+        → CanCome tree.entry.entries.now (step_texts plan.steps) (map string_bytes plan.steps.made.items)) }
     ensures refused { IfErr result (IsRefused tree.entry.entries.now (moves_of moves.now) any_name) }
 {
     let index = entry_index(alloc, tree.entries)?;

@@ -12,7 +12,9 @@ loop-number-preserved c =
     let k = c.loop-number.number in
     let text = c.index-paths-number.result in
     let within = c.loop-number-test.true in
-    let count = length-take_paths c.args.paths.now c.loop-number.number c.index-paths-number.result c.loop-number-test.true c.index-paths-number.is in
+    let count =
+    length-take_paths c.args.paths.now c.loop-number.number c.index-paths-number.result c.loop-number-test.true
+    c.index-paths-number.is in
     let indexes = c.in_ok-first.ensures.indexes _ c.loop-number.invariant.indexes count in
     let first = c.in_ok-first.ensures.first _ c.loop-number.invariant.indexes count in
     record {

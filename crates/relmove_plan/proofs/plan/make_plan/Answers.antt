@@ -2,14 +2,15 @@
 use Rattle.relmove_plan.proofs.MovesLemmas.{IfErr-error}
 use Rattle.std.proofs.Common.{map, string_bytes, subst}
 use Rattle.relative_path_moves.specs.Moves.{moves_of}
-use Rattle.relmove_plan.specs.Directories.{AreLeftByMoves}
+use Rattle.relative_path_moves.specs.PlaceIndex.{Indexes}
+use Rattle.relmove_plan.specs.Directories.{AreLeftByMoves, MakesMissing}
 use Rattle.relmove_plan.specs.Trees.{entry_paths}
 use Rattle.relmove_plan.specs.NewFiles.{LeaveFromEntries, LeaveOnce}
 use Rattle.relmove_plan.specs.Pages.{page_paths}
 use Rattle.relmove_plan.specs.Steps.{changed_paths, step_texts}
 use Rattle.relmove_plan.specs.WholeTrees.{IsWhole}
 use Rattle.relmove_plan.proofs.OnceLemmas.{LeaveFromEntries-whole}
-use Rattle.relmove_plan.proofs.PlannedLemmas.{IsPlanned, DirectoriesArrive-plan, EntriesArrive-plan, NothingInTheWay-plan, TextsArrive-plan}
+use Rattle.relmove_plan.proofs.PlannedLemmas.{IsPlanned, AreAfter-only, CanBeMade-plan, CanCome-plan, DirectoriesArrive-plan, EntriesArrive-plan, NothingInTheWay-plan, TextsArrive-plan}
 use Rattle.relative_path.specs.Steps.{components}
 use Rattle.relmove_plan.proofs.plan.make_plan.Goals as goal
 
@@ -58,17 +59,22 @@ leave_once c whole =
 pub returns-clause-once : goal.returns-clause-once
 returns-clause-once = leave_once
 
--- what is known of the steps for a whole tree
+-- what is known of the plan for a whole tree
 planned : (c : goal.After-drop-index-2) → IsWhole c.args.tree.entries.now (page_paths c.args.tree.pages.now)
-    → IsPlanned c.args.tree.entries.now c.args.tree.pages.now c.in_ok-pages.changed.items (moves_of c.args.moves.now)
-    c.in_ok-steps.steps
+    → IsPlanned c.args.tree.entries.now c.args.tree.pages.now c.in_ok-pages.pages.items c.in_ok-pages.changed.items
+    (moves_of c.args.moves.now) c.args.any_name c.in_ok-steps.steps
 planned c whole = record {
   whole = whole;
+  accepted = c.in_ok-after.ensures.fine c.args.any_name c.in_ok-table.ensures.fine;
+  long = c.in_ok-pages.ensures.long;
+  links = rw c.in_ok-table.ensures.table at c.in_ok-pages.ensures.links;
   within = c.in_ok-pages.ensures.within;
   apart = c.in_ok-steps.ensures.apart;
+  together = c.in_ok-steps.ensures.together;
   once = leave_once c whole;
   kept = c.in_ok-steps.ensures.kept;
   moved = rw c.deref-2.ensures.value at c.in_ok-steps.ensures.moved;
+  replaced = rw (c.deref.ensures.value, c.deref-2.ensures.value) at c.in_ok-steps.ensures.replaced;
   only = rw c.deref-2.ensures.value at c.in_ok-steps.ensures.only;
   names = c.in_ok-steps.ensures.names (entry_paths c.args.tree.entries.now) c.in_ok-index.ensures;
   files = rw c.deref-2.ensures.value at
@@ -79,33 +85,39 @@ planned c whole = record {
 }
 
 pub returns-clause-entries_arrive : goal.returns-clause-entries_arrive
-returns-clause-entries_arrive c = λ whole.
-    EntriesArrive-plan c.args.tree.entries.now c.args.tree.pages.now c.in_ok-pages.changed.items (moves_of c.args.moves.now)
-    c.args.any_name c.in_ok-steps.steps (c.in_ok-after.ensures.fine c.args.any_name c.in_ok-table.ensures.fine)
-    (planned c whole)
+returns-clause-entries_arrive c = λ whole. EntriesArrive-plan (planned c whole)
 
 pub returns-clause-texts_arrive : goal.returns-clause-texts_arrive
-returns-clause-texts_arrive c = λ whole.
-    TextsArrive-plan c.args.tree.entries.now c.args.tree.pages.now c.in_ok-pages.changed.items (moves_of c.args.moves.now)
-    c.args.any_name c.in_ok-steps.steps (c.in_ok-after.ensures.fine c.args.any_name c.in_ok-table.ensures.fine)
-    (planned c whole) c.in_ok-pages.pages.items (rw c.in_ok-table.ensures.table at c.in_ok-pages.ensures.links)
-    (rw (c.deref.ensures.value, c.deref-2.ensures.value) at c.in_ok-steps.ensures.replaced)
+returns-clause-texts_arrive c = λ whole. TextsArrive-plan (planned c whole)
+
+pub returns-clause-clear : goal.returns-clause-clear
+returns-clause-clear c = λ whole. NothingInTheWay-plan (planned c whole)
 
 pub returns-clause-made : goal.returns-clause-made
 returns-clause-made c = λ whole.
     let (after, are, has) = c.in_ok-after.ensures.index in (
       after,
       are,
-      DirectoriesArrive-plan c.args.tree.entries.now c.args.tree.pages.now c.in_ok-pages.changed.items
-          (moves_of c.args.moves.now) c.args.any_name c.in_ok-steps.steps
-          (c.in_ok-after.ensures.fine c.args.any_name c.in_ok-table.ensures.fine) (planned c whole) after
-          (map string_bytes c.in_ok-steps.steps.made.items) (c.in_ok-steps.ensures.made (map components after) has),
+      DirectoriesArrive-plan (planned c whole) after (map string_bytes c.in_ok-steps.steps.made.items)
+          (c.in_ok-steps.ensures.made (map components after) has),
     )
 
-pub returns-clause-clear : goal.returns-clause-clear
-returns-clause-clear c = λ whole.
-    NothingInTheWay-plan c.args.tree.entries.now c.args.tree.pages.now c.in_ok-pages.changed.items
-    (moves_of c.args.moves.now) c.args.any_name c.in_ok-steps.steps
-    (c.in_ok-after.ensures.fine c.args.any_name c.in_ok-table.ensures.fine) (planned c whole) c.in_ok-pages.pages.items
-    c.in_ok-pages.ensures.long (rw c.in_ok-table.ensures.table at c.in_ok-pages.ensures.links)
-    (rw (c.deref.ensures.value, c.deref-2.ensures.value) at c.in_ok-steps.ensures.replaced)
+-- the missing directories are made
+makes : (c : goal.After-drop-index-2) (whole : IsWhole c.args.tree.entries.now (page_paths c.args.tree.pages.now))
+    → MakesMissing (moves_of c.args.moves.now) (map components (planned c whole).accepted.apart.after)
+    (step_texts c.in_ok-steps.steps) (map string_bytes c.in_ok-steps.steps.made.items)
+makes c whole =
+    let (after, are, has) = c.in_ok-after.ensures.index in
+    let accepted = (planned c whole).accepted in
+    c.in_ok-steps.ensures.made (map components accepted.apart.after)
+    (subst (λ after. Indexes (map components after) c.in_ok-after.after)
+    (AreAfter-only (moves_of c.args.moves.now) c.args.tree.entries.now after accepted.apart.after
+    accepted.apart.come.leave.apart are accepted.apart.are_after) has)
+
+pub returns-clause-can_make : goal.returns-clause-can_make
+returns-clause-can_make c = λ whole.
+    CanBeMade-plan (planned c whole) (map string_bytes c.in_ok-steps.steps.made.items) (makes c whole)
+
+pub returns-clause-can_come : goal.returns-clause-can_come
+returns-clause-can_come c = λ whole.
+    CanCome-plan (planned c whole) (map string_bytes c.in_ok-steps.steps.made.items) (makes c whole)

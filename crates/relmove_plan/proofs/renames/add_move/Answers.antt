@@ -40,7 +40,9 @@ returns-then-changes c =
           (of_move k l (rw here from_is)) only)) c.add_removed.ensures;
       texts = on_ok_weaker c.add_removed.result (λ is. ap (λ (all : StepTexts). all.texts) is) c.add_removed.ensures;
       once = on_ok_weaker c.add_removed.result
-          (λ is stays once. subst LeaveOnce (sym is) (LeaveOnce-with_removed steps (path_components c.args.old) from name from_is stays once)) c.add_removed.ensures;
+          (λ is stays once.
+          subst LeaveOnce (sym is) (LeaveOnce-with_removed steps (path_components c.args.old) from name from_is stays once))
+          c.add_removed.ensures;
       named = on_ok_weaker c.add_removed.result
           (λ is. subst (λ all. LeavesTo all move.old name) (sym is)
           (LeavesTo-with_removed steps move.old from name from_is)) c.add_removed.ensures;
@@ -76,7 +78,9 @@ returns c =
           (of_move k l (rw here from_is)) only)) c.add_carried.ensures;
       texts = on_ok_weaker c.add_carried.result (λ is. ap (λ (all : StepTexts). all.texts) is) c.add_carried.ensures;
       once = on_ok_weaker c.add_carried.result
-          (λ is stays once. subst LeaveOnce (sym is) (LeaveOnce-with_carried steps (path_components c.args.old) from name from_is stays to once)) c.add_carried.ensures;
+          (λ is stays once.
+          subst LeaveOnce (sym is) (LeaveOnce-with_carried steps (path_components c.args.old) from name from_is stays to once))
+          c.add_carried.ensures;
       named = on_ok_weaker c.add_carried.result
           (λ is. subst (λ all. LeavesTo all move.old name) (sym is)
           (LeavesTo-with_carried steps move.old from name to from_is)) c.add_carried.ensures;

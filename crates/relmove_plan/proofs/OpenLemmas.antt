@@ -1,0 +1,668 @@
+-- A directory can be made where a run makes it, and each rename of `together` leads to where something can come.
+use Rattle.std.proofs.Common.{All, Bool, false, ◌≡◌, ◌≢◌, ◌⊎◌, ℕ, zero, suc, ◌<◌, ◌≤◌, ◌+◌, List, [], ◌∷◌, ◌++◌, Contains, Some, length, map, drop, take, get_or, inl, inr, refl, sym, ap, subst, ◌∙◌, append_assoc, append-nil, arith}
+use Rattle.std.specs.List.{Any, join_with_byte}
+use Rattle.std.proofs.Math.Seq.{drop-append_seam, take-append_seam}
+use Rattle.std.proofs.lemmas.Bool.{cases_order}
+use Rattle.std.proofs.lemmas.List.{get_or-drop, get_or-map, get_or-take, get_or_default, length-append, length-drop, length-map, length-take-le, map-append, take-append-drop}
+use Rattle.std.proofs.lemmas.List.Elements.{All-drop}
+use Rattle.std.proofs.lemmas.Slice.Zip.{AllZip-long}
+use Rattle.relative_path.specs.Steps.{Step, name, components, slash}
+use Rattle.relative_path.specs.RelativePath.{path_components}
+use Rattle.relative_path.specs.Walk.{place_of}
+use Rattle.relative_path.specs.Normalizing.{IsNormalTextOf}
+use Rattle.relative_path.proofs.ForCallers.{components-place, walk-names}
+use Rattle.relative_path_moves.specs.Moves.{Move, move_at}
+use Rattle.relative_path_moves.specs.PlaceIndex.{IsNoneAt, path_at}
+use Rattle.relative_path_moves.specs.TreeMoves.{IsLeftInPlace, IsTreeTarget}
+use Rattle.relmove_plan.specs.declared.entry.Entry.{Entry}
+use Rattle.relmove_plan.specs.Directories.{HaveTextOf, IsMissing, IsMissingText, MakesMissing, moves_to_names}
+use Rattle.relmove_plan.specs.Directories as specs
+use Rattle.relmove_plan.specs.Moves.{move_of}
+use Rattle.relmove_plan.specs.Refusals.{turned}
+use Rattle.relmove_plan.specs.Runs.{names_of, rename_places, carried, renames_of, CanBeMade, CanCome, HasMadeDirectory, HasOldDirectory, IsOpen, IsThereAfter}
+use Rattle.relmove_plan.specs.Steps.{StepTexts}
+use Rattle.relmove_plan.specs.WholeTrees.{HasDirectoryAt, IsAt, LeadsToFile}
+use Rattle.relmove_plan.proofs.AboveLemmas.{AllZip-at}
+use Rattle.relmove_plan.proofs.KnownRunsLemmas.{IsKnownRun}
+use Rattle.relmove_plan.proofs.CarriedLemmas.{HasNoName, coming, leaving}
+use Rattle.relmove_plan.proofs.CarriedLemmas as carrying
+use Rattle.relmove_plan.proofs.ArrivalsLemmas as arrivals
+use Rattle.relmove_plan.proofs.WaysLemmas.{renames-coming}
+use Rattle.relmove_plan.proofs.WaysLemmas as leaves
+use Rattle.relmove_plan.proofs.ComingLemmas.{IsDestination}
+use Rattle.relmove_plan.proofs.ComingLemmas as destinations
+use Rattle.relmove_plan.proofs.FreeWaysLemmas as ways
+use Rattle.relmove_plan.proofs.MadeLemmas.{IsMadeFrom, IsMissingAt, IsUnderNew}
+use Rattle.relmove_plan.proofs.MadeLemmas as directories
+use Rattle.relmove_plan.proofs.EndsLemmas.{IsDirectoryTo, takes-more}
+use Rattle.relmove_plan.proofs.EndsLemmas as ends
+use Rattle.relmove_plan.proofs.PlacesLemmas.{IsBelow-joined, names_of-normal}
+use Rattle.relmove_plan.proofs.RunsLemmas.{IsUnder, carried-append, carried-elsewhere, carried-still}
+use Rattle.relmove_plan.proofs.SourcesLemmas.{IsThere-place, element, first_of}
+use Rattle.relmove_plan.proofs.WholeTreesLemmas.{HasDirectoryAt-above, IsAt-some, IsSame-one_place, last_view, not_empty, push_front, push_last, some_append, some_of}
+
+take-none : {X : Type 0} (xs : List X) → take 0 xs ≡ []
+take-none [] = refl
+take-none (x ∷ xs) = refl
+
+-- two fronts of a place before as many names are one front
+one_front : (place one other below rest : List (List ℕ)) → place ≡ one ++ below → place ≡ other ++ rest
+    → length below ≡ length rest → (one ≡ other) × (below ≡ rest)
+one_front place one other below rest is is_2 same =
+    let long = ap length is ∙ length-append one below in
+    let long_2 = ap length is_2 ∙ length-append other rest in
+    let count : length one ≡ length other = omega (arith, long, long_2, same) in (
+      sym (take-append_seam one below) ∙ ap (λ n. take n (one ++ below)) count ∙ ap (take (length other)) (sym is ∙ is_2)
+          ∙ take-append_seam other rest,
+      sym (drop-append_seam one below) ∙ ap (λ n. drop n (one ++ below)) count ∙ ap (drop (length other)) (sym is ∙ is_2)
+          ∙ drop-append_seam other rest,
+    )
+
+-- the names below a new path, if what is below is more than the path
+below-last : (moves : List Move) (place front : List (List ℕ)) (q : List ℕ) (j : ℕ) (below : List (List ℕ))
+    → (under : IsUnderNew moves place j below) → place ≡ front ++ q ∷ [] → below ≢ []
+    → (first : List (List ℕ)) × (below ≡ first ++ q ∷ []) × IsUnderNew moves front j first
+below-last moves place front q j below under split some = by (last_view below)
+  where
+    by : (below ≡ []) ⊎ ((first : List (List ℕ)) × (last : List ℕ) × (below ≡ first ++ last ∷ []))
+        → (first : List (List ℕ)) × (below ≡ first ++ q ∷ []) × IsUnderNew moves front j first
+    by (inl none) = absurd (some none)
+    by (inr (first, last, is)) =
+        let same : (under.top ++ first) ++ last ∷ [] ≡ front ++ q ∷ [] =
+        append_assoc under.top first (last ∷ []) ∙ ap (λ below. under.top ++ below) (sym is) ∙ sym under.down ∙ split in (
+          first,
+          is ∙ ap (λ last. first ++ last ∷ []) (push_last (under.top ++ first) front last q same),
+          record {
+            within = under.within;
+            top = under.top;
+            leads = under.leads;
+            down = sym (push_front (under.top ++ first) front last q same);
+          },
+        )
+
+-- a new path above a place is above what is below it
+under-more : (moves : List Move) (place whole below rest : List (List ℕ)) (j : ℕ) → IsUnderNew moves place j below
+    → whole ≡ place ++ rest → IsUnderNew moves whole j (below ++ rest)
+under-more moves place whole below rest j under is = record {
+  within = under.within;
+  top = under.top;
+  leads = under.leads;
+  down = is ∙ ap (λ place. place ++ rest) under.down ∙ append_assoc under.top below rest;
+}
+
+-- the directory that is missing where one is made
+record IsMadeAt (moves : List Move) (after : List (List Step)) (between missing : List (List ℕ)) (i : ℕ) (text : List ℕ)
+    : Type 0 where
+  pub directory : List ℕ
+  pub inside : i < length missing
+  pub is : get_or missing i directory ≡ directory
+  pub at : IsMissingAt moves after directory
+  pub from : IsMadeFrom moves between at.place (names_of text)
+
+module _ {entries : List Entry} {pages changed : List (List Step)} {moves : List Move} {any_name : Bool} {steps : StepTexts}
+    (run : IsKnownRun entries pages changed moves any_name steps) (made : List (List ℕ))
+    (makes : MakesMissing moves (map components run.accepted.apart.after) steps made)
+  where
+    abbrev after : List (List Step)
+    after = map components run.accepted.apart.after
+
+    abbrev between : List (List ℕ)
+    between = makes.between
+
+    abbrev missing : List (List ℕ)
+    missing = makes.are_made.taken.missing
+
+    -- ---- what is made
+
+    made-at : (i : ℕ) (text : List ℕ) → i < length made → get_or made i text ≡ text
+        → IsMadeAt moves after between missing i text
+    made-at i text within is =
+        let taken = makes.are_made.taken in
+        let long : length made ≡ length missing = AllZip-long (specs.IsTakenTo (moves_to_names moves between)) missing made taken.taken in
+        let inside : i < length missing = omega (arith, within, long) in
+        let (directory, is_2) = element missing i inside in
+        let at = directories.missing-at run after directory
+        (subst (IsMissingText moves after) is_2 (taken.are_missing.sound i directory inside)) in
+        record {
+          directory = directory;
+          inside = inside;
+          is = is_2;
+          at = at;
+          from = directories.made-from run after between makes.leave directory text at
+              (subst (λ directory. specs.IsTakenTo (moves_to_names moves between) directory text) is_2
+              (subst (specs.IsTakenTo (moves_to_names moves between) (get_or missing i directory)) is
+              (AllZip-at (specs.IsTakenTo (moves_to_names moves between)) missing made i directory text taken.taken inside)));
+        }
+
+    -- the missing directory with its number
+    directory-one : (i : ℕ) (text directory : List ℕ) (it : IsMadeAt moves after between missing i text)
+        → get_or missing i directory ≡ directory → it.directory ≡ directory
+    directory-one i text directory it is = sym it.is ∙ get_or_default missing i it.directory directory it.inside ∙ is
+
+    -- it comes to the missing directory
+    carried-missing : (i : ℕ) (text : List ℕ) (it : IsMadeAt moves after between missing i text)
+        → carried (coming steps) (names_of text) ≡ it.at.place
+    carried-missing i text it =
+        directories.carried-made run after between makes.leave it.directory it.at (names_of text) it.from
+
+    -- no entry comes to a missing directory
+    none-comes : (directory : List ℕ) (at : IsMissingAt moves after directory) (g : ℕ) → g < length entries
+        → place_of (components (get_or run.accepted.apart.after g [])) ≢ Some at.place
+    none-comes directory at g inside arrives =
+        let long = ends.long run in
+        let within : g < length run.accepted.apart.after = omega (arith, inside, long) in
+        at.none g (rw length-map within)
+        (IsSame-one_place at.place (walk-names [] at.place)
+        (ap place_of (get_or-map components run.accepted.apart.after g [] [] within) ∙ arrives))
+
+    -- so no new path is at a missing directory
+    not_new : (directory : List ℕ) (at : IsMissingAt moves after directory) (j : ℕ) → ¬ IsUnderNew moves at.place j []
+    not_new directory at j under =
+        let (g, inside, place, leads, old, arrives) = ends.moved-entry run j under.within under.top under.leads in
+        none-comes directory at g inside (arrives ∙ ap Some (sym (under.down ∙ append-nil under.top)))
+
+    -- two moves with one new path are one move
+    one_new : (j k : ℕ) (top : List (List ℕ)) → j < length moves → k < length moves → place_of (move_at moves j).new ≡ Some top
+        → place_of (move_at moves k).new ≡ Some top → j ≡ k
+    one_new j k top within within_2 leads leads_2 = elim (cases_order j k) [
+      | inl same ↦ same
+      | inr (inl less) ↦ absurd (twice j k less within within_2 leads leads_2)
+      | inr (inr more) ↦ absurd (twice k j more within_2 within leads_2 leads)
+    ]
+      where
+        turned_at : (j : ℕ) → j < length moves → move_at (turned moves) j ≡ move_of (move_at moves j).new (move_at moves j).old
+        turned_at j within =
+            let none : Move = record { old = []; new = [] } in
+            get_or-map (λ (move : Move). move_of move.new move.old) moves j none none within
+
+        twice : (j k : ℕ) → j < k → j < length moves → k < length moves → place_of (move_at moves j).new ≡ Some top
+            → place_of (move_at moves k).new ≡ Some top → ⊥
+        twice j k less within within_2 leads leads_2 =
+            run.accepted.apart.come.apart j k (record {
+              before = less;
+              within = rw length-map within_2;
+              same = IsSame-one_place top (ap (λ (move : Move). place_of move.old) (turned_at j within) ∙ leads)
+                  (ap (λ (move : Move). place_of move.old) (turned_at k within_2) ∙ leads_2);
+            })
+
+    -- ---- where directories are before the renames of `together`
+
+    -- what is made in a directory is made where that one is
+    front-made : (directory : List ℕ) (at : IsMissingAt moves after directory) (front : List (List ℕ)) (q : List ℕ)
+        → at.place ≡ front ++ q ∷ [] → (place top : List (List ℕ)) → IsMadeFrom moves between at.place place
+        → IsMadeFrom moves between front top → place ≡ top ++ q ∷ []
+    front-made directory at front q split place top (IsMadeFrom.from_place none here) (IsMadeFrom.from_place none_2 here_2) =
+        here ∙ split ∙ ap (λ top. top ++ q ∷ []) (sym here_2)
+    front-made directory at front q split place top (IsMadeFrom.from_place none here) (IsMadeFrom.from_name j below under nearest here_2) =
+        absurd (none j (below ++ q ∷ []) (under-more moves front at.place below (q ∷ []) j under split))
+    front-made directory at front q split place top (IsMadeFrom.from_name j below under nearest here) from =
+        let some : below ≢ [] =
+        λ none. not_new directory at j (subst (IsUnderNew moves at.place j) none under) in
+        let (first, below_is, under_2) = below-last moves at.place front q j below under split some in
+        by first below_is under_2 from
+      where
+        by : (first : List (List ℕ)) → below ≡ first ++ q ∷ [] → (under_2 : IsUnderNew moves front j first)
+            → IsMadeFrom moves between front top → place ≡ top ++ q ∷ []
+        by first below_is under_2 (IsMadeFrom.from_place none_2 here_2) = absurd (none_2 j first under_2)
+        by first below_is under_2 (IsMadeFrom.from_name k rest under_3 nearest_2 here_2) =
+            let less : length rest ≤ length first = nearest_2 j first under_2 in
+            let more : length below ≤ length (rest ++ q ∷ []) =
+            nearest k (rest ++ q ∷ []) (under-more moves front at.place rest (q ∷ []) k under_3 split) in
+            let long = ap length below_is ∙ length-append first (q ∷ []) in
+            let long_2 = length-append rest (q ∷ []) in
+            let same : length first ≡ length rest = omega (arith, less, more, long, long_2) in
+            let (tops, names) = one_front front under_2.top under_3.top first rest under_2.down under_3.down same in
+            let one : j ≡ k =
+            one_new j k under_3.top under_2.within under_3.within (under_2.leads ∙ ap Some tops) under_3.leads in
+            here ∙ ap (λ below. get_or between j [] ∷ below) below_is
+            ∙ ap (λ j. get_or between j [] ∷ first ++ q ∷ []) one
+            ∙ ap (λ first. get_or between k [] ∷ first ++ q ∷ []) names
+            ∙ ap (λ top. top ++ q ∷ []) (sym here_2)
+
+    -- what is made in the root comes to the root
+    root-made : (directory : List ℕ) (at : IsMissingAt moves after directory) (q : List ℕ) → at.place ≡ q ∷ []
+        → (place : List (List ℕ)) → IsMadeFrom moves between at.place place → place ≡ q ∷ []
+    root-made directory at q is place (IsMadeFrom.from_place none here) = here ∙ is
+    root-made directory at q is place (IsMadeFrom.from_name j below under nearest here) =
+        let (top, leads, some, fine) = arrivals.new_place run j under.within in
+        let (n, ns, first) = first_of top some in
+        let long = ap length (sym is ∙ under.down) ∙ length-append under.top below in
+        let count = ap length (some_of (sym under.leads ∙ leads) ∙ first) in
+        absurd (not_new directory at j (subst (IsUnderNew moves at.place j) (empty below (omega (arith, long, count))) under))
+      where
+        empty : (below : List (List ℕ)) → length below ≡ 0 → below ≡ []
+        empty [] none = refl
+        empty (n ∷ below) none = absurd (omega (arith, none))
+
+    -- before the renames of `together` a thing is where it left to
+    carried-zero : (start : List (List ℕ))
+        → carried (take (length steps.apart + 0) (renames_of steps)) start ≡ carried (leaving steps) start
+    carried-zero start =
+        ap (λ renames. carried renames start) (renames-coming steps 0)
+        ∙ carried-append (leaving steps) (take 0 (coming steps)) start
+        ∙ ap (λ renames. carried renames (carried (leaving steps) start)) (take-none (coming steps))
+
+    -- ---- directories above new paths
+
+    made-front : (i : ℕ) (text directory : List ℕ) (it : IsMadeAt moves after between missing i text)
+        → get_or missing i directory ≡ directory → (front : List (List ℕ)) → IsNormalTextOf (map name front) directory
+        → it.at.place ≡ front
+    made-front i text directory it is front normal =
+        sym it.at.named ∙ ap names_of (directory-one i text directory it is)
+        ∙ names_of-normal (map name front) directory front normal (walk-names [] front)
+
+    -- a directory that is missing above a new path is made
+    made-above : (k : ℕ) → k < length moves → (front rest : List (List ℕ))
+        → place_of (move_at moves k).new ≡ Some (front ++ rest) → front ≢ [] → rest ≢ [] → IsNoneAt after (map name front)
+        → (i : ℕ) × (text : List ℕ) × (i < length made) × (get_or made i text ≡ text)
+        × (it : IsMadeAt moves after between missing i text) × (it.at.place ≡ front)
+    made-above k within front rest new some some_rest none =
+        let (normal, normal_is, above) = run.accepted.above k within in
+        let is_missing : IsMissing moves after (map name front) =
+        record {
+          move = k;
+          within = within;
+          above = record {
+            normal = normal;
+            normal_of = normal_is;
+            above = record {
+              rest = map name rest;
+              split = components-place normal_is new ∙ map-append name front rest;
+              some_front = directories.map-some front some;
+              some_rest = directories.map-some rest some_rest;
+            };
+          };
+          none = none;
+        } in
+        let taken = makes.are_made.taken in
+        let (directory, (i, inside, is), directory_is) = taken.are_missing.complete (map name front) is_missing in
+        let long : length made ≡ length missing = AllZip-long (specs.IsTakenTo (moves_to_names moves between)) missing made taken.taken in
+        let within_2 : i < length made = omega (arith, inside, long) in
+        let (text, text_is) = element made i within_2 in
+        let it = made-at i text within_2 text_is in
+        (i, text, within_2, text_is, it, made-front i text directory it is front directory_is)
+
+    -- ---- each directory can be made
+
+    -- a directory is made after the one above it
+    made-before : (i j : ℕ) (text other : List ℕ) (it : IsMadeAt moves after between missing i text)
+        (above : IsMadeAt moves after between missing j other) (q : List ℕ) → it.at.place ≡ above.at.place ++ q ∷ [] → j < i
+    made-before i j text other it above q split = elim (cases_order j i) [
+      | inl same ↦
+          let directories_are : above.directory ≡ it.directory =
+          directory-one j other it.directory above (ap (λ k. get_or missing k it.directory) same ∙ it.is) in
+          let long = ap length split ∙ length-append above.at.place (q ∷ []) in
+          let count = ap length (sym above.at.named ∙ ap names_of directories_are ∙ it.at.named) in
+          absurd (omega (arith, long, count))
+      | inr (inl less) ↦ less
+      | inr (inr more) ↦
+          let (rest, is_below) = IsBelow-joined above.at.place q [] above.at.some in
+          absurd (makes.are_made.taken.are_missing.order i j more above.inside (
+            rest,
+            get_or_default missing i [] it.directory it.inside ∙ it.is ∙ it.at.spelled ∙ ap (join_with_byte slash) split
+                ∙ is_below
+                ∙ ap (λ top. top ++ slash ∷ rest)
+                (sym (get_or_default missing j [] above.directory above.inside ∙ above.is ∙ above.at.spelled)),
+          ))
+    ]
+
+    -- the directory in which another is made is there
+    held-made : (i : ℕ) (text : List ℕ) (it : IsMadeAt moves after between missing i text) → i < length made
+        → (front : List (List ℕ)) (q : List ℕ) → it.at.place ≡ front ++ q ∷ [] → front ≢ []
+        → (top : List (List ℕ)) × (names_of text ≡ top ++ q ∷ [])
+        × (HasOldDirectory entries steps 0 top ⊎ HasMadeDirectory steps (take i made) 0 top)
+    held-made i text it within front q split some =
+        by (ends.above-new run it.at.move it.at.within front (q ∷ it.at.rest) new some (not_empty [] q it.at.rest))
+      where
+        new : place_of (move_at moves it.at.move).new ≡ Some (front ++ q ∷ it.at.rest)
+        new = it.at.new ∙ ap Some (ap (λ place. place ++ it.at.rest) split ∙ append_assoc front (q ∷ []) it.at.rest)
+
+        by : IsNoneAt after (map name front) ⊎ IsDirectoryTo entries run.accepted.apart.after front
+            → (top : List (List ℕ)) × (names_of text ≡ top ++ q ∷ [])
+            × (HasOldDirectory entries steps 0 top ⊎ HasMadeDirectory steps (take i made) 0 top)
+        by (inr to) = (
+          carried (leaving steps) to.start,
+          front-made it.directory it.at front q split (names_of text) (carried (leaving steps) to.start) it.from
+              (ends.from-directory run between makes.leave front to),
+          inl (to.start, (to.number, to.entry, to.within, to.is, to.at), carried-zero to.start),
+        )
+        by (inl none) =
+            let (j, other, within_2, is, above, place_is) =
+            made-above it.at.move it.at.within front (q ∷ it.at.rest) new some (not_empty [] q it.at.rest) none in
+            let less : j < i = made-before i j text other it above q (split ∙ ap (λ front. front ++ q ∷ []) (sym place_is)) in
+            let long : length (take i made) ≡ i = length-take-le i made (omega (arith, within)) in (
+              names_of other,
+              front-made it.directory it.at front q split (names_of text) (names_of other) it.from
+                  (subst (λ front. IsMadeFrom moves between front (names_of other)) place_is above.from),
+              inr (
+                j,
+                other,
+                omega (arith, less, long),
+                get_or-take i made j other less ∙ is,
+                ap (λ renames. carried renames (names_of other)) (take-none (coming steps)),
+              ),
+            )
+
+    -- nothing is where a directory is made
+    free-made : (i : ℕ) (text : List ℕ) (it : IsMadeAt moves after between missing i text)
+        → ¬ IsThereAfter entries steps (length steps.apart + 0) (names_of text)
+    free-made i text it there =
+        let here : carried (leaving steps) there.start ≡ names_of text = sym (carried-zero there.start) ∙ there.now in
+        let comes : carried (renames_of steps) there.start ≡ it.at.place =
+        carrying.carried-in_turn run there.start ∙ ap (carried (coming steps)) here ∙ carried-missing i text it in
+        let of = ways.belongs run there.start it.at.place there.thing comes
+        (directories.HasNoName-missing run after it.directory it.at) in
+        none-comes it.directory it.at of.number of.within of.arrives
+
+    -- two directories aren't made at one place
+    unmade-made : (i : ℕ) (text : List ℕ) (it : IsMadeAt moves after between missing i text) → i < length made
+        → ¬ HasMadeDirectory steps (take i made) 0 (names_of text)
+    unmade-made i text it within (j, other, inside, is, same) =
+        let long : length (take i made) ≡ i = length-take-le i made (omega (arith, within)) in
+        let less : j < i = omega (arith, inside, long) in
+        let above = made-at j other (omega (arith, less, within)) (sym (get_or-take i made j other less) ∙ is) in
+        let names_are : names_of other ≡ names_of text =
+        sym (ap (λ renames. carried renames (names_of other)) (take-none (coming steps))) ∙ same in
+        let place_is : above.at.place ≡ it.at.place =
+        sym (carried-missing j other above) ∙ ap (carried (coming steps)) names_are ∙ carried-missing i text it in
+        makes.are_made.taken.are_missing.different j i [] less it.inside
+        (get_or_default missing j [] above.directory above.inside ∙ above.is ∙ above.at.spelled
+        ∙ ap (join_with_byte slash) place_is
+        ∙ sym (get_or_default missing i [] it.directory it.inside ∙ it.is ∙ it.at.spelled))
+
+    pub CanBeMade-made : CanBeMade entries steps made
+    CanBeMade-made i text within is = by (last_view it.at.place)
+      where
+        it : IsMadeAt moves after between missing i text
+        it = made-at i text within is
+
+        in_directory : (front : List (List ℕ)) (q : List ℕ) → it.at.place ≡ front ++ q ∷ []
+            → IsOpen entries steps (take i made) 0 (names_of text)
+        in_directory [] q split = record {
+          directory = [];
+          last = q;
+          split = root-made it.directory it.at q split (names_of text) it.from;
+          held = inl refl;
+          free = free-made i text it;
+          unmade = unmade-made i text it within;
+        }
+        in_directory (n ∷ front) q split =
+            let (top, top_is, held) = held-made i text it within (n ∷ front) q split (not_empty [] n front) in
+            record {
+              directory = top;
+              last = q;
+              split = top_is;
+              held = inr held;
+              free = free-made i text it;
+              unmade = unmade-made i text it within;
+            }
+
+        by : (it.at.place ≡ []) ⊎ ((front : List (List ℕ)) × (last : List ℕ) × (it.at.place ≡ front ++ last ∷ []))
+            → IsOpen entries steps (take i made) 0 (names_of text)
+        by (inl none) = absurd (it.at.some none)
+        by (inr (front, q, split)) = in_directory front q split
+
+    -- ---- each rename of `together` leads to where something can come
+
+    module _ (m : ℕ) (step : List ℕ × List ℕ) (within : m < length steps.together) (is : get_or steps.together m step ≡ step)
+      where
+        before : (l : ℕ) × (other : List ℕ × List ℕ) × (l < length steps.apart) × (get_or steps.apart l other ≡ other)
+            × (other.1 ≡ step.0)
+        before = leaves.left_before run m step within is
+
+        leaves-to : Contains steps.apart (before.1.0, step.0)
+        leaves-to =
+            let (l, other, within_2, is_2, same) = before in
+            (l, within_2, subst (λ b. get_or steps.apart l (other.0, b) ≡ (other.0, b)) same is_2)
+
+        to : IsDestination entries moves changed step.1
+        to =
+            destinations.destination run before.1.0 step.0 step.1 (leaves.leaves run before.0 before.1 before.2 before.3) leaves-to
+            (m, within, is)
+
+        -- an entry comes to there
+        comes-entry : (g : ℕ) × (g < length entries) × (place_of (components (get_or run.accepted.apart.after g [])) ≡ Some to.place)
+        comes-entry =
+            let arrives : carried (renames_of steps) (names_of before.1.0) ≡ to.place =
+            carrying.carried-from run before.1.0 step.1 to.place
+            (record { between = step.0; leaves = leaves-to; comes = (m, within, is) }) to.named to.ends in
+            let of = ways.belongs run (names_of before.1.0) to.place (leaves.IsThing-leaves run before.0 before.1 before.2 before.3)
+            arrives to.ends in
+            (of.number, of.within, of.arrives)
+
+        split-renames : take (length steps.apart + m) (renames_of steps) ++ drop m (coming steps) ≡ renames_of steps
+        split-renames =
+            ap (λ first. first ++ drop m (coming steps)) (renames-coming steps m)
+            ∙ append_assoc (leaving steps) (take m (coming steps)) (drop m (coming steps))
+            ∙ ap (λ rest. leaving steps ++ rest) (take-append-drop m (coming steps))
+            ∙ sym (map-append rename_places steps.apart steps.together)
+
+        module _ (front : List (List ℕ)) (q : List ℕ) (split : to.place ≡ front ++ q ∷ []) where
+          -- no later rename leads to the directory above, or to above it
+          late : All (λ other. ¬ IsUnder front other.1) (drop m (coming steps))
+          late j d inside (below, under) = by j (third j within_2) refl
+            where
+              within_2 : m + j < length steps.together
+              within_2 =
+                  let long = length-drop m (coming steps) in
+                  let count = length-map steps.together rename_places in
+                  omega (arith, inside, long, count, within)
+
+              third : (j : ℕ) → m + j < length steps.together
+                  → (other : List ℕ × List ℕ) × (get_or steps.together (m + j) other ≡ other)
+              third j within_3 = element steps.together (m + j) within_3
+
+              here : (other : List ℕ × List ℕ) → get_or steps.together (m + j) other ≡ other
+                  → get_or (drop m (coming steps)) j d ≡ rename_places other
+              here other is_2 =
+                  get_or-drop m (coming steps) j d ∙ get_or-map rename_places steps.together (m + j) other d within_2
+                  ∙ ap rename_places is_2
+
+              by : (k : ℕ) → (other : List ℕ × List ℕ) × (get_or steps.together (m + j) other ≡ other) → k ≡ j → ⊥
+              by zero (other, is_2) same =
+                  let there : get_or steps.together m other ≡ step =
+                  get_or_default steps.together m other step within ∙ is in
+                  let same_2 : m + j ≡ m = omega (arith, same) in
+                  let one : other ≡ step =
+                  sym is_2 ∙ ap (λ k. get_or steps.together k other) same_2 ∙ there in
+                  let long = ap length under ∙ length-append (get_or (drop m (coming steps)) j d).1 below in
+                  let long_2 = ap length (ap (λ (other : List (List ℕ) × List (List ℕ)). other.1) (here other is_2)
+                  ∙ ap (λ (other : List ℕ × List ℕ). names_of other.1) one ∙ to.named ∙ split)
+                  ∙ length-append front (q ∷ []) in
+                  absurd (omega (arith, long, long_2))
+              by (suc k) (other, is_2) same = later other is_2 (omega (arith, same))
+                where
+                  later : (other : List ℕ × List ℕ) → get_or steps.together (m + j) other ≡ other → m < m + j → ⊥
+                  later other is_2 less =
+                      let (l, first, within_3, is_3, from_is) = leaves.left_before run (m + j) other within_2 is_2 in
+                      let leaves_to : Contains steps.apart (first.0, other.0) =
+                      (l, within_3, subst (λ b. get_or steps.apart l (first.0, b) ≡ (first.0, b)) from_is is_3) in
+                      let other_to = destinations.destination run first.0 other.0 other.1 (leaves.leaves run l first within_3 is_3)
+                      leaves_to (m + j, within_2, is_2) in
+                      let front_is : front ≡ other_to.place ++ below =
+                      under ∙ ap (λ top. top ++ below)
+                      (ap (λ (other : List (List ℕ) × List (List ℕ)). other.1) (here other is_2) ∙ other_to.named) in
+                      let (n, ns, rest_is) = first_of (below ++ q ∷ []) (not_empty below q []) in
+                      let place_is : to.place ≡ other_to.place ++ n ∷ ns =
+                      split ∙ ap (λ front. front ++ q ∷ []) front_is ∙ append_assoc other_to.place below (q ∷ [])
+                      ∙ ap (λ rest. other_to.place ++ rest) rest_is in
+                      let (rest, is_below) = IsBelow-joined other_to.place n ns other_to.some in
+                      let second : List ℕ × List ℕ → List ℕ = λ step. step.1 in
+                      run.above_first m (m + j) less (rw length-map within_2) (
+                        rest,
+                        get_or-map second steps.together m step [] within ∙ ap second is ∙ to.spelled
+                            ∙ ap (join_with_byte slash) place_is ∙ is_below
+                            ∙ ap (λ top. top ++ slash ∷ rest)
+                            (sym (get_or-map second steps.together (m + j) other [] within_2 ∙ ap second is_2
+                            ∙ other_to.spelled)),
+                      )
+
+          -- so a directory of the tree that comes to the directory above is there
+          early-old : (start : List (List ℕ)) → HasDirectoryAt entries start → carried (renames_of steps) start ≡ front
+              → HasOldDirectory entries steps m front
+          early-old start at comes = (
+            start,
+            at,
+            carried-still (drop m (coming steps)) (carried (take (length steps.apart + m) (renames_of steps)) start) front late
+                (sym (carried-append (take (length steps.apart + m) (renames_of steps)) (drop m (coming steps)) start)
+                ∙ ap (λ renames. carried renames start) split-renames ∙ comes),
+          )
+
+          -- and so is one that is made
+          early-made : (i : ℕ) (text : List ℕ) → i < length made → get_or made i text ≡ text
+              → (it : IsMadeAt moves after between missing i text) → it.at.place ≡ front → HasMadeDirectory steps made m front
+          early-made i text within_2 is_2 it place_is = (
+            i,
+            text,
+            within_2,
+            is_2,
+            carried-still (drop m (coming steps)) (carried (take m (coming steps)) (names_of text)) front late
+                (sym (carried-append (take m (coming steps)) (drop m (coming steps)) (names_of text))
+                ∙ ap (λ renames. carried renames (names_of text)) (take-append-drop m (coming steps))
+                ∙ carried-missing i text it ∙ place_is),
+          )
+
+          -- what is above the new path of a move is there
+          held-move : front ≢ [] → (k : ℕ) → k < length moves → place_of (move_at moves k).new ≡ Some to.place
+              → HasOldDirectory entries steps m front ⊎ HasMadeDirectory steps made m front
+          held-move some k inside new = by (ends.above-new run k inside front (q ∷ []) new_2 some (not_empty [] q []))
+            where
+              new_2 : place_of (move_at moves k).new ≡ Some (front ++ q ∷ [])
+              new_2 = new ∙ ap Some split
+
+              by : IsNoneAt after (map name front) ⊎ IsDirectoryTo entries run.accepted.apart.after front
+                  → HasOldDirectory entries steps m front ⊎ HasMadeDirectory steps made m front
+              by (inl none) =
+                  let (i, text, within_2, is_2, it, place_is) =
+                  made-above k inside front (q ∷ []) new_2 some (not_empty [] q []) none in
+                  inr (early-made i text within_2 is_2 it place_is)
+              by (inr one) =
+                  inl (early-old one.start (one.number, one.entry, one.within, one.is, one.at) (ends.carried-to run front one))
+
+          -- what is above the new path of a page is there
+          held-page : front ≢ [] → (c : ℕ) → c < length changed → (target : List Step)
+              → IsTreeTarget moves (path_at changed c) target → place_of target ≡ Some to.place
+              → HasOldDirectory entries steps m front ⊎ HasMadeDirectory steps made m front
+          held-page some c inside target (inr (left, same)) leads =
+              let file = run.files c [] inside in
+              let file_is : file.place ≡ front ++ q ∷ [] =
+              some_of (sym file.leads ∙ sym (ap place_of same) ∙ leads) ∙ split in
+              let (e, entry, within_2, is_2, at) = HasDirectoryAt-above entries pages run.whole false front q [] some
+              (subst (λ place. Any (IsAt false place) entries) file_is file.file) in
+              let stays : IsLeftInPlace moves (path_components entry.path) =
+              λ place k others leads_2 takes.
+              left file.place k (others ++ q ∷ []) file.leads
+              (takes-more moves place file.place (q ∷ []) others k takes
+              (file_is ∙ ap (λ front. front ++ q ∷ []) (some_of (sym at.leads ∙ leads_2)))) in
+              inl (early-old front (e, entry, within_2, is_2, at)
+              (ends.carried-directory run (path_components entry.path) (path_components entry.path) front front at.leads
+              (e, entry, within_2, is_2, at) (inr (stays, refl)) at.leads))
+          held-page some c inside target (inl taken) leads = by (last_view taken.below)
+            where
+              j : ℕ
+              j = taken.move
+
+              file : LeadsToFile entries (path_at changed c)
+              file = run.files c [] inside
+
+              new : (top : List (List ℕ)) × (place_of (move_at moves j).new ≡ Some top) × (top ≢ []) × arrivals.NotOwn top
+              new = arrivals.new_place run j taken.nearest.takes.within
+
+              place_is : to.place ≡ new.0 ++ taken.below
+              place_is =
+                  some_of (sym leads ∙ ap place_of taken.new
+                  ∙ arrivals.place-below run (move_at moves j).new new.0 taken.below new.1)
+
+              by : (taken.below ≡ []) ⊎ ((below : List (List ℕ)) × (last : List ℕ) × (taken.below ≡ below ++ last ∷ []))
+                  → HasOldDirectory entries steps m front ⊎ HasMadeDirectory steps made m front
+              by (inl none) =
+                  held-move some j taken.nearest.takes.within
+                  (new.1 ∙ ap Some (sym (place_is ∙ ap (λ below. new.0 ++ below) none ∙ append-nil new.0)))
+              by (inr (below, n, below_is)) =
+                  let top = taken.nearest.takes.top in
+                  let same : (new.0 ++ below) ++ n ∷ [] ≡ front ++ q ∷ [] =
+                  append_assoc new.0 below (n ∷ []) ∙ ap (λ below. new.0 ++ below) (sym below_is) ∙ sym place_is ∙ split in
+                  let front_is : new.0 ++ below ≡ front = push_front (new.0 ++ below) front n q same in
+                  let page_is : taken.place ≡ (top ++ below) ++ n ∷ [] =
+                  taken.nearest.takes.down ∙ ap (λ below. top ++ below) below_is ∙ sym (append_assoc top below (n ∷ [])) in
+                  let file_is : file.place ≡ (top ++ below) ++ n ∷ [] = some_of (sym file.leads ∙ taken.leads) ∙ page_is in
+                  let (b, old_place, old, there) = IsThere-place entries pages run.whole (move_at moves j).old
+                  (run.accepted.apart.come.leave.olds j taken.nearest.takes.within).there in
+                  let some_top : top ≢ [] =
+                  λ none. IsAt-some entries pages run.whole b old_place there (some_of (sym old ∙ taken.nearest.takes.old) ∙ none) in
+                  let (e, entry, within_2, is_2, at) =
+                  HasDirectoryAt-above entries pages run.whole false (top ++ below) n [] (some_append top below some_top)
+                  (subst (λ place. Any (IsAt false place) entries) file_is file.file) in
+                  let long = ap length below_is ∙ length-append below (n ∷ []) in
+                  let target_is : IsTreeTarget moves (path_components entry.path) ((move_at moves j).new ++ map name below) =
+                  inl (record {
+                    place = top ++ below;
+                    leads = at.leads;
+                    move = j;
+                    below = below;
+                    nearest = record {
+                      takes = record {
+                        within = taken.nearest.takes.within;
+                        top = top;
+                        old = taken.nearest.takes.old;
+                        down = refl;
+                      };
+                      nearest = λ k others takes.
+                          let more : length taken.below ≤ length (others ++ n ∷ []) =
+                          taken.nearest.nearest k (others ++ n ∷ [])
+                          (takes-more moves (top ++ below) taken.place (n ∷ []) others k takes page_is) in
+                          let long_2 = length-append others (n ∷ []) in
+                          omega (arith, more, long, long_2);
+                    };
+                    new = refl;
+                  }) in
+                  inl (early-old (top ++ below) (e, entry, within_2, is_2, at)
+                  (ends.carried-directory run (path_components entry.path) ((move_at moves j).new ++ map name below)
+                  (top ++ below) front at.leads (e, entry, within_2, is_2, at) target_is
+                  (arrivals.place-below run (move_at moves j).new new.0 below new.1 ∙ ap Some front_is)))
+
+          held : (front ≡ []) ⊎ (HasOldDirectory entries steps m front ⊎ HasMadeDirectory steps made m front)
+          held = by front refl
+            where
+              by : (place : List (List ℕ)) → front ≡ place
+                  → (front ≡ []) ⊎ (HasOldDirectory entries steps m front ⊎ HasMadeDirectory steps made m front)
+              by [] root = inl root
+              by (n ∷ place) is_2 =
+                  let some : front ≢ [] = λ none. not_empty [] n place (sym is_2 ∙ none) in
+                  inr (elim to.why [
+                    | inl (k, inside, new) ↦ held-move some k inside new
+                    | inr (c, inside, target, target_is, leads) ↦ held-page some c inside target target_is leads
+                  ])
+
+        -- no directory that was made is there
+        unmade : ¬ HasMadeDirectory steps made m (names_of step.1)
+        unmade (i, text, within_2, is_2, there) =
+            let it = made-at i text within_2 is_2 in
+            let (g, inside, arrives) = comes-entry in
+            let stays : carried (drop m (coming steps)) to.place ≡ to.place =
+            carried-elsewhere (drop m (coming steps)) to.place
+            (All-drop (λ other. ¬ IsUnder to.place other.0) m (coming steps) (carrying.end_clear run to.place to.ends)) in
+            let place_is : it.at.place ≡ to.place =
+            sym (carried-missing i text it)
+            ∙ ap (λ renames. carried renames (names_of text)) (sym (take-append-drop m (coming steps)))
+            ∙ carried-append (take m (coming steps)) (drop m (coming steps)) (names_of text)
+            ∙ ap (carried (drop m (coming steps))) (there ∙ to.named) ∙ stays in
+            none-comes it.directory it.at g inside (arrives ∙ ap Some (sym place_is))
+
+        open_at : IsOpen entries steps made m (names_of step.1)
+        open_at = by (last_view to.place)
+          where
+            by : (to.place ≡ []) ⊎ ((front : List (List ℕ)) × (last : List ℕ) × (to.place ≡ front ++ last ∷ []))
+                → IsOpen entries steps made m (names_of step.1)
+            by (inl none) = absurd (to.some none)
+            by (inr (front, q, split)) = record {
+              directory = front;
+              last = q;
+              split = to.named ∙ split;
+              held = held front q split;
+              free = ways.IsFree-comes run m step within is;
+              unmade = unmade;
+            }
+
+    pub CanCome-steps : CanCome entries steps made
+    CanCome-steps m step within is = open_at m step within is
