@@ -99,19 +99,19 @@ abbrev pub MakesDirectories : List Move → List Entry → StepTexts → List (L
 MakesDirectories moves entries steps made = (after : List (List ℕ)) × AreAfter moves entries after
     × DirectoriesArrive moves (map components after) steps made
 
--- ---- what can be put at a place while `together` is done
+-- ---- whether something can come to a place while `together` is done
 
 -- after the first m renames of `together`, a directory of the tree is at the place
 abbrev pub HasOldDirectory : List Entry → StepTexts → ℕ → List (List ℕ) → Type 0
 HasOldDirectory entries steps m place = (start : List (List ℕ)) × HasDirectoryAt entries start
     × (carried (take (length steps.apart + m) (renames_of steps)) start ≡ place)
 
--- then one of the directories that were made is at the place
+-- after the first m renames of `together`, one of the directories that were made is at the place
 abbrev pub HasMadeDirectory : StepTexts → List (List ℕ) → ℕ → List (List ℕ) → Type 0
 HasMadeDirectory steps made m place =
     Any (λ text. carried (take m (map rename_places steps.together)) (names_of text) ≡ place) made
 
--- then nothing is at the place, and it is in the root, or in a directory that is there
+-- after the first m renames of `together`, nothing is at the place, and it is in the root or in a directory that is there
 pub record IsOpen (entries : List Entry) (steps : StepTexts) (made : List (List ℕ)) (m : ℕ) (place : List (List ℕ))
     : Type 0 where
   pub directory : List (List ℕ)
@@ -121,12 +121,12 @@ pub record IsOpen (entries : List Entry) (steps : StepTexts) (made : List (List 
   pub free : ¬ IsThereAfter entries steps (length steps.apart + m) place
   pub unmade : ¬ HasMadeDirectory steps made m place
 
--- each rename of `together` leads to such a place
+-- each rename of `together` leads to a place that is open then
 abbrev pub CanCome : List Entry → StepTexts → List (List ℕ) → Type 0
 CanCome entries steps made = (m : ℕ) (step : List ℕ × List ℕ) → m < length steps.together
     → slice_index_or steps.together m step ≡ step → IsOpen entries steps made m (names_of step.1)
 
--- each directory is made at such a place, after those before it
+-- each directory is made at a place that is open then: after those before it, and before `together`
 abbrev pub CanBeMade : List Entry → StepTexts → List (List ℕ) → Type 0
 CanBeMade entries steps made = (i : ℕ) (text : List ℕ) → i < length made
     → slice_index_or made i text ≡ text → IsOpen entries steps (take i made) 0 (names_of text)
