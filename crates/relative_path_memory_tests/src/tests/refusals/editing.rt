@@ -115,12 +115,13 @@ fn push(rt: HostRuntime) -> Result<(), Fail> {
 /// The mark after a call on a buffer that has room for it. Fails where it leaves another text.
 pub fn end_with_room(
     alloc: Global,
+    case: &str,
     answer: Result<(), AllocError>,
     buf: &RelativePathBuf,
     text: &str,
 ) -> Result<(), Fail> {
     end(alloc, answer.is_err())?;
-    same("what fits", &text_of(buf), &text)
+    same(case, &text_of(buf), &text)
 }
 
 // A push and an `extend` of a buffer that has room for them.
@@ -131,11 +132,11 @@ fn fits(rt: HostRuntime) -> Result<(), Fail> {
     let mut buf = RelativePathBuf::with_capacity(alloc, 15)?;
     begin(alloc);
     let pushed = buf.push(RelativePath::new("foo"));
-    end_with_room(alloc, pushed, &buf, "foo")?;
+    end_with_room(alloc, "push", pushed, &buf, "foo")?;
     let paths = ["bar", "baz", "qux"].map(RelativePath::new);
     begin(alloc);
     let extended = buf.extend(paths);
-    end_with_room(alloc, extended, &buf, "foo/bar/baz/qux")
+    end_with_room(alloc, "extend", extended, &buf, "foo/bar/baz/qux")
 }
 
 fn pop_of(alloc: Global, name: &str) -> Result<(), Fail> {
@@ -247,7 +248,7 @@ fn extend_by_empty_paths(rt: HostRuntime) -> Result<(), Fail> {
     let mut buf = RelativePathBuf::new(rt.alloc());
     begin(rt.alloc());
     let answer = buf.extend([""; 2].map(RelativePath::new));
-    end_with_room(rt.alloc(), answer, &buf, "")
+    end_with_room(rt.alloc(), "extend", answer, &buf, "")
 }
 
 /// A slash and 4,096 letters.

@@ -96,7 +96,7 @@ fn set_file_name_that_fits(rt: HostRuntime) -> Result<(), Fail> {
     let mut buf = RelativePathBuf::from_text(rt.alloc(), "foo/bar")?;
     begin(rt.alloc());
     let answer = buf.set_file_name("baz");
-    end_with_room(rt.alloc(), answer, &buf, "foo/baz")
+    end_with_room(rt.alloc(), "set_file_name", answer, &buf, "foo/baz")
 }
 
 // Sets the extension of `f/.`, which stays if an allocation fails.
