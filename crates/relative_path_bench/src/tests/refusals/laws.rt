@@ -27,15 +27,15 @@ fn same_texts(
     }
 }
 
-// The same of one text.
-fn same_text(
+// The same of a join.
+fn same_join(
     alloc: Global,
     answer: Result<RelativePathBuf, AllocError>,
     expected: &str,
 ) -> Result<(), Fail> {
     end(alloc, answer.is_err())?;
     match answer {
-        Ok(buf) => same("a text", &text_of(&buf), &expected),
+        Ok(buf) => same("a join", &text_of(&buf), &expected),
         Err(_) => Ok(()),
     }
 }
@@ -64,7 +64,7 @@ fn same_three(
 fn join_law_of_two(rt: HostRuntime) -> Result<(), Fail> {
     let [path, other] = ["a/", "//b"].map(RelativePath::new);
     begin(rt.alloc());
-    same_text(rt.alloc(), join_law(rt.alloc(), path, other), "a//b")
+    same_join(rt.alloc(), join_law(rt.alloc(), path, other), "a//b")
 }
 
 // Requests: 8 8 = 2
