@@ -31,7 +31,7 @@ fn gives(
 ) -> Result<(), Fail> {
     end(alloc, answer.is_err())?;
     match answer {
-        Ok(buf) => same("text and room", &(text_of(&buf), buf.spare()), &(text, 0)),
+        Ok(buf) => same("text and room", (text_of(&buf), buf.spare()), (text, 0)),
         Err(_) => Ok(()),
     }
 }

@@ -31,7 +31,7 @@ fn with_capacity_of(alloc: Global, capacity: usize) -> Result<(), Fail> {
     let answer = RelativePathBuf::with_capacity(alloc, capacity);
     end(alloc, answer.is_err())?;
     match answer {
-        Ok(buf) => same("length and room", &(buf.len(), buf.spare()), &(0, capacity)),
+        Ok(buf) => same("length and room", (buf.len(), buf.spare()), (0, capacity)),
         Err(_) => Ok(()),
     }
 }
@@ -98,8 +98,8 @@ fn push_of(alloc: Global, more: &str) -> Result<(), Fail> {
     let answer = buf.push(RelativePath::new(more));
     end(alloc, answer.is_err())?;
     match answer {
-        Ok(()) => same("pushed", &text_of(&buf).strip_prefix("foo/"), &Some(more)),
-        Err(_) => same("refused", &text_of(&buf), &"foo"),
+        Ok(()) => same("pushed", text_of(&buf).strip_prefix("foo/"), Some(more)),
+        Err(_) => same("refused", text_of(&buf), "foo"),
     }
 }
 
@@ -121,7 +121,7 @@ pub fn end_with_room(
     text: &str,
 ) -> Result<(), Fail> {
     end(alloc, answer.is_err())?;
-    same(case, &text_of(buf), &text)
+    same(case, text_of(buf), text)
 }
 
 // A push and an `extend` of a buffer that has room for them.
@@ -145,7 +145,7 @@ fn pop_of(alloc: Global, name: &str) -> Result<(), Fail> {
     begin(alloc);
     let popped = (buf.pop(), buf.pop());
     end(alloc, false)?;
-    same("pop", &(popped, text_of(&buf)), &((true, true), "foo"))
+    same("pop", (popped, text_of(&buf)), ((true, true), "foo"))
 }
 
 // A long name goes.
@@ -202,8 +202,8 @@ fn takes_no_memory(
     let expected = (0, sizes, (true, false, Ordering::Equal), lens);
     same(
         "an empty text, sizes, compared, printed and taken",
-        &(found, taken.as_str()),
-        &(expected, text),
+        (found, taken.as_str()),
+        (expected, text),
     )
 }
 
@@ -227,7 +227,7 @@ fn from_paths_of(alloc: Global, texts: [&str; 4], text: &str) -> Result<(), Fail
     let answer = RelativePathBuf::from_paths(alloc, paths);
     end(alloc, answer.is_err())?;
     match answer {
-        Ok(buf) => same("from_paths", &text_of(&buf), &text),
+        Ok(buf) => same("from_paths", text_of(&buf), text),
         Err(_) => Ok(()),
     }
 }
@@ -283,7 +283,7 @@ pub fn end_extended(
     end(alloc, answer.is_err())?;
     let left = left.map(RelativePath::as_str);
     let is_right = is_left(answer, text_of(buf), name, left);
-    same("extend", &is_right, &true)
+    same("extend", is_right, true)
 }
 
 fn extend_by(alloc: Global, name: &str) -> Result<(), Fail> {

@@ -55,7 +55,7 @@ pub fn end_with_name(
 ) -> Result<(), Fail> {
     end(alloc, answer.is_err())?;
     let expected = if answer.is_ok() { file_name } else { first };
-    same("set_file_name", &left, &Some(expected))
+    same("set_file_name", left, Some(expected))
 }
 
 // Sets the file name of `f/b`, which stays if an allocation fails.
@@ -108,9 +108,9 @@ fn set_extension_of(alloc: Global, extension: &str) -> Result<(), Fail> {
     match answer {
         Ok(is_set) => {
             let added = text_of(&buf).strip_prefix("f.");
-            same("set_extension", &(is_set, added), &(true, Some(extension)))
+            same("set_extension", (is_set, added), (true, Some(extension)))
         }
-        Err(_) => same("refused", &text_of(&buf), &"f/."),
+        Err(_) => same("refused", text_of(&buf), "f/."),
     }
 }
 
@@ -145,7 +145,7 @@ fn set_extension_in(
     let answer = buf.set_extension(extension);
     end(alloc, answer.is_err())?;
     let (is_set, left) = expected;
-    same(text, &(answer.ok(), text_of(&buf)), &(Some(is_set), left))
+    same(text, (answer.ok(), text_of(&buf)), (Some(is_set), left))
 }
 
 // Requests: = 0, = 0, = 0, = 0, = 0

@@ -33,7 +33,7 @@ fn normalize_into_of(alloc: Global, text: &str, normal: &str) -> Result<(), Fail
     begin(alloc);
     RelativePath::new(text).normalize_into(&mut out);
     end(alloc, false)?;
-    same("normalize_into", &text_of(&out), &normal)
+    same("normalize_into", text_of(&out), normal)
 }
 
 // Requests: = 0, = 0, = 0

@@ -19,8 +19,8 @@ fn end_with_path(
     let kind = answer.as_ref().err().map(FromPathError::kind);
     end(alloc, kind == Some(FromPathErrorKind::OutOfMemory))?;
     match answer {
-        Ok(path) => same("a path", &text_of(&path), &text),
-        Err(_) => same("a kind", &kind, &Some(FromPathErrorKind::OutOfMemory)),
+        Ok(path) => same("a path", text_of(&path), text),
+        Err(_) => same("a kind", kind, Some(FromPathErrorKind::OutOfMemory)),
     }
 }
 
@@ -33,8 +33,8 @@ fn end_with_way(
     let kind = answer.as_ref().err().map(RelativeToError::kind);
     end(alloc, kind == Some(RelativeToErrorKind::OutOfMemory))?;
     match answer {
-        Ok(way) => same("a way", &(text_of(&way), way.spare()), &(text, 0)),
-        Err(_) => same("a kind", &kind, &Some(RelativeToErrorKind::OutOfMemory)),
+        Ok(way) => same("a way", (text_of(&way), way.spare()), (text, 0)),
+        Err(_) => same("a kind", kind, Some(RelativeToErrorKind::OutOfMemory)),
     }
 }
 
@@ -46,7 +46,7 @@ fn end_with_text(
 ) -> Result<(), Fail> {
     end(alloc, answer.is_err())?;
     match answer {
-        Ok(found) => same("a text", &found.as_str(), &text),
+        Ok(found) => same("a text", found.as_str(), text),
         Err(_) => Ok(()),
     }
 }
@@ -83,7 +83,7 @@ fn from_path_of_a_root(rt: HostRuntime) -> Result<(), Fail> {
     let as_text = kind_of(unix::from_path(alloc, "/"));
     end(alloc, false)?;
     let expected = Some(FromPathErrorKind::NonRelative);
-    same("a root", &(as_path, as_text), &(expected, expected))
+    same("a root", (as_path, as_text), (expected, expected))
 }
 
 // After a `Path`, and after a text.
@@ -173,7 +173,7 @@ fn refuses_a_way(
     let as_path = kind_of_way(Path::new(text).relative_to(alloc, Path::new(root)));
     let as_text = kind_of_way(unix::relative_to(alloc, text, root));
     end(alloc, false)?;
-    same(text, &(as_path, as_text), &(Some(kind), Some(kind)))
+    same(text, (as_path, as_text), (Some(kind), Some(kind)))
 }
 
 // Requests: = 0

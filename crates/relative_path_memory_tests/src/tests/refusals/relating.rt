@@ -39,8 +39,8 @@ fn try_relative_of(
     match answer {
         Ok(way) => same(
             "a way and its room",
-            &way.as_ref().map(text_and_room),
-            &expected,
+            way.as_ref().map(text_and_room),
+            expected,
         ),
         Err(_) => Ok(()),
     }
@@ -67,7 +67,7 @@ fn leads_apart_of(
     begin(alloc);
     let answer = RelativePath::new(text).leads_apart(alloc, RelativePath::new(other));
     end(alloc, answer.is_err())?;
-    same("leads_apart", &answer.unwrap_or(apart), &apart)
+    same("leads_apart", answer.unwrap_or(apart), apart)
 }
 
 // Requests: 2s 2s = 0, 1s = 0, = 0, 524288s 524288s = 0
