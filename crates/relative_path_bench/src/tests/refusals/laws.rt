@@ -22,7 +22,7 @@ fn same_texts(
 ) -> Result<(), Fail> {
     end(alloc, answer.is_err())?;
     match answer {
-        Ok(pair) => same("two texts", &texts_of(&pair), &expected),
+        Ok(pair) => same("two texts", texts_of(&pair), expected),
         Err(_) => Ok(()),
     }
 }
@@ -35,7 +35,7 @@ fn same_join(
 ) -> Result<(), Fail> {
     end(alloc, answer.is_err())?;
     match answer {
-        Ok(buf) => same("a join", &text_of(&buf), &expected),
+        Ok(buf) => same("a join", text_of(&buf), expected),
         Err(_) => Ok(()),
     }
 }
@@ -54,7 +54,7 @@ fn same_three(
 ) -> Result<(), Fail> {
     end(alloc, answer.is_err())?;
     match answer {
-        Ok(bufs) => same("three texts", &three_texts_of(&bufs), &expected),
+        Ok(bufs) => same("three texts", three_texts_of(&bufs), expected),
         Err(_) => Ok(()),
     }
 }
@@ -115,7 +115,7 @@ fn normalized_law_of(alloc: Global, text: &str, expected: (bool, &str)) -> Resul
     let answer = normalized_law(alloc, RelativePath::new(text));
     end(alloc, answer.is_err())?;
     match answer {
-        Ok((is_normal, buf)) => same(text, &(is_normal, text_of(&buf)), &expected),
+        Ok((is_normal, buf)) => same(text, (is_normal, text_of(&buf)), expected),
         Err(_) => Ok(()),
     }
 }
@@ -135,7 +135,7 @@ fn climb_law_of_one(rt: HostRuntime) -> Result<(), Fail> {
     let answer = climb_law(rt.alloc(), RelativePath::new("a/../../b"));
     end(rt.alloc(), answer.is_err())?;
     match answer {
-        Ok((climb, buf)) => same("a climb", &(climb, text_of(&buf)), &(1, "../b")),
+        Ok((climb, buf)) => same("a climb", (climb, text_of(&buf)), (1, "../b")),
         Err(_) => Ok(()),
     }
 }
@@ -152,7 +152,7 @@ fn same_law_of(
     match answer {
         Ok((buf, other_buf, apart)) => {
             let found = (text_of(&buf), text_of(&other_buf), apart);
-            same(path, &found, &expected)
+            same(path, found, expected)
         }
         Err(_) => Ok(()),
     }
@@ -190,7 +190,7 @@ fn try_law_of(
     let answer = try_law(alloc, RelativePath::new(from), RelativePath::new(to));
     end(alloc, answer.is_err())?;
     match answer {
-        Ok(found) => same(from, &found.as_ref().map(texts_of), &expected),
+        Ok(found) => same(from, found.as_ref().map(texts_of), expected),
         Err(_) => Ok(()),
     }
 }
@@ -223,7 +223,7 @@ fn strip_law_of_a_base(rt: HostRuntime) -> Result<(), Fail> {
     match answer {
         Ok(Some((rest, buf))) => {
             let found = (rest.as_str(), text_of(&buf));
-            same("a rest", &found, &("bar/", "foo/bar/"))
+            same("a rest", found, ("bar/", "foo/bar/"))
         }
         Ok(None) => Err(Fail::new("a rest")),
         Err(_) => Ok(()),
@@ -237,7 +237,7 @@ fn extension_law_of_a_file(rt: HostRuntime) -> Result<(), Fail> {
     let answer = extension_law(rt.alloc(), RelativePath::new("..."), "x");
     end(rt.alloc(), answer.is_err())?;
     match answer {
-        Ok(found) => same("a file", &found.as_ref().map(text_of), &Some("...x")),
+        Ok(found) => same("a file", found.as_ref().map(text_of), Some("...x")),
         Err(_) => Ok(()),
     }
 }
@@ -249,8 +249,8 @@ fn relative_to_law_of_texts(rt: HostRuntime) -> Result<(), Fail> {
     let answer = relative_to_law(rt.alloc(), "foo/bar", "./x");
     end(rt.alloc(), answer.is_err())?;
     match answer {
-        Ok(buf) => same("a way", &text_of(&buf), &"../foo/bar"),
-        Err(error) => same("a way", &error.kind(), &RelativeToErrorKind::OutOfMemory),
+        Ok(buf) => same("a way", text_of(&buf), "../foo/bar"),
+        Err(error) => same("a way", error.kind(), RelativeToErrorKind::OutOfMemory),
     }
 }
 
@@ -319,11 +319,7 @@ fn take_in_turn_from_a_path(rt: HostRuntime) -> Result<(), Fail> {
     let answer = take_in_turn(rt.alloc(), RelativePath::new("/x//./y/"), &ENDS);
     end(rt.alloc(), answer.is_err())?;
     match answer {
-        Ok(taken) => same(
-            "components",
-            &taken.components.as_slice(),
-            &TAKEN.as_slice(),
-        ),
+        Ok(taken) => same("components", taken.components.as_slice(), TAKEN.as_slice()),
         Err(_) => Ok(()),
     }
 }
