@@ -1,6 +1,6 @@
 //! What no clause says: outside vectors in tables, and the callers that pages show.
 use relative_path::{RelativePath, RelativePathBuf};
-use std::alloc::Global;
+use std::alloc::{AllocError, Global};
 use std::fmt::Debug;
 use std::test::Fail;
 
@@ -27,7 +27,7 @@ fn text_of(buf: &RelativePathBuf) -> &str {
 
 // Fails in the words of this case where another value was found than is expected. A call of it costs
 // a proof a fourth of what `assert_eq!` with a message does.
-fn same<T: PartialEq + Debug>(case: &str, found: &T, expected: &T) -> Result<(), Fail> {
+fn same<T: PartialEq + Debug + Drop>(case: &str, found: T, expected: T) -> Result<(), Fail> {
     if found == expected {
         Ok(())
     } else {
@@ -35,12 +35,45 @@ fn same<T: PartialEq + Debug>(case: &str, found: &T, expected: &T) -> Result<(),
     }
 }
 
+// Fails where a call made another path than is expected, or found no memory.
+fn gives(
+    case: &str,
+    answer: Result<RelativePathBuf, AllocError>,
+    expected: &str,
+) -> Result<(), Fail> {
+    let made = answer?;
+    same(case, text_of(&made), expected)
+}
+
+// The same of a call that may make none.
+fn may_give(
+    case: &str,
+    answer: Result<Option<RelativePathBuf>, AllocError>,
+    expected: Option<&str>,
+) -> Result<(), Fail> {
+    let made = answer?;
+    same(case, made.as_ref().map(text_of), expected)
+}
+
+// The same of a text.
+fn gives_text(case: &str, answer: Result<String, AllocError>, expected: &str) -> Result<(), Fail> {
+    let made = answer?;
+    same(case, made.as_str(), expected)
+}
+
+// A normal form, by the call that fills a buffer.
+fn filled_with_normal_form(
+    alloc: Global,
+    path: RelativePath<'_>,
+) -> Result<RelativePathBuf, AllocError> {
+    let mut filled = RelativePathBuf::with_capacity(alloc, path.as_str().len())?;
+    path.normalize_into(&mut filled);
+    Ok(filled)
+}
+
 // Whether a text has this normal form, by the call that makes a buffer and by the one that fills it.
 fn normalizes(alloc: Global, text: &str, normal: &str) -> Result<(), Fail> {
     let path = RelativePath::new(text);
-    let made = path.normalize(alloc)?;
-    let mut filled = RelativePathBuf::with_capacity(alloc, text.len())?;
-    path.normalize_into(&mut filled);
-    same(text, &text_of(&made), &normal)?;
-    same(text, &text_of(&filled), &normal)
+    gives(text, path.normalize(alloc), normal)?;
+    gives(text, filled_with_normal_form(alloc, path), normal)
 }

@@ -26,12 +26,12 @@ fn long_text(alloc: Global) -> Result<String, AllocError> {
 // The mark after a call. Fails if the result has another text, or more room than the text needs.
 fn gives(
     alloc: Global,
-    answer: &Result<RelativePathBuf, AllocError>,
+    answer: Result<RelativePathBuf, AllocError>,
     text: &str,
 ) -> Result<(), Fail> {
     end(alloc, answer.is_err())?;
     match answer {
-        Ok(buf) => same("text and room", &(text_of(buf), buf.spare()), &(text, 0)),
+        Ok(buf) => same("text and room", (text_of(&buf), buf.spare()), (text, 0)),
         Err(_) => Ok(()),
     }
 }

@@ -12,8 +12,10 @@ ghost use Rattle.std.specs.Prelude.{◌++◌, ◌↔◌, IfOk, IfSome, IsNone};
 ghost use Rattle.relative_path.specs.RelativePath.{path_components};
 ghost use Rattle.relative_path.specs.Relating.{IsReachable, IsShortestText};
 
+use super::{gives, may_give, same};
 use relative_path::{RelativePath, RelativePathBuf};
 use std::alloc::{AllocError, Global};
+use std::test::Fail;
 
 /// `link` is written in a page that is in `directory`. The result is the shortest link that leads from
 /// `new_directory` to the same target, or `None` exactly if no path leads there.
@@ -216,71 +218,68 @@ pub fn rest_of<'a>(path: RelativePath<'a>, prefix: RelativePath<'_>) -> Option<R
 }
 
 #[test]
-fn carries_a_link(rt: HostRuntime) -> Result<(), std::test::Fail> {
+fn carries_a_link(rt: HostRuntime) -> Result<(), Fail> {
     let [docs, link, archive] = ["docs/guide", "../img/a.png", "archive"].map(RelativePath::new);
-    let way = carry(rt.alloc(), docs, link, archive)?;
-    assert!(rt; way.is_some_and(|way| way.as_relative_path().as_str() == "../docs/img/a.png"));
-    Ok(())
+    let way = carry(rt.alloc(), docs, link, archive);
+    may_give("carry", way, Some("../docs/img/a.png"))
 }
 
 #[test]
-fn links_from_a_copy(rt: HostRuntime) -> Result<(), std::test::Fail> {
+fn links_from_a_copy(rt: HostRuntime) -> Result<(), Fail> {
     let [page, link, archive] = ["docs/guide.md", "img/a.png", "old/2024"].map(RelativePath::new);
-    let copied = relink(rt.alloc(), page, link, archive)?;
-    assert_eq!(rt; copied.as_relative_path().as_str(), "../../docs/img/a.png");
-    Ok(())
+    let copied = relink(rt.alloc(), page, link, archive);
+    gives("relink", copied, "../../docs/img/a.png")
 }
 
 #[test]
-fn refuses_what_climbs(rt: HostRuntime) -> Result<(), std::test::Fail> {
-    let [inside, outside] = ["img/../docs", "img/../../docs"].map(RelativePath::new);
-    assert_eq!(rt; (stays_below(inside), stays_below(outside)), (true, false));
-    let paths = [inside, outside];
-    assert_eq!(rt;
-        (all_stay_below(&paths), all_stay_below(&paths[..1])),
-        (false, true)
-    );
-    assert_eq!(rt; (depth(inside), depth(outside)), (3, 4));
-    Ok(())
+fn refuses_what_climbs() -> Result<(), Fail> {
+    let paths = ["img/../docs", "img/../../docs"].map(RelativePath::new);
+    let [inside, outside] = paths;
+    let stay = (stays_below(inside), stays_below(outside));
+    let all_stay = (all_stay_below(&paths), all_stay_below(&paths[..1]));
+    let depths = (depth(inside), depth(outside));
+    same(
+        "stays_below, all_stay_below and depth",
+        (stay, all_stay, depths),
+        ((true, false), (false, true), (3, 4)),
+    )
 }
 
 #[test]
-fn makes_pages_of_sources(rt: HostRuntime) -> Result<(), std::test::Fail> {
+fn makes_pages_of_sources(rt: HostRuntime) -> Result<(), Fail> {
+    let alloc = rt.alloc();
     let [out_dir, source, above] = ["../out", "guide/./a.tar.md", "../b.md"].map(RelativePath::new);
-    let page = output(rt.alloc(), out_dir, source)?;
-    assert!(rt;
-        page.is_some_and(|page| page.as_relative_path().as_str() == "../out/guide/./a.tar.html")
-    );
-    assert!(rt; output(rt.alloc(), out_dir, above)?.is_none());
-    let index = index_of(rt.alloc(), source)?;
-    assert!(rt;
-        index.is_some_and(|index| index.as_relative_path().as_str() == "guide/./index.html")
-    );
-    assert!(rt; index_of(rt.alloc(), RelativePath::new("guide/.."))?.is_none());
-    let way = link(rt.alloc(), out_dir, source, RelativePath::new("b.md"))?;
-    assert!(rt; way.is_some_and(|way| way.as_relative_path().as_str() == "../b.html"));
-    Ok(())
+    let page = output(alloc, out_dir, source);
+    may_give("output", page, Some("../out/guide/./a.tar.html"))?;
+    may_give("output above", output(alloc, out_dir, above), None)?;
+    may_give(
+        "index_of",
+        index_of(alloc, source),
+        Some("guide/./index.html"),
+    )?;
+    let index = index_of(alloc, RelativePath::new("guide/.."));
+    may_give("index_of without a name", index, None)?;
+    let way = link(alloc, out_dir, source, RelativePath::new("b.md"));
+    may_give("link", way, Some("../b.html"))
 }
 
 #[test]
-fn finds_links_by_theorems(rt: HostRuntime) -> Result<(), std::test::Fail> {
+fn finds_links_by_theorems(rt: HostRuntime) -> Result<(), Fail> {
+    let alloc = rt.alloc();
     let [here, above, inside] = ["docs/../img/a.png", "../img", "docs/guide"].map(
         RelativePath::new,
     );
-    assert_eq!(rt;
-        place_of(rt.alloc(), here)?.as_relative_path().as_str(),
-        "img/a.png"
-    );
-    let way = link_from(rt.alloc(), inside, above)?;
-    assert!(rt; way.is_some_and(|way| way.as_relative_path().as_str() == "../../../img"));
-    assert!(rt; link_from(rt.alloc(), above, inside)?.is_none());
-    let way = link_between(rt.alloc(), inside, above)?;
-    assert!(rt; way.is_some_and(|way| way.as_relative_path().as_str() == "../../../img"));
-    assert_eq!(rt;
-        (is_normal_inside(inside), is_normal_inside(above)),
-        (true, false)
-    );
+    gives("place_of", place_of(alloc, here), "img/a.png")?;
+    let way = link_from(alloc, inside, above);
+    may_give("link_from", way, Some("../../../img"))?;
+    may_give("link_from above", link_from(alloc, above, inside), None)?;
+    let way = link_between(alloc, inside, above);
+    may_give("link_between", way, Some("../../../img"))?;
+    let are_normal = (is_normal_inside(inside), is_normal_inside(above));
     let rest = rest_of(inside, RelativePath::new("docs")).map(RelativePath::as_str);
-    assert_eq!(rt; rest, Some("guide"));
-    Ok(())
+    same(
+        "is_normal_inside and rest_of",
+        (are_normal, rest),
+        ((true, false), Some("guide")),
+    )
 }

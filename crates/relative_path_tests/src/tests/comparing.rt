@@ -43,15 +43,25 @@ fn compared<T: Ord + Hash>(left: &T, right: &T) -> (Ordering, bool, bool) {
 }
 
 // Two views, a buffer's view and a view, and two buffers. A buffer is hashed as its view.
-fn compares(alloc: Global, left: &str, right: &str, order: Ordering) -> Result<(), Fail> {
+fn compare(
+    views: (RelativePath<'_>, RelativePath<'_>),
+    left: &RelativePathBuf,
+    right: &RelativePathBuf,
+    order: Ordering,
+) -> Result<(), Fail> {
+    let (a, b) = views;
     let expected = (order, order.is_eq(), order.is_eq());
-    let (a, b) = (RelativePath::new(left), RelativePath::new(right));
-    same(left, &compared(&a, &b), &expected)?;
+    same(a.as_str(), compared(&a, &b), expected)?;
+    same(a.as_str(), hash_of(left), hash_of(&a))?;
+    same(a.as_str(), compared(&left.as_relative_path(), &b), expected)?;
+    same(a.as_str(), compared(left, right), expected)
+}
+
+fn compares(alloc: Global, left: &str, right: &str, order: Ordering) -> Result<(), Fail> {
+    let views = (RelativePath::new(left), RelativePath::new(right));
     let x = RelativePathBuf::from_text(alloc, left)?;
-    same(left, &hash_of(&x), &hash_of(&a))?;
-    same(left, &compared(&x.as_relative_path(), &b), &expected)?;
     let y = RelativePathBuf::from_text(alloc, right)?;
-    same(left, &compared(&x, &y), &expected)
+    compare(views, &x, &y, order)
 }
 
 // That unequal paths hash differently holds under this hasher.
@@ -79,7 +89,7 @@ fn orders_components() -> Result<(), Fail> {
     for (place, left) in COMPONENTS.iter().enumerate() {
         for (other, right) in COMPONENTS.iter().enumerate() {
             let found = (left.cmp(right), left == right);
-            same(left.as_str(), &found, &(place.cmp(&other), place == other))?;
+            same(left.as_str(), found, (place.cmp(&other), place == other))?;
         }
     }
     Ok(())
@@ -123,13 +133,17 @@ const WRITES: [(&str, &[u8; 8]); 3] = [
     ("a", b"\0\0\0\0a|/|"),
 ];
 
+// By a view, and by a buffer.
+fn feeds(alloc: Global, text: &str, writes: &[u8; 8]) -> Result<(), Fail> {
+    same(text, writes_of(&RelativePath::new(text)), *writes)?;
+    let buf = RelativePathBuf::from_text(alloc, text)?;
+    same(text, writes_of(&buf), *writes)
+}
+
 #[test]
 fn feeds_a_hasher_component_by_component(rt: HostRuntime) -> Result<(), Fail> {
     for (text, writes) in &WRITES {
-        let view = RelativePath::new(text);
-        same(text, &writes_of(&view), *writes)?;
-        let buf = RelativePathBuf::from_text(rt.alloc(), text)?;
-        same(text, &writes_of(&buf), *writes)?;
+        feeds(rt.alloc(), text, writes)?;
     }
     Ok(())
 }
@@ -144,5 +158,5 @@ fn new_buffers_are_equal(rt: HostRuntime) -> Result<(), Fail> {
 fn copies_are_equal(rt: HostRuntime) -> Result<(), Fail> {
     let foo = RelativePath::new("foo");
     let copy = foo.to_relative_path_buf(rt.alloc())?;
-    same("a view and a copy", &foo, &copy.as_relative_path())
+    same("a view and a copy", foo, copy.as_relative_path())
 }

@@ -8,9 +8,7 @@ pub type Decomposition = (
     Option<&'static str>,
 );
 
-pub const DECOMPOSITIONS: [&[Decomposition]; 3] = [&SLASHES, &DOTS, &NAMES];
-
-const SLASHES: [Decomposition; 10] = [
+pub const SLASHES: &[Decomposition] = &[
     ("", &[], None, None),
     ("foo", &["foo"], Some(""), Some("foo")),
     ("/", &[], Some(""), None),
@@ -23,7 +21,7 @@ const SLASHES: [Decomposition; 10] = [
     ("///foo///bar", &["foo", "bar"], Some("///foo"), Some("bar")),
 ];
 
-const DOTS: [Decomposition; 10] = [
+pub const DOTS: &[Decomposition] = &[
     ("./.", &[".", "."], Some(""), None),
     ("/..", &[".."], Some(""), None),
     ("../", &[".."], Some(""), None),
@@ -46,7 +44,7 @@ const DOTS: [Decomposition; 10] = [
     ("./a", &[".", "a"], Some("."), Some("a")),
 ];
 
-const NAMES: [Decomposition; 7] = [
+pub const NAMES: &[Decomposition] = &[
     (".", &["."], Some(""), None),
     ("./", &["."], Some(""), None),
     ("a/b", &["a", "b"], Some("a"), Some("b")),

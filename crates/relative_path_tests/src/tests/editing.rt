@@ -1,7 +1,7 @@
 //! Pushes and pops, file names and extensions that are set, and joins.
-use super::{same, text_of};
+use super::{gives, same, text_of};
 use relative_path::{RelativePath, RelativePathBuf};
-use std::alloc::Global;
+use std::alloc::{AllocError, Global};
 use std::test::Fail;
 
 const PUSHES: [(&str, &str, &str); 11] = [
@@ -18,16 +18,16 @@ const PUSHES: [(&str, &str, &str); 11] = [
     ("", "/", ""),
 ];
 
-fn pushes_to(alloc: Global, text: &str, pushed: &str, expected: &str) -> Result<(), Fail> {
+fn pushed(alloc: Global, text: &str, path: &str) -> Result<RelativePathBuf, AllocError> {
     let mut buf = RelativePathBuf::from_text(alloc, text)?;
-    buf.push(RelativePath::new(pushed))?;
-    same(text, &text_of(&buf), &expected)
+    buf.push(RelativePath::new(path))?;
+    Ok(buf)
 }
 
 #[test]
 fn pushes(rt: HostRuntime) -> Result<(), Fail> {
-    for (text, pushed, expected) in &PUSHES {
-        pushes_to(rt.alloc(), text, pushed, expected)?;
+    for (text, path, expected) in &PUSHES {
+        gives(text, pushed(rt.alloc(), text, path), expected)?;
     }
     Ok(())
 }
@@ -46,12 +46,16 @@ const POPS: [(&str, bool, &str); 11] = [
     ("日本/語.ü", true, "日本"),
 ];
 
+fn pops_to(alloc: Global, text: &str, expected: (bool, &str)) -> Result<(), Fail> {
+    let mut buf = RelativePathBuf::from_text(alloc, text)?;
+    let popped = buf.pop();
+    same(text, (popped, text_of(&buf)), expected)
+}
+
 #[test]
 fn pops(rt: HostRuntime) -> Result<(), Fail> {
     for (text, popped, expected) in &POPS {
-        let mut buf = RelativePathBuf::from_text(rt.alloc(), text)?;
-        let found = buf.pop();
-        same(text, &(found, text_of(&buf)), &(*popped, *expected))?;
+        pops_to(rt.alloc(), text, (*popped, expected))?;
     }
     Ok(())
 }
@@ -73,6 +77,12 @@ const FILE_NAMES: [(&str, &str, &str); 13] = [
     ("a/foo", "", "a/"),
 ];
 
+fn named(alloc: Global, text: &str, file_name: &str) -> Result<RelativePathBuf, AllocError> {
+    let mut buf = RelativePathBuf::from_text(alloc, text)?;
+    buf.set_file_name(file_name)?;
+    Ok(buf)
+}
+
 // By the setter, and by the call that copies.
 fn sets_a_file_name(
     alloc: Global,
@@ -80,11 +90,9 @@ fn sets_a_file_name(
     file_name: &str,
     expected: &str,
 ) -> Result<(), Fail> {
-    let mut buf = RelativePathBuf::from_text(alloc, text)?;
-    buf.set_file_name(file_name)?;
-    same(text, &text_of(&buf), &expected)?;
-    let copy = RelativePath::new(text).with_file_name(alloc, file_name)?;
-    same(text, &text_of(&copy), &expected)
+    gives(text, named(alloc, text, file_name), expected)?;
+    let copy = RelativePath::new(text).with_file_name(alloc, file_name);
+    gives(text, copy, expected)
 }
 
 #[test]
@@ -142,12 +150,12 @@ fn sets_an_extension(
     extension: &str,
     expected: (bool, &str, Option<&str>),
 ) -> Result<(), Fail> {
+    let copy = RelativePath::new(text).with_extension(alloc, extension);
+    gives(text, copy, expected.1)?;
     let mut buf = RelativePathBuf::from_text(alloc, text)?;
     let answer = buf.set_extension(extension)?;
     let path = buf.as_relative_path();
-    same(text, &(answer, path.as_str(), path.file_name()), &expected)?;
-    let copy = RelativePath::new(text).with_extension(alloc, extension)?;
-    same(text, &text_of(&copy), &expected.1)
+    same(text, (answer, path.as_str(), path.file_name()), expected)
 }
 
 // Fails where an extension is set otherwise than its row says.
@@ -194,8 +202,8 @@ fn joins_to(
     let joined = RelativePath::new(text).join(alloc, RelativePath::new(path))?;
     same(
         text,
-        &(text_of(&joined), joined.as_relative_path()),
-        &expected,
+        (text_of(&joined), joined.as_relative_path()),
+        expected,
     )
 }
 

@@ -1,7 +1,7 @@
 //! Joins in normal form.
-use super::{same, text_of};
+use super::{filled_with_normal_form, gives};
 use relative_path::{RelativePath, RelativePathBuf};
-use std::alloc::Global;
+use std::alloc::{AllocError, Global};
 use std::test::Fail;
 
 const JOINED_NORMAL_FORMS: [(&str, &str, &str); 6] = [
@@ -13,15 +13,20 @@ const JOINED_NORMAL_FORMS: [(&str, &str, &str); 6] = [
     ("日本/é", "../ü/./語", "日本/ü/語"),
 ];
 
+fn normal_form_of_join(
+    alloc: Global,
+    path: RelativePath<'_>,
+    other: RelativePath<'_>,
+) -> Result<RelativePathBuf, AllocError> {
+    let join = path.join(alloc, other)?;
+    filled_with_normal_form(alloc, join.as_relative_path())
+}
+
 // By the one call, and by `normalize_into` of the join.
 fn joins_to(alloc: Global, text: &str, other: &str, expected: &str) -> Result<(), Fail> {
     let (path, other) = (RelativePath::new(text), RelativePath::new(other));
-    let made = path.join_normalized(alloc, other)?;
-    same(text, &text_of(&made), &expected)?;
-    let join = path.join(alloc, other)?;
-    let mut filled = RelativePathBuf::with_capacity(alloc, join.len())?;
-    join.as_relative_path().normalize_into(&mut filled);
-    same(text, &text_of(&filled), &expected)
+    gives(text, path.join_normalized(alloc, other), expected)?;
+    gives(text, normal_form_of_join(alloc, path, other), expected)
 }
 
 #[test]

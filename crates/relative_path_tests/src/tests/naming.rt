@@ -1,5 +1,5 @@
 //! Parents, file names, stems and extensions.
-use super::decompositions::{DECOMPOSITIONS, Decomposition};
+use super::decompositions::{self, Decomposition};
 use super::same;
 use relative_path::RelativePath;
 use std::test::Fail;
@@ -9,19 +9,17 @@ fn splits_those_of(rows: &[Decomposition]) -> Result<(), Fail> {
     for (text, _, parent, file_name) in rows {
         let path = RelativePath::new(text);
         let above = path.parent().map(RelativePath::as_str);
-        same(text, &(above, path.file_name()), &(*parent, *file_name))?;
-        let parts = (path.file_stem(), path.extension());
-        same(text, &parts, &(*file_name, None))?;
+        let found = (above, path.file_name(), path.file_stem(), path.extension());
+        same(text, found, (*parent, *file_name, *file_name, None))?;
     }
     Ok(())
 }
 
 #[test]
 fn splits_off_file_names() -> Result<(), Fail> {
-    for rows in &DECOMPOSITIONS {
-        splits_those_of(rows)?;
-    }
-    Ok(())
+    splits_those_of(decompositions::SLASHES)?;
+    splits_those_of(decompositions::DOTS)?;
+    splits_those_of(decompositions::NAMES)
 }
 
 #[test]
@@ -29,7 +27,7 @@ fn goes_up() -> Result<(), Fail> {
     let mut path = Some(RelativePath::new("baz/./bar/foo//./."));
     for expected in &[Some("baz/./bar"), Some("baz/."), Some(""), None] {
         path = path.and_then(RelativePath::parent);
-        same("parent", &path.map(RelativePath::as_str), expected)?;
+        same("parent", path.map(RelativePath::as_str), *expected)?;
     }
     Ok(())
 }
@@ -37,9 +35,7 @@ fn goes_up() -> Result<(), Fail> {
 // A text, its stem and its extension.
 type Stem = (&'static str, Option<&'static str>, Option<&'static str>);
 
-const STEMS: [&[Stem]; 2] = [&ONE_DOT, &DOTS];
-
-const ONE_DOT: [Stem; 7] = [
+const ONE_DOT: &[Stem] = &[
     ("foo.txt", Some("foo"), Some("txt")),
     ("foo.", Some("foo"), Some("")),
     (".foo", Some(".foo"), None),
@@ -49,7 +45,7 @@ const ONE_DOT: [Stem; 7] = [
     ("日本/語.é", Some("語"), Some("é")),
 ];
 
-const DOTS: [Stem; 8] = [
+const DOTS: &[Stem] = &[
     ("foo.bar.txt", Some("foo.bar"), Some("txt")),
     ("foo.bar.", Some("foo.bar"), Some("")),
     ("..", None, None),
@@ -65,15 +61,13 @@ fn cuts_those_of(rows: &[Stem]) -> Result<(), Fail> {
     for (text, stem, extension) in rows {
         let path = RelativePath::new(text);
         let parts = (path.file_stem(), path.extension());
-        same(text, &parts, &(*stem, *extension))?;
+        same(text, parts, (*stem, *extension))?;
     }
     Ok(())
 }
 
 #[test]
 fn cuts_file_names_at_their_last_dot() -> Result<(), Fail> {
-    for rows in &STEMS {
-        cuts_those_of(rows)?;
-    }
-    Ok(())
+    cuts_those_of(ONE_DOT)?;
+    cuts_those_of(DOTS)
 }

@@ -24,7 +24,7 @@ const NORMAL_FORMS: [(&str, &str, usize); 13] = [
 fn gives_normal_forms_and_climbs(rt: HostRuntime) -> Result<(), Fail> {
     for (text, normal, climb) in &NORMAL_FORMS {
         normalizes(rt.alloc(), text, normal)?;
-        same(text, &RelativePath::new(text).climb(), climb)?;
+        same(text, RelativePath::new(text).climb(), *climb)?;
     }
     Ok(())
 }

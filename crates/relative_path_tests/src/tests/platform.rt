@@ -1,5 +1,5 @@
 //! Platform paths, by their texts and as `Path` and `PathBuf`.
-use super::{same, text_of};
+use super::{gives_text, same, text_of};
 use relative_path::{
     FromPathError, FromPathErrorKind, PathExt, RelativePath, RelativePathBuf, RelativeToError,
     RelativeToErrorKind, unix,
@@ -26,7 +26,7 @@ const PARENTS: [(&str, &str); 10] = [
 #[test]
 fn goes_up_on_platform_texts() -> Result<(), Fail> {
     for (text, parent) in &PARENTS {
-        same(text, &unix::parent_text(text), parent)?;
+        same(text, unix::parent_text(text), *parent)?;
     }
     Ok(())
 }
@@ -42,22 +42,35 @@ const RELATIVES: [(&str, &str); 7] = [
     ("a\\b/c:", "a\\b/c:"),
 ];
 
+// Of a text, and of a `Path`.
+fn views(text: &str) -> Result<(), Fail> {
+    let of_text = unix::view(text)?.as_str();
+    let of_path = RelativePath::from_path(Path::new(text))?.as_str();
+    same("a text and a path", (of_text, of_path), (text, text))
+}
+
 #[test]
 fn views_paths() -> Result<(), Fail> {
     for (text, _) in &RELATIVES {
-        let of_text = unix::view(text)?.as_str();
-        let of_path = RelativePath::from_path(Path::new(text))?.as_str();
-        same("a text and a path", &(of_text, of_path), &(*text, *text))?;
+        views(text)?;
     }
     Ok(())
 }
 
+fn is_made(
+    text: &str,
+    answer: Result<RelativePathBuf, FromPathError>,
+    expected: &str,
+) -> Result<(), Fail> {
+    let made = answer?;
+    same(text, text_of(&made), expected)
+}
+
 // Of a text, and of a `Path`.
 fn makes(alloc: Global, text: &str, expected: &str) -> Result<(), Fail> {
-    let made = unix::from_path(alloc, text)?;
-    same(text, &text_of(&made), &expected)?;
-    let made = RelativePathBuf::from_path(alloc, Path::new(text))?;
-    same(text, &text_of(&made), &expected)
+    is_made(text, unix::from_path(alloc, text), expected)?;
+    let made = RelativePathBuf::from_path(alloc, Path::new(text));
+    is_made(text, made, expected)
 }
 
 #[test]
@@ -71,7 +84,7 @@ fn makes_relative_paths(rt: HostRuntime) -> Result<(), Fail> {
 // Fails if the error isn't that of a root.
 fn refuses_a_root<T: Drop>(case: &str, answer: Result<T, FromPathError>) -> Result<(), Fail> {
     let refused = answer.err().ok_or("a refusal")?;
-    same(case, &refused.kind(), &FromPathErrorKind::NonRelative)
+    same(case, refused.kind(), FromPathErrorKind::NonRelative)
 }
 
 // By each call that makes a relative path of a platform path.
@@ -105,10 +118,9 @@ const BEHIND: [(&str, &str, &str); 7] = [
 // After a text, and after a `Path`.
 fn puts_after(alloc: Global, text: &str, base: &str, expected: &str) -> Result<(), Fail> {
     let path = RelativePath::new(text);
-    let made = unix::to_path(alloc, path, base)?;
-    same(text, &made.as_str(), &expected)?;
-    let made = path.to_path(alloc, Path::new(base))?.into_string();
-    same(text, &made.as_str(), &expected)
+    gives_text(text, unix::to_path(alloc, path, base), expected)?;
+    let made = path.to_path(alloc, Path::new(base));
+    gives_text(text, made.map(PathBuf::into_string), expected)
 }
 
 #[test]
@@ -134,10 +146,9 @@ const LOGICAL: [(&str, &str, &str); 8] = [
 // From a text, and from a `Path`.
 fn leads_from(alloc: Global, text: &str, base: &str, expected: &str) -> Result<(), Fail> {
     let path = RelativePath::new(text);
-    let made = unix::to_logical_path(alloc, path, base)?;
-    same(text, &made.as_str(), &expected)?;
-    let made = path.to_logical_path(alloc, Path::new(base))?.into_string();
-    same(text, &made.as_str(), &expected)
+    gives_text(text, unix::to_logical_path(alloc, path, base), expected)?;
+    let made = path.to_logical_path(alloc, Path::new(base));
+    gives_text(text, made.map(PathBuf::into_string), expected)
 }
 
 #[test]
@@ -176,12 +187,10 @@ fn way_of_buffers(alloc: Global, path: &str, root: &str) -> Result<String, Alloc
 
 // Fails if a form of `relative_to` doesn't return this.
 fn leads(alloc: Global, path: &str, root: &str, expected: &str) -> Result<(), Fail> {
-    let way = shown(alloc, unix::relative_to(alloc, path, root))?;
-    same(path, &way.as_str(), &expected)?;
-    let way = way_of_paths(alloc, path, root)?;
-    same(path, &way.as_str(), &expected)?;
-    let way = way_of_buffers(alloc, path, root)?;
-    same(path, &way.as_str(), &expected)
+    let way = shown(alloc, unix::relative_to(alloc, path, root));
+    gives_text(path, way, expected)?;
+    gives_text(path, way_of_paths(alloc, path, root), expected)?;
+    gives_text(path, way_of_buffers(alloc, path, root), expected)
 }
 
 // A path, a root, and the path from the root to the first path, or the words of an error.
@@ -300,9 +309,8 @@ fn tells<T: Clone + Drop + PartialEq + Debug + Display>(
     words: &str,
 ) -> Result<(), Fail> {
     same(words, &refusal.clone()?, refusal)?;
-    let printed = format!(in alloc; "{refusal}|{refusal:5.99}")?;
-    let expected = format!(in alloc; "{words}|{words}")?;
-    same(words, &printed, &expected)
+    gives_text(words, format!(in alloc; "{refusal}"), words)?;
+    gives_text(words, format!(in alloc; "{refusal:5.99}"), words)
 }
 
 const FROM_PATH_KINDS: [(FromPathErrorKind, &str); 4] = [
@@ -325,7 +333,7 @@ const FROM_PATH_KINDS: [(FromPathErrorKind, &str); 4] = [
 fn tells_why_a_path_is_not_relative(rt: HostRuntime) -> Result<(), Fail> {
     for (kind, words) in &FROM_PATH_KINDS {
         let error = FromPathError::from(*kind);
-        same(words, &error.kind(), kind)?;
+        same(words, error.kind(), *kind)?;
         tells(rt.alloc(), &error, words)?;
     }
     Ok(())
@@ -336,7 +344,7 @@ fn reasons_why_a_path_is_not_relative_differ() -> Result<(), Fail> {
     for (kind, words) in &FROM_PATH_KINDS {
         for (other, _) in &FROM_PATH_KINDS {
             let is_same = FromPathError::from(*kind) == FromPathError::from(*other);
-            same(words, &is_same, &(kind == other))?;
+            same(words, is_same, kind == other)?;
         }
     }
     Ok(())
@@ -366,7 +374,7 @@ const RELATIVE_TO_KINDS: [(RelativeToErrorKind, &str); 5] = [
 fn tells_why_no_way_leads_to_a_path(rt: HostRuntime) -> Result<(), Fail> {
     for (kind, words) in &RELATIVE_TO_KINDS {
         let error = RelativeToError::from(*kind);
-        same(words, &error.kind(), kind)?;
+        same(words, error.kind(), *kind)?;
         tells(rt.alloc(), &error, words)?;
     }
     Ok(())
@@ -377,7 +385,7 @@ fn reasons_why_no_way_leads_to_a_path_differ() -> Result<(), Fail> {
     for (kind, words) in &RELATIVE_TO_KINDS {
         for (other, _) in &RELATIVE_TO_KINDS {
             let is_same = RelativeToError::from(*kind) == RelativeToError::from(*other);
-            same(words, &is_same, &(kind == other))?;
+            same(words, is_same, kind == other)?;
         }
     }
     Ok(())

@@ -6,9 +6,7 @@ use std::test::Fail;
 // A path, another, what is left of the first after the second, and whether it ends with the second.
 type Affix = (&'static str, &'static str, Option<&'static str>, bool);
 
-const AFFIXES: [&[Affix]; 2] = [&COMPARED, &WORKED];
-
-const COMPARED: [Affix; 8] = [
+const COMPARED: &[Affix] = &[
     ("", "", Some(""), true),
     ("foo", "", Some("foo"), true),
     ("", "foo", None, false),
@@ -20,7 +18,7 @@ const COMPARED: [Affix; 8] = [
 ];
 
 // A part of a name is no component.
-const WORKED: [Affix; 8] = [
+const WORKED: &[Affix] = &[
     ("//foo/bar/", "", Some("//foo/bar/"), true),
     ("//foo/bar/", "foo", Some("bar/"), false),
     ("//foo/bar/", "foo/bar", Some(""), true),
@@ -37,17 +35,15 @@ fn finds_those_of(rows: &[Affix]) -> Result<(), Fail> {
         let (path, other) = (RelativePath::new(text), RelativePath::new(affix));
         let stripped = path.strip_prefix(other).map(RelativePath::as_str).ok();
         let found = (stripped, path.starts_with(other), path.ends_with(other));
-        same(text, &found, &(*rest, rest.is_some(), *is_suffix))?;
+        same(text, found, (*rest, rest.is_some(), *is_suffix))?;
     }
     Ok(())
 }
 
 #[test]
 fn finds_prefixes_and_suffixes() -> Result<(), Fail> {
-    for rows in &AFFIXES {
-        finds_those_of(rows)?;
-    }
-    Ok(())
+    finds_those_of(COMPARED)?;
+    finds_those_of(WORKED)
 }
 
 #[test]
@@ -55,7 +51,7 @@ fn refusals_to_strip_are_equal() -> Result<(), Fail> {
     let path = RelativePath::new("foo/bar");
     let by_name = path.strip_prefix(RelativePath::new("fo")).err();
     let by_length = path.strip_prefix(RelativePath::new("foo/bar/baz")).err();
-    same("fo", &by_name.is_some(), &true)?;
+    same("fo", by_name.is_some(), true)?;
     same("foo/bar/baz", &by_length, &by_name)?;
     same("a clone", &by_name.clone()?, &by_name)
 }
@@ -72,7 +68,7 @@ const NORMALIZED: [(&str, bool); 6] = [
 #[test]
 fn tells_normal_components() -> Result<(), Fail> {
     for (text, is_normal) in &NORMALIZED {
-        same(text, &RelativePath::new(text).is_normalized(), is_normal)?;
+        same(text, RelativePath::new(text).is_normalized(), *is_normal)?;
     }
     Ok(())
 }

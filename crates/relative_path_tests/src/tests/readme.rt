@@ -3,6 +3,7 @@ ghost use Rattle.std.specs.Prelude.{◌++◌, IfOk};
 ghost use Rattle.relative_path.specs.Normalizing.{IsNormalTextOf};
 ghost use Rattle.relative_path.specs.RelativePath.{path_components};
 
+use super::gives;
 use relative_path::{RelativePath, RelativePathBuf};
 use std::alloc::{AllocError, Global};
 use std::test::Fail;
@@ -24,11 +25,10 @@ fn resolve(
 
 #[test]
 fn resolves_a_link(rt: HostRuntime) -> Result<(), Fail> {
-    let file = resolve(
-        rt.alloc(),
-        RelativePath::new("docs/guide"),
-        RelativePath::new("../img/./a.png"),
-    )?;
-    assert_eq!(rt; file.as_relative_path().as_str(), "docs/img/a.png");
-    Ok(())
+    let [directory, link] = ["docs/guide", "../img/./a.png"].map(RelativePath::new);
+    gives(
+        "resolve",
+        resolve(rt.alloc(), directory, link),
+        "docs/img/a.png",
+    )
 }

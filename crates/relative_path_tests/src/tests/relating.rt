@@ -1,5 +1,5 @@
 //! The way from one path to another, and where paths lead apart.
-use super::{same, text_of};
+use super::{gives, may_give, same};
 use relative_path::RelativePath;
 use std::alloc::Global;
 use std::test::Fail;
@@ -29,10 +29,8 @@ const WAYS: &[Way] = &[
 // By `relative`, and by `try_relative`.
 fn leads(alloc: Global, from: &str, to: &str, expected: Option<&str>) -> Result<(), Fail> {
     let (path, target) = (RelativePath::new(from), RelativePath::new(to));
-    let way = path.relative(alloc, target)?;
-    same(from, &text_of(&way), &expected.unwrap_or(""))?;
-    let way = path.try_relative(alloc, target)?;
-    same(from, &way.as_ref().map(text_of), &expected)
+    gives(from, path.relative(alloc, target), expected.unwrap_or(""))?;
+    may_give(from, path.try_relative(alloc, target), expected)
 }
 
 #[test]
@@ -52,11 +50,22 @@ const APART: [(&str, &str, Option<usize>); 6] = [
     ("a", "b", Some(0)),
 ];
 
+/// Fails where two paths lead apart from another base on.
+pub fn lead_apart(
+    alloc: Global,
+    case: &str,
+    text: &str,
+    other: &str,
+    expected: Option<usize>,
+) -> Result<(), Fail> {
+    let apart = RelativePath::new(text).leads_apart(alloc, RelativePath::new(other))?;
+    same(case, apart, expected)
+}
+
 #[test]
 fn leads_apart(rt: HostRuntime) -> Result<(), Fail> {
     for (text, other, expected) in &APART {
-        let apart = RelativePath::new(text).leads_apart(rt.alloc(), RelativePath::new(other))?;
-        same(text, &apart, expected)?;
+        lead_apart(rt.alloc(), text, text, other, *expected)?;
     }
     Ok(())
 }

@@ -28,6 +28,18 @@ fn short_texts(alloc: Global) -> Result<Vec<String>, AllocError> {
     longer(alloc, &texts)
 }
 
+// Goes from a place where a component leads. Returns whether it leads anywhere.
+fn step<'a>(place: &mut Vec<&'a str>, component: Component<'a>) -> Result<bool, AllocError> {
+    match component {
+        Component::CurDir => Ok(true),
+        Component::Normal(name) => {
+            place.push(name)?;
+            Ok(true)
+        }
+        Component::ParentDir => Ok(place.pop().is_some()),
+    }
+}
+
 // The place that a path leads to from a base of some names, if there is one.
 fn lead<'a>(
     alloc: Global,
@@ -39,17 +51,24 @@ fn lead<'a>(
         place.push("base")?;
     }
     for component in path.components() {
-        match component {
-            Component::CurDir => {}
-            Component::Normal(name) => place.push(name)?,
-            Component::ParentDir => {
-                if place.pop().is_none() {
-                    return Ok(None);
-                }
-            }
+        if !step(&mut place, component)? {
+            return Ok(None);
         }
     }
     Ok(Some(place))
+}
+
+fn leads(alloc: Global, depth: usize, path: RelativePath<'_>) -> Result<bool, AllocError> {
+    Ok(lead(alloc, depth, path)?.is_some())
+}
+
+fn lead_to_one_place(
+    alloc: Global,
+    depth: usize,
+    path: RelativePath<'_>,
+    other: RelativePath<'_>,
+) -> Result<bool, AllocError> {
+    Ok(lead(alloc, depth, path)? == lead(alloc, depth, other)?)
 }
 
 // The fewest names of a base from which two paths lead to different places, or one of them to none.
@@ -59,7 +78,7 @@ fn parted(
     other: RelativePath<'_>,
 ) -> Result<Option<usize>, AllocError> {
     for depth in 0..=DEEPEST {
-        if lead(alloc, depth, path)? != lead(alloc, depth, other)? {
+        if !lead_to_one_place(alloc, depth, path, other)? {
             return Ok(Some(depth));
         }
     }
@@ -73,7 +92,7 @@ fn is_out_of_reach(
     to: RelativePath<'_>,
 ) -> Result<bool, AllocError> {
     for depth in 0..=DEEPEST {
-        if lead(alloc, depth, from)?.is_none() && lead(alloc, depth, to)?.is_some() {
+        if !leads(alloc, depth, from)? && leads(alloc, depth, to)? {
             return Ok(true);
         }
     }
@@ -87,7 +106,7 @@ fn has_a_normal_form(alloc: Global, text: &str) -> Result<(), Fail> {
     normalizes(alloc, text, text_of(&buf))?;
     let normal = buf.as_relative_path();
     let found = (normal.is_normalized(), parted(alloc, normal, path)?);
-    same(text, &found, &(true, None))
+    same(text, found, (true, None))
 }
 
 #[test]
@@ -122,7 +141,7 @@ fn has_a_way(alloc: Global, text: &str, other: &str) -> Result<(), Fail> {
     let fault = fault_of_way(alloc, path, other)?;
     let apart = path.leads_apart(alloc, other)?;
     let expected = (None, parted(alloc, path, other)?);
-    same(text, &(fault, apart), &expected)
+    same(text, (fault, apart), expected)
 }
 
 #[test]

@@ -12,153 +12,205 @@ use std::test::Fail;
 // A text of ten bytes.
 const SHORT: &str = "//a/b/./c/";
 
+fn from_text_of(alloc: Global, text: &str) -> Result<(), Fail> {
+    begin(alloc);
+    gives(alloc, RelativePathBuf::from_text(alloc, text), text)
+}
+
 // Requests: 10 = 1, = 0, 1048576 = 1
 #[test]
 fn from_text(rt: HostRuntime) -> Result<(), Fail> {
-    let long = long_text(rt.alloc())?;
-    for text in &[SHORT, "", long.as_str()] {
-        begin(rt.alloc());
-        let answer = RelativePathBuf::from_text(rt.alloc(), text);
-        gives(rt.alloc(), &answer, text)?;
+    let alloc = rt.alloc();
+    from_text_of(alloc, SHORT)?;
+    from_text_of(alloc, "")?;
+    from_text_of(alloc, long_text(alloc)?.as_str())
+}
+
+fn with_capacity_of(alloc: Global, capacity: usize) -> Result<(), Fail> {
+    begin(alloc);
+    let answer = RelativePathBuf::with_capacity(alloc, capacity);
+    end(alloc, answer.is_err())?;
+    match answer {
+        Ok(buf) => same("length and room", (buf.len(), buf.spare()), (0, capacity)),
+        Err(_) => Ok(()),
     }
-    Ok(())
 }
 
 // Requests: 10 = 1, = 0, 1048576 = 1
 #[test]
 fn with_capacity(rt: HostRuntime) -> Result<(), Fail> {
-    for capacity in &[10, 0, 1_048_576] {
-        begin(rt.alloc());
-        let answer = RelativePathBuf::with_capacity(rt.alloc(), *capacity);
-        end(rt.alloc(), answer.is_err())?;
-        if let Ok(buf) = answer {
-            same(
-                "length and room",
-                &(buf.len(), buf.spare()),
-                &(0, *capacity),
-            )?;
-        }
-    }
-    Ok(())
+    let alloc = rt.alloc();
+    with_capacity_of(alloc, 10)?;
+    with_capacity_of(alloc, 0)?;
+    with_capacity_of(alloc, 1_048_576)
+}
+
+fn clone_of(alloc: Global, text: &str) -> Result<(), Fail> {
+    let buf = RelativePathBuf::from_text(alloc, text)?;
+    begin(alloc);
+    gives(alloc, buf.clone(), text)
 }
 
 // Requests: 10 = 1, = 0, 1048576 = 1
 #[test]
 fn clone(rt: HostRuntime) -> Result<(), Fail> {
-    let long = long_text(rt.alloc())?;
-    for text in &[SHORT, "", long.as_str()] {
-        let buf = RelativePathBuf::from_text(rt.alloc(), text)?;
-        begin(rt.alloc());
-        let answer = buf.clone();
-        gives(rt.alloc(), &answer, text)?;
-    }
-    Ok(())
+    let alloc = rt.alloc();
+    clone_of(alloc, SHORT)?;
+    clone_of(alloc, "")?;
+    clone_of(alloc, long_text(alloc)?.as_str())
+}
+
+fn to_relative_path_buf_of(alloc: Global, text: &str) -> Result<(), Fail> {
+    begin(alloc);
+    let answer = RelativePath::new(text).to_relative_path_buf(alloc);
+    gives(alloc, answer, text)
 }
 
 // Requests: 10 = 1, = 0, 1048576 = 1
 #[test]
 fn to_relative_path_buf(rt: HostRuntime) -> Result<(), Fail> {
-    let long = long_text(rt.alloc())?;
-    for text in &[SHORT, "", long.as_str()] {
-        begin(rt.alloc());
-        let answer = RelativePath::new(text).to_relative_path_buf(rt.alloc());
-        gives(rt.alloc(), &answer, text)?;
-    }
-    Ok(())
+    let alloc = rt.alloc();
+    to_relative_path_buf_of(alloc, SHORT)?;
+    to_relative_path_buf_of(alloc, "")?;
+    to_relative_path_buf_of(alloc, long_text(alloc)?.as_str())
+}
+
+fn join_of(alloc: Global, text: &str, more: &str, joined: &str) -> Result<(), Fail> {
+    begin(alloc);
+    let answer = RelativePath::new(text).join(alloc, RelativePath::new(more));
+    gives(alloc, answer, joined)
 }
 
 // Requests: 10 = 1, = 0, 1048576 = 1
 #[test]
 fn join(rt: HostRuntime) -> Result<(), Fail> {
-    let long = long_text(rt.alloc())?;
-    for (text, more, joined) in &[
-        ("foo/bar", "/az", "foo/bar/az"),
-        ("", "", ""),
-        ("", long.as_str(), long.as_str()),
-    ] {
-        begin(rt.alloc());
-        let answer = RelativePath::new(text).join(rt.alloc(), RelativePath::new(more));
-        gives(rt.alloc(), &answer, joined)?;
+    let alloc = rt.alloc();
+    join_of(alloc, "foo/bar", "/az", "foo/bar/az")?;
+    join_of(alloc, "", "", "")?;
+    let long = long_text(alloc)?;
+    join_of(alloc, "", long.as_str(), long.as_str())
+}
+
+// Pushes onto `foo`, which stays if an allocation fails.
+fn push_of(alloc: Global, more: &str) -> Result<(), Fail> {
+    let mut buf = RelativePathBuf::from_text(alloc, "foo")?;
+    begin(alloc);
+    let answer = buf.push(RelativePath::new(more));
+    end(alloc, answer.is_err())?;
+    match answer {
+        Ok(()) => same("pushed", text_of(&buf).strip_prefix("foo/"), Some(more)),
+        Err(_) => same("refused", text_of(&buf), "foo"),
     }
-    Ok(())
 }
 
 // Requests: 10 = 0, 8 = 0, 1048580 = 0
 #[test]
 fn push(rt: HostRuntime) -> Result<(), Fail> {
-    let long = long_text(rt.alloc())?;
-    for more in &["barbaz", "", long.as_str()] {
-        let mut buf = RelativePathBuf::from_text(rt.alloc(), "foo")?;
-        begin(rt.alloc());
-        let answer = buf.push(RelativePath::new(more));
-        end(rt.alloc(), answer.is_err())?;
-        match answer {
-            Ok(()) => same("pushed", &text_of(&buf).strip_prefix("foo/"), &Some(*more))?,
-            Err(_) => same("refused", &text_of(&buf), &"foo")?,
-        }
-    }
-    Ok(())
+    let alloc = rt.alloc();
+    push_of(alloc, "barbaz")?;
+    push_of(alloc, "")?;
+    push_of(alloc, long_text(alloc)?.as_str())
+}
+
+/// The mark after a call on a buffer that has room for it. Fails where it leaves another text.
+pub fn end_with_room(
+    alloc: Global,
+    case: &str,
+    answer: Result<(), AllocError>,
+    buf: &RelativePathBuf,
+    text: &str,
+) -> Result<(), Fail> {
+    end(alloc, answer.is_err())?;
+    same(case, text_of(buf), text)
 }
 
 // A push and an `extend` of a buffer that has room for them.
 // Requests: = 0, = 0
 #[test]
 fn fits(rt: HostRuntime) -> Result<(), Fail> {
-    let mut buf = RelativePathBuf::with_capacity(rt.alloc(), 15)?;
-    begin(rt.alloc());
+    let alloc = rt.alloc();
+    let mut buf = RelativePathBuf::with_capacity(alloc, 15)?;
+    begin(alloc);
     let pushed = buf.push(RelativePath::new("foo"));
-    end(rt.alloc(), pushed.is_err())?;
-    same("push", &text_of(&buf), &"foo")?;
+    end_with_room(alloc, "push", pushed, &buf, "foo")?;
     let paths = ["bar", "baz", "qux"].map(RelativePath::new);
-    begin(rt.alloc());
+    begin(alloc);
     let extended = buf.extend(paths);
-    end(rt.alloc(), extended.is_err())?;
-    same("extend", &text_of(&buf), &"foo/bar/baz/qux")
+    end_with_room(alloc, "extend", extended, &buf, "foo/bar/baz/qux")
+}
+
+fn pop_of(alloc: Global, name: &str) -> Result<(), Fail> {
+    let mut buf = RelativePathBuf::from_text(alloc, "foo/bar")?;
+    buf.push(RelativePath::new(name))?;
+    begin(alloc);
+    let popped = (buf.pop(), buf.pop());
+    end(alloc, false)?;
+    same("pop", (popped, text_of(&buf)), ((true, true), "foo"))
 }
 
 // A long name goes.
 // Requests: = 0
 #[test]
 fn pop(rt: HostRuntime) -> Result<(), Fail> {
-    let long = "b".repeat(rt.alloc(), 1_048_576)?;
-    let mut buf = RelativePathBuf::from_text(rt.alloc(), "foo/bar")?;
-    buf.push(RelativePath::new(long.as_str()))?;
-    begin(rt.alloc());
-    let popped = (buf.pop(), buf.pop());
-    end(rt.alloc(), false)?;
-    same("pop", &(popped, text_of(&buf)), &((true, true), "foo"))
+    pop_of(rt.alloc(), "b".repeat(rt.alloc(), 1_048_576)?.as_str())
 }
 
-// The calls of a buffer that take no memory: of one with this text and with room to spare.
-fn asks_for_nothing_of(alloc: Global, text: &str) -> Result<(), Fail> {
+fn sizes_of(buf: &RelativePathBuf) -> (usize, usize, usize) {
+    let text_len = buf.as_relative_path().as_str().len();
+    (buf.len(), buf.spare(), text_len)
+}
+
+fn compared(buf: &RelativePathBuf, other: &RelativePathBuf) -> (bool, bool, Ordering) {
+    let mut state = DefaultHasher::new();
+    buf.hash(&mut state);
+    (buf == other, buf < other, buf.cmp(other))
+}
+
+// How much of what a buffer prints fits into 32 bytes, and of what another prints for debugging.
+fn printed(buf: &RelativePathBuf, other: &RelativePathBuf) -> (usize, usize) {
+    let printed = InlineText::<32>::of(buf);
+    let shown = InlineText::<32>::of(&format_args!("{other:?}"));
+    (printed.as_str().len(), shown.as_str().len())
+}
+
+// A buffer of this text and with room to spare.
+fn roomy(alloc: Global, text: &str) -> Result<RelativePathBuf, AllocError> {
     let mut roomy = String::with_capacity(alloc, text.len().saturating_add(8))?;
     roomy.push_str(text)?;
-    let mut buf = RelativePathBuf::from(roomy);
-    let other = RelativePathBuf::from_text(alloc, text)?;
-    let mut state = DefaultHasher::new();
+    Ok(RelativePathBuf::from(roomy))
+}
+
+// The calls of a buffer that take no memory: of one with this text and with room to spare, and another of this text.
+fn takes_no_memory(
+    alloc: Global,
+    text: &str,
+    buf: RelativePathBuf,
+    other: &RelativePathBuf,
+) -> Result<(), Fail> {
     begin(alloc);
-    let empty = RelativePathBuf::new(alloc);
-    let sizes = (
-        buf.len(),
-        buf.spare(),
-        buf.as_relative_path().as_str().len(),
+    let empty_len = text_of(&RelativePathBuf::new(alloc)).len();
+    let found = (
+        empty_len,
+        sizes_of(&buf),
+        compared(&buf, other),
+        printed(&buf, other),
     );
-    let compared = (buf == other, buf < other, buf.cmp(&other));
-    buf.hash(&mut state);
-    let printed = InlineText::<32>::of(&buf);
-    let shown = InlineText::<32>::of(&format_args!("{other:?}"));
-    buf = RelativePathBuf::from(buf.into_string());
-    let taken = String::from(buf);
+    let taken = String::from(RelativePathBuf::from(buf.into_string()));
     end(alloc, false)?;
-    same("sizes", &sizes, &(text.len(), 8, text.len()))?;
-    same("compared", &compared, &(true, false, Ordering::Equal))?;
-    let lens = (printed.as_str().len(), shown.as_str().len());
+    let sizes = (text.len(), 8, text.len());
+    let lens = (32.min(text.len()), 32.min(text.len() + 2));
+    let expected = (0, sizes, (true, false, Ordering::Equal), lens);
     same(
-        "printed",
-        &lens,
-        &(32.min(text.len()), 32.min(text.len() + 2)),
-    )?;
-    same("texts", &(text_of(&empty), taken.as_str()), &("", text))
+        "an empty text, sizes, compared, printed and taken",
+        (found, taken.as_str()),
+        (expected, text),
+    )
+}
+
+fn asks_for_nothing_of(alloc: Global, text: &str) -> Result<(), Fail> {
+    let buf = roomy(alloc, text)?;
+    let other = RelativePathBuf::from_text(alloc, text)?;
+    takes_no_memory(alloc, text, buf, &other)
 }
 
 // Requests: = 0, = 0, = 0
@@ -169,24 +221,25 @@ fn asks_for_nothing(rt: HostRuntime) -> Result<(), Fail> {
     asks_for_nothing_of(rt.alloc(), long_text(rt.alloc())?.as_str())
 }
 
+fn from_paths_of(alloc: Global, texts: [&str; 4], text: &str) -> Result<(), Fail> {
+    let paths = texts.map(RelativePath::new);
+    begin(alloc);
+    let answer = RelativePathBuf::from_paths(alloc, paths);
+    end(alloc, answer.is_err())?;
+    match answer {
+        Ok(buf) => same("from_paths", text_of(&buf), text),
+        Err(_) => Ok(()),
+    }
+}
+
 // Requests: 8 = 1, = 0, 1048576 = 1
 #[test]
 fn from_paths(rt: HostRuntime) -> Result<(), Fail> {
-    let long = long_text(rt.alloc())?;
-    for (texts, text) in &[
-        (["a", "/b", "", "c"], "a/b/c"),
-        ([""; 4], ""),
-        (["", "", "", long.as_str()], long.as_str()),
-    ] {
-        let paths = texts.map(RelativePath::new);
-        begin(rt.alloc());
-        let answer = RelativePathBuf::from_paths(rt.alloc(), paths);
-        end(rt.alloc(), answer.is_err())?;
-        if let Ok(buf) = answer {
-            same("from_paths", &text_of(&buf), text)?;
-        }
-    }
-    Ok(())
+    let alloc = rt.alloc();
+    from_paths_of(alloc, ["a", "/b", "", "c"], "a/b/c")?;
+    from_paths_of(alloc, [""; 4], "")?;
+    let long = long_text(alloc)?;
+    from_paths_of(alloc, ["", "", "", long.as_str()], long.as_str())
 }
 
 // Requests: = 0
@@ -195,8 +248,7 @@ fn extend_by_empty_paths(rt: HostRuntime) -> Result<(), Fail> {
     let mut buf = RelativePathBuf::new(rt.alloc());
     begin(rt.alloc());
     let answer = buf.extend([""; 2].map(RelativePath::new));
-    end(rt.alloc(), answer.is_err())?;
-    same("extend", &text_of(&buf), &"")
+    end_with_room(rt.alloc(), "extend", answer, &buf, "")
 }
 
 /// A slash and 4,096 letters.
@@ -206,10 +258,10 @@ pub fn long_name(alloc: Global) -> Result<String, AllocError> {
     Ok(name)
 }
 
-/// Whether an `extend` of the empty path, with room for `a`, by `a`, the long name and `c` may leave
-/// this text, and this path to take: the pushes before the refused one are done, and the paths after
-/// it are still there.
-pub fn is_left(answer: Result<(), AllocError>, text: &str, name: &str, left: Option<&str>) -> bool {
+// Whether an `extend` of the empty path, with room for `a`, by `a`, the long name and `c` may leave
+// this text, and this path to take: the pushes before the refused one are done, and the paths after
+// it are still there.
+fn is_left(answer: Result<(), AllocError>, text: &str, name: &str, left: Option<&str>) -> bool {
     match (answer, text) {
         (Err(_), "a") => left == Some("c"),
         (Err(_), text) => left.is_none() && text.strip_prefix("a") == Some(name),
@@ -220,17 +272,31 @@ pub fn is_left(answer: Result<(), AllocError>, text: &str, name: &str, left: Opt
     }
 }
 
+/// The mark after such an `extend`. Fails where it may not leave this buffer and this path.
+pub fn end_extended(
+    alloc: Global,
+    answer: Result<(), AllocError>,
+    buf: &RelativePathBuf,
+    name: &str,
+    left: Option<RelativePath<'_>>,
+) -> Result<(), Fail> {
+    end(alloc, answer.is_err())?;
+    let left = left.map(RelativePath::as_str);
+    let is_right = is_left(answer, text_of(buf), name, left);
+    same("extend", is_right, true)
+}
+
+fn extend_by(alloc: Global, name: &str) -> Result<(), Fail> {
+    let paths = ["a", name, "c"].map(RelativePath::new);
+    let mut lent = paths.iter().copied();
+    let mut buf = RelativePathBuf::with_capacity(alloc, 1)?;
+    begin(alloc);
+    let answer = buf.extend(&mut lent);
+    end_extended(alloc, answer, &buf, name, lent.next())
+}
+
 // Requests: 4098 8196 = 0
 #[test]
 fn extend(rt: HostRuntime) -> Result<(), Fail> {
-    let name = long_name(rt.alloc())?;
-    let paths = ["a", name.as_str(), "c"].map(RelativePath::new);
-    let mut lent = paths.iter().copied();
-    let mut buf = RelativePathBuf::with_capacity(rt.alloc(), 1)?;
-    begin(rt.alloc());
-    let answer = buf.extend(&mut lent);
-    end(rt.alloc(), answer.is_err())?;
-    let left = lent.next().map(RelativePath::as_str);
-    let is_right = is_left(answer, text_of(&buf), name.as_str(), left);
-    same("extend", &is_right, &true)
+    extend_by(rt.alloc(), long_name(rt.alloc())?.as_str())
 }

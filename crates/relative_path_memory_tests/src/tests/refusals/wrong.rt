@@ -2,11 +2,12 @@
 //! fails.
 ghost use Rattle.std.specs.Iterator.{IsFinite};
 
-use super::editing::{is_left, long_name};
-use super::marks::{begin, end};
-use crate::tests::{same, text_of};
+use super::editing::{end_extended, long_name};
+use super::marks::begin;
+use super::naming::end_with_name;
+use crate::tests::text_of;
 use relative_path::{RelativePath, RelativePathBuf};
-use std::alloc::AllocError;
+use std::alloc::{AllocError, Global};
 use std::test::Fail;
 
 // Sets a file name, and cuts the old one before it reserves.
@@ -15,23 +16,17 @@ fn cut_and_push(buf: &mut RelativePathBuf, file_name: &str) -> Result<(), AllocE
     buf.push(RelativePath::new(file_name))
 }
 
+fn set_file_name_of(alloc: Global, file_name: &str) -> Result<(), Fail> {
+    let mut buf = RelativePathBuf::from_text(alloc, "foo/bar")?;
+    begin(alloc);
+    let answer = cut_and_push(&mut buf, file_name);
+    let left = text_of(&buf).strip_prefix("foo/");
+    end_with_name(alloc, answer, left, file_name, "bar")
+}
+
 #[test]
 fn set_file_name(rt: HostRuntime) -> Result<(), Fail> {
-    let letters = "b".repeat(rt.alloc(), 4096)?;
-    let mut buf = RelativePathBuf::from_text(rt.alloc(), "foo/bar")?;
-    begin(rt.alloc());
-    let answer = cut_and_push(&mut buf, letters.as_str());
-    end(rt.alloc(), answer.is_err())?;
-    let left = if answer.is_ok() {
-        letters.as_str()
-    } else {
-        "bar"
-    };
-    same(
-        "set_file_name",
-        &text_of(&buf).strip_prefix("foo/"),
-        &Some(left),
-    )
+    set_file_name_of(rt.alloc(), "b".repeat(rt.alloc(), 4096)?.as_str())
 }
 
 // Pushes the paths, and restores the first text if a push fails.
@@ -51,16 +46,16 @@ fn push_or_restore<'p, I: Iterator<Item = RelativePath<'p>>>(
     Ok(())
 }
 
+fn extend_by(alloc: Global, name: &str) -> Result<(), Fail> {
+    let paths = ["a", name, "c"].map(RelativePath::new);
+    let mut lent = paths.iter().copied();
+    let mut buf = RelativePathBuf::with_capacity(alloc, 1)?;
+    begin(alloc);
+    let answer = push_or_restore(&mut buf, &mut lent);
+    end_extended(alloc, answer, &buf, name, lent.next())
+}
+
 #[test]
 fn extend(rt: HostRuntime) -> Result<(), Fail> {
-    let name = long_name(rt.alloc())?;
-    let paths = ["a", name.as_str(), "c"].map(RelativePath::new);
-    let mut lent = paths.iter().copied();
-    let mut buf = RelativePathBuf::with_capacity(rt.alloc(), 1)?;
-    begin(rt.alloc());
-    let answer = push_or_restore(&mut buf, &mut lent);
-    end(rt.alloc(), answer.is_err())?;
-    let left = lent.next().map(RelativePath::as_str);
-    let is_right = is_left(answer, text_of(&buf), name.as_str(), left);
-    same("extend", &is_right, &true)
+    extend_by(rt.alloc(), long_name(rt.alloc())?.as_str())
 }
