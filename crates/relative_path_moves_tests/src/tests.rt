@@ -9,7 +9,7 @@ mod refusals;
 mod tree_moves;
 
 use relative_path::{RelativePath, RelativePathBuf};
-use relative_path_moves::{MoveTable, NormalPath, PlaceIndex, moved};
+use relative_path_moves::{MoveTable, NormalPath, PlaceIndex, ReferenceError, moved};
 use std::alloc::{AllocError, Global};
 use std::fmt::Debug;
 use std::test::Fail;
@@ -45,16 +45,17 @@ fn all_become(alloc: Global, cases: &[Case]) -> Result<(), Fail> {
     Ok(())
 }
 
+// A move from a text such as `a > b`. Another text becomes a move to the root, which no table takes.
+fn read_move<'a>(text: &'a str) -> (RelativePath<'a>, RelativePath<'a>) {
+    as_paths(text.split_once(" > ").unwrap_or((text, "")))
+}
+
 // Moves from a text such as `a > b, c > d`.
 fn read_moves<'a>(
     alloc: Global,
     text: &'a str,
-) -> Result<Vec<(RelativePath<'a>, RelativePath<'a>)>, Fail> {
-    let mut moves = Vec::new(alloc);
-    for pair in text.split(", ") {
-        moves.push(as_paths(pair.split_once(" > ").ok_or("a move")?))?;
-    }
-    Ok(moves)
+) -> Result<Vec<(RelativePath<'a>, RelativePath<'a>)>, AllocError> {
+    text.split(", ").map(read_move).collect(alloc)
 }
 
 // Fails where a reference of file number `i` becomes another text than is expected.
@@ -86,18 +87,26 @@ fn told(
     }
 }
 
-// What a reference of a page becomes, if it doesn't stay as it is, or an error's words after `! `.
+// What a reference of a page becomes, `as it is`, or an error's words after `! `.
+fn told_of(
+    alloc: Global,
+    answer: Result<Option<RelativePathBuf>, ReferenceError>,
+) -> Result<String, AllocError> {
+    match answer {
+        Ok(Some(way)) => Ok(way.into_string()),
+        Ok(None) => String::from_str(alloc, "as it is"),
+        Err(refusal) => format!(in alloc; "! {refusal}"),
+    }
+}
+
+// What a reference of a page becomes after moves of files, as `told_of` says it.
 fn told_in(
     alloc: Global,
     moves: &[(RelativePath<'_>, RelativePath<'_>)],
     (page, reference): (RelativePath<'_>, RelativePath<'_>),
 ) -> Result<String, Fail> {
     let table = MoveTable::new(alloc, moves)?;
-    match table.moved_in(alloc, page, reference) {
-        Ok(Some(way)) => Ok(way.into_string()),
-        Ok(None) => Ok(String::from_str(alloc, "as it is")?),
-        Err(refusal) => Ok(format!(in alloc; "! {refusal}")?),
-    }
+    Ok(told_of(alloc, table.moved_in(alloc, page, reference))?)
 }
 
 // Fails where an index finds another number by this path than is expected.

@@ -5,6 +5,7 @@ ghost use Rattle.relative_path.specs.Relating.{Leads};
 ghost use Rattle.relative_path.specs.RelativePath.{path_components};
 ghost use Rattle.relative_path_moves.specs.Moves.{ForTargetOfLink};
 
+use super::{same, text_of};
 use relative_path::{RelativePath, RelativePathBuf};
 use relative_path_moves::{MoveTable, ReferenceError};
 use std::alloc::Global;
@@ -29,6 +30,15 @@ pub fn reference_after(
     }
 }
 
+fn refers(alloc: Global, table: &MoveTable<'_>) -> Result<(), Fail> {
+    let page = RelativePath::new("docs/a.md");
+    for (reference, expected) in [("../img/x.png", "../art/y.png"), ("./b.md", "./b.md")] {
+        let new = reference_after(alloc, table, page, RelativePath::new(reference))?;
+        same(reference, &text_of(&new), &expected)?;
+    }
+    Ok(())
+}
+
 #[test]
 fn the_caller_of_the_page(rt: HostRuntime) -> Result<(), Fail> {
     let alloc = rt.alloc();
@@ -37,10 +47,5 @@ fn the_caller_of_the_page(rt: HostRuntime) -> Result<(), Fail> {
         RelativePath::new("art/y.png"),
     )];
     let table = MoveTable::new(alloc, &moves)?;
-    let page = RelativePath::new("docs/a.md");
-    for (reference, expected) in [("../img/x.png", "../art/y.png"), ("./b.md", "./b.md")] {
-        let new = reference_after(alloc, &table, page, RelativePath::new(reference))?;
-        assert_eq!(rt; new.as_relative_path().as_str(), expected);
-    }
-    Ok(())
+    refers(alloc, &table)
 }

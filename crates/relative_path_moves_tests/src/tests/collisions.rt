@@ -18,14 +18,17 @@ type FileCase = (
 
 // Paths from a text such as `a, b`; the empty text has no path.
 fn read_files<'a>(alloc: Global, text: &'a str) -> Result<Vec<RelativePath<'a>>, AllocError> {
-    let mut files = Vec::new(alloc);
-    if text.is_empty() {
-        return Ok(files);
-    }
-    for file in text.split(", ") {
-        files.push(RelativePath::new(file))?;
-    }
-    Ok(files)
+    text.split_terminator(", ")
+        .map(RelativePath::new)
+        .collect(alloc)
+}
+
+fn same_new(
+    alloc: Global,
+    moves: &[(RelativePath<'_>, RelativePath<'_>)],
+) -> Result<Option<(usize, usize)>, Fail> {
+    let table = MoveTable::new(alloc, moves)?;
+    Ok(table.same_new(alloc)?)
 }
 
 fn new_collides(
@@ -35,8 +38,7 @@ fn new_collides(
     expected: Option<(usize, usize)>,
 ) -> Result<(), Fail> {
     let moves = read_moves(alloc, moves)?;
-    let table = MoveTable::new(alloc, &moves)?;
-    same(case, &table.same_new(alloc)?, &expected)
+    same(case, &same_new(alloc, &moves)?, &expected)
 }
 
 const NEW: [NewCase; 12] = [
@@ -97,6 +99,15 @@ fn two_new_paths_that_the_call_takes_apart(rt: HostRuntime) -> Result<(), Fail> 
     Ok(())
 }
 
+fn same_new_as(
+    alloc: Global,
+    moves: &[(RelativePath<'_>, RelativePath<'_>)],
+    files: &[RelativePath<'_>],
+) -> Result<Option<(usize, usize)>, Fail> {
+    let table = MoveTable::new(alloc, moves)?;
+    Ok(table.same_new_as(alloc, files)?)
+}
+
 fn file_collides(
     alloc: Global,
     case: &str,
@@ -104,9 +115,8 @@ fn file_collides(
     expected: Option<(usize, usize)>,
 ) -> Result<(), Fail> {
     let moves = read_moves(alloc, moves)?;
-    let table = MoveTable::new(alloc, &moves)?;
     let files = read_files(alloc, files)?;
-    same(case, &table.same_new_as(alloc, &files)?, &expected)
+    same(case, &same_new_as(alloc, &moves, &files)?, &expected)
 }
 
 const WITH_FILES: [FileCase; 11] = [
@@ -146,6 +156,15 @@ fn a_new_path_and_a_file_that_stays(rt: HostRuntime) -> Result<(), Fail> {
     Ok(())
 }
 
+fn same_place(
+    alloc: Global,
+    moves: &[(RelativePath<'_>, RelativePath<'_>)],
+    files: &[RelativePath<'_>],
+) -> Result<Option<(usize, usize)>, Fail> {
+    let tree = TreeMoves::new(alloc, moves)?;
+    Ok(tree.same_place(alloc, files)?)
+}
+
 fn place_collides(
     alloc: Global,
     case: &str,
@@ -153,9 +172,8 @@ fn place_collides(
     expected: Option<(usize, usize)>,
 ) -> Result<(), Fail> {
     let moves = read_moves(alloc, moves)?;
-    let tree = TreeMoves::new(alloc, &moves)?;
     let files = read_files(alloc, files)?;
-    same(case, &tree.same_place(alloc, &files)?, &expected)
+    same(case, &same_place(alloc, &moves, &files)?, &expected)
 }
 
 const IN_A_TREE: [FileCase; 12] = [

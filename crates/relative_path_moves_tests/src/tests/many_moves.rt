@@ -163,17 +163,23 @@ fn refers_to_one(alloc: Global, table: &MoveTable<'_>) -> Result<(), Fail> {
     Ok(())
 }
 
-// Asks a table of these thousand moves for ten references of each file.
+// Asks a table of a thousand moves for ten references of each file.
+fn refers_ten_times(alloc: Global, table: &MoveTable<'_>) -> Result<(), Fail> {
+    same("a table", &table.len(), &1_000)?;
+    for _ in 0..10 {
+        refers_to_one(alloc, table)?;
+    }
+    Ok(())
+}
+
+// Asks these thousand moves for a reference of one file, and a table of them for those of each.
 fn refers_from_each(
     alloc: Global,
     moves: &[(RelativePath<'_>, RelativePath<'_>)],
 ) -> Result<(), Fail> {
+    becomes(alloc, "file 7", moves, 7, "./999.md", "../999/page.md")?;
     let table = MoveTable::new(alloc, moves)?;
-    same("a table", &table.len(), &1_000)?;
-    for _ in 0..10 {
-        refers_to_one(alloc, &table)?;
-    }
-    Ok(())
+    refers_ten_times(alloc, &table)
 }
 
 #[test]
@@ -181,14 +187,6 @@ fn answers_among_a_thousand_moves(rt: HostRuntime) -> Result<(), Fail> {
     let olds = numbered(rt.alloc(), 1_000, "docs/", ".md")?;
     let news = numbered(rt.alloc(), 1_000, "", "/page.md")?;
     let moves = paired(rt.alloc(), &olds, &news)?;
-    becomes(
-        rt.alloc(),
-        "file 7",
-        &moves,
-        7,
-        "./999.md",
-        "../999/page.md",
-    )?;
     refers_from_each(rt.alloc(), &moves)
 }
 

@@ -1,7 +1,7 @@
 use super::{finds, same};
 use relative_path::RelativePath;
 use relative_path_moves::{NormalPath, PlaceIndex, directory, has_place};
-use std::alloc::Global;
+use std::alloc::{AllocError, Global};
 use std::test::Fail;
 
 // The numbers of paths, and of the first path that leads to the same.
@@ -49,30 +49,47 @@ fn looks(normal: &NormalPath, text: &str, above: &str, has: bool) -> Result<(), 
     same(text, &normal.has_place(), &has)
 }
 
+fn join(alloc: Global, base: &str, reference: &str) -> Result<NormalPath, AllocError> {
+    let base = NormalPath::of(alloc, RelativePath::new(base))?;
+    base.join(alloc, RelativePath::new(reference))
+}
+
 #[test]
 fn joins_normal_paths(rt: HostRuntime) -> Result<(), Fail> {
     for (base, reference, text, above, has) in &NORMAL {
-        let base = NormalPath::of(rt.alloc(), RelativePath::new(base))?;
-        let joined = base.join(rt.alloc(), RelativePath::new(reference))?;
+        let joined = join(rt.alloc(), base, reference)?;
         looks(&joined, text, above, *has)?;
     }
     Ok(())
 }
 
+// Two paths, and whether their normal paths are equal.
+const PAIRS: [(&str, &str, bool); 4] = [
+    ("a/./b/", "c/../a//b", true),
+    ("a", "../a", false),
+    ("..", "", false),
+    ("a/..", "", true),
+];
+
+// Fails where a normal path and that of another text are equal, unless that is expected.
+fn equals(alloc: Global, normal: &NormalPath, other: &str, equal: bool) -> Result<(), Fail> {
+    let found = NormalPath::of(alloc, RelativePath::new(other))?;
+    same(other, &(*normal == found), &equal)
+}
+
+// Fails where a normal path isn't printed as its text is.
+fn prints_its_text(alloc: Global, normal: &NormalPath) -> Result<(), Fail> {
+    let printed = format!(in alloc; "{normal:?}")?;
+    let text = format!(in alloc; "{:?}", normal.as_relative_path().as_str())?;
+    same("printed", &printed, &text)
+}
+
 #[test]
 fn tells_normal_paths_apart(rt: HostRuntime) -> Result<(), Fail> {
-    for (one, other, equal) in &[
-        ("a/./b/", "c/../a//b", true),
-        ("a", "../a", false),
-        ("..", "", false),
-        ("a/..", "", true),
-    ] {
+    for (one, other, equal) in &PAIRS {
         let one = NormalPath::of(rt.alloc(), RelativePath::new(one))?;
-        let found = NormalPath::of(rt.alloc(), RelativePath::new(other))?;
-        same(other, &(one == found), equal)?;
-        let printed = format!(in rt.alloc(); "{one:?}")?;
-        let text = format!(in rt.alloc(); "{:?}", one.as_relative_path().as_str())?;
-        same("printed", &printed, &text)?;
+        equals(rt.alloc(), &one, other, *equal)?;
+        prints_its_text(rt.alloc(), &one)?;
     }
     Ok(())
 }

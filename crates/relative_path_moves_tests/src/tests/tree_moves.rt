@@ -1,5 +1,5 @@
 //! Where files are after moves of directories.
-use super::{read_moves, same, text_of};
+use super::{read_moves, same, told_of};
 use relative_path::RelativePath;
 use relative_path_moves::{MoveTableError, NormalPath, TreeMoves};
 use std::alloc::Global;
@@ -36,14 +36,18 @@ fn is_after(alloc: Global, tree: &TreeMoves<'_>, file: &str, expected: &str) -> 
     is_at(file, &now, expected)
 }
 
+fn are_after(alloc: Global, tree: &TreeMoves<'_>) -> Result<(), Fail> {
+    for (file, expected) in &FILES {
+        is_after(alloc, tree, file, expected)?;
+    }
+    Ok(())
+}
+
 #[test]
 fn the_nearest_move_takes_a_file_along(rt: HostRuntime) -> Result<(), Fail> {
     let moves = read_moves(rt.alloc(), MOVES)?;
     let tree = TreeMoves::new(rt.alloc(), &moves)?;
-    for (file, expected) in &FILES {
-        is_after(rt.alloc(), &tree, file, expected)?;
-    }
-    Ok(())
+    are_after(rt.alloc(), &tree)
 }
 
 #[test]
@@ -57,7 +61,7 @@ fn two_moves_of_one_directory_are_an_error(rt: HostRuntime) -> Result<(), Fail> 
 // after `! `.
 type Link = (&'static str, &'static str, &'static str);
 
-// What a reference of a page becomes, if it doesn't stay as it is, or an error's words after `! `.
+// What a reference of a page becomes after moves of directories, as `told_of` says it.
 fn told_in_tree(
     alloc: Global,
     tree: &TreeMoves<'_>,
@@ -65,11 +69,8 @@ fn told_in_tree(
     reference: &str,
 ) -> Result<String, Fail> {
     let page = tree.moved_page(alloc, RelativePath::new(page))?;
-    match tree.moved_in(alloc, &page, RelativePath::new(reference)) {
-        Ok(Some(way)) => Ok(String::from_str(alloc, text_of(&way))?),
-        Ok(None) => Ok(String::from_str(alloc, "as it is")?),
-        Err(refusal) => Ok(format!(in alloc; "! {refusal}")?),
-    }
+    let answer = tree.moved_in(alloc, &page, RelativePath::new(reference));
+    Ok(told_of(alloc, answer)?)
 }
 
 // Fails where a reference in a page becomes another text than is expected.
@@ -85,13 +86,18 @@ fn link_becomes(
 }
 
 // Fails where a reference becomes another text than is expected in one of these cases.
+fn links_become_in(alloc: Global, tree: &TreeMoves<'_>, links: &[Link]) -> Result<(), Fail> {
+    for (page, reference, expected) in links {
+        link_becomes(alloc, tree, page, reference, expected)?;
+    }
+    Ok(())
+}
+
+// The same, after these moves.
 fn links_become(alloc: Global, moves: &str, links: &[Link]) -> Result<(), Fail> {
     let moves = read_moves(alloc, moves)?;
     let tree = TreeMoves::new(alloc, &moves)?;
-    for (page, reference, expected) in links {
-        link_becomes(alloc, &tree, page, reference, expected)?;
-    }
-    Ok(())
+    links_become_in(alloc, &tree, links)
 }
 
 #[test]

@@ -4,7 +4,7 @@ use super::marks::{begin, end};
 use crate::tests::{finds, same};
 use relative_path::RelativePath;
 use relative_path_moves::{NormalPath, PlaceIndex, has_place};
-use std::alloc::Global;
+use std::alloc::{AllocError, Global};
 use std::test::Fail;
 
 // Requests: = 0
@@ -52,14 +52,24 @@ fn get(rt: HostRuntime) -> Result<(), Fail> {
     get_of(rt.alloc(), long_text(rt.alloc())?.as_str())
 }
 
-fn normal_of(alloc: Global, text: &str, expected: &str) -> Result<(), Fail> {
-    begin(alloc);
-    let found = NormalPath::of(alloc, RelativePath::new(text));
-    end(alloc, found.is_err())?;
-    match found {
-        Ok(normal) => same(text, &normal.as_relative_path().as_str(), &expected),
+// The mark after a call. Fails if no allocation failed and the normal path has another text.
+fn end_with_normal(
+    alloc: Global,
+    case: &str,
+    answer: Result<NormalPath, AllocError>,
+    text: &str,
+) -> Result<(), Fail> {
+    end(alloc, answer.is_err())?;
+    match answer {
+        Ok(normal) => same(case, &normal.as_relative_path().as_str(), &text),
         Err(_) => Ok(()),
     }
+}
+
+fn normal_of(alloc: Global, text: &str, expected: &str) -> Result<(), Fail> {
+    begin(alloc);
+    let answer = NormalPath::of(alloc, RelativePath::new(text));
+    end_with_normal(alloc, text, answer, expected)
 }
 
 // Requests: 5s 3 = 1, = 0, 1s = 0, 524288s 1048576 = 1
@@ -75,19 +85,12 @@ fn a_normal_path(rt: HostRuntime) -> Result<(), Fail> {
 fn joined_of(alloc: Global, text: &str, expected: &str) -> Result<(), Fail> {
     let [base, path] = ["a/b", text].map(RelativePath::new);
     begin(alloc);
-    let found = NormalPath::of_joined(alloc, base, path);
-    end(alloc, found.is_err())?;
-    if let Ok(joined) = found {
-        same(text, &joined.as_relative_path().as_str(), &expected)?;
-    }
+    let answer = NormalPath::of_joined(alloc, base, path);
+    end_with_normal(alloc, text, answer, expected)?;
     let base = NormalPath::of(alloc, base)?;
     begin(alloc);
-    let found = base.join(alloc, path);
-    end(alloc, found.is_err())?;
-    match found {
-        Ok(joined) => same(text, &joined.as_relative_path().as_str(), &expected),
-        Err(_) => Ok(()),
-    }
+    let answer = base.join(alloc, path);
+    end_with_normal(alloc, text, answer, expected)
 }
 
 // Requests: 4s 3 = 1, 4s 3 = 1, 4s = 0, 4s = 0

@@ -3,7 +3,9 @@ use super::long_text;
 use super::marks::{begin, end};
 use crate::tests::{as_paths, same, text_of};
 use relative_path::{RelativePath, RelativePathBuf};
-use relative_path_moves::{MoveError, MoveTable, MoveTableError, ReferenceError, TreeMoves, moved};
+use relative_path_moves::{
+    MoveError, MoveTable, MoveTableError, MovedPage, ReferenceError, TreeMoves, moved,
+};
 use std::alloc::{AllocError, Global};
 use std::test::Fail;
 
@@ -20,28 +22,28 @@ fn end_with_way(
     }
 }
 
+// What a reference of a file that moves becomes.
+fn ask_one_move(
+    alloc: Global,
+    paths: (&str, &str),
+    reference: &str,
+    way: &str,
+) -> Result<(), Fail> {
+    let moves = [as_paths(paths)];
+    begin(alloc);
+    let answer = moved(alloc, &moves, 0, RelativePath::new(reference));
+    end_with_way(alloc, answer, way)
+}
+
 // Requests: 2s 9 488 4s 9 2s 1s 2s 2s 15 = 1, 1s 4 488 1s = 0, 524288s 1048576 488 524288s 1048573 524287s 1s 524287s 1048573 = 1
 #[test]
 fn one_move(rt: HostRuntime) -> Result<(), Fail> {
+    let first = ("docs/a.md", "docs/sub/b.md");
+    ask_one_move(rt.alloc(), first, "../img/x.png", "../../img/x.png")?;
+    ask_one_move(rt.alloc(), ("a.md", "b.md"), "", "")?;
     let long = long_text(rt.alloc())?;
     let above = long.strip_suffix("/aa").ok_or("a directory")?;
-    for (old, new, reference, way) in &[
-        (
-            "docs/a.md",
-            "docs/sub/b.md",
-            "../img/x.png",
-            "../../img/x.png",
-        ),
-        ("a.md", "b.md", "", ""),
-        (long.as_str(), "b", ".", above),
-    ] {
-        let moves = [(*old, *new)].map(as_paths);
-        let reference = RelativePath::new(reference);
-        begin(rt.alloc());
-        let answer = moved(rt.alloc(), &moves, 0, reference);
-        end_with_way(rt.alloc(), answer, way)?;
-    }
-    Ok(())
+    ask_one_move(rt.alloc(), (long.as_str(), "b"), ".", above)
 }
 
 // Requests: 1s 4 488 1s 4 1s 4 2s 1s 1s 2s 9 = 1
@@ -100,6 +102,14 @@ fn a_table_with_one_old_path_twice(rt: HostRuntime) -> Result<(), Fail> {
     same("one old path", &is_told, &true)
 }
 
+// The mark after a call. Fails if no allocation failed and the reference isn't refused.
+fn end_above_root(alloc: Global, error: Option<ReferenceError>) -> Result<(), Fail> {
+    let is_refused = error == Some(ReferenceError::OutOfMemory);
+    end(alloc, is_refused)?;
+    let is_told = is_refused || error == Some(ReferenceError::AboveRoot);
+    same("above the root", &is_told, &true)
+}
+
 // References of the first file of a table of two, and one that climbs above the root.
 fn ask(alloc: Global, table: &MoveTable<'_>, long: &str) -> Result<(), Fail> {
     if table.len() < 2 {
@@ -109,11 +119,8 @@ fn ask(alloc: Global, table: &MoveTable<'_>, long: &str) -> Result<(), Fail> {
     let answer = table.moved(alloc, 0, RelativePath::new("b.md"));
     end_with_way(alloc, answer.map_err(MoveError::from), "../y/b.md")?;
     begin(alloc);
-    let error = table.moved(alloc, 1, RelativePath::new("../a.md")).err();
-    end(alloc, error == Some(ReferenceError::OutOfMemory))?;
-    let is_told = error == Some(ReferenceError::AboveRoot)
-        || error == Some(ReferenceError::OutOfMemory);
-    same("above the root", &is_told, &true)?;
+    let answer = table.moved(alloc, 1, RelativePath::new("../a.md"));
+    end_above_root(alloc, answer.err())?;
     begin(alloc);
     let answer = table.moved(alloc, 0, RelativePath::new(""));
     end_with_way(alloc, answer.map_err(MoveError::from), "..")?;
@@ -147,15 +154,19 @@ fn ask_of_a_file(alloc: Global, table: &MoveTable<'_>, file: &str, now: &str) ->
     }
 }
 
+fn ask_of_files(alloc: Global, table: &MoveTable<'_>) -> Result<(), Fail> {
+    ask_of_a_file(alloc, table, "./a.md", "x/a.md")?;
+    ask_of_a_file(alloc, table, "", "")?;
+    let long = long_text(alloc)?;
+    ask_of_a_file(alloc, table, long.as_str(), long.as_str())
+}
+
 // Requests: 2s 4 = 0, = 0, 524288s 1048576 = 0
 #[test]
 fn the_path_of_a_file(rt: HostRuntime) -> Result<(), Fail> {
     let moves = [("a.md", "x/a.md"), ("b.md", "y/b.md")].map(as_paths);
     let table = MoveTable::new(rt.alloc(), &moves)?;
-    ask_of_a_file(rt.alloc(), &table, "./a.md", "x/a.md")?;
-    ask_of_a_file(rt.alloc(), &table, "", "")?;
-    let long = long_text(rt.alloc())?;
-    ask_of_a_file(rt.alloc(), &table, long.as_str(), long.as_str())
+    ask_of_files(rt.alloc(), &table)
 }
 
 // The first two numbers that collide.
@@ -192,18 +203,26 @@ fn a_new_path_and_a_file(rt: HostRuntime) -> Result<(), Fail> {
     end_with_pair(rt.alloc(), answer, Some((0, 1)))
 }
 
+// The first two of these files that are at one place after a move of a directory.
+fn ask_for_a_place(
+    alloc: Global,
+    tree: &TreeMoves<'_>,
+    files: &[RelativePath<'_>],
+    pair: Option<(usize, usize)>,
+) -> Result<(), Fail> {
+    begin(alloc);
+    let answer = tree.same_place(alloc, files);
+    end_with_pair(alloc, answer, pair)
+}
+
 // Requests: 48 2s 6 7 2s 7 2s 7 488 2s 7 = 0, = 0
 #[test]
 fn two_files_in_a_tree(rt: HostRuntime) -> Result<(), Fail> {
     let moves = [("docs", "guide")].map(as_paths);
     let tree = TreeMoves::new(rt.alloc(), &moves)?;
     let files = ["docs/a", "guide/a"].map(RelativePath::new);
-    begin(rt.alloc());
-    let answer = tree.same_place(rt.alloc(), &files);
-    end_with_pair(rt.alloc(), answer, Some((0, 1)))?;
-    begin(rt.alloc());
-    let answer = tree.same_place(rt.alloc(), &[]);
-    end_with_pair(rt.alloc(), answer, None)
+    ask_for_a_place(rt.alloc(), &tree, &files, Some((0, 1)))?;
+    ask_for_a_place(rt.alloc(), &tree, &[], None)
 }
 
 fn plants(alloc: Global, moves: &[(RelativePath<'_>, RelativePath<'_>)]) -> Result<(), Fail> {
@@ -234,17 +253,29 @@ fn ask_of_a_tree(alloc: Global, tree: &TreeMoves<'_>, file: &str, now: &str) -> 
     }
 }
 
+fn ask_of_files_of_a_tree(alloc: Global, tree: &TreeMoves<'_>) -> Result<(), Fail> {
+    ask_of_a_tree(alloc, tree, "docs/a", "guide/a")?;
+    ask_of_a_tree(alloc, tree, "docs2/a", "docs2/a")?;
+    ask_of_a_tree(alloc, tree, "", "")?;
+    ask_of_a_tree(alloc, tree, "../a", "../a")?;
+    let long = long_text(alloc)?;
+    ask_of_a_tree(alloc, tree, long.as_str(), long.as_str())
+}
+
 // Requests: 2s 6 7 = 1, 2s 7 = 1, = 0, 2s 4 = 1, 524288s 1048576 = 1
 #[test]
 fn the_path_of_a_file_in_a_tree(rt: HostRuntime) -> Result<(), Fail> {
     let moves = [("docs", "guide")].map(as_paths);
     let tree = TreeMoves::new(rt.alloc(), &moves)?;
-    ask_of_a_tree(rt.alloc(), &tree, "docs/a", "guide/a")?;
-    ask_of_a_tree(rt.alloc(), &tree, "docs2/a", "docs2/a")?;
-    ask_of_a_tree(rt.alloc(), &tree, "", "")?;
-    ask_of_a_tree(rt.alloc(), &tree, "../a", "../a")?;
-    let long = long_text(rt.alloc())?;
-    ask_of_a_tree(rt.alloc(), &tree, long.as_str(), long.as_str())
+    ask_of_files_of_a_tree(rt.alloc(), &tree)
+}
+
+// Fails where a page has another path after the moves, or another directory before or after them.
+fn is_page(page: &str, moved: &MovedPage, now: (&str, &str, &str)) -> Result<(), Fail> {
+    let (path, before, after) = now;
+    same(page, &moved.path.as_relative_path().as_str(), &path)?;
+    same(page, &moved.before.as_relative_path().as_str(), &before)?;
+    same(page, &moved.after.as_relative_path().as_str(), &after)
 }
 
 // The path of a page after a move of a directory, and its directory before and after the move.
@@ -257,13 +288,27 @@ fn ask_of_a_page(
     begin(alloc);
     let answer = tree.moved_page(alloc, RelativePath::new(page));
     end(alloc, answer.is_err())?;
-    let Ok(moved) = answer else {
-        return Ok(());
-    };
-    let path = moved.path.as_relative_path().as_str();
-    let before = moved.before.as_relative_path().as_str();
-    let after = moved.after.as_relative_path().as_str();
-    same(page, &(path, before, after), &now)
+    match answer {
+        Ok(moved) => is_page(page, &moved, now),
+        Err(_) => Ok(()),
+    }
+}
+
+// Pages, their paths after a move of `docs` to `guide`, and their directories before and after it.
+const PAGES: [(&str, (&str, &str, &str)); 3] = [
+    ("docs/a", ("guide/a", "docs", "guide")),
+    ("c/d", ("c/d", "c", "c")),
+    ("", ("", "", "")),
+];
+
+fn ask_of_pages(alloc: Global, tree: &TreeMoves<'_>) -> Result<(), Fail> {
+    for (page, now) in PAGES {
+        ask_of_a_page(alloc, tree, page, now)?;
+    }
+    let long = long_text(alloc)?;
+    let above = long.strip_suffix("/aa").ok_or("a directory")?;
+    let now = (long.as_str(), above, above);
+    ask_of_a_page(alloc, tree, long.as_str(), now)
 }
 
 // Requests: 1s 4 2s 6 7 1s 5 = 3, 1s 1 2s 3 1s 1 = 3, = 0, 524287s 1048573 524288s 1048576 524287s 1048573 = 3
@@ -271,17 +316,21 @@ fn ask_of_a_page(
 fn a_page_of_a_tree(rt: HostRuntime) -> Result<(), Fail> {
     let moves = [("docs", "guide")].map(as_paths);
     let tree = TreeMoves::new(rt.alloc(), &moves)?;
-    ask_of_a_page(rt.alloc(), &tree, "docs/a", ("guide/a", "docs", "guide"))?;
-    ask_of_a_page(rt.alloc(), &tree, "c/d", ("c/d", "c", "c"))?;
-    ask_of_a_page(rt.alloc(), &tree, "", ("", "", ""))?;
-    let long = long_text(rt.alloc())?;
-    let above = long.strip_suffix("/aa").ok_or("a directory")?;
-    ask_of_a_page(
-        rt.alloc(),
-        &tree,
-        long.as_str(),
-        (long.as_str(), above, above),
-    )
+    ask_of_pages(rt.alloc(), &tree)
+}
+
+// The mark after a call. Fails if no allocation failed and a reference becomes another text.
+fn end_with_change(
+    alloc: Global,
+    reference: &str,
+    answer: Result<Option<RelativePathBuf>, ReferenceError>,
+    text: Option<&str>,
+) -> Result<(), Fail> {
+    end(alloc, answer.is_err())?;
+    match answer {
+        Ok(way) => same(reference, &way.as_ref().map(text_of), &text),
+        Err(error) => same(reference, &error, &ReferenceError::OutOfMemory),
+    }
 }
 
 // A reference in a page after a move of a directory, and what it becomes, if that is another.
@@ -289,18 +338,43 @@ fn ask_in_a_tree(
     alloc: Global,
     tree: &TreeMoves<'_>,
     (page, reference): (&str, &str),
-    expected: Result<Option<&str>, ReferenceError>,
+    text: Option<&str>,
 ) -> Result<(), Fail> {
     let page = tree.moved_page(alloc, RelativePath::new(page))?;
     begin(alloc);
     let answer = tree.moved_in(alloc, &page, RelativePath::new(reference));
-    let is_refused = answer.as_ref().err() == Some(&ReferenceError::OutOfMemory);
-    end(alloc, is_refused)?;
-    if is_refused {
-        return Ok(());
+    end_with_change(alloc, reference, answer, text)
+}
+
+// A reference that climbs above the root after a move of `docs` to `new/guide`.
+fn ask_in_a_deeper_tree(alloc: Global) -> Result<(), Fail> {
+    let moves = [("docs", "new/guide")].map(as_paths);
+    let tree = TreeMoves::new(alloc, &moves)?;
+    ask_above_root(alloc, &tree)
+}
+
+fn ask_above_root(alloc: Global, tree: &TreeMoves<'_>) -> Result<(), Fail> {
+    let page = tree.moved_page(alloc, RelativePath::new("docs/a"))?;
+    begin(alloc);
+    let answer = tree.moved_in(alloc, &page, RelativePath::new("../../x"));
+    end_above_root(alloc, answer.err())
+}
+
+// References in pages, and what these become after a move of `docs` to `guide`, if that is another.
+const REFERENCES: [((&str, &str), Option<&str>); 4] = [
+    (("c/d", "../docs/b"), Some("../guide/b")),
+    (("d", "docs/b"), Some("guide/b")),
+    (("docs/a", "b"), None),
+    (("c/d", ""), None),
+];
+
+fn ask_for_references(alloc: Global, tree: &TreeMoves<'_>) -> Result<(), Fail> {
+    for (link, text) in REFERENCES {
+        ask_in_a_tree(alloc, tree, link, text)?;
     }
-    let found = answer.as_ref().map(|way| way.as_ref().map(text_of));
-    same(reference, &found, &expected.as_ref().map(|way| *way))
+    ask_in_a_deeper_tree(alloc)?;
+    let long = long_text(alloc)?;
+    ask_in_a_tree(alloc, tree, ("c/d", long.as_str()), None)
 }
 
 // Requests: 4s 6 7 11 = 1, 2s 6 7 8 = 1, 2s 6 7 = 0, 1s 1 = 0, 4s 4 = 0, 524289s 1048578 = 0
@@ -308,21 +382,7 @@ fn ask_in_a_tree(
 fn a_reference_in_a_tree(rt: HostRuntime) -> Result<(), Fail> {
     let moves = [("docs", "guide")].map(as_paths);
     let tree = TreeMoves::new(rt.alloc(), &moves)?;
-    ask_in_a_tree(
-        rt.alloc(),
-        &tree,
-        ("c/d", "../docs/b"),
-        Ok(Some("../guide/b")),
-    )?;
-    ask_in_a_tree(rt.alloc(), &tree, ("d", "docs/b"), Ok(Some("guide/b")))?;
-    ask_in_a_tree(rt.alloc(), &tree, ("docs/a", "b"), Ok(None))?;
-    ask_in_a_tree(rt.alloc(), &tree, ("c/d", ""), Ok(None))?;
-    let deep = [("docs", "new/guide")].map(as_paths);
-    let deep = TreeMoves::new(rt.alloc(), &deep)?;
-    let above = Err(ReferenceError::AboveRoot);
-    ask_in_a_tree(rt.alloc(), &deep, ("docs/a", "../../x"), above)?;
-    let long = long_text(rt.alloc())?;
-    ask_in_a_tree(rt.alloc(), &tree, ("c/d", long.as_str()), Ok(None))
+    ask_for_references(rt.alloc(), &tree)
 }
 
 // A reference of a page that stays, and what it becomes, if that is another.
@@ -334,11 +394,16 @@ fn ask_in_a_page(
 ) -> Result<(), Fail> {
     begin(alloc);
     let answer = table.moved_in(alloc, RelativePath::new(page), RelativePath::new(reference));
-    end(alloc, answer.is_err())?;
-    match answer {
-        Ok(way) => same(reference, &way.as_ref().map(text_of), &text),
-        Err(error) => same(reference, &error, &ReferenceError::OutOfMemory),
-    }
+    end_with_change(alloc, reference, answer, text)
+}
+
+fn ask_in_pages(alloc: Global, table: &MoveTable<'_>) -> Result<(), Fail> {
+    let page = "c/d.md";
+    ask_in_a_page(alloc, table, (page, "../b.md"), Some("../y/b.md"))?;
+    ask_in_a_page(alloc, table, (page, "./e.md"), None)?;
+    ask_in_a_page(alloc, table, ("", ""), None)?;
+    let long = long_text(alloc)?;
+    ask_in_a_page(alloc, table, (page, long.as_str()), None)
 }
 
 // Requests: 2s 6 3s 4 9 3s 2s 1s 2s 9 = 1, 2s 6 3s 6 8 3s 2s = 0, = 0,
@@ -347,10 +412,5 @@ fn ask_in_a_page(
 fn a_reference_of_a_page(rt: HostRuntime) -> Result<(), Fail> {
     let moves = [("a.md", "x/a.md"), ("b.md", "y/b.md")].map(as_paths);
     let table = MoveTable::new(rt.alloc(), &moves)?;
-    let page = "c/d.md";
-    ask_in_a_page(rt.alloc(), &table, (page, "../b.md"), Some("../y/b.md"))?;
-    ask_in_a_page(rt.alloc(), &table, (page, "./e.md"), None)?;
-    ask_in_a_page(rt.alloc(), &table, ("", ""), None)?;
-    let long = long_text(rt.alloc())?;
-    ask_in_a_page(rt.alloc(), &table, (page, long.as_str()), None)
+    ask_in_pages(rt.alloc(), &table)
 }
