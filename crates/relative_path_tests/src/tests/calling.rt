@@ -12,10 +12,8 @@ ghost use Rattle.std.specs.Prelude.{◌++◌, ◌↔◌, IfOk, IfSome, IsNone};
 ghost use Rattle.relative_path.specs.RelativePath.{path_components};
 ghost use Rattle.relative_path.specs.Relating.{IsReachable, IsShortestText};
 
-use super::{gives, may_give, same};
 use relative_path::{RelativePath, RelativePathBuf};
 use std::alloc::{AllocError, Global};
-use std::test::Fail;
 
 /// `link` is written in a page that is in `directory`. The result is the shortest link that leads from
 /// `new_directory` to the same target, or `None` exactly if no path leads there.
@@ -218,27 +216,27 @@ pub fn rest_of<'a>(path: RelativePath<'a>, prefix: RelativePath<'_>) -> Option<R
 }
 
 #[test]
-fn carries_a_link(rt: HostRuntime) -> Result<(), Fail> {
+fn carries_a_link(rt: HostRuntime) -> Result<(), std::test::Fail> {
     let [docs, link, archive] = ["docs/guide", "../img/a.png", "archive"].map(RelativePath::new);
     let way = carry(rt.alloc(), docs, link, archive);
-    may_give("carry", way, Some("../docs/img/a.png"))
+    super::may_give("carry", way, Some("../docs/img/a.png"))
 }
 
 #[test]
-fn links_from_a_copy(rt: HostRuntime) -> Result<(), Fail> {
+fn links_from_a_copy(rt: HostRuntime) -> Result<(), std::test::Fail> {
     let [page, link, archive] = ["docs/guide.md", "img/a.png", "old/2024"].map(RelativePath::new);
     let copied = relink(rt.alloc(), page, link, archive);
-    gives("relink", copied, "../../docs/img/a.png")
+    super::gives("relink", copied, "../../docs/img/a.png")
 }
 
 #[test]
-fn refuses_what_climbs() -> Result<(), Fail> {
+fn refuses_what_climbs() -> Result<(), std::test::Fail> {
     let paths = ["img/../docs", "img/../../docs"].map(RelativePath::new);
     let [inside, outside] = paths;
     let stay = (stays_below(inside), stays_below(outside));
     let all_stay = (all_stay_below(&paths), all_stay_below(&paths[..1]));
     let depths = (depth(inside), depth(outside));
-    same(
+    super::same(
         "stays_below, all_stay_below and depth",
         (stay, all_stay, depths),
         ((true, false), (false, true), (3, 4)),
@@ -246,38 +244,38 @@ fn refuses_what_climbs() -> Result<(), Fail> {
 }
 
 #[test]
-fn makes_pages_of_sources(rt: HostRuntime) -> Result<(), Fail> {
+fn makes_pages_of_sources(rt: HostRuntime) -> Result<(), std::test::Fail> {
     let alloc = rt.alloc();
     let [out_dir, source, above] = ["../out", "guide/./a.tar.md", "../b.md"].map(RelativePath::new);
     let page = output(alloc, out_dir, source);
-    may_give("output", page, Some("../out/guide/./a.tar.html"))?;
-    may_give("output above", output(alloc, out_dir, above), None)?;
-    may_give(
+    super::may_give("output", page, Some("../out/guide/./a.tar.html"))?;
+    super::may_give("output above", output(alloc, out_dir, above), None)?;
+    super::may_give(
         "index_of",
         index_of(alloc, source),
         Some("guide/./index.html"),
     )?;
     let index = index_of(alloc, RelativePath::new("guide/.."));
-    may_give("index_of without a name", index, None)?;
+    super::may_give("index_of without a name", index, None)?;
     let way = link(alloc, out_dir, source, RelativePath::new("b.md"));
-    may_give("link", way, Some("../b.html"))
+    super::may_give("link", way, Some("../b.html"))
 }
 
 #[test]
-fn finds_links_by_theorems(rt: HostRuntime) -> Result<(), Fail> {
+fn finds_links_by_theorems(rt: HostRuntime) -> Result<(), std::test::Fail> {
     let alloc = rt.alloc();
     let [here, above, inside] = ["docs/../img/a.png", "../img", "docs/guide"].map(
         RelativePath::new,
     );
-    gives("place_of", place_of(alloc, here), "img/a.png")?;
+    super::gives("place_of", place_of(alloc, here), "img/a.png")?;
     let way = link_from(alloc, inside, above);
-    may_give("link_from", way, Some("../../../img"))?;
-    may_give("link_from above", link_from(alloc, above, inside), None)?;
+    super::may_give("link_from", way, Some("../../../img"))?;
+    super::may_give("link_from above", link_from(alloc, above, inside), None)?;
     let way = link_between(alloc, inside, above);
-    may_give("link_between", way, Some("../../../img"))?;
+    super::may_give("link_between", way, Some("../../../img"))?;
     let are_normal = (is_normal_inside(inside), is_normal_inside(above));
     let rest = rest_of(inside, RelativePath::new("docs")).map(RelativePath::as_str);
-    same(
+    super::same(
         "is_normal_inside and rest_of",
         (are_normal, rest),
         ((true, false), Some("guide")),
