@@ -2,7 +2,7 @@
 ghost use Rattle.std.specs.Prelude.{◌≤◌, ◌<◌, length};
 ghost use Rattle.markdown_targets.specs.Steps.{Skips};
 
-use crate::finder::bytes::{is_line_end, run_end};
+use crate::finder::bytes::line_end;
 use crate::finder::containers::Container;
 use crate::finder::cursor::Cursor;
 use crate::finder::definitions::is_definitions;
@@ -72,7 +72,7 @@ pub(crate) fn read_blocks(alloc: Global, page: &str) -> Result<TextBlocks, Alloc
     let mut reader = Reader::new(alloc, page)?;
     let mut start = text_start(page);
     while start < page.len() {
-        let end = run_end(page, start, |byte| !is_line_end(byte));
+        let end = line_end(page, start);
         let bytes = &page[start..end];
         reader.read_line(Line { start, end, bytes })?;
         start = next_line_start(page, end);

@@ -1,6 +1,11 @@
 //! Classes of bytes, and steps over the bytes of a text.
-ghost use Rattle.std.specs.Prelude.{◌≤◌, ◌<◌, length, IfSome};
+ghost use Rattle.std.specs.Prelude.{◌≤◌, ◌<◌, ◌+◌, length, IfSome};
 ghost use Rattle.markdown_targets.specs.Steps.{Skips, Advances};
+
+use std::simd::prelude::*;
+
+// How many bytes are compared at once.
+const BLOCK: usize = 16;
 
 // Whether a byte ends a line.
 pub(crate) fn is_line_end(byte: u8) -> bool {
@@ -48,6 +53,88 @@ pub(crate) fn run_end<F: Fn(u8) -> bool>(text: &[u8], from: usize, test: F) -> u
     text.len()
 }
 
+// The offset of the first line end from an offset on, or the end of the text.
+pub(crate) fn line_end(text: &[u8], from: usize) -> usize
+    requires { from ≤ length text.now }
+    ensures { Skips text.now from result }
+{
+    let mut k = from;
+    while k + BLOCK <= text.len() {
+        let block = block_at(text, k);
+        let ends = equal_in(block, b'\n') | equal_in(block, b'\r');
+        if ends != 0 {
+            return first_of(text, k, ends);
+        }
+        k += BLOCK;
+    }
+    run_end(text, k, |byte| !is_line_end(byte))
+}
+
+// The offset of the first of this byte from an offset on, or the end of the text.
+pub(crate) fn byte_at(text: &[u8], from: usize, byte: u8) -> usize
+    requires { from ≤ length text.now }
+    ensures { Skips text.now from result }
+{
+    let mut k = from;
+    while k + BLOCK <= text.len() {
+        let found = equal_in(block_at(text, k), byte);
+        if found != 0 {
+            return first_of(text, k, found);
+        }
+        k += BLOCK;
+    }
+    run_end(text, k, |other| other != byte)
+}
+
+// Whether an inline may begin or end with a byte, or an escape may.
+fn is_special(byte: u8) -> bool {
+    matches!(byte, b'`' | b'<' | b'[' | b'\\' | b']' | b'!')
+}
+
+// The offset of the first byte from an offset on with which an inline or an escape may begin, or the end of the text.
+pub(crate) fn special_at(text: &[u8], from: usize) -> usize
+    requires { from ≤ length text.now }
+    ensures { Skips text.now from result }
+{
+    let mut k = from;
+    while k + BLOCK <= text.len() {
+        let specials = specials_in(block_at(text, k));
+        if specials != 0 {
+            return first_of(text, k, specials);
+        }
+        k += BLOCK;
+    }
+    run_end(text, k, |byte| !is_special(byte))
+}
+
+// A bit for each byte of a block, set if the byte is special.
+fn specials_in(block: Simd<u8, BLOCK>) -> u64 {
+    let brackets = equal_in(block, b'[') | equal_in(block, b'\\') | equal_in(block, b']');
+    brackets | equal_in(block, b'`') | equal_in(block, b'<') | equal_in(block, b'!')
+}
+
+// The bytes of a block at an offset.
+fn block_at(text: &[u8], start: usize) -> Simd<u8, BLOCK>
+    requires { start + BLOCK ≤ length text.now }
+{
+    Simd::<u8, BLOCK>::from_slice(&text[start..])
+}
+
+// A bit for each byte of a block, set if the byte is this one.
+fn equal_in(block: Simd<u8, BLOCK>, byte: u8) -> u64 {
+    block.simd_eq(Simd::splat(byte)).to_bitmask()
+}
+
+// The offset of the first byte that is set, in a block at an offset.
+fn first_of(text: &[u8], start: usize, bits: u64) -> usize
+    requires { start ≤ length text.now }
+    ensures { Skips text.now start result }
+{
+    start
+        .saturating_add(bits.trailing_zeros() as usize)
+        .min(text.len())
+}
+
 // The offset after the spaces and line ends at an offset.
 pub(crate) fn skip_spaces(text: &[u8], from: usize) -> usize
     requires { from ≤ length text.now }
@@ -72,15 +159,19 @@ pub(crate) fn find_end(text: &[u8], from: usize, word: &[u8]) -> Option<usize>
     requires { from ≤ length text.now }
     ensures { IfSome result (λ end. Skips text.now from end) }
 {
-    for k in from..text.len() {
+    let first = *word.first()?;
+    let mut k = byte_at(text, from, first);
+    while k < text.len() {
         if let Some(rest) = text[k..].strip_prefix(word) {
             return Some(text.len() - rest.len());
         }
+        k = byte_at(text, k + 1, first);
     }
     None
 }
 
 // The offset after the character at an offset, or after the two bytes of an escape.
+#[inline(always)]
 pub(crate) fn step_over(text: &[u8], k: usize) -> usize
     requires { k < length text.now }
     ensures { Advances text.now k result }

@@ -2,7 +2,7 @@
 ghost use Rattle.std.specs.Prelude.{◌≤◌, ◌<◌, length, IfSome};
 ghost use Rattle.markdown_targets.specs.Steps.{Skips, Advances};
 
-use crate::finder::bytes::run_end;
+use crate::finder::bytes::{byte_at, run_end};
 use crate::span::Span;
 use std::alloc::{AllocError, Global};
 
@@ -60,7 +60,7 @@ fn next_run(text: &[u8], from: usize) -> Option<Span>
     requires { from ≤ length text.now }
     ensures { IfSome result (λ run. (from ≤ run.start) × Advances text.now run.start run.end) }
 {
-    let start = run_end(text, from, |byte| byte != b'`');
+    let start = byte_at(text, from, b'`');
     let end = run_end(text, start, |byte| byte == b'`');
     if start == text.len() || end == start {
         return None;

@@ -4,7 +4,7 @@ ghost use Rattle.markdown_targets.specs.Steps.{Skips, Advances};
 
 use crate::finder::autolinks::autolink_end;
 use crate::finder::brackets::{Bracket, Brackets, Opener};
-use crate::finder::bytes::{run_end, step_over};
+use crate::finder::bytes::{byte_at, special_at, step_over};
 use crate::finder::code_spans::BacktickRuns;
 use crate::finder::definitions::{Definition, add_names};
 use crate::finder::html::{Endings, unclosed_end};
@@ -134,7 +134,8 @@ impl Reader {
                 Ok(k + 2)
             }
             [b']', ..] => self.close_bracket(text, k + 1),
-            _ => Ok(step_over(text, k)),
+            [b'\\', ..] => Ok(step_over(text, k)),
+            _ => Ok(special_at(text, k + 1)),
         }
     }
 
@@ -176,7 +177,7 @@ impl Reader {
         requires { from < length text.now }
         ensures { IfOk result (λ end. Advances text.now from end) }
     {
-        let start = run_end(text, from, |byte| byte != b'<');
+        let start = byte_at(text, from, b'<');
         if start == text.len() {
             return Ok(start);
         }

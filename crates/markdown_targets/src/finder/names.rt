@@ -27,7 +27,7 @@ impl<'a> Label<'a> {
         let end = find_unescaped(text, start, |byte| byte == b'[' || byte == b']')?;
         let after = skip_byte(text, end, b']')?;
         let name = &text[start..end];
-        if name.iter().all(|&byte| is_space(byte)) || character_count(name) > LONGEST_LABEL {
+        if name.iter().all(|&byte| is_space(byte)) || is_too_long(name) {
             return None;
         }
         Some(Label {
@@ -41,6 +41,11 @@ impl<'a> Label<'a> {
     pub(crate) fn is_footnote(self) -> bool {
         self.name.first() == Some(&b'^')
     }
+}
+
+// Whether a label has too many characters. The characters are counted only if there are as many bytes.
+fn is_too_long(name: &[u8]) -> bool {
+    name.len() > LONGEST_LABEL && character_count(name) > LONGEST_LABEL
 }
 
 // How many characters a text in UTF-8 has: as many as it has bytes that begin a character.

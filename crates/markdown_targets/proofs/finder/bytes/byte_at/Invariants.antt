@@ -1,0 +1,10 @@
+-- The offset stays within the text.
+use Rattle.std.proofs.Common.{◌-◌, length}
+use Rattle.markdown_targets.specs.Steps.{Skips}
+use Rattle.markdown_targets.proofs.finder.bytes.byte_at.Given as goal
+
+abbrev pub invariant-loop-k : goal.invariant-loop-k
+invariant-loop-k l = Skips l.text l.from l.k
+
+abbrev pub decreases-loop-k : goal.decreases-loop-k
+decreases-loop-k l = length l.text - l.k
