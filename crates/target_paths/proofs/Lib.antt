@@ -2,6 +2,7 @@ pub mod FirstLemmas
 pub mod ForCallers
 pub mod NumbersLemmas
 pub mod PiecesLemmas
+pub mod PlainLemmas
 pub mod ReadingLemmas
 pub mod RoundTripLemmas
 pub mod SegmentsLemmas

@@ -17,7 +17,7 @@ drop-pred (suc n) b bs some = let e : suc n - 1 ≡ n = omega arith in ap (λ k.
 abbrev pub from_byte : ℕ → List ℕ → List ℕ
 from_byte k text = take (length text - k) (drop k text)
 
-from_byte-drop : (k : ℕ) (text : List ℕ) → from_byte k text ≡ drop k text
+pub from_byte-drop : (k : ℕ) (text : List ℕ) → from_byte k text ≡ drop k text
 from_byte-drop k text = take_all (length text - k) (drop k text) (omega (arith, length-drop k text))
 
 -- a text by its first piece
@@ -57,7 +57,7 @@ joined-unknown old piece whole rest why all is unknown so_far =
     ∙ ap (λ ps. followed (Ok old) (joined ps)) is
     ∙ ap (λ read. followed (Ok old) (followed read (joined rest))) unknown
 
-length-from_byte : (k : ℕ) (text : List ℕ) → length (from_byte k text) ≡ length text - k
+pub length-from_byte : (k : ℕ) (text : List ℕ) → length (from_byte k text) ≡ length text - k
 length-from_byte k text = ap length (from_byte-drop k text) ∙ length-drop k text
 
 -- the text after a piece isn't longer than the whole text

@@ -1,9 +1,11 @@
--- The text of a URL without the control bytes and spaces at its end.
-use Rattle.std.proofs.Common.{◌≡◌, ℕ, ◌-◌, ◌+◌, ◌≤◌, ◌<◌, true, false, if◌then◌else◌, List, [], ◌∷◌, ◌++◌, length, take, get_or, refl, sym, ap, ◌∙◌, arith}
+-- The text of a URL without the control bytes and spaces at its end, and its scheme.
+use Rattle.std.proofs.Common.{◌≡◌, ℕ, zero, suc, Bool, not, ◌&&◌, slice_index, ◌-◌, ◌+◌, ◌≤◌, ◌<◌, true, false, if◌then◌else◌, List, [], ◌∷◌, ◌++◌, length, take, get_or, refl, sym, ap, ◌∙◌, arith}
 use Rattle.std.proofs.lemmas.Bool.Decides.{nat_tests}
 use Rattle.std.proofs.Math.Seq.{take-length}
 use Rattle.std.proofs.lemmas.List.{take_more}
-use Rattle.target_paths.specs.Url.{is_blank, before_text, without_trailing}
+use Rattle.std.specs.Char.{is_ascii_alphabetic}
+use Rattle.std.specs.List.{before_first, prefix_len, list_any, list_all}
+use Rattle.target_paths.specs.Url.{is_blank, before_text, without_trailing, is_colon, is_scheme_byte, has_scheme}
 
 before_text-more : (b : ℕ) (xs : List ℕ) (c : ℕ) → before_text b (xs ++ c ∷ []) ≡ b ∷ (xs ++ c ∷ [])
 before_text-more b [] c = refl
@@ -34,3 +36,21 @@ without_trailing-none xs some kept =
     ap without_trailing (sym (by_last xs some))
     ∙ without_trailing-kept (take (length xs - 1) xs) (get_or xs (length xs - 1) 0) (grind (arith, nat_tests))
     ∙ by_last xs some
+
+-- ---- a scheme begins with a letter
+
+letter-take : (n : ℕ) (text : List ℕ) → is_ascii_alphabetic (slice_index text 0) ≡ false
+    → is_ascii_alphabetic (slice_index (take n text) 0) ≡ false
+letter-take zero text none = refl
+letter-take (suc n) [] none = refl
+letter-take (suc n) (b ∷ bs) none = none
+
+pub has_scheme-none : (text : List ℕ) → is_ascii_alphabetic (slice_index text 0) ≡ false → has_scheme text ≡ false
+has_scheme-none text none =
+    let scheme = before_first is_colon text in
+    let no_letter = letter-take (prefix_len (λ b. not (is_colon b)) text) text none in
+    ap (λ t. list_any is_colon text && (t && list_all is_scheme_byte scheme)) no_letter
+    ∙ and_false (list_any is_colon text) where
+      and_false : (t : Bool) → (t && false) ≡ false
+      and_false true = refl
+      and_false false = refl

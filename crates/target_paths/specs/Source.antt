@@ -1,7 +1,7 @@
 -- The pieces of a target as a page has it: CommonMark 0.31.2, sections 2.3 (NUL), 2.4 (backslash escapes) and 2.5
 -- (references); of an attribute, the tokenizer of the HTML standard, and in it the URL standard's section 4.4, by which
 -- tabs and line ends go and a backslash is a slash.
-use Rattle.std.specs.Prelude.{ℕ, ◌+◌, Bool, false, ◌==◌, ◌&&◌, ◌||◌, nat_lt, List, [], ◌∷◌, length, Option, Some, None, Ok, Err, if◌then◌else◌, slice_index}
+use Rattle.std.specs.Prelude.{ℕ, ◌+◌, Bool, false, not, ◌==◌, ◌&&◌, ◌||◌, nat_lt, List, [], ◌∷◌, length, Option, Some, None, Ok, Err, if◌then◌else◌, slice_index}
 use Rattle.std.specs.Char.{encode_utf8, is_ascii_alphabetic, is_ascii_punctuation}
 use Rattle.std.specs.Int.{is_in_range}
 use Rattle.target_paths.specs.declared.target.TargetSyntax.{TargetSyntax}
@@ -74,3 +74,7 @@ source_piece syntax b text =
     if is_escape syntax b (slice_index text 0) then record { size = 2; read = Ok (slice_index text 0 ∷ []) }
     else if b == 38 then reference_piece syntax text (reference_character syntax text)
     else byte_piece syntax b
+
+-- a byte that is read as itself in each syntax, and begins no query and no fragment
+abbrev pub is_plain_byte : ℕ → Bool
+is_plain_byte b = not (b == 0 || b == 9 || b == 10 || b == 13 || b == 35 || b == 38 || b == 63 || b == 92)

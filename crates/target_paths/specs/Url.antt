@@ -1,6 +1,6 @@
 -- Relative URLs: RFC 3986, sections 3.1 (schemes), 4.2 (relative references) and 2.1 (percent signs), and the URL
 -- standard, section 4.4 (what goes at both ends).
-use Rattle.std.specs.Prelude.{ℕ, ◌+◌, ◌*◌, Bool, ◌==◌, ◌&&◌, ◌||◌, nat_le, List, [], ◌∷◌, length, Result, Ok, Err, if◌then◌else◌, slice_index}
+use Rattle.std.specs.Prelude.{ℕ, ◌+◌, ◌*◌, Bool, not, ◌==◌, ◌&&◌, ◌||◌, nat_le, List, [], ◌∷◌, length, Result, Ok, Err, if◌then◌else◌, slice_index}
 use Rattle.std.specs.List.{before_first, list_any, list_all}
 use Rattle.std.specs.Char.{digit_value, is_digit, is_ascii_alphabetic, is_ascii_alphanumeric}
 use Rattle.target_paths.specs.declared.target.WhyUnknown.{WhyUnknown}
@@ -70,3 +70,7 @@ digits_byte text = 16 * digit_value (slice_index text 0) + digit_value (slice_in
 abbrev pub url_piece : ℕ → List ℕ → Piece
 url_piece b text =
     if b == 37 && has_digits text then record { size = 3; read = decoded_byte (digits_byte text) } else plain b
+
+-- a byte that is no percent sign
+abbrev pub is_unencoded : ℕ → Bool
+is_unencoded b = not (b == 37)

@@ -1,5 +1,6 @@
 //! What a target means to a reader of its page.
-ghost use Rattle.std.specs.Prelude.{◌≡◌, ◌≤◌, ◌-◌, ◌+◌, length, Ok, IfOk, IfErr};
+ghost use Rattle.std.specs.Prelude.{◌≡◌, ◌≤◌, ◌-◌, ◌+◌, length, not, take, true, Ok, IfOk, IfErr};
+ghost use Rattle.std.specs.List.{list_all};
 ghost use Rattle.target_paths.specs.Pieces.{joined, pieces, total_size};
 ghost use Rattle.target_paths.specs.Reading.{
   BeginsRelative,
@@ -14,7 +15,8 @@ ghost use Rattle.target_paths.specs.Reading.{
   trimmed,
 };
 ghost use Rattle.target_paths.specs.Shown.{HasTail, read_bytes, SaysWhy, SaysWhyOfTarget};
-ghost use Rattle.target_paths.specs.Url.{url_piece};
+ghost use Rattle.target_paths.specs.Source.{is_plain_byte};
+ghost use Rattle.target_paths.specs.Url.{is_unencoded, url_piece};
 
 use crate::piece::{Read, ReadError, push_read};
 use crate::source::source_piece;
@@ -125,8 +127,11 @@ fn read_path(alloc: Global, syntax: TargetSyntax, target: &[u8]) -> Result<PathP
     ensures tail { IfOk result (λ _. HasTail syntax target.now) }
     ensures err { IfErr result (SaysWhy (joined (path_pieces syntax target.now))) }
 {
-    let mut bytes = Vec::with_capacity(alloc, room_for(target))?;
-    let mut left = target;
+    let plain = plain_len(target);
+    let room = plain.saturating_add(room_for(&target[plain..]));
+    let mut bytes = Vec::with_capacity(alloc, room)?;
+    bytes.extend_from_slice(&target[..plain])?;
+    let mut left = &target[plain..];
     while let [first, rest @ ..] = left {
         let piece = source_piece(syntax, *first, rest);
         if begins_tail(piece.read) {
@@ -140,10 +145,51 @@ fn read_path(alloc: Global, syntax: TargetSyntax, target: &[u8]) -> Result<PathP
     Ok(PathPart { bytes, tail_at })
 }
 
-// How many bytes a target is read as at most. A NUL, which is one byte, is read as U+FFFD, which has three.
-fn room_for(target: &[u8]) -> usize {
-    let nuls = target.iter().filter(|byte| **byte == 0).count();
-    target.len().saturating_add(nuls.saturating_mul(2))
+// How many bytes a target begins with that are read as themselves.
+fn plain_len(target: &[u8]) -> usize
+    ensures within { result ≤ length target.now }
+    ensures plain { list_all is_plain_byte (take result target.now) ≡ true }
+{
+    for k in 0..target.len() {
+        if !is_plain(target[k]) {
+            return k;
+        }
+    }
+    target.len()
+}
+
+// Whether a byte is read as itself in each syntax, and begins no query and no fragment. Letters and digits, the most
+// frequent bytes, are told first.
+fn is_plain(byte: u8) -> bool
+    ensures { result ≡ is_plain_byte byte }
+{
+    byte.is_ascii_alphanumeric() || !is_read_otherwise(byte)
+}
+
+// Whether a byte is read otherwise than as itself in a syntax, or begins a query or a fragment.
+fn is_read_otherwise(byte: u8) -> bool
+    ensures { is_plain_byte byte ≡ not result }
+{
+    matches!(byte, 0 | b'\t' | b'\n' | b'\r' | b'#' | b'&' | b'?' | b'\\')
+}
+
+// How many bytes of a URL come before its first percent sign.
+fn unencoded_len(text: &[u8]) -> usize
+    ensures within { result ≤ length text.now }
+    ensures plain { list_all is_unencoded (take result text.now) ≡ true }
+{
+    for k in 0..text.len() {
+        if text[k] == b'%' {
+            return k;
+        }
+    }
+    text.len()
+}
+
+// How many bytes a text is read as at most. A NUL, which is one byte, is read as U+FFFD, which has three.
+fn room_for(text: &[u8]) -> usize {
+    let nuls = text.iter().filter(|byte| **byte == 0).count();
+    text.len().saturating_add(nuls.saturating_mul(2))
 }
 
 // Whether a piece that is read as these bytes begins a query or a fragment.
@@ -175,7 +221,9 @@ fn decoded(alloc: Global, text: &[u8]) -> Result<Vec<u8>, ReadError>
     ensures err { IfErr result (SaysWhy (joined (pieces url_piece 0 text.now))) }
 {
     let mut bytes = Vec::with_capacity(alloc, text.len())?;
-    let mut left = text;
+    let plain = unencoded_len(text);
+    bytes.extend_from_slice(&text[..plain])?;
+    let mut left = &text[plain..];
     while let [first, rest @ ..] = left {
         let piece = url_piece(*first, rest);
         push_read(&mut bytes, piece.read)?;

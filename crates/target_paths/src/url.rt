@@ -61,6 +61,9 @@ pub(crate) fn is_not_relative(text: &[u8]) -> bool
 fn has_scheme(text: &[u8]) -> bool
     ensures { result ≡ has_scheme text.now }
 {
+    if !begins_with_letter(text) {
+        return false;
+    }
     match first_colon(text) {
         Some(end) => is_scheme(&text[..end]),
         None => false,

@@ -1,9 +1,16 @@
 use Rattle.std.proofs.Common.{◌∙◌}
 use Rattle.target_paths.specs.Pieces.{pieces}
 use Rattle.target_paths.specs.Shown.{piece_of}
-use Rattle.target_paths.specs.Url.{url_piece}
+use Rattle.target_paths.specs.Url.{is_unencoded, url_piece}
 use Rattle.target_paths.proofs.PiecesLemmas.{from_byte, pieces-left, joined-next}
+use Rattle.target_paths.proofs.PlainLemmas.{joined-plain-so_far, pieces-unencoded}
 use Rattle.target_paths.proofs.reading.decoded.Goals as goal
+
+pub loop-left-init : goal.loop-left-init
+loop-left-init c =
+    joined-plain-so_far (pieces url_piece 0) is_unencoded pieces-unencoded c.unencoded_len-plain.result c.args.text.now
+    c.in_ok-bytes.bytes.items c.extend_from_slice.new.self.items c.in_ok-bytes.ensures.items
+    c.in_ok-extend_from_slice.ensures.items c.unencoded_len-plain.ensures.plain
 
 pub loop-left-preserved : goal.loop-left-preserved
 loop-left-preserved c =

@@ -1,10 +1,28 @@
-use Rattle.std.proofs.Common.{◌∙◌, sym, length}
+use Rattle.std.proofs.Common.{◌∙◌, sym, length, arith}
 use Rattle.target_paths.specs.Pieces.{total_size}
 use Rattle.target_paths.specs.Reading.{path_pieces}
 use Rattle.target_paths.specs.Shown.{piece_of}
-use Rattle.target_paths.proofs.PiecesLemmas.{from_byte, joined-next, left-next, within-next, size-next}
+use Rattle.target_paths.specs.Source.{is_plain_byte}
+use Rattle.target_paths.proofs.PiecesLemmas.{from_byte, length-from_byte, joined-next, left-next, within-next, size-next}
+use Rattle.target_paths.proofs.PlainLemmas.{joined-plain-so_far, left-plain, size-plain-so_far, path_pieces-plain}
 use Rattle.target_paths.proofs.ReadingLemmas.{path_pieces-next}
 use Rattle.target_paths.proofs.reading.read_path.Goals as goal
+
+pub loop-left-init : goal.loop-left-init
+loop-left-init c =
+    let syntax = c.args.syntax in
+    let target = c.args.target.now in
+    let plain = c.plain_len-plain.result in
+    let is = c.plain_len-plain.ensures in
+    record {
+      read =
+          joined-plain-so_far (path_pieces syntax) is_plain_byte (path_pieces-plain syntax) plain target
+          c.in_ok-bytes.bytes.items c.extend_from_slice.new.self.items c.in_ok-bytes.ensures.items
+          c.in_ok-extend_from_slice.ensures.items is.plain;
+      at = left-plain plain target is.within;
+      within = omega (arith, length-from_byte plain target);
+      size = size-plain-so_far (path_pieces syntax) is_plain_byte (path_pieces-plain syntax) plain target is.within is.plain;
+    }
 
 pub loop-left-preserved : goal.loop-left-preserved
 loop-left-preserved c =
