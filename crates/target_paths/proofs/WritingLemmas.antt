@@ -1,16 +1,20 @@
 -- What is written for characters.
 use Rattle.std.proofs.Common.{◌≡◌, ℕ, suc, ◌+◌, ◌<◌, ◌≤◌, Bool, true, false, nat_lt, if◌then◌else◌, List, [], ◌∷◌, ◌++◌, length, drop, get_or, Some, None, ◌≢◌, lit<, ne_eqb, refl, sym, ap, ap₂, ◌∙◌, arith, append-nil, append_assoc}
+use Rattle.std.proofs.lemmas.Bool.{not-true, or_parts}
 use Rattle.std.proofs.lemmas.Bool.Decides.{nat_tests}
 use Rattle.std.proofs.lemmas.Str.{encode_ascii, length-encode, len_utf8_bounds, inside_one}
 use Rattle.std.proofs.lemmas.List.{at_drop_more, drop_all}
 use Rattle.std.proofs.lemmas.Str.Pattern.{drop_at_char}
 use Rattle.std.specs.Char.{encode_utf8}
+use Rattle.std.specs.List.{list_all}
 use Rattle.std.specs.Str.{encode_utf8_all}
 use Rattle.std.specs.Str.Pattern.{FindsCharPrefix, IsTrimStartMatches, CutsPrefixes, IsFullyTrimmed}
 use Rattle.target_paths.specs.declared.place.Place.{Place}
 use Rattle.target_paths.specs.declared.place.Place.TheVariants.{Start, Mark, FirstSegment, AfterSlash}
-use Rattle.target_paths.specs.Url.{slash}
-use Rattle.target_paths.specs.Writing.{is_escaped, place_after, percent_text, written_byte, written_character, written, without_slashes}
+use Rattle.target_paths.specs.Url.{slash, is_slash, is_colon}
+use Rattle.target_paths.proofs.PiecesLemmas.{from_byte, from_byte-drop}
+use Rattle.target_paths.proofs.PlainLemmas.{and_true}
+use Rattle.target_paths.specs.Writing.{is_reserved, is_escaped, is_unescaped, start_of, spelled, place_after, percent_text, written_byte, written_character, written, without_slashes}
 
 -- each byte is past ASCII
 abbrev ArePastAscii : List ℕ → Type 0
@@ -133,3 +137,55 @@ without_slashes-none (b ∷ bs) other =
 pub without_slashes-trimmed : (s r : List ℕ) → IsTrimStartMatches (FindsCharPrefix slash) s r → r ≡ without_slashes s
 without_slashes-trimmed s r trimmed =
     sym (without_slashes-none r (trimmed_start r trimmed.1)) ∙ without_slashes-cut s trimmed.0.0 r trimmed.0.1
+
+-- ---- a path of which no byte is escaped
+
+-- a place after the first byte of a path
+data IsLater : Place → Type 0 where
+  in_first : IsLater FirstSegment
+  after_slash : IsLater AfterSlash
+
+later-after : (place : Place) (b : ℕ) → IsLater (place_after place b)
+later-after Start b = by_slash (is_slash b) where
+  by_slash : (t : Bool) → IsLater (if t then AfterSlash else FirstSegment)
+  by_slash true = after_slash
+  by_slash false = in_first
+later-after Mark b = by_slash (is_slash b) where
+  by_slash : (t : Bool) → IsLater (if t then AfterSlash else FirstSegment)
+  by_slash true = after_slash
+  by_slash false = in_first
+later-after FirstSegment b = by_slash (is_slash b) where
+  by_slash : (t : Bool) → IsLater (if t then AfterSlash else FirstSegment)
+  by_slash true = after_slash
+  by_slash false = in_first
+later-after AfterSlash b = after_slash
+
+later-unescaped : (place : Place) (b : ℕ) → IsLater place → is_unescaped b ≡ true → is_escaped place b ≡ false
+later-unescaped Start b later is = elim later [ ]
+later-unescaped Mark b later is = elim later [ ]
+later-unescaped FirstSegment b in_first is = not-true (is_escaped FirstSegment b) is
+later-unescaped AfterSlash b after_slash is =
+    (or_parts (is_reserved b) (is_colon b) (not-true (is_escaped FirstSegment b) is)).0
+
+written-unescaped : (place : Place) (bs : List ℕ) → IsLater place → list_all is_unescaped bs ≡ true → written place bs ≡ bs
+written-unescaped place [] later all = refl
+written-unescaped place (b ∷ bs) later all =
+    let (first, others) = and_true (is_unescaped b) (list_all is_unescaped bs) all in
+    ap (λ e. written_byte e b ++ written (place_after place b) bs) (later-unescaped place b later first)
+    ∙ ap (λ rest. b ∷ rest) (written-unescaped (place_after place b) bs (later-after place b) others)
+
+pub spelled-itself : (b : ℕ) (bs : List ℕ) → is_escaped (start_of (b ∷ bs)) b ≡ false
+    → list_all is_unescaped bs ≡ true → spelled (b ∷ bs) ≡ b ∷ bs
+spelled-itself b bs first all =
+    let place = start_of (b ∷ bs) in
+    ap (λ e. written_byte e b ++ written (place_after place b) bs) first
+    ∙ ap (λ rest. b ∷ rest) (written-unescaped (place_after place b) bs (later-after place b) all)
+
+-- the same, by the bytes of the text
+pub spelled-itself-bytes : (text bytes : List ℕ) → bytes ≡ text → 1 ≤ length bytes
+    → is_escaped (start_of text) (get_or bytes 0 0) ≡ false → list_all is_unescaped (from_byte 1 bytes) ≡ true
+    → spelled text ≡ text
+spelled-itself-bytes [] bytes is some first all = refl
+spelled-itself-bytes (b ∷ bs) bytes is some first all =
+    spelled-itself b bs (ap (λ l. is_escaped (start_of (b ∷ bs)) (get_or l 0 0)) (sym is) ∙ first)
+    (ap (λ l. list_all is_unescaped l) (sym (from_byte-drop 1 (b ∷ bs)) ∙ ap (from_byte 1) (sym is)) ∙ all)

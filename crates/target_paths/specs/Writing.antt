@@ -1,7 +1,7 @@
 -- How a path is written as a target, so that a reader of each syntax takes it as that path: RFC 3986, sections 2.1
 -- (percent signs) and 4.2 (a colon in the first segment); CommonMark 0.31.2, sections 6.3 (destinations), 6.6 (values of
 -- attributes), and 4 and 5 (what begins a block).
-use Rattle.std.specs.Prelude.{◌≡◌, ℕ, ◌+◌, ◌/◌, ◌%◌, ◌-◌, Bool, ◌==◌, ◌&&◌, ◌||◌, nat_lt, List, [], ◌∷◌, ◌++◌, codes, length, if◌then◌else◌, slice_index}
+use Rattle.std.specs.Prelude.{◌≡◌, ℕ, ◌+◌, ◌/◌, ◌%◌, ◌-◌, Bool, not, ◌==◌, ◌&&◌, ◌||◌, nat_lt, List, [], ◌∷◌, ◌++◌, codes, length, if◌then◌else◌, slice_index}
 use Rattle.std.specs.Char.{encode_utf8}
 use Rattle.std.specs.Int.{is_in_range}
 use Rattle.std.specs.List.{list_all}
@@ -57,6 +57,10 @@ is_escaped Start b = is_escaped_at_start b
 is_escaped Mark b = is_escaped_at_start b || begins_mark b
 is_escaped FirstSegment b = is_reserved b || is_colon b
 is_escaped AfterSlash b = is_reserved b
+
+-- the byte isn't escaped after the first one of a path, wherever it is
+abbrev pub is_unescaped : ℕ → Bool
+is_unescaped b = not (is_escaped FirstSegment b)
 
 -- the place at the start of a path
 abbrev pub start_of : List ℕ → Place

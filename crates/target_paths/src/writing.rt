@@ -1,6 +1,6 @@
 //! How a path is written as a target.
-ghost use Rattle.std.specs.Prelude.{◌≡◌, ◌++◌, ◌<◌, true, false, length, IfOk, string_bytes};
-ghost use Rattle.std.specs.List.{list_any};
+ghost use Rattle.std.specs.Prelude.{◌≡◌, ◌++◌, ◌<◌, true, false, length, IfOk, IsTrue, string_bytes};
+ghost use Rattle.std.specs.List.{list_all, list_any};
 ghost use Rattle.target_paths.specs.Reading.{path_before, unknown};
 ghost use Rattle.target_paths.specs.Writing.{
   begins_block,
@@ -8,6 +8,7 @@ ghost use Rattle.target_paths.specs.Writing.{
   ends_target,
   hexadecimal,
   is_nul,
+  is_unescaped,
   IsTakenAs,
   path_written,
   percent_text,
@@ -53,6 +54,44 @@ fn spelled(alloc: Global, path: &str) -> Result<String, AllocError>
 
 // Adds the target that spells a path.
 fn push_spelled(target: &mut String, path: &str) -> Result<(), AllocError>
+    ensures { IfOk result (λ _. string_bytes target.new ≡ string_bytes target.old ++ spelled path.now) }
+{
+    if spells_itself(path) {
+        target.push_str(path)
+    } else {
+        push_characters(target, path)
+    }
+}
+
+// Whether a path spells itself, since none of its bytes is escaped. A path with a colon may do so all the same.
+fn spells_itself(path: &str) -> bool
+    ensures { IsTrue result → spelled path.now ≡ path.now }
+{
+    match path.as_bytes() {
+        [] => true,
+        [first, rest @ ..] => {
+            !Place::start_of(path).escapes(char::from(*first)) && are_unescaped(rest)
+        }
+    }
+}
+
+// Whether no byte after the first one of a path is escaped.
+fn are_unescaped(text: &[u8]) -> bool
+    ensures { result ≡ list_all is_unescaped text.now }
+{
+    text.iter().all(|&byte| is_unescaped(byte))
+}
+
+// Whether a byte isn't escaped after the first one of a path, wherever it is. Letters and digits, the most frequent
+// bytes, are told first.
+fn is_unescaped(byte: u8) -> bool
+    ensures { result ≡ is_unescaped byte }
+{
+    byte.is_ascii_alphanumeric() || !Place::FirstSegment.escapes(char::from(byte))
+}
+
+// Adds the target that spells a path, character by character.
+fn push_characters(target: &mut String, path: &str) -> Result<(), AllocError>
     ensures { IfOk result (λ _. string_bytes target.new ≡ string_bytes target.old ++ spelled path.now) }
 {
     let mut place = Place::start_of(path);

@@ -6,7 +6,7 @@ use Rattle.std.proofs.lemmas.Str.{encodes-chars}
 use Rattle.std.specs.Str.{chars, encode_utf8_all}
 use Rattle.target_paths.specs.Writing.{written, spelled}
 use Rattle.target_paths.proofs.WritingLemmas.{written-next, written-end}
-use Rattle.target_paths.proofs.writing.push_spelled.Goals as goal
+use Rattle.target_paths.proofs.writing.push_characters.Goals as goal
 
 pub loop-character-init : goal.loop-character-init
 loop-character-init c =

@@ -1,7 +1,7 @@
 use Rattle.std.proofs.Common.{◌≡◌, ◌++◌, length, drop, string_bytes}
 use Rattle.std.specs.Str.{chars, encode_utf8_all}
 use Rattle.target_paths.specs.Writing.{written, spelled}
-use Rattle.target_paths.proofs.writing.push_spelled.Given as goal
+use Rattle.target_paths.proofs.writing.push_characters.Given as goal
 
 abbrev pub invariant-loop-character : goal.invariant-loop-character
 invariant-loop-character l =
