@@ -1,3 +1,4 @@
+mod DevicesLemmas
 mod FromTopLemmas
 mod NamesLemmas
 mod RouterLemmas

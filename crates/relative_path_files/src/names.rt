@@ -7,7 +7,7 @@ ghost use Rattle.relative_path.specs.Components.{step_of};
 ghost use Rattle.relative_path.specs.RelativePath.{path_components};
 ghost use Rattle.relative_path_files.specs.Win32.{is_space, is_cut, is_reserved};
 ghost use Rattle.relative_path_files.specs.Names.{ends_in_number, is_device, is_like_short_name, names_device, IfName, IsPlainName};
-ghost use Rattle.relative_path_files.specs.NameTests.{ends_in_dot_or_space, holds_foreign, is_unportable, is_unportable_step};
+ghost use Rattle.relative_path_files.specs.NameTests.{begins_as_device, ends_in_dot_or_space, holds_foreign, is_device_letter, is_foreign, is_unportable, is_unportable_step};
 
 use relative_path::{Component, RelativePath};
 
@@ -133,9 +133,29 @@ fn is_device(text: &str) -> bool
 fn names_device(name: &str) -> bool
     ensures { result ≡ names_device name.now }
 {
+    if !begins_as_device(name) {
+        return false;
+    }
     let stem = before(name, '.');
     let word = before(stem, ' ');
     is_device(word) && is_blank_after(stem, word.len())
+}
+
+// Whether a name begins with the letter of a device, in any case.
+fn begins_as_device(name: &str) -> bool
+    ensures { result ≡ begins_as_device name.now }
+{
+    match name.as_bytes() {
+        [first, ..] => is_device_letter(first.to_ascii_lowercase()),
+        [] => false,
+    }
+}
+
+// Whether the name of a device begins with a byte, in lower case.
+fn is_device_letter(byte: u8) -> bool
+    ensures { result ≡ is_device_letter byte }
+{
+    matches!(byte, b'a' | b'c' | b'l' | b'n' | b'p')
 }
 
 // Whether a byte is one that no name of Windows has.
@@ -156,8 +176,14 @@ fn is_cut(b: u8) -> bool
 fn holds_foreign(name: &str) -> bool
     ensures { result ≡ holds_foreign name.now }
 {
-    name.bytes()
-        .any(|b| is_reserved(b) || is_cut(b) || b == 127)
+    name.bytes().any(is_foreign)
+}
+
+// Whether no plain name has a byte. Letters and digits, the most frequent bytes, are told first.
+fn is_foreign(b: u8) -> bool
+    ensures { result ≡ is_foreign b }
+{
+    !b.is_ascii_alphanumeric() && (is_reserved(b) || is_cut(b) || b == 127)
 }
 
 // Whether a name ends in a dot or a space, which Windows drops.
