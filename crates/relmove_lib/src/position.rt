@@ -1,4 +1,5 @@
 //! Lines and columns of a page.
+use std::simd::prelude::*;
 
 /// A place in a text. Both numbers begin at 1, and columns count characters.
 #[derive(Clone, Copy, Debug, PartialEq, Eq)]
@@ -25,28 +26,18 @@ const FIRST: Position = Position { line: 1, column: 1 };
 impl Position {
     // The place after a text that begins here.
     fn after(self, text: &str) -> Position {
-        let mut position = self;
-        for byte in text.as_bytes() {
-            position = position.passed(*byte);
-        }
-        position
-    }
-
-    // The place after one more byte.
-    fn passed(self, byte: u8) -> Position {
-        if byte == b'\n' {
+        let bytes = text.as_bytes();
+        let lines = line_end_count(bytes);
+        if lines == 0 {
             return Position {
-                line: self.line.saturating_add(1),
-                column: 1,
-            };
-        }
-        if is_first_byte(byte) {
-            return Position {
-                column: self.column.saturating_add(1),
+                column: self.column.saturating_add(character_count(bytes)),
                 ..self
             };
         }
-        self
+        Position {
+            line: self.line.saturating_add(lines),
+            column: character_count(last_line(bytes)).saturating_add(1),
+        }
     }
 }
 
@@ -75,6 +66,37 @@ impl<'a> Positions<'a> {
         self.offset = offset;
         Some(self.position)
     }
+}
+
+// How many bytes are compared at once.
+const BLOCK: usize = 16;
+
+// How many line ends a text has.
+fn line_end_count(text: &[u8]) -> usize {
+    let mut count = 0usize;
+    let mut start = 0;
+    while start + BLOCK <= text.len() {
+        let ends = Simd::<u8, BLOCK>::from_slice(&text[start..])
+            .simd_eq(Simd::splat(b'\n'))
+            .to_bitmask();
+        count = count.saturating_add(ends.count_ones() as usize);
+        start += BLOCK;
+    }
+    let rest = text[start..].iter().filter(|&&byte| byte == b'\n');
+    count.saturating_add(rest.count())
+}
+
+// What comes after the last line end of a text.
+fn last_line(text: &[u8]) -> &[u8] {
+    match text.rsplit(|&byte| byte == b'\n').next() {
+        Some(line) => line,
+        None => text,
+    }
+}
+
+// How many characters a text has.
+fn character_count(text: &[u8]) -> usize {
+    text.iter().filter(|&&byte| is_first_byte(byte)).count()
 }
 
 // Whether a byte is the first one of a character.

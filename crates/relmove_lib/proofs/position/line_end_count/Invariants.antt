@@ -1,0 +1,9 @@
+-- The block begins within the text.
+use Rattle.std.proofs.Common.{◌-◌, ◌≤◌, length}
+use Rattle.relmove_lib.proofs.position.line_end_count.Given as goal
+
+abbrev pub invariant-loop-start : goal.invariant-loop-start
+invariant-loop-start l = l.start ≤ length l.text
+
+abbrev pub decreases-loop-start : goal.decreases-loop-start
+decreases-loop-start l = length l.text - l.start
