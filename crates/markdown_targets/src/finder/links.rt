@@ -65,7 +65,8 @@ pub(crate) fn read_destination(text: &[u8], start: usize) -> Option<Destination>
     }
 }
 
-// The end of a destination without angles, whose parentheses are balanced.
+// The end of a destination without angles, whose parentheses are balanced. Letters and digits, the most frequent bytes,
+// are told first.
 fn bare_destination_end(text: &[u8], start: usize) -> Option<usize>
     requires { start ≤ length text.now }
     ensures { IfSome result (λ end. Advances text.now start end) }
@@ -74,6 +75,7 @@ fn bare_destination_end(text: &[u8], start: usize) -> Option<usize>
     let mut k = start;
     while k < text.len() {
         match text[k] {
+            b'a'..=b'z' | b'A'..=b'Z' | b'0'..=b'9' => {}
             b'(' if depth == DEEPEST => return None,
             b'(' => depth += 1,
             b')' if depth == 0 => break,
