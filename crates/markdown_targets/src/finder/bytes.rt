@@ -58,16 +58,8 @@ pub(crate) fn line_end(text: &[u8], from: usize) -> usize
     requires { from ≤ length text.now }
     ensures { Skips text.now from result }
 {
-    let mut k = from;
-    while k + BLOCK <= text.len() {
-        let block = block_at(text, k);
-        let ends = equal_in(block, b'\n') | equal_in(block, b'\r');
-        if ends != 0 {
-            return first_of(text, k, ends);
-        }
-        k += BLOCK;
-    }
-    run_end(text, k, |byte| !is_line_end(byte))
+    let ends_in = |block| equal_in(block, b'\n') | equal_in(block, b'\r');
+    find_in_blocks(text, from, ends_in, |byte| !is_line_end(byte))
 }
 
 // The offset of the first of this byte from an offset on, or the end of the text.
@@ -75,20 +67,12 @@ pub(crate) fn byte_at(text: &[u8], from: usize, byte: u8) -> usize
     requires { from ≤ length text.now }
     ensures { Skips text.now from result }
 {
-    let mut k = from;
-    while k + BLOCK <= text.len() {
-        let found = equal_in(block_at(text, k), byte);
-        if found != 0 {
-            return first_of(text, k, found);
-        }
-        k += BLOCK;
-    }
-    run_end(text, k, |other| other != byte)
-}
-
-// Whether an inline may begin or end with a byte, or an escape may.
-fn is_special(byte: u8) -> bool {
-    matches!(byte, b'`' | b'<' | b'[' | b'\\' | b']' | b'!')
+    find_in_blocks(
+        text,
+        from,
+        |block| equal_in(block, byte),
+        |other| other != byte,
+    )
 }
 
 // The offset of the first byte from an offset on with which an inline or an escape may begin, or the end of the text.
@@ -96,21 +80,69 @@ pub(crate) fn special_at(text: &[u8], from: usize) -> usize
     requires { from ≤ length text.now }
     ensures { Skips text.now from result }
 {
-    let mut k = from;
-    while k + BLOCK <= text.len() {
-        let specials = specials_in(block_at(text, k));
-        if specials != 0 {
-            return first_of(text, k, specials);
-        }
-        k += BLOCK;
-    }
-    run_end(text, k, |byte| !is_special(byte))
+    find_in_blocks(text, from, specials_in, |byte| !is_special(byte))
+}
+
+// Whether an inline may begin or end with a byte, or an escape may.
+fn is_special(byte: u8) -> bool {
+    matches!(byte, b'`' | b'<' | b'[' | b'\\' | b']' | b'!')
 }
 
 // A bit for each byte of a block, set if the byte is special.
 fn specials_in(block: Simd<u8, BLOCK>) -> u64 {
     let brackets = equal_in(block, b'[') | equal_in(block, b'\\') | equal_in(block, b']');
     brackets | equal_in(block, b'`') | equal_in(block, b'<') | equal_in(block, b'!')
+}
+
+// The offset of the first byte from an offset on with which a destination may end, or with which parentheses or an
+// escape may begin or end, or the end of the text.
+pub(crate) fn destination_mark_at(text: &[u8], from: usize) -> usize
+    requires { from ≤ length text.now }
+    ensures { Skips text.now from result }
+{
+    find_in_blocks(
+        text,
+        from,
+        destination_marks_in,
+        |byte| !is_destination_mark(byte),
+    )
+}
+
+// Whether a destination may end with a byte, or parentheses or an escape may begin or end. NUL is one of these bytes
+// only because the bytes up to the space are compared at once.
+fn is_destination_mark(byte: u8) -> bool {
+    matches!(byte, 0..=b' ' | b'(' | b')' | b'\\' | 127)
+}
+
+// A bit for each byte of a block, set if the byte is such a mark.
+fn destination_marks_in(block: Simd<u8, BLOCK>) -> u64 {
+    let controls = block.simd_le(Simd::splat(b' ')).to_bitmask() | equal_in(block, 127);
+    controls | equal_in(block, b'(') | equal_in(block, b')') | equal_in(block, b'\\')
+}
+
+// The offset of the first byte from an offset on whose bit the first test sets, or the end of the text. The second
+// test, which the bytes of the last block get one by one, fails just on these bytes.
+#[inline(always)]
+fn find_in_blocks<B: Fn(Simd<u8, BLOCK>) -> u64, F: Fn(u8) -> bool>(
+    text: &[u8],
+    from: usize,
+    found_in: B,
+    is_other: F,
+) -> usize
+    requires blocks { B.IsAlwaysCallable found_in }
+    requires bytes { F.IsAlwaysCallable is_other }
+    requires within { from ≤ length text.now }
+    ensures { Skips text.now from result }
+{
+    let mut k = from;
+    while k + BLOCK <= text.len() {
+        let found = found_in(block_at(text, k));
+        if found != 0 {
+            return first_of(text, k, found);
+        }
+        k += BLOCK;
+    }
+    run_end(text, k, is_other)
 }
 
 // The bytes of a block at an offset.

@@ -3,7 +3,8 @@ ghost use Rattle.std.specs.Prelude.{◌≤◌, ◌<◌, length, IfSome};
 ghost use Rattle.markdown_targets.specs.Steps.{Advances};
 
 use crate::finder::bytes::{
-    find_unescaped, is_line_end, is_space_or_control, skip_byte, skip_spaces, step_over,
+    destination_mark_at, find_unescaped, is_line_end, is_space_or_control, skip_byte, skip_spaces,
+    step_over,
 };
 use crate::span::Span;
 
@@ -65,17 +66,15 @@ pub(crate) fn read_destination(text: &[u8], start: usize) -> Option<Destination>
     }
 }
 
-// The end of a destination without angles, whose parentheses are balanced. Letters and digits, the most frequent bytes,
-// are told first.
+// The end of a destination without angles, whose parentheses are balanced.
 fn bare_destination_end(text: &[u8], start: usize) -> Option<usize>
     requires { start ≤ length text.now }
     ensures { IfSome result (λ end. Advances text.now start end) }
 {
     let mut depth = 0;
-    let mut k = start;
+    let mut k = destination_mark_at(text, start);
     while k < text.len() {
         match text[k] {
-            b'a'..=b'z' | b'A'..=b'Z' | b'0'..=b'9' => {}
             b'(' if depth == DEEPEST => return None,
             b'(' => depth += 1,
             b')' if depth == 0 => break,
@@ -83,7 +82,7 @@ fn bare_destination_end(text: &[u8], start: usize) -> Option<usize>
             byte if is_space_or_control(byte) => break,
             _ => {}
         }
-        k = step_over(text, k);
+        k = destination_mark_at(text, step_over(text, k));
     }
     if depth == 0 && k > start {
         Some(k)

@@ -1,10 +1,10 @@
 -- The offset stays within the text.
 use Rattle.std.proofs.Common.{◌-◌, length}
 use Rattle.markdown_targets.specs.Steps.{Skips}
-use Rattle.markdown_targets.proofs.finder.bytes.line_end.Given as goal
+use Rattle.markdown_targets.proofs.finder.bytes.find_in_blocks.Given as goal
 
 abbrev pub invariant-loop-k : goal.invariant-loop-k
-invariant-loop-k l = Skips l.text l.from l.k
+invariant-loop-k g l = Skips l.text l.from l.k
 
 abbrev pub decreases-loop-k : goal.decreases-loop-k
-decreases-loop-k l = length l.text - l.k
+decreases-loop-k g l = length l.text - l.k
