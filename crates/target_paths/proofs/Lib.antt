@@ -1,3 +1,4 @@
+pub mod BlocksLemmas
 pub mod FirstLemmas
 pub mod ForCallers
 pub mod NumbersLemmas

@@ -1,5 +1,6 @@
 -- Texts that begin with bytes that are read as themselves.
 use Rattle.std.proofs.Common.{◌≡◌, ℕ, zero, suc, ◌+◌, ◌-◌, ◌≤◌, Bool, true, false, ◌||◌, ◌&&◌, ◌==◌, if◌then◌else◌, nat_lt, List, [], ◌∷◌, ◌++◌, length, take, drop, slice_index, Ok, refl, sym, ap, ◌∙◌, arith}
+use Rattle.std.proofs.lemmas.Bool.{and_parts}
 use Rattle.std.proofs.lemmas.Bool.Decides.{nat_tests}
 use Rattle.std.proofs.lemmas.Str.{encode_ascii}
 use Rattle.std.specs.Char.{encode_utf8, is_ascii_punctuation}
@@ -16,17 +17,13 @@ use Rattle.target_paths.proofs.PiecesLemmas.{from_byte, from_byte-drop, length-f
 abbrev pub ReadsPlain : (List ℕ → List Piece) → (ℕ → Bool) → Type 0
 ReadsPlain read p = (b : ℕ) (bs : List ℕ) → p b ≡ true → read (b ∷ bs) ≡ plain b ∷ read bs
 
-pub and_true : (a b : Bool) → (a && b) ≡ true → (a ≡ true) × (b ≡ true)
-and_true true b is = (refl, is)
-and_true false b is = absurd (cc)
-
 -- what follows the bytes that are read as themselves is read by itself
 pub joined-plain : (read : List ℕ → List Piece) (p : ℕ → Bool) → ReadsPlain read p → (n : ℕ) (text : List ℕ)
     → list_all p (take n text) ≡ true → followed (Ok (take n text)) (joined (read (drop n text))) ≡ joined (read text)
 joined-plain read p reads zero text all = followed-nil (joined (read text))
 joined-plain read p reads (suc n) [] all = followed-nil (joined (read []))
 joined-plain read p reads (suc n) (b ∷ bs) all =
-    let (first, others) = and_true (p b) (list_all p (take n bs)) all in
+    let (first, others) = and_parts (p b) (list_all p (take n bs)) all in
     followed-assoc (Ok (b ∷ [])) (Ok (take n bs)) (joined (read (drop n bs)))
     ∙ ap (followed (Ok (b ∷ []))) (joined-plain read p reads n bs others)
     ∙ sym (ap joined (reads b bs first))
@@ -37,7 +34,7 @@ pub size-plain : (read : List ℕ → List Piece) (p : ℕ → Bool) → ReadsPl
 size-plain read p reads zero text within all = omega (arith)
 size-plain read p reads (suc n) [] within all = absurd (omega (arith, within))
 size-plain read p reads (suc n) (b ∷ bs) within all =
-    let (first, others) = and_true (p b) (list_all p (take n bs)) all in
+    let (first, others) = and_parts (p b) (list_all p (take n bs)) all in
     let rest = size-plain read p reads n bs (omega (arith, within)) others in
     let whole : total_size (read (b ∷ bs)) ≡ 1 + total_size (read bs) = ap total_size (reads b bs first) in
     omega (arith, rest, whole)

@@ -1,6 +1,6 @@
 -- What is written for characters.
 use Rattle.std.proofs.Common.{◌≡◌, ℕ, suc, ◌+◌, ◌<◌, ◌≤◌, Bool, true, false, nat_lt, if◌then◌else◌, List, [], ◌∷◌, ◌++◌, length, drop, get_or, Some, None, ◌≢◌, lit<, ne_eqb, refl, sym, ap, ap₂, ◌∙◌, arith, append-nil, append_assoc}
-use Rattle.std.proofs.lemmas.Bool.{not-true, or_parts}
+use Rattle.std.proofs.lemmas.Bool.{and_parts, not-true, or_parts}
 use Rattle.std.proofs.lemmas.Bool.Decides.{nat_tests}
 use Rattle.std.proofs.lemmas.Str.{encode_ascii, length-encode, len_utf8_bounds, inside_one}
 use Rattle.std.proofs.lemmas.List.{at_drop_more, drop_all}
@@ -13,7 +13,6 @@ use Rattle.target_paths.specs.declared.place.Place.{Place}
 use Rattle.target_paths.specs.declared.place.Place.TheVariants.{Start, Mark, FirstSegment, AfterSlash}
 use Rattle.target_paths.specs.Url.{slash, is_slash, is_colon}
 use Rattle.target_paths.proofs.PiecesLemmas.{from_byte, from_byte-drop}
-use Rattle.target_paths.proofs.PlainLemmas.{and_true}
 use Rattle.target_paths.specs.Writing.{is_reserved, is_escaped, is_unescaped, start_of, spelled, place_after, percent_text, written_byte, written_character, written, without_slashes}
 
 -- each byte is past ASCII
@@ -145,19 +144,14 @@ data IsLater : Place → Type 0 where
   in_first : IsLater FirstSegment
   after_slash : IsLater AfterSlash
 
+later-slash : (slash : Bool) → IsLater (if slash then AfterSlash else FirstSegment)
+later-slash true = after_slash
+later-slash false = in_first
+
 later-after : (place : Place) (b : ℕ) → IsLater (place_after place b)
-later-after Start b = by_slash (is_slash b) where
-  by_slash : (t : Bool) → IsLater (if t then AfterSlash else FirstSegment)
-  by_slash true = after_slash
-  by_slash false = in_first
-later-after Mark b = by_slash (is_slash b) where
-  by_slash : (t : Bool) → IsLater (if t then AfterSlash else FirstSegment)
-  by_slash true = after_slash
-  by_slash false = in_first
-later-after FirstSegment b = by_slash (is_slash b) where
-  by_slash : (t : Bool) → IsLater (if t then AfterSlash else FirstSegment)
-  by_slash true = after_slash
-  by_slash false = in_first
+later-after Start b = later-slash (is_slash b)
+later-after Mark b = later-slash (is_slash b)
+later-after FirstSegment b = later-slash (is_slash b)
 later-after AfterSlash b = after_slash
 
 later-unescaped : (place : Place) (b : ℕ) → IsLater place → is_unescaped b ≡ true → is_escaped place b ≡ false
@@ -170,7 +164,7 @@ later-unescaped AfterSlash b after_slash is =
 written-unescaped : (place : Place) (bs : List ℕ) → IsLater place → list_all is_unescaped bs ≡ true → written place bs ≡ bs
 written-unescaped place [] later all = refl
 written-unescaped place (b ∷ bs) later all =
-    let (first, others) = and_true (is_unescaped b) (list_all is_unescaped bs) all in
+    let (first, others) = and_parts (is_unescaped b) (list_all is_unescaped bs) all in
     ap (λ e. written_byte e b ++ written (place_after place b) bs) (later-unescaped place b later first)
     ∙ ap (λ rest. b ∷ rest) (written-unescaped (place_after place b) bs (later-after place b) others)
 

@@ -75,6 +75,10 @@ source_piece syntax b text =
     else if b == 38 then reference_piece syntax text (reference_character syntax text)
     else byte_piece syntax b
 
+-- a byte that is read otherwise than as itself in some syntax, or begins a query or a fragment
+abbrev pub is_read_otherwise : ℕ → Bool
+is_read_otherwise b = b == 0 || b == 9 || b == 10 || b == 13 || b == 35 || b == 38 || b == 63 || b == 92
+
 -- a byte that is read as itself in each syntax, and begins no query and no fragment
 abbrev pub is_plain_byte : ℕ → Bool
-is_plain_byte b = not (b == 0 || b == 9 || b == 10 || b == 13 || b == 35 || b == 38 || b == 63 || b == 92)
+is_plain_byte b = not (is_read_otherwise b)

@@ -71,6 +71,10 @@ abbrev pub url_piece : ℕ → List ℕ → Piece
 url_piece b text =
     if b == 37 && has_digits text then record { size = 3; read = decoded_byte (digits_byte text) } else plain b
 
+-- the byte is a percent sign
+abbrev pub is_percent : ℕ → Bool
+is_percent b = b == 37
+
 -- a byte that is no percent sign
 abbrev pub is_unencoded : ℕ → Bool
-is_unencoded b = not (b == 37)
+is_unencoded b = not (is_percent b)

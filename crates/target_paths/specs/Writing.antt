@@ -58,9 +58,13 @@ is_escaped Mark b = is_escaped_at_start b || begins_mark b
 is_escaped FirstSegment b = is_reserved b || is_colon b
 is_escaped AfterSlash b = is_reserved b
 
+-- the byte is escaped somewhere after the first one of a path
+abbrev pub is_escaped_later : ℕ → Bool
+is_escaped_later b = is_escaped FirstSegment b
+
 -- the byte isn't escaped after the first one of a path, wherever it is
 abbrev pub is_unescaped : ℕ → Bool
-is_unescaped b = not (is_escaped FirstSegment b)
+is_unescaped b = not (is_escaped_later b)
 
 -- the place at the start of a path
 abbrev pub start_of : List ℕ → Place

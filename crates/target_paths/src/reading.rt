@@ -15,14 +15,16 @@ ghost use Rattle.target_paths.specs.Reading.{
   trimmed,
 };
 ghost use Rattle.target_paths.specs.Shown.{HasTail, read_bytes, SaysWhy, SaysWhyOfTarget};
-ghost use Rattle.target_paths.specs.Source.{is_plain_byte};
-ghost use Rattle.target_paths.specs.Url.{is_unencoded, url_piece};
+ghost use Rattle.target_paths.specs.Source.{is_plain_byte, is_read_otherwise};
+ghost use Rattle.target_paths.specs.Url.{is_percent, is_unencoded, url_piece};
 
+use crate::blocks::{ByteClass, len_before};
 use crate::piece::{Read, ReadError, push_read};
 use crate::source::source_piece;
 use crate::target::{TargetReading, TargetSyntax, WhyUnknown};
 use crate::url::{is_not_relative, url_piece, without_leading, without_trailing};
 use std::alloc::{AllocError, Global};
+use std::simd::prelude::*;
 
 // What a target is read as before its tail, and the offset of the tail.
 #[derive(Drop)]
@@ -146,44 +148,58 @@ fn read_path(alloc: Global, syntax: TargetSyntax, target: &[u8]) -> Result<PathP
 }
 
 // How many bytes a target begins with that are read as themselves.
+#[tactic(auto, using(crate::proofs::BlocksLemmas::position_le))]
 fn plain_len(target: &[u8]) -> usize
     ensures within { result ≤ length target.now }
     ensures plain { list_all is_plain_byte (take result target.now) ≡ true }
 {
-    for k in 0..target.len() {
-        if !is_plain(target[k]) {
-            return k;
-        }
+    len_before::<ReadOtherwise>(target)
+}
+
+// The bytes that are read otherwise than as themselves in a syntax, or begin a query or a fragment.
+struct ReadOtherwise;
+
+impl ByteClass for ReadOtherwise {
+    ghost has = { is_read_otherwise };
+
+    fn has(byte: u8) -> bool {
+        matches!(byte, 0 | b'\t' | b'\n' | b'\r' | b'#' | b'&' | b'?' | b'\\')
     }
-    target.len()
-}
 
-// Whether a byte is read as itself in each syntax, and begins no query and no fragment. Letters and digits, the most
-// frequent bytes, are told first.
-fn is_plain(byte: u8) -> bool
-    ensures { result ≡ is_plain_byte byte }
-{
-    byte.is_ascii_alphanumeric() || !is_read_otherwise(byte)
-}
-
-// Whether a byte is read otherwise than as itself in a syntax, or begins a query or a fragment.
-fn is_read_otherwise(byte: u8) -> bool
-    ensures { is_plain_byte byte ≡ not result }
-{
-    matches!(byte, 0 | b'\t' | b'\n' | b'\r' | b'#' | b'&' | b'?' | b'\\')
+    fn those_in(block: u8x16) -> u64 {
+        let removed = block.simd_eq(u8x16::splat(b'\t'))
+            | block.simd_eq(u8x16::splat(b'\n'))
+            | block.simd_eq(u8x16::splat(b'\r'));
+        let read = block.simd_eq(u8x16::splat(0))
+            | block.simd_eq(u8x16::splat(b'&'))
+            | block.simd_eq(u8x16::splat(b'\\'));
+        let tail = block.simd_eq(u8x16::splat(b'#')) | block.simd_eq(u8x16::splat(b'?'));
+        (removed | read | tail).to_bitmask()
+    }
 }
 
 // How many bytes of a URL come before its first percent sign.
+#[tactic(auto, using(crate::proofs::BlocksLemmas::position_le))]
 fn unencoded_len(text: &[u8]) -> usize
     ensures within { result ≤ length text.now }
     ensures plain { list_all is_unencoded (take result text.now) ≡ true }
 {
-    for k in 0..text.len() {
-        if text[k] == b'%' {
-            return k;
-        }
+    len_before::<PercentSign>(text)
+}
+
+// The percent sign.
+struct PercentSign;
+
+impl ByteClass for PercentSign {
+    ghost has = { is_percent };
+
+    fn has(byte: u8) -> bool {
+        byte == b'%'
     }
-    text.len()
+
+    fn those_in(block: u8x16) -> u64 {
+        block.simd_eq(u8x16::splat(b'%')).to_bitmask()
+    }
 }
 
 // How many bytes a text is read as at most. A NUL, which is one byte, is read as U+FFFD, which has three.

@@ -7,6 +7,7 @@ ghost use Rattle.target_paths.specs.Writing.{
   begins_template,
   ends_target,
   hexadecimal,
+  is_escaped_later,
   is_nul,
   is_unescaped,
   IsTakenAs,
@@ -19,8 +20,10 @@ ghost use Rattle.target_paths.specs.Writing.{
 };
 ghost use Rattle.target_paths.specs.declared.target.WhyUnknown.TheVariants.{EncodedNul};
 
+use crate::blocks::{ByteClass, len_before};
 use crate::place::Place;
 use std::alloc::{AllocError, Global};
+use std::simd::prelude::*;
 
 // The digit of a number below 16.
 fn hexadecimal(digit: u8) -> char
@@ -77,17 +80,33 @@ fn spells_itself(path: &str) -> bool
 
 // Whether no byte after the first one of a path is escaped.
 fn are_unescaped(text: &[u8]) -> bool
-    ensures { result ≡ list_all is_unescaped text.now }
+    ensures { IsTrue result → list_all is_unescaped text.now ≡ true }
 {
-    text.iter().all(|&byte| is_unescaped(byte))
+    len_before::<EscapedLater>(text) == text.len()
 }
 
-// Whether a byte isn't escaped after the first one of a path, wherever it is. Letters and digits, the most frequent
-// bytes, are told first.
-fn is_unescaped(byte: u8) -> bool
-    ensures { result ≡ is_unescaped byte }
-{
-    byte.is_ascii_alphanumeric() || !Place::FirstSegment.escapes(char::from(byte))
+// The bytes that are escaped somewhere after the first one of a path.
+struct EscapedLater;
+
+impl ByteClass for EscapedLater {
+    ghost has = { is_escaped_later };
+
+    fn has(byte: u8) -> bool {
+        Place::FirstSegment.escapes(char::from(byte))
+    }
+
+    fn those_in(block: u8x16) -> u64 {
+        let controls = block.simd_le(u8x16::splat(b' ')) | block.simd_eq(u8x16::splat(127));
+        let low = block.simd_eq(u8x16::splat(b'"'))
+            | block.simd_eq(u8x16::splat(b'#'))
+            | block.simd_eq(u8x16::splat(b':'));
+        let brackets = (block - u8x16::splat(b'%')).simd_le(u8x16::splat(b')' - b'%'))
+            | (block - u8x16::splat(b'<')).simd_le(u8x16::splat(b'?' - b'<'));
+        let high = block.simd_eq(u8x16::splat(b'\\'))
+            | block.simd_eq(u8x16::splat(b'`'))
+            | block.simd_eq(u8x16::splat(b'|'));
+        (controls | low | brackets | high).to_bitmask()
+    }
 }
 
 // Adds the target that spells a path, character by character.
