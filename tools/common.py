@@ -17,7 +17,7 @@ COUNTS = ROOT / "tools/counts.txt"
 # The pages of the top and of docs/, and those of the crates.
 PAGES = ["README.md", *(str(it.relative_to(ROOT)) for part in ("docs", "crates/*") for it in sorted(ROOT.glob(f"{part}/*.md")))]
 
-COMMENT_OR_STRING = re.compile(r"//[^\n]*|\"(?:\\.|[^\"\\])*\"")
+COMMENT_OR_STRING = re.compile(r"//[^\n]*|\"(?:\\.|[^\"\\])*\"|'(?:\\.|[^'\\])'")
 # A place of a page of Markdown where a definition may begin.
 LABEL = re.compile(r"\[((?:[^\[\]\\]|\\.)+)\]:", re.S)
 # What stands for a target in a marked page.
