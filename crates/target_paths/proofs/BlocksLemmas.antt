@@ -1,6 +1,6 @@
 -- The first byte of a class, and the mask of a block of bytes, which has a bit for each byte in the class.
-use Rattle.std.proofs.Common.{◌≡◌, ◌≢◌, ◌<◌, ◌≤◌, ◌+◌, ◌%◌, ◌^◌, ℕ, suc, Bool, true, false, not, cond, ◌&&◌, List, [], ◌∷◌, Fits, map, take, length, get_or, sym, ap, ap₂, subst, refl, ◌∙◌, arith, w8, w64, ⊎_elim, pow_mono}
-use Rattle.std.proofs.lemmas.Bool.{agree_below, agree_below_at, cases_lt}
+use Rattle.std.proofs.Common.{◌≡◌, ◌≢◌, ◌<◌, ◌≤◌, ◌+◌, ◌%◌, ◌^◌, ℕ, suc, Bool, true, false, nat_eq, not, cond, ◌&&◌, List, [], ◌∷◌, Fits, map, take, length, get_or, sym, ap, ap₂, subst, ne_eqb, refl, ◌∙◌, arith, w8, w64, ⊎_elim, pow_mono}
+use Rattle.std.proofs.lemmas.Bool.{agree_below, agree_below_at, cases_lt, eq-eqb}
 use Rattle.std.proofs.lemmas.List.{length-map, take_all}
 use Rattle.std.proofs.lemmas.List.Sums.{position_or_len_is, passes_at_first, fails_before_first, prefix_len-le-length}
 use Rattle.std.proofs.lemmas.Nat.Bits.{bit_at-trailing_zeros, bit_at_above}
@@ -38,10 +38,28 @@ pub list_all-take_before : (p : ℕ → Bool) (text : List ℕ) (n : ℕ) → n 
     → list_all (λ b. not (p b)) (take n text) ≡ true
 list_all-take_before p text n is = subst (HasNone p text) (sym is) (list_all-before p text)
 
-pub list_all-none : (p : ℕ → Bool) (text : List ℕ) (n : ℕ) → n ≡ position_or_len p text → n ≡ length text
-    → list_all (λ b. not (p b)) text ≡ true
-list_all-none p text n is whole =
-    ap (list_all (λ b. not (p b))) (sym (take_all n text (omega (arith, whole)))) ∙ list_all-take_before p text n is
+list_all-some : (p : ℕ → Bool) (text : List ℕ) → position_or_len p text < length text
+    → list_all (λ b. not (p b)) text ≡ false
+list_all-some p [] some = absurd (omega (arith, some))
+list_all-some p (b ∷ bs) some = of (p b) refl (λ more. list_all-some p bs more) where
+  of : (t : Bool) → p b ≡ t → (position_or_len p bs < length bs → list_all (λ b. not (p b)) bs ≡ false)
+      → list_all (λ b. not (p b)) (b ∷ bs) ≡ false
+  of true is others = ap (λ t. not t && list_all (λ b. not (p b)) bs) is
+  of false is others =
+      let later : position_or_len p (b ∷ bs) ≡ 1 + position_or_len p bs =
+      ap (λ t. cond (not t) (1 + position_or_len p bs) 0) is in
+      ap (λ t. not t && list_all (λ b. not (p b)) bs) is ∙ others (omega (arith, some, later))
+
+-- no byte is in the class exactly if the first one of the class is the end
+pub list_all-length : (p : ℕ → Bool) (text : List ℕ) (n : ℕ) → n ≡ position_or_len p text
+    → nat_eq n (length text) ≡ list_all (λ b. not (p b)) text
+list_all-length p text n is = ⊎_elim
+    (λ some. ne_eqb n (length text) (λ e. absurd (omega (arith, some, e)))
+    ∙ sym (list_all-some p text (omega (arith, some, is))))
+    (λ none. let whole : n ≡ length text = omega (arith, none, is, position_le p text) in
+    eq-eqb n (length text) whole
+    ∙ sym (ap (list_all (λ b. not (p b))) (sym (take_all n text (omega (arith, whole)))) ∙ list_all-take_before p text n is))
+    (cases_lt n (length text))
 
 -- lanes that were computed from a block set the bits of a class, if they do so for each of the 256 bytes
 same_tops : (f : ℕ → ℕ) (p : ℕ → Bool) → agree_below (λ b. top 7 (f b)) p 256 ≡ true → (block : List ℕ)

@@ -82,7 +82,7 @@ fn spells_itself(path: &str) -> bool
 
 // Whether no byte after the first one of a path is escaped.
 fn are_unescaped(text: &[u8]) -> bool
-    ensures { IsTrue result → list_all is_unescaped text.now ≡ true }
+    ensures { result ≡ list_all is_unescaped text.now }
 {
     len_before::<EscapedLater>(text) == text.len()
 }
