@@ -1,4 +1,3 @@
-pub mod BlocksLemmas
 pub mod FirstLemmas
 pub mod ForCallers
 pub mod NumbersLemmas

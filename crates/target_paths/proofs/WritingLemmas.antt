@@ -13,7 +13,7 @@ use Rattle.std.specs.Str.Pattern.{FindsCharPrefix, IsTrimStartMatches, CutsPrefi
 use Rattle.target_paths.specs.declared.place.Place.{Place}
 use Rattle.target_paths.specs.declared.place.Place.TheVariants.{Start, Mark, FirstSegment, AfterSlash}
 use Rattle.target_paths.specs.Url.{slash, is_slash, is_colon}
-use Rattle.target_paths.proofs.BlocksLemmas.{position_le, list_all-take_before}
+use Rattle.byte_classes.proofs.ForCallers.{position_le, list_all-take_before}
 use Rattle.target_paths.proofs.PiecesLemmas.{from_byte, from_byte-drop}
 use Rattle.target_paths.specs.Writing.{is_reserved, is_escaped, is_escaped_later, is_unescaped, start_of, spelled, place_after, percent_text, written_byte, written_character, written, without_slashes}
 
@@ -240,7 +240,8 @@ module _ (text : List ℕ) (n : ℕ) (at : n ≡ position_or_len is_escaped_late
 
   pub is_escaped-rest : (rest : List ℕ) → rest ≡ drop n text → is_escaped_later (get_or rest 0 0) ≡ true
   is_escaped-rest rest is = ap (λ bs. is_escaped_later (get_or bs 0 0)) is ∙ ⊎_elim
-      (λ some. ap is_escaped_later (get_or-drop n text 0 0) ∙ ap (λ k. is_escaped_later (get_or text k 0)) (omega arith) ∙ first_escaped some)
+      (λ some. ap is_escaped_later (get_or-drop n text 0 0)
+      ∙ ap (λ k. is_escaped_later (get_or text k 0)) (omega arith) ∙ first_escaped some)
       (λ none. ap (λ bs. is_escaped_later (get_or bs 0 0)) (drop_all n text none))
       (cases_lt n (length text))
 

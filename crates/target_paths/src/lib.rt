@@ -6,7 +6,6 @@
 //! reading     reading - source, reference
 //! writing     writing - place - mark
 //! both        url - piece - target
-//! bytes       blocks
 //! ```
 #![tactic(auto)]
 
@@ -14,7 +13,6 @@ pub use self::reading::path_of_target;
 pub use self::target::{TargetReading, TargetSyntax, WhyUnknown};
 pub use self::writing::{push_target_of_path, target_of_path};
 
-mod blocks;
 mod mark;
 mod piece;
 mod place;

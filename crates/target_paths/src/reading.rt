@@ -16,13 +16,13 @@ ghost use Rattle.target_paths.specs.Reading.{
 };
 ghost use Rattle.target_paths.specs.Shown.{HasTail, read_bytes, SaysWhy, SaysWhyOfTarget};
 ghost use Rattle.target_paths.specs.Source.{is_plain_byte, is_read_otherwise};
-ghost use Rattle.target_paths.specs.Url.{is_percent, is_unencoded, url_piece};
+ghost use Rattle.target_paths.specs.Url.{is_unencoded, url_piece};
 
-use crate::blocks::{ByteClass, len_before};
 use crate::piece::{Read, ReadError, push_read};
 use crate::source::source_piece;
 use crate::target::{TargetReading, TargetSyntax, WhyUnknown};
 use crate::url::{is_not_relative, url_piece, without_leading, without_trailing};
+use byte_classes::{ByteClass, OneByte, len_before};
 use std::alloc::{AllocError, Global};
 use std::simd::prelude::*;
 
@@ -148,25 +148,25 @@ fn read_path(alloc: Global, syntax: TargetSyntax, target: &[u8]) -> Result<PathP
 }
 
 // How many bytes a target begins with that are read as themselves.
-#[tactic(auto, using(crate::proofs::BlocksLemmas::position_le))]
 fn plain_len(target: &[u8]) -> usize
     ensures within { result ≤ length target.now }
     ensures plain { list_all is_plain_byte (take result target.now) ≡ true }
 {
-    len_before::<ReadOtherwise>(target)
+    len_before(&ReadOtherwise, target)
 }
 
 // The bytes that are read otherwise than as themselves in a syntax, or begin a query or a fragment.
+#[derive(Drop)]
 struct ReadOtherwise;
 
 impl ByteClass for ReadOtherwise {
-    ghost has = { is_read_otherwise };
+    ghost has = { λ _. is_read_otherwise };
 
-    fn has(byte: u8) -> bool {
+    fn has(&self, byte: u8) -> bool {
         matches!(byte, 0 | b'\t' | b'\n' | b'\r' | b'#' | b'&' | b'?' | b'\\')
     }
 
-    fn those_in(block: u8x16) -> u64 {
+    fn those_in(&self, block: u8x16) -> u64 {
         let removed = block.simd_eq(u8x16::splat(b'\t'))
             | block.simd_eq(u8x16::splat(b'\n'))
             | block.simd_eq(u8x16::splat(b'\r'));
@@ -179,27 +179,11 @@ impl ByteClass for ReadOtherwise {
 }
 
 // How many bytes of a URL come before its first percent sign.
-#[tactic(auto, using(crate::proofs::BlocksLemmas::position_le))]
 fn unencoded_len(text: &[u8]) -> usize
     ensures within { result ≤ length text.now }
     ensures plain { list_all is_unencoded (take result text.now) ≡ true }
 {
-    len_before::<PercentSign>(text)
-}
-
-// The percent sign.
-struct PercentSign;
-
-impl ByteClass for PercentSign {
-    ghost has = { is_percent };
-
-    fn has(byte: u8) -> bool {
-        byte == b'%'
-    }
-
-    fn those_in(block: u8x16) -> u64 {
-        block.simd_eq(u8x16::splat(b'%')).to_bitmask()
-    }
+    len_before(&OneByte { byte: b'%' }, text)
 }
 
 // How many bytes a text is read as at most. A NUL, which is one byte, is read as U+FFFD, which has three.

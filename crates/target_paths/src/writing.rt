@@ -22,8 +22,8 @@ ghost use Rattle.target_paths.specs.Writing.{
 ghost use Rattle.target_paths.specs.declared.place.Place.TheVariants.{AfterSlash};
 ghost use Rattle.target_paths.specs.declared.target.WhyUnknown.TheVariants.{EncodedNul};
 
-use crate::blocks::{ByteClass, len_before};
 use crate::place::Place;
+use byte_classes::{ByteClass, len_before};
 use std::alloc::{AllocError, Global};
 use std::simd::prelude::*;
 
@@ -84,20 +84,21 @@ fn spells_itself(path: &str) -> bool
 fn are_unescaped(text: &[u8]) -> bool
     ensures { result ≡ list_all is_unescaped text.now }
 {
-    len_before::<EscapedLater>(text) == text.len()
+    len_before(&EscapedLater, text) == text.len()
 }
 
 // The bytes that are escaped somewhere after the first one of a path.
+#[derive(Drop)]
 struct EscapedLater;
 
 impl ByteClass for EscapedLater {
-    ghost has = { is_escaped_later };
+    ghost has = { λ _. is_escaped_later };
 
-    fn has(byte: u8) -> bool {
+    fn has(&self, byte: u8) -> bool {
         Place::FirstSegment.escapes(char::from(byte))
     }
 
-    fn those_in(block: u8x16) -> u64 {
+    fn those_in(&self, block: u8x16) -> u64 {
         let controls = block.simd_le(u8x16::splat(b' ')) | block.simd_eq(u8x16::splat(127));
         let low = block.simd_eq(u8x16::splat(b'"'))
             | block.simd_eq(u8x16::splat(b'#'))
@@ -145,7 +146,7 @@ fn push_after_slash(target: &mut String, text: &str) -> Result<(), AllocError>
 {
     let mut left = text;
     while !left.is_empty() {
-        let (run, rest) = left.split_at(len_before::<EscapedLater>(left.as_bytes()));
+        let (run, rest) = left.split_at(len_before(&EscapedLater, left.as_bytes()));
         target.push_str(run)?;
         left = push_first_after_slash(target, rest)?;
     }

@@ -1,14 +1,15 @@
 //! Classes of bytes, and steps over the bytes of a text.
-ghost use Rattle.std.specs.Prelude.{◌≤◌, ◌<◌, ◌+◌, length, IfSome};
+ghost use Rattle.std.specs.Prelude.{◌≡◌, ◌≤◌, ◌<◌, ◌+◌, length, IfSome};
+ghost use Rattle.markdown_targets.specs.Classes.{is_line_end, is_special, is_destination_mark};
 ghost use Rattle.markdown_targets.specs.Steps.{Skips, Advances};
 
+use byte_classes::{ByteClass, OneByte, len_before};
 use std::simd::prelude::*;
 
-// How many bytes are compared at once.
-const BLOCK: usize = 16;
-
 // Whether a byte ends a line.
-pub(crate) fn is_line_end(byte: u8) -> bool {
+pub(crate) fn is_line_end(byte: u8) -> bool
+    ensures { result ≡ is_line_end byte }
+{
     byte == b'\n' || byte == b'\r'
 }
 
@@ -53,13 +54,12 @@ pub(crate) fn run_end<F: Fn(u8) -> bool>(text: &[u8], from: usize, test: F) -> u
     text.len()
 }
 
-// The offset of the first line end from an offset on, or the end of the text.
-pub(crate) fn line_end(text: &[u8], from: usize) -> usize
+// The offset of the first byte of a class from an offset on, or the end of the text.
+fn first_at<C: ByteClass>(text: &[u8], from: usize, class: &C) -> usize
     requires { from ≤ length text.now }
     ensures { Skips text.now from result }
 {
-    let ends_in = |block| equal_in(block, b'\n') | equal_in(block, b'\r');
-    find_in_blocks(text, from, ends_in, |byte| !is_line_end(byte))
+    from + len_before(class, &text[from..])
 }
 
 // The offset of the first of this byte from an offset on, or the end of the text.
@@ -67,12 +67,32 @@ pub(crate) fn byte_at(text: &[u8], from: usize, byte: u8) -> usize
     requires { from ≤ length text.now }
     ensures { Skips text.now from result }
 {
-    find_in_blocks(
-        text,
-        from,
-        |block| equal_in(block, byte),
-        |other| other != byte,
-    )
+    first_at(text, from, &OneByte { byte })
+}
+
+// The offset of the first line end from an offset on, or the end of the text.
+pub(crate) fn line_end(text: &[u8], from: usize) -> usize
+    requires { from ≤ length text.now }
+    ensures { Skips text.now from result }
+{
+    first_at(text, from, &LineEnd)
+}
+
+// The bytes that end a line.
+#[derive(Drop)]
+struct LineEnd;
+
+impl ByteClass for LineEnd {
+    ghost has = { λ _. is_line_end };
+
+    fn has(&self, byte: u8) -> bool {
+        is_line_end(byte)
+    }
+
+    fn those_in(&self, block: u8x16) -> u64 {
+        let ends = block.simd_eq(u8x16::splat(b'\n')) | block.simd_eq(u8x16::splat(b'\r'));
+        ends.to_bitmask()
+    }
 }
 
 // The offset of the first byte from an offset on with which an inline or an escape may begin, or the end of the text.
@@ -80,18 +100,29 @@ pub(crate) fn special_at(text: &[u8], from: usize) -> usize
     requires { from ≤ length text.now }
     ensures { Skips text.now from result }
 {
-    find_in_blocks(text, from, specials_in, |byte| !is_special(byte))
+    first_at(text, from, &Special)
 }
 
-// Whether an inline may begin or end with a byte, or an escape may.
-fn is_special(byte: u8) -> bool {
-    matches!(byte, b'`' | b'<' | b'[' | b'\\' | b']' | b'!')
-}
+// The bytes with which an inline or an escape may begin or end.
+#[derive(Drop)]
+struct Special;
 
-// A bit for each byte of a block, set if the byte is special.
-fn specials_in(block: Simd<u8, BLOCK>) -> u64 {
-    let brackets = equal_in(block, b'[') | equal_in(block, b'\\') | equal_in(block, b']');
-    brackets | equal_in(block, b'`') | equal_in(block, b'<') | equal_in(block, b'!')
+impl ByteClass for Special {
+    ghost has = { λ _. is_special };
+
+    fn has(&self, byte: u8) -> bool {
+        matches!(byte, b'!' | b'<' | b'[' | b'\\' | b']' | b'`')
+    }
+
+    fn those_in(&self, block: u8x16) -> u64 {
+        let brackets = block.simd_eq(u8x16::splat(b'['))
+            | block.simd_eq(u8x16::splat(b'\\'))
+            | block.simd_eq(u8x16::splat(b']'));
+        let others = block.simd_eq(u8x16::splat(b'!'))
+            | block.simd_eq(u8x16::splat(b'<'))
+            | block.simd_eq(u8x16::splat(b'`'));
+        (brackets | others).to_bitmask()
+    }
 }
 
 // The offset of the first byte from an offset on with which a destination may end, or with which parentheses or an
@@ -100,71 +131,28 @@ pub(crate) fn destination_mark_at(text: &[u8], from: usize) -> usize
     requires { from ≤ length text.now }
     ensures { Skips text.now from result }
 {
-    find_in_blocks(
-        text,
-        from,
-        destination_marks_in,
-        |byte| !is_destination_mark(byte),
-    )
+    first_at(text, from, &DestinationMark)
 }
 
-// Whether a destination may end with a byte, or parentheses or an escape may begin or end. NUL is one of these bytes
-// only because the bytes up to the space are compared at once.
-fn is_destination_mark(byte: u8) -> bool {
-    matches!(byte, 0..=b' ' | b'(' | b')' | b'\\' | 127)
-}
+// The bytes with which a destination may end, or with which parentheses or an escape may begin or end. NUL is one of
+// these bytes only because the bytes up to the space are compared at once.
+#[derive(Drop)]
+struct DestinationMark;
 
-// A bit for each byte of a block, set if the byte is such a mark.
-fn destination_marks_in(block: Simd<u8, BLOCK>) -> u64 {
-    let controls = block.simd_le(Simd::splat(b' ')).to_bitmask() | equal_in(block, 127);
-    controls | equal_in(block, b'(') | equal_in(block, b')') | equal_in(block, b'\\')
-}
+impl ByteClass for DestinationMark {
+    ghost has = { λ _. is_destination_mark };
 
-// The offset of the first byte from an offset on whose bit the first test sets, or the end of the text. The second
-// test, which the bytes of the last block get one by one, fails just on these bytes.
-#[inline(always)]
-fn find_in_blocks<B: Fn(Simd<u8, BLOCK>) -> u64, F: Fn(u8) -> bool>(
-    text: &[u8],
-    from: usize,
-    found_in: B,
-    is_other: F,
-) -> usize
-    requires blocks { B.IsAlwaysCallable found_in }
-    requires bytes { F.IsAlwaysCallable is_other }
-    requires within { from ≤ length text.now }
-    ensures { Skips text.now from result }
-{
-    let mut k = from;
-    while k + BLOCK <= text.len() {
-        let found = found_in(block_at(text, k));
-        if found != 0 {
-            return first_of(text, k, found);
-        }
-        k += BLOCK;
+    fn has(&self, byte: u8) -> bool {
+        byte <= b' ' || matches!(byte, b'(' | b')' | b'\\' | 127)
     }
-    run_end(text, k, is_other)
-}
 
-// The bytes of a block at an offset.
-fn block_at(text: &[u8], start: usize) -> Simd<u8, BLOCK>
-    requires { start + BLOCK ≤ length text.now }
-{
-    Simd::<u8, BLOCK>::from_slice(&text[start..])
-}
-
-// A bit for each byte of a block, set if the byte is this one.
-fn equal_in(block: Simd<u8, BLOCK>, byte: u8) -> u64 {
-    block.simd_eq(Simd::splat(byte)).to_bitmask()
-}
-
-// The offset of the first byte that is set, in a block at an offset.
-fn first_of(text: &[u8], start: usize, bits: u64) -> usize
-    requires { start ≤ length text.now }
-    ensures { Skips text.now start result }
-{
-    start
-        .saturating_add(bits.trailing_zeros() as usize)
-        .min(text.len())
+    fn those_in(&self, block: u8x16) -> u64 {
+        let controls = block.simd_le(u8x16::splat(b' ')) | block.simd_eq(u8x16::splat(127));
+        let others = block.simd_eq(u8x16::splat(b'('))
+            | block.simd_eq(u8x16::splat(b')'))
+            | block.simd_eq(u8x16::splat(b'\\'));
+        (controls | others).to_bitmask()
+    }
 }
 
 // The offset after the spaces and line ends at an offset.

@@ -45,44 +45,50 @@ const FOUND: [(&str, Option<usize>); 12] = [
     ("", None),
 ];
 
-#[test]
-fn finds_a_page_by_any_spelling(rt: HostRuntime) -> Result<(), Fail> {
-    let pages = PAGES.map(RelativePath::new);
-    let site = SiteMap::new(rt.alloc(), &pages)?;
-    for (path, page) in &FOUND {
-        let found = site.find(rt.alloc(), RelativePath::new(path))?;
+// Fails where a site of these pages finds another page at a path than a row says.
+fn finds(
+    alloc: Global,
+    pages: &[RelativePath<'_>],
+    rows: &[(&str, Option<usize>)],
+) -> Result<(), Fail> {
+    let site = SiteMap::new(alloc, pages)?;
+    for (path, page) in rows {
+        let found = site.find(alloc, RelativePath::new(path))?;
         same(path, &found, page)?;
     }
     Ok(())
 }
 
+#[test]
+fn finds_a_page_by_any_spelling(rt: HostRuntime) -> Result<(), Fail> {
+    finds(rt.alloc(), &PAGES.map(RelativePath::new), &FOUND)
+}
+
 // The numbers of two pages, and the reference from the first to the second.
-const HREFS: [(usize, usize, &str); 16] = [
-    (0, 1, "guide/index.html"),
-    (1, 0, "../index.html"),
-    (1, 5, "start.html"),
-    (5, 8, "../blog/2024/a.html"),
-    (2, 6, "../guide"),
-    (3, 6, "../../guide"),
-    (6, 6, "guide"),
-    (6, 2, "guide/start.html"),
-    (11, 19, "../../../../404.html"),
-    (14, 12, "../v1/paths.html"),
-    (8, 9, "b%25%20again.html"),
-    (0, 9, "blog/2024/b%25%20again.html"),
-    (0, 15, "a%25b/c.html"),
-    (1, 15, "../a%25b/c.html"),
-    (8, 18, "../../../legal.html"),
-    (19, 17, "über/日本.html"),
+const HREFS: [(usize, usize, Option<&str>); 16] = [
+    (0, 1, Some("guide/index.html")),
+    (1, 0, Some("../index.html")),
+    (1, 5, Some("start.html")),
+    (5, 8, Some("../blog/2024/a.html")),
+    (2, 6, Some("../guide")),
+    (3, 6, Some("../../guide")),
+    (6, 6, Some("guide")),
+    (6, 2, Some("guide/start.html")),
+    (11, 19, Some("../../../../404.html")),
+    (14, 12, Some("../v1/paths.html")),
+    (8, 9, Some("b%25%20again.html")),
+    (0, 9, Some("blog/2024/b%25%20again.html")),
+    (0, 15, Some("a%25b/c.html")),
+    (1, 15, Some("../a%25b/c.html")),
+    (8, 18, Some("../../../legal.html")),
+    (19, 17, Some("über/日本.html")),
 ];
 
 // Fails where the first of these pages refers to the second by another reference than is expected.
 fn refers(
     alloc: Global,
     site: &SiteMap<'_>,
-    from: usize,
-    to: usize,
-    expected: Option<&str>,
+    (from, to, expected): (usize, usize, Option<&str>),
 ) -> Result<(), Fail> {
     if from >= site.len() || to >= site.len() {
         return Err(Fail::new("no such page"));
@@ -92,21 +98,28 @@ fn refers(
     same("a reference", &(from, to, found), &(from, to, expected))
 }
 
-#[test]
-fn refers_from_a_page_to_another(rt: HostRuntime) -> Result<(), Fail> {
-    let pages = PAGES.map(RelativePath::new);
-    let site = SiteMap::new(rt.alloc(), &pages)?;
-    for (from, to, href) in &HREFS {
-        refers(rt.alloc(), &site, *from, *to, Some(*href))?;
+// Fails where a site of these pages has another reference than a row says.
+fn all_refer(
+    alloc: Global,
+    pages: &[RelativePath<'_>],
+    rows: &[(usize, usize, Option<&str>)],
+) -> Result<(), Fail> {
+    let site = SiteMap::new(alloc, pages)?;
+    for row in rows {
+        refers(alloc, &site, *row)?;
     }
     Ok(())
 }
 
 #[test]
+fn refers_from_a_page_to_another(rt: HostRuntime) -> Result<(), Fail> {
+    all_refer(rt.alloc(), &PAGES.map(RelativePath::new), &HREFS)
+}
+
+#[test]
 fn no_reference_leads_down_to_a_page_of_unknown_names(rt: HostRuntime) -> Result<(), Fail> {
     let pages = PAGES.map(RelativePath::new);
-    let site = SiteMap::new(rt.alloc(), &pages)?;
-    refers(rt.alloc(), &site, 18, 0, None)
+    all_refer(rt.alloc(), &pages, &[(18, 0, None)])
 }
 
 // Pages whose names have bytes that mean something else in a URL or in HTML.
@@ -121,26 +134,22 @@ const AWKWARD: [&str; 8] = [
     "100%/über%.html",
 ];
 
-const AWKWARD_HREFS: [(usize, usize, &str); 9] = [
-    (0, 1, "docs/a%20b.html"),
-    (0, 2, "docs/a%253Fb.html"),
-    (0, 3, "docs/a%2520b.html"),
-    (0, 4, "docs/a%23b.html"),
-    (4, 2, "a%253Fb.html"),
-    (0, 5, "docs/%26%27s%27.html"),
-    (1, 6, "%252e%252e/..%252f.html"),
-    (6, 1, "../a%20b.html"),
-    (5, 7, "../100%25/über%25.html"),
+const AWKWARD_HREFS: [(usize, usize, Option<&str>); 9] = [
+    (0, 1, Some("docs/a%20b.html")),
+    (0, 2, Some("docs/a%253Fb.html")),
+    (0, 3, Some("docs/a%2520b.html")),
+    (0, 4, Some("docs/a%23b.html")),
+    (4, 2, Some("a%253Fb.html")),
+    (0, 5, Some("docs/%26%27s%27.html")),
+    (1, 6, Some("%252e%252e/..%252f.html")),
+    (6, 1, Some("../a%20b.html")),
+    (5, 7, Some("../100%25/über%25.html")),
 ];
 
 #[test]
 fn encodes_the_names(rt: HostRuntime) -> Result<(), Fail> {
     let pages = AWKWARD.map(RelativePath::new);
-    let site = SiteMap::new(rt.alloc(), &pages)?;
-    for (from, to, href) in &AWKWARD_HREFS {
-        refers(rt.alloc(), &site, *from, *to, Some(*href))?;
-    }
-    Ok(())
+    all_refer(rt.alloc(), &pages, &AWKWARD_HREFS)
 }
 
 // Directories' pages, whose paths end in a slash, and other pages.
@@ -155,52 +164,52 @@ const DIRECTORIES: [&str; 8] = [
     "../above/",
 ];
 
-const DIRECTORY_HREFS: [(usize, usize, &str); 18] = [
-    (0, 1, "guide/"),
-    (1, 0, "../index.html"),
-    (1, 2, "a.html"),
-    (2, 1, "./"),
-    (1, 1, "./"),
-    (1, 3, "b/"),
-    (3, 1, "../"),
-    (3, 4, "c/d.html"),
-    (4, 3, "../"),
-    (4, 1, "../../"),
-    (5, 1, "guide/"),
-    (1, 5, "../guide"),
-    (0, 6, "a%20b/"),
-    (1, 6, "../a%20b/"),
-    (6, 6, "./"),
-    (6, 3, "../guide/b/"),
-    (1, 7, "../../above/"),
-    (7, 7, "./"),
+const DIRECTORY_HREFS: [(usize, usize, Option<&str>); 19] = [
+    (0, 1, Some("guide/")),
+    (1, 0, Some("../index.html")),
+    (1, 2, Some("a.html")),
+    (2, 1, Some("./")),
+    (1, 1, Some("./")),
+    (1, 3, Some("b/")),
+    (3, 1, Some("../")),
+    (3, 4, Some("c/d.html")),
+    (4, 3, Some("../")),
+    (4, 1, Some("../../")),
+    (5, 1, Some("guide/")),
+    (1, 5, Some("../guide")),
+    (0, 6, Some("a%20b/")),
+    (1, 6, Some("../a%20b/")),
+    (6, 6, Some("./")),
+    (6, 3, Some("../guide/b/")),
+    (1, 7, Some("../../above/")),
+    (7, 7, Some("./")),
+    (7, 1, None),
 ];
 
 #[test]
 fn refers_from_and_to_directories(rt: HostRuntime) -> Result<(), Fail> {
     let pages = DIRECTORIES.map(RelativePath::new);
-    let site = SiteMap::new(rt.alloc(), &pages)?;
-    for (from, to, href) in &DIRECTORY_HREFS {
-        refers(rt.alloc(), &site, *from, *to, Some(*href))?;
-    }
-    refers(rt.alloc(), &site, 7, 1, None)
+    all_refer(rt.alloc(), &pages, &DIRECTORY_HREFS)
 }
+
+const FOUND_DIRECTORIES: [(&str, Option<usize>); 5] = [
+    ("guide", Some(1)),
+    ("guide/", Some(1)),
+    ("guide/b", Some(3)),
+    ("a b/.", Some(6)),
+    ("/", None),
+];
 
 #[test]
 fn finds_a_directory_with_and_without_a_slash(rt: HostRuntime) -> Result<(), Fail> {
     let pages = DIRECTORIES.map(RelativePath::new);
-    let site = SiteMap::new(rt.alloc(), &pages)?;
-    for (path, page) in &[
-        ("guide", Some(1)),
-        ("guide/", Some(1)),
-        ("guide/b", Some(3)),
-        ("a b/.", Some(6)),
-        ("/", None),
-    ] {
-        let found = site.find(rt.alloc(), RelativePath::new(path))?;
-        same(path, &found, page)?;
-    }
-    Ok(())
+    finds(rt.alloc(), &pages, &FOUND_DIRECTORIES)
+}
+
+// Fails where a site of these two pages is refused for another reason, or not at all.
+fn refuses(alloc: Global, texts: [&str; 2], refusal: SiteMapError) -> Result<(), Fail> {
+    let error = SiteMap::new(alloc, &texts.map(RelativePath::new)).err();
+    same("pages", &(texts, error), &(texts, Some(refusal)))
 }
 
 #[test]
@@ -211,10 +220,7 @@ fn refuses_a_page_without_a_file_name(rt: HostRuntime) -> Result<(), Fail> {
         (["b/", "/"], SiteMapError::NoFileName(1)),
         (["/.", ".."], SiteMapError::NoFileName(0)),
     ] {
-        let pages = texts.map(RelativePath::new);
-        let site = SiteMap::new(rt.alloc(), &pages);
-        let found = (*texts, site.err());
-        same("pages", &found, &(*texts, Some(*refusal)))?;
+        refuses(rt.alloc(), *texts, *refusal)?;
     }
     Ok(())
 }
@@ -236,12 +242,8 @@ const NOT_PLAIN: [&str; 10] = [
 #[test]
 fn refuses_a_name_that_is_not_plain(rt: HostRuntime) -> Result<(), Fail> {
     for page in &NOT_PLAIN {
-        let pages = ["a.html", page].map(RelativePath::new);
-        let error = SiteMap::new(rt.alloc(), &pages).err();
-        same(page, &error, &Some(SiteMapError::NotPlain(1)))?;
-        let pages = [page, ".."].map(RelativePath::new);
-        let error = SiteMap::new(rt.alloc(), &pages).err();
-        same(page, &error, &Some(SiteMapError::NoFileName(1)))?;
+        refuses(rt.alloc(), ["a.html", page], SiteMapError::NotPlain(1))?;
+        refuses(rt.alloc(), [page, ".."], SiteMapError::NoFileName(1))?;
     }
     Ok(())
 }

@@ -9,12 +9,12 @@ use Rattle.target_paths.proofs.writing.push_after_slash.Goals as goal
 pub split_at-requires : goal.split_at-requires
 split_at-requires c =
     IsCharBoundary-escaped c.loop-left.left.now c.len_before.result
-    (c.len_before.ensures ∙ ap (position_or_len is_escaped_later) c.as_bytes.ensures.value)
+    (c.len_before.ensures.first ∙ ap (position_or_len is_escaped_later) c.as_bytes.ensures.value)
 
 pub push_first_after_slash-requires : goal.push_first_after_slash-requires
 push_first_after_slash-requires c =
     is_escaped-rest c.loop-left.left.now c.len_before.result
-    (c.len_before.ensures ∙ ap (position_or_len is_escaped_later) c.as_bytes.ensures.value)
+    (c.len_before.ensures.first ∙ ap (position_or_len is_escaped_later) c.as_bytes.ensures.value)
     c.split_at.result.1.now c.split_at.ensures.back
 
 pub loop-left-preserved : goal.loop-left-preserved
@@ -27,7 +27,7 @@ loop-left-preserved c =
       written =
           c.in_ok-left.ensures.written
           ∙ written-so_far left c.len_before.result
-          (c.len_before.ensures ∙ ap (position_or_len is_escaped_later) c.as_bytes.ensures.value)
+          (c.len_before.ensures.first ∙ ap (position_or_len is_escaped_later) c.as_bytes.ensures.value)
           c.split_at.result.0.now c.split_at.result.1.now old (string_bytes c.push_str.new.self) all
           c.split_at.ensures.front c.split_at.ensures.back c.in_ok-push_str.ensures.bytes c.loop-left.invariant.written;
     }

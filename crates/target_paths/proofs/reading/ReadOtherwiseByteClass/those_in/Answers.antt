@@ -2,7 +2,7 @@
 use Rattle.std.proofs.Common.{◌≤◌, length, bit_or, refl, arith}
 use Rattle.std.proofs.lemmas.Simd.{zip2_of_maps, zip2_splat}
 use Rattle.target_paths.specs.Source.{is_read_otherwise}
-use Rattle.target_paths.proofs.BlocksLemmas.{mask-class}
+use Rattle.byte_classes.proofs.ForCallers.{mask-class}
 use Rattle.target_paths.proofs.reading.ReadOtherwiseByteClass.those_in.Goals as goal
 
 pub returns : goal.returns
