@@ -10,18 +10,12 @@ use std::simd::prelude::*;
 // How many bytes are compared at once.
 const BLOCK: usize = 16;
 
-/// A class of bytes, such as the bytes that end a line. It has one test for a byte, and one for sixteen.
+/// A class of bytes, such as the bytes that end a line. Its ghost item `has`, which only proofs see, says
+/// which bytes are in the class.
 ///
 /// ```
-/// struct LineEnd;
-///
-/// impl ByteClass for LineEnd {
-///     ghost has = { λ _ byte. byte == 10 || byte == 13 };
-///
-///     fn has(&self, byte: u8) -> bool {
-///         byte == b'\n' || byte == b'\r'
-///     }
-/// }
+/// let hash = OneByte { byte: b'#' };
+/// assert!(rt; hash.has(b'#') && !hash.has(b'a'));
 /// ```
 pub trait ByteClass {
     // Whether a byte is in the class.
