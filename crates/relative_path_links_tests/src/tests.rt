@@ -1,5 +1,4 @@
 //! Vectors of `relative_path_links`.
-use relative_path::RelativePathBuf;
 use std::alloc::Global;
 use std::fmt::{Debug, Display};
 use std::test::Fail;
@@ -10,10 +9,6 @@ mod pages;
 mod refusals;
 mod rewriter;
 mod site_map;
-
-fn text_of(buf: &RelativePathBuf) -> &str {
-    buf.as_relative_path().as_str()
-}
 
 // Fails in the words of this case where another value was found than is expected. A call of it costs
 // a proof a fourth of what `assert_eq!` with a message does.
@@ -31,13 +26,4 @@ fn prints<T: Display>(alloc: Global, value: &T, words: &str) -> Result<(), Fail>
     let printed = format!(in alloc; "{value}|{value:5.99}")?;
     let expected = format!(in alloc; "{words}|{words}")?;
     same(words, &printed, &expected)
-}
-
-// Fails where other files are there than are expected.
-fn are(files: &[RelativePathBuf], expected: &[&str]) -> Result<(), Fail> {
-    same("files", &files.len(), &expected.len())?;
-    for (file, text) in files.iter().zip(expected) {
-        same("a file", &text_of(file), text)?;
-    }
-    Ok(())
 }

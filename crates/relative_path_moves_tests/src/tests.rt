@@ -36,11 +36,16 @@ fn same<T: PartialEq + Debug>(case: &str, found: &T, expected: &T) -> Result<(),
 // error's words after `! `. Moves are one text, which costs a proof less than a table in a table.
 type Case = (&'static str, &'static str, &'static str, &'static str);
 
-// Fails where a reference becomes another text than is expected in one of these cases.
+// Fails where a reference becomes another text than is expected in this case.
+fn becomes_in(alloc: Global, (case, moves, reference, expected): Case) -> Result<(), Fail> {
+    let moves = read_moves(alloc, moves)?;
+    becomes(alloc, case, &moves, 0, reference, expected)
+}
+
+// The same of each of these cases.
 fn all_become(alloc: Global, cases: &[Case]) -> Result<(), Fail> {
-    for (case, moves, reference, expected) in cases {
-        let moves = read_moves(alloc, moves)?;
-        becomes(alloc, case, &moves, 0, reference, expected)?;
+    for case in cases {
+        becomes_in(alloc, *case)?;
     }
     Ok(())
 }

@@ -25,6 +25,11 @@ fn text_of(buf: &RelativePathBuf) -> &str {
     buf.as_relative_path().as_str()
 }
 
+// The text of a path, if there is one.
+fn text_of_some<'a>(path: Option<RelativePath<'a>>) -> Option<&'a str> {
+    path.map(RelativePath::as_str)
+}
+
 // Fails in the words of this case where another value was found than is expected. A call of it costs
 // a proof a fourth of what `assert_eq!` with a message does.
 fn same<T: PartialEq + Debug + Drop>(case: &str, found: T, expected: T) -> Result<(), Fail> {

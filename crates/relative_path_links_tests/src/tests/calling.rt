@@ -5,6 +5,7 @@ ghost use Rattle.relative_path_moves.specs.PlaceIndex.{IsFirstAt};
 ghost use Rattle.relative_path_links.specs.SiteMap.{page_at, paths_of};
 ghost use Rattle.relative_path_links.specs.UrlPath.{Resolves};
 
+use super::same;
 use relative_path::RelativePath;
 use relative_path_links::SiteMap;
 use std::alloc::{AllocError, Global};
@@ -31,13 +32,25 @@ pub fn link_to(
     Ok(href)
 }
 
+// Fails where the first page of a site has another link to a path.
+fn links_to(
+    alloc: Global,
+    site: &SiteMap<'_>,
+    path: &str,
+    expected: Option<&str>,
+) -> Result<(), Fail> {
+    if site.len() == 0 {
+        return Err(Fail::new("no page"));
+    }
+    let href = link_to(alloc, site, 0, RelativePath::new(path))?;
+    same(path, &href.as_ref().map(String::as_str), &expected)
+}
+
 #[test]
 fn the_caller_of_the_page(rt: HostRuntime) -> Result<(), Fail> {
     let alloc = rt.alloc();
     let pages = ["docs/install.html", "index.html"].map(RelativePath::new);
     let site = SiteMap::new(alloc, &pages)?;
-    let href = link_to(alloc, &site, 0, RelativePath::new("docs/../index.html"))?;
-    assert!(rt; href.is_some_and(|href| href.as_str() == "../index.html"));
-    assert!(rt; link_to(alloc, &site, 0, RelativePath::new("docs"))?.is_none());
-    Ok(())
+    links_to(alloc, &site, "docs/../index.html", Some("../index.html"))?;
+    links_to(alloc, &site, "docs", None)
 }

@@ -2,8 +2,8 @@ use super::pages::PAGE;
 use super::same;
 use relative_path::RelativePath;
 use relative_path_links::{RewrittenPage, Unchanged, rewrite_links, targets};
-use relative_path_moves::TreeMoves;
-use std::alloc::Global;
+use relative_path_moves::{MovedPage, TreeMoves};
+use std::alloc::{AllocError, Global};
 use std::test::Fail;
 use target_paths::WhyUnknown;
 
@@ -63,6 +63,28 @@ const KEPT: [&str; 7] = [
     "] (c.md) [c]\n(c.md)\r\n",
 ];
 
+// What a page that moves so becomes in a tree.
+fn after_move(
+    alloc: Global,
+    tree: &TreeMoves<'_>,
+    moved: &MovedPage,
+    page: &str,
+) -> Result<RewrittenPage, AllocError> {
+    let found = targets(alloc, page)?;
+    rewrite_links(alloc, page, &found, tree, moved)
+}
+
+// What a page at a path becomes in a tree.
+fn after_in(
+    alloc: Global,
+    tree: &TreeMoves<'_>,
+    from: &str,
+    page: &str,
+) -> Result<RewrittenPage, AllocError> {
+    let moved = tree.moved_page(alloc, RelativePath::new(from))?;
+    after_move(alloc, tree, &moved, page)
+}
+
 // What a page at a path becomes after these moves.
 fn after(
     alloc: Global,
@@ -71,9 +93,7 @@ fn after(
     page: &str,
 ) -> Result<RewrittenPage, Fail> {
     let tree = TreeMoves::new(alloc, moves)?;
-    let found = targets(alloc, page)?;
-    let moved = tree.moved_page(alloc, RelativePath::new(from))?;
-    Ok(rewrite_links(alloc, page, &found, &tree, &moved)?)
+    Ok(after_in(alloc, &tree, from, page)?)
 }
 
 // Fails where it becomes another text than is expected, or a link is reported as unchanged.
@@ -253,25 +273,24 @@ fn moves_a_link_in_each_line(rt: HostRuntime) -> Result<(), Fail> {
     becomes(rt.alloc(), &moves, "docs/a.md", &page, &expected)
 }
 
-// Fails where a page that moves lacks one of these parts then, or isn't this text after it moves back.
-fn moves_and_back(
-    alloc: Global,
-    there: &[(RelativePath<'_>, RelativePath<'_>)],
-    page: &str,
-    parts: &[&str],
-    expected: &str,
-) -> Result<(), Fail> {
-    let mut back = Vec::new(alloc);
-    for (old, new) in there {
-        back.push((*new, *old))?;
-    }
-    let (from, now) = there.first().ok_or("a move")?;
-    let moved = after(alloc, there, from.as_str(), page)?;
+// Fails where a text lacks one of these parts.
+fn has_parts(text: &str, parts: &[&str]) -> Result<(), Fail> {
     for part in parts {
-        same(part, &moved.text.contains(*part), &true)?;
+        same(part, &text.contains(*part), &true)?;
     }
-    becomes(alloc, &back, now.as_str(), &moved.text, expected)
+    Ok(())
 }
+
+// Moves of the page, and of a page that it links to.
+const THERE: [(&str, &str); 2] = [
+    ("docs/PAGE.md", "guide/links.md"),
+    ("docs/CALLING.md", "guide/calling.md"),
+];
+
+const BACK: [(&str, &str); 2] = [
+    ("guide/links.md", "docs/PAGE.md"),
+    ("guide/calling.md", "docs/CALLING.md"),
+];
 
 // Parts of the page, as it is after its moves.
 const PARTS: [&str; 8] = [
@@ -295,11 +314,9 @@ fn as_moved_back(alloc: Global) -> Result<String, Fail> {
 
 #[test]
 fn moves_a_page_and_back(rt: HostRuntime) -> Result<(), Fail> {
-    let there = [
-        ("docs/PAGE.md", "guide/links.md"),
-        ("docs/CALLING.md", "guide/calling.md"),
-    ]
-    .map(as_paths);
     let expected = as_moved_back(rt.alloc())?;
-    moves_and_back(rt.alloc(), &there, PAGE, &PARTS, expected.as_str())
+    let moved = after(rt.alloc(), &THERE.map(as_paths), "docs/PAGE.md", PAGE)?;
+    has_parts(&moved.text, &PARTS)?;
+    let back = BACK.map(as_paths);
+    becomes(rt.alloc(), &back, "guide/links.md", &moved.text, &expected)
 }

@@ -4,7 +4,7 @@ ghost use Rattle.serde_json.specs.View.{view};
 ghost use Rattle.relative_path_files.specs.Names.{IsPlainName};
 ghost use Rattle.relative_path_manifest.specs.Manifest.{AreFiles, OfManifest, file_text};
 
-use super::are;
+use super::{are, same};
 use relative_path::RelativePathBuf;
 use relative_path_manifest::{ManifestError, manifest_base, manifest_files};
 use serde_json::Value;
@@ -25,12 +25,19 @@ pub fn files_from_outside(
     Ok(Some(manifest_files(alloc, manifest)?))
 }
 
+// Fails where a manifest from outside has other files. `None` stands for a base that climbs.
+fn has_files(alloc: Global, json: &str, expected: Option<&[&str]>) -> Result<(), Fail> {
+    let manifest = Value::from_str(alloc, json)?;
+    match (files_from_outside(alloc, &manifest)?, expected) {
+        (Some(files), Some(expected)) => are(&files, expected),
+        (found, expected) => same(json, &found.is_some(), &expected.is_some()),
+    }
+}
+
 #[test]
 fn the_caller_of_the_page(rt: HostRuntime) -> Result<(), Fail> {
-    let manifest = Value::from_str(rt.alloc(), r#"{"base": "web", "files": ["./a.css"]}"#)?;
-    let files = files_from_outside(rt.alloc(), &manifest)?;
-    are(&files.unwrap_or(Vec::new(rt.alloc())), &["web/a.css"])?;
-    let manifest = Value::from_str(rt.alloc(), r#"{"base": "../web", "files": ["./a.css"]}"#)?;
-    assert!(rt; files_from_outside(rt.alloc(), &manifest)?.is_none());
-    Ok(())
+    let web = r#"{"base": "web", "files": ["./a.css"]}"#;
+    has_files(rt.alloc(), web, Some(&["web/a.css"]))?;
+    let above = r#"{"base": "../web", "files": ["./a.css"]}"#;
+    has_files(rt.alloc(), above, None)
 }

@@ -1,5 +1,5 @@
 use super::{are, prints, same};
-use relative_path::RelativePathBuf;
+use relative_path::{RelativePath, RelativePathBuf};
 use relative_path_manifest::{
     ManifestError, manifest_base, manifest_clash, manifest_files, manifest_files_on_unix,
 };
@@ -135,11 +135,25 @@ const ON_UNIX: [(&str, &str); 4] = [
     (r#"{"base": "a", "files": ["b\u0000"]}"#, "a/b\0"),
 ];
 
+// The result of the reader that accepts every name, for a manifest in JSON.
+fn answered_on_unix(
+    alloc: Global,
+    json: &str,
+) -> Result<Result<Vec<RelativePathBuf>, ManifestError>, Fail> {
+    let manifest = Value::from_str(alloc, json)?;
+    Ok(manifest_files_on_unix(alloc, &manifest))
+}
+
+// Fails where this reader finds another file than is expected, or more.
+fn reads_on_unix(alloc: Global, json: &str, file: &str) -> Result<(), Fail> {
+    let files = answered_on_unix(alloc, json)??;
+    are(&files, &[file])
+}
+
 #[test]
 fn accepts_every_name_on_unix(rt: HostRuntime) -> Result<(), Fail> {
     for (json, file) in &ON_UNIX {
-        let manifest = Value::from_str(rt.alloc(), json)?;
-        are(&manifest_files_on_unix(rt.alloc(), &manifest)?, &[*file])?;
+        reads_on_unix(rt.alloc(), json, file)?;
     }
     Ok(())
 }
@@ -162,8 +176,7 @@ fn refuses_a_climb_on_unix(rt: HostRuntime) -> Result<(), Fail> {
             ManifestError::LeadsToBase(0),
         ),
     ] {
-        let manifest = Value::from_str(rt.alloc(), json)?;
-        let answer = manifest_files_on_unix(rt.alloc(), &manifest);
+        let answer = answered_on_unix(rt.alloc(), json)?;
         same(json, &answer.err(), &Some(*refusal))?;
     }
     Ok(())
@@ -188,16 +201,33 @@ const ENTRIES: [(&str, Option<usize>, Option<&str>); 7] = [
     ),
 ];
 
+// Fails where an error names another entry of its manifest, or there is no error.
+fn is_about(
+    case: &str,
+    error: Option<ManifestError>,
+    manifest: &Value,
+    entry: (Option<usize>, Option<&str>),
+) -> Result<(), Fail> {
+    let Some(error) = error else {
+        return Err(Fail::new("no error"));
+    };
+    same(case, &(error.entry(), error.entry_text(manifest)), &entry)
+}
+
+fn names_the_entry(
+    alloc: Global,
+    json: &str,
+    entry: (Option<usize>, Option<&str>),
+) -> Result<(), Fail> {
+    let manifest = Value::from_str(alloc, json)?;
+    let error = manifest_files(alloc, &manifest).err();
+    is_about(json, error, &manifest, entry)
+}
+
 #[test]
 fn errors_name_the_entry(rt: HostRuntime) -> Result<(), Fail> {
     for (json, number, text) in &ENTRIES {
-        let manifest = Value::from_str(rt.alloc(), json)?;
-        let error = manifest_files(rt.alloc(), &manifest).err();
-        let Some(error) = error else {
-            return Err(Fail::new("no error"));
-        };
-        same(json, &error.entry(), number)?;
-        same(json, &error.entry_text(&manifest), text)?;
+        names_the_entry(rt.alloc(), json, (*number, *text))?;
     }
     Ok(())
 }
@@ -211,12 +241,17 @@ const BASES: [(&str, Option<&str>); 5] = [
     ("7", None),
 ];
 
+// Fails where a manifest has another base.
+fn has_base(alloc: Global, json: &str, base: Option<&str>) -> Result<(), Fail> {
+    let manifest = Value::from_str(alloc, json)?;
+    let found = manifest_base(&manifest);
+    same(json, &found.map(RelativePath::as_str), &base)
+}
+
 #[test]
 fn reads_the_base(rt: HostRuntime) -> Result<(), Fail> {
     for (json, base) in &BASES {
-        let manifest = Value::from_str(rt.alloc(), json)?;
-        let found = manifest_base(&manifest);
-        same(json, &found.map(|base| base.as_str()), base)?;
+        has_base(rt.alloc(), json, *base)?;
     }
     Ok(())
 }
@@ -234,13 +269,22 @@ const CLASHES: [(&str, Option<(usize, usize)>); 9] = [
     (r#"["a/b/..", "a"]"#, Some((0, 1))),
 ];
 
+// The files of a manifest with this list.
+fn files_of(alloc: Global, list: &str) -> Result<Vec<RelativePathBuf>, Fail> {
+    let json = format!(in alloc; r#"{{"base": "x", "files": {list}}}"#)?;
+    Ok(answered(alloc, &json)??)
+}
+
+// Fails where other files of a list clash.
+fn clashes(alloc: Global, list: &str, clash: Option<(usize, usize)>) -> Result<(), Fail> {
+    let files = files_of(alloc, list)?;
+    same(list, &manifest_clash(alloc, &files)?, &clash)
+}
+
 #[test]
 fn finds_the_first_clash(rt: HostRuntime) -> Result<(), Fail> {
     for (list, clash) in &CLASHES {
-        let json = format!(in rt.alloc(); r#"{{"base": "x", "files": {list}}}"#)?;
-        let files = answered(rt.alloc(), &json)??;
-        let found = manifest_clash(rt.alloc(), &files)?;
-        same(list, &found, clash)?;
+        clashes(rt.alloc(), list, *clash)?;
     }
     Ok(())
 }

@@ -1,4 +1,4 @@
-use super::{Case, all_become, as_paths, becomes, read_moves, same, text_of, told_in};
+use super::{Case, all_become, as_paths, becomes, read_move, read_moves, same, text_of, told_in};
 use relative_path::RelativePath;
 use relative_path_moves::{MoveError, MoveTable, MoveTableError, ReferenceError};
 use std::alloc::{AllocError, Global};
@@ -110,13 +110,17 @@ const IN_A_PAGE: [Case; 7] = [
     ),
 ];
 
+// Fails where a link becomes another text than is expected in this case.
+fn becomes_in_a_page(alloc: Global, (case, moves, link, expected): Case) -> Result<(), Fail> {
+    let moves = read_moves(alloc, moves)?;
+    let found = told_in(alloc, &moves, read_move(link))?;
+    same(case, &found.as_str(), &expected)
+}
+
 #[test]
 fn answers_in_pages(rt: HostRuntime) -> Result<(), Fail> {
-    for (case, moves, link, expected) in &IN_A_PAGE {
-        let moves = read_moves(rt.alloc(), moves)?;
-        let link = as_paths(link.split_once(" > ").ok_or("a link")?);
-        let found = told_in(rt.alloc(), &moves, link)?;
-        same(case, &found.as_str(), expected)?;
+    for case in &IN_A_PAGE {
+        becomes_in_a_page(rt.alloc(), *case)?;
     }
     Ok(())
 }
@@ -148,17 +152,25 @@ pub fn paired<'a>(
     Ok(moves)
 }
 
-// Asks a table for a reference of each of its files to file number 500, which is a page of its own
-// directory.
-fn refers_to_one(alloc: Global, table: &MoveTable<'_>) -> Result<(), Fail> {
+// Fails where a file's reference to file number 500, which is a page of its own directory, becomes another
+// text than is expected.
+fn refers_to_one(alloc: Global, table: &MoveTable<'_>, i: usize) -> Result<(), Fail> {
+    if i >= table.len() {
+        return Err(Fail::new("no such file"));
+    }
+    let way = table.moved(alloc, i, RelativePath::new("../docs/500.md"))?;
+    let expected = if i == 500 {
+        "page.md"
+    } else {
+        "../500/page.md"
+    };
+    same("500.md", &(i, text_of(&way)), &(i, expected))
+}
+
+// Asks a table for this reference of each of its files.
+fn all_refer_to_one(alloc: Global, table: &MoveTable<'_>) -> Result<(), Fail> {
     for i in 0..table.len() {
-        let way = table.moved(alloc, i, RelativePath::new("../docs/500.md"))?;
-        let expected = if i == 500 {
-            "page.md"
-        } else {
-            "../500/page.md"
-        };
-        same("500.md", &(i, text_of(&way)), &(i, expected))?;
+        refers_to_one(alloc, table, i)?;
     }
     Ok(())
 }
@@ -167,7 +179,7 @@ fn refers_to_one(alloc: Global, table: &MoveTable<'_>) -> Result<(), Fail> {
 fn refers_ten_times(alloc: Global, table: &MoveTable<'_>) -> Result<(), Fail> {
     same("a table", &table.len(), &1_000)?;
     for _ in 0..10 {
-        refers_to_one(alloc, table)?;
+        all_refer_to_one(alloc, table)?;
     }
     Ok(())
 }

@@ -54,11 +54,22 @@ fn join(alloc: Global, base: &str, reference: &str) -> Result<NormalPath, AllocE
     base.join(alloc, RelativePath::new(reference))
 }
 
+// Fails where a join has another text, directory or place than is expected.
+fn joins(
+    alloc: Global,
+    (base, reference): (&str, &str),
+    text: &str,
+    above: &str,
+    has: bool,
+) -> Result<(), Fail> {
+    let joined = join(alloc, base, reference)?;
+    looks(&joined, text, above, has)
+}
+
 #[test]
 fn joins_normal_paths(rt: HostRuntime) -> Result<(), Fail> {
     for (base, reference, text, above, has) in &NORMAL {
-        let joined = join(rt.alloc(), base, reference)?;
-        looks(&joined, text, above, *has)?;
+        joins(rt.alloc(), (base, reference), text, above, *has)?;
     }
     Ok(())
 }
@@ -71,14 +82,16 @@ const PAIRS: [(&str, &str, bool); 4] = [
     ("a/..", "", true),
 ];
 
-// Fails where a normal path and that of another text are equal, unless that is expected.
-fn equals(alloc: Global, normal: &NormalPath, other: &str, equal: bool) -> Result<(), Fail> {
+// Fails where the normal paths of two texts are equal, unless that is expected.
+fn equals(alloc: Global, one: &str, other: &str, equal: bool) -> Result<(), Fail> {
+    let normal = NormalPath::of(alloc, RelativePath::new(one))?;
     let found = NormalPath::of(alloc, RelativePath::new(other))?;
-    same(other, &(*normal == found), &equal)
+    same(other, &(normal == found), &equal)
 }
 
-// Fails where a normal path isn't printed as its text is.
-fn prints_its_text(alloc: Global, normal: &NormalPath) -> Result<(), Fail> {
+// Fails where the normal path of a text isn't printed as its own text is.
+fn prints_its_text(alloc: Global, text: &str) -> Result<(), Fail> {
+    let normal = NormalPath::of(alloc, RelativePath::new(text))?;
     let printed = format!(in alloc; "{normal:?}")?;
     let text = format!(in alloc; "{:?}", normal.as_relative_path().as_str())?;
     same("printed", &printed, &text)
@@ -87,9 +100,8 @@ fn prints_its_text(alloc: Global, normal: &NormalPath) -> Result<(), Fail> {
 #[test]
 fn tells_normal_paths_apart(rt: HostRuntime) -> Result<(), Fail> {
     for (one, other, equal) in &PAIRS {
-        let one = NormalPath::of(rt.alloc(), RelativePath::new(one))?;
-        equals(rt.alloc(), &one, other, *equal)?;
-        prints_its_text(rt.alloc(), &one)?;
+        equals(rt.alloc(), one, other, *equal)?;
+        prints_its_text(rt.alloc(), one)?;
     }
     Ok(())
 }

@@ -1,6 +1,6 @@
 //! Very long texts.
 use super::relating::lead_apart;
-use super::{gives, normalizes, same};
+use super::{gives, normalizes, same, text_of_some};
 use relative_path::{Component, Components, RelativePath, RelativePathBuf};
 use std::alloc::{AllocError, Global};
 use std::test::Fail;
@@ -8,7 +8,7 @@ use std::test::Fail;
 // Fails where a text of slashes has a component, a parent with one, or a file name.
 fn is_slashes(text: &str) -> Result<(), Fail> {
     let path = RelativePath::new(text);
-    let parent = path.parent().map(RelativePath::as_str);
+    let parent = text_of_some(path.parent());
     let found = (path.components().next(), parent, path.file_name());
     same("component, parent and name", found, (None, Some(""), None))
 }
@@ -88,7 +88,7 @@ fn ways_lead_to_names_and_climbs(rt: HostRuntime) -> Result<(), Fail> {
 // Fails where a text of steps on the spot is normal, or has a parent with a component.
 fn is_steps_on_the_spot(text: &str) -> Result<(), Fail> {
     let path = RelativePath::new(text);
-    let parent = path.parent().map(RelativePath::as_str);
+    let parent = text_of_some(path.parent());
     let found = (path.is_normalized(), parent);
     same("is_normalized and parent", found, (false, Some("")))
 }

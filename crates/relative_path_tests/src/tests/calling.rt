@@ -274,7 +274,7 @@ fn finds_links_by_theorems(rt: HostRuntime) -> Result<(), std::test::Fail> {
     let way = link_between(alloc, inside, above);
     super::may_give("link_between", way, Some("../../../img"))?;
     let are_normal = (is_normal_inside(inside), is_normal_inside(above));
-    let rest = rest_of(inside, RelativePath::new("docs")).map(RelativePath::as_str);
+    let rest = super::text_of_some(rest_of(inside, RelativePath::new("docs")));
     super::same(
         "is_normal_inside and rest_of",
         (are_normal, rest),

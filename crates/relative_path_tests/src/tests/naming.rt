@@ -1,6 +1,6 @@
 //! Parents, file names, stems and extensions.
 use super::decompositions::{self, Decomposition};
-use super::same;
+use super::{same, text_of_some};
 use relative_path::RelativePath;
 use std::test::Fail;
 
@@ -8,7 +8,7 @@ use std::test::Fail;
 fn splits_those_of(rows: &[Decomposition]) -> Result<(), Fail> {
     for (text, _, parent, file_name) in rows {
         let path = RelativePath::new(text);
-        let above = path.parent().map(RelativePath::as_str);
+        let above = text_of_some(path.parent());
         let found = (above, path.file_name(), path.file_stem(), path.extension());
         same(text, found, (*parent, *file_name, *file_name, None))?;
     }
@@ -27,7 +27,7 @@ fn goes_up() -> Result<(), Fail> {
     let mut path = Some(RelativePath::new("baz/./bar/foo//./."));
     for expected in &[Some("baz/./bar"), Some("baz/."), Some(""), None] {
         path = path.and_then(RelativePath::parent);
-        same("parent", path.map(RelativePath::as_str), *expected)?;
+        same("parent", text_of_some(path), *expected)?;
     }
     Ok(())
 }

@@ -3,13 +3,41 @@ use super::long_text;
 use super::marks::{begin, end};
 use crate::tests::same;
 use relative_path::RelativePath;
-use relative_path_links::{SitePage, rewrite_links, rewrite_site, targets};
-use relative_path_moves::TreeMoves;
-use std::alloc::Global;
+use relative_path_links::{
+    MovedSitePage, RewrittenPage, SitePage, rewrite_links, rewrite_site, targets,
+};
+use relative_path_moves::{MovedPage, TreeMoves};
+use std::alloc::{AllocError, Global};
 use std::test::Fail;
 
-// The rewriter's call between two marks, on the page a.md, which these moves take elsewhere. It fails where
-// memory was there and the page becomes another text than is expected.
+// The mark after a call. Fails if no allocation failed and the page has another text than is expected.
+fn end_with_page(
+    alloc: Global,
+    answer: Result<RewrittenPage, AllocError>,
+    expected: &str,
+) -> Result<(), Fail> {
+    end(alloc, answer.is_err())?;
+    match answer {
+        Ok(new) => same("a page", &new.text.as_str(), &expected),
+        Err(_) => Ok(()),
+    }
+}
+
+// The rewriter's call between two marks.
+fn moved_in(
+    alloc: Global,
+    tree: &TreeMoves<'_>,
+    moved: &MovedPage,
+    page: &str,
+    expected: &str,
+) -> Result<(), Fail> {
+    let found = targets(alloc, page)?;
+    begin(alloc);
+    let answer = rewrite_links(alloc, page, &found, tree, moved);
+    end_with_page(alloc, answer, expected)
+}
+
+// The same, on the page a.md, which these moves take elsewhere.
 fn moved_by(
     alloc: Global,
     moves: &[(RelativePath<'_>, RelativePath<'_>)],
@@ -17,15 +45,8 @@ fn moved_by(
     expected: &str,
 ) -> Result<(), Fail> {
     let tree = TreeMoves::new(alloc, moves)?;
-    let found = targets(alloc, page)?;
     let moved = tree.moved_page(alloc, RelativePath::new("a.md"))?;
-    begin(alloc);
-    let answer = rewrite_links(alloc, page, &found, &tree, &moved);
-    end(alloc, answer.is_err())?;
-    match answer {
-        Ok(new) => same(page, &new.text.as_str(), &expected),
-        Err(_) => Ok(()),
-    }
+    moved_in(alloc, &tree, &moved, page, expected)
 }
 
 // The same, where the page alone moves.
@@ -76,28 +97,51 @@ fn a_page_without_links(rt: HostRuntime) -> Result<(), Fail> {
     moved_down(rt.alloc(), "", "")
 }
 
-// A site of one page, which moves into a directory.
-fn site_moved_down(alloc: Global, text: &str, expected: &str) -> Result<(), Fail> {
-    let moves = [(RelativePath::new("a.md"), RelativePath::new("b/a.md"))];
-    let tree = TreeMoves::new(alloc, &moves)?;
+// Fails where a site has another first page than this one.
+fn begins_with(pages: &[MovedSitePage], path: &str, text: &str) -> Result<(), Fail> {
+    let Some(first) = pages.first() else {
+        return Err(Fail::new("a page"));
+    };
+    same("a path", &first.path.as_relative_path().as_str(), &path)?;
+    same("a page", &first.page.text.as_str(), &text)
+}
+
+// The mark after a call. Fails if no allocation failed and the site has another page than is expected.
+fn end_with_site(
+    alloc: Global,
+    answer: Result<Vec<MovedSitePage>, AllocError>,
+    expected: &str,
+) -> Result<(), Fail> {
+    end(alloc, answer.is_err())?;
+    match answer {
+        Ok(pages) => begins_with(&pages, "b/a.md", expected),
+        Err(_) => Ok(()),
+    }
+}
+
+// The rewriter's call between two marks, on a site of one page.
+fn site_moved_in(
+    alloc: Global,
+    tree: &TreeMoves<'_>,
+    text: &str,
+    expected: &str,
+) -> Result<(), Fail> {
     let found = targets(alloc, text)?;
-    let path = RelativePath::new("a.md");
     let page = SitePage {
-        path,
+        path: RelativePath::new("a.md"),
         text,
         targets: &found,
     };
     begin(alloc);
-    let answer = rewrite_site(alloc, &[page], &tree);
-    end(alloc, answer.is_err())?;
-    match answer {
-        Ok(pages) => {
-            let new = pages.first().ok_or("a page")?;
-            same(text, &new.path.as_relative_path().as_str(), &"b/a.md")?;
-            same(text, &new.page.text.as_str(), &expected)
-        }
-        Err(_) => Ok(()),
-    }
+    let answer = rewrite_site(alloc, &[page], tree);
+    end_with_site(alloc, answer, expected)
+}
+
+// The same, where the page moves into a directory.
+fn site_moved_down(alloc: Global, text: &str, expected: &str) -> Result<(), Fail> {
+    let moves = [(RelativePath::new("a.md"), RelativePath::new("b/a.md"))];
+    let tree = TreeMoves::new(alloc, &moves)?;
+    site_moved_in(alloc, &tree, text, expected)
 }
 
 // Requests: 72 1s 4 7 1s 1 9 4 4 1s 4 8 18 = 3

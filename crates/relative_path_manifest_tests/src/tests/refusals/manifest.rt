@@ -44,25 +44,33 @@ fn a_long_file(rt: HostRuntime) -> Result<(), Fail> {
     }
 }
 
+fn reads_no_file(alloc: Global, json: &str) -> Result<(), Fail> {
+    let manifest = Value::from_str(alloc, json)?;
+    match marked(alloc, &manifest)? {
+        Ok(files) => are(&files, &[]),
+        Err(error) => same("no file", &error, &ManifestError::OutOfMemory),
+    }
+}
+
+// Fails where a manifest isn't refused for this reason. No request is made for it.
+fn is_refused(alloc: Global, json: &str, refusal: ManifestError) -> Result<(), Fail> {
+    let manifest = Value::from_str(alloc, json)?;
+    let error = marked(alloc, &manifest)?.err();
+    same(json, &error, &Some(refusal))
+}
+
 // Requests: = 0, = 0
 #[test]
 fn a_manifest_of_no_file(rt: HostRuntime) -> Result<(), Fail> {
-    let manifest = Value::from_str(rt.alloc(), r#"{"base": "", "files": []}"#)?;
-    match marked(rt.alloc(), &manifest)? {
-        Ok(files) => are(&files, &[])?,
-        Err(error) => same("no file", &error, &ManifestError::OutOfMemory)?,
-    }
-    let manifest = Value::from_str(rt.alloc(), r#"{"base": "", "files": [""]}"#)?;
-    let error = marked(rt.alloc(), &manifest)?.err();
-    same("a file", &error, &Some(ManifestError::LeadsToBase(0)))
+    let refusal = ManifestError::LeadsToBase(0);
+    reads_no_file(rt.alloc(), r#"{"base": "", "files": []}"#)?;
+    is_refused(rt.alloc(), r#"{"base": "", "files": [""]}"#, refusal)
 }
 
 // Requests: = 0
 #[test]
 fn a_manifest_without_a_base(rt: HostRuntime) -> Result<(), Fail> {
-    let manifest = Value::from_str(rt.alloc(), r#"{"files": ["b"]}"#)?;
-    let error = marked(rt.alloc(), &manifest)?.err();
-    same("a base", &error, &Some(ManifestError::NoBase))
+    is_refused(rt.alloc(), r#"{"files": ["b"]}"#, ManifestError::NoBase)
 }
 
 // Requests: 1 2s 3 96 = 0
@@ -89,17 +97,23 @@ fn two_files_on_unix(rt: HostRuntime) -> Result<(), Fail> {
     }
 }
 
+// Fails where other files clash, and no allocation failed.
+fn clashes(
+    alloc: Global,
+    files: &[RelativePathBuf],
+    clash: Option<(usize, usize)>,
+) -> Result<(), Fail> {
+    begin(alloc);
+    let answer = manifest_clash(alloc, files);
+    end(alloc, answer.is_err())?;
+    same("a clash", &answer.unwrap_or(clash), &clash)
+}
+
 // Requests: 3 488 3 3 = 0, = 0
 #[test]
 fn a_clash(rt: HostRuntime) -> Result<(), Fail> {
     let manifest = Value::from_str(rt.alloc(), r#"{"base": "x", "files": ["a", "b", "A"]}"#)?;
     let files = manifest_files(rt.alloc(), &manifest)?;
-    begin(rt.alloc());
-    let answer = manifest_clash(rt.alloc(), &files);
-    end(rt.alloc(), answer.is_err())?;
-    same("a clash", &answer.unwrap_or(Some((0, 2))), &Some((0, 2)))?;
-    begin(rt.alloc());
-    let answer = manifest_clash(rt.alloc(), &[]);
-    end(rt.alloc(), answer.is_err())?;
-    same("no files", &answer.unwrap_or(None), &None)
+    clashes(rt.alloc(), &files, Some((0, 2)))?;
+    clashes(rt.alloc(), &[], None)
 }

@@ -133,14 +133,19 @@ fn ask(alloc: Global, table: &MoveTable<'_>, long: &str) -> Result<(), Fail> {
     end_with_way(alloc, answer.map_err(MoveError::from), long)
 }
 
+// The long text after a climb.
+fn long_climb(alloc: Global) -> Result<String, AllocError> {
+    let mut long = "../".to_string(alloc)?;
+    long.push_str(long_text(alloc)?.as_str())?;
+    Ok(long)
+}
+
 // Requests: 1s 4 2s 1s 1s 2s 9 = 1, 2s 7 2s 1s = 0, 1s 1s 2 = 1, 524288s 1048576 524288s 1s 1s 524288s 1048579 = 1
 #[test]
 fn a_reference_of_a_table(rt: HostRuntime) -> Result<(), Fail> {
     let moves = [("a.md", "x/a.md"), ("b.md", "y/b.md")].map(as_paths);
     let table = MoveTable::new(rt.alloc(), &moves)?;
-    let mut long = "../".to_string(rt.alloc())?;
-    long.push_str(long_text(rt.alloc())?.as_str())?;
-    ask(rt.alloc(), &table, long.as_str())
+    ask(rt.alloc(), &table, long_climb(rt.alloc())?.as_str())
 }
 
 // Where a file is after the moves.
@@ -278,6 +283,20 @@ fn is_page(page: &str, moved: &MovedPage, now: (&str, &str, &str)) -> Result<(),
     same(page, &moved.after.as_relative_path().as_str(), &after)
 }
 
+// The mark after a call. Fails if no allocation failed and the result is another page.
+fn end_with_page(
+    alloc: Global,
+    page: &str,
+    answer: Result<MovedPage, AllocError>,
+    now: (&str, &str, &str),
+) -> Result<(), Fail> {
+    end(alloc, answer.is_err())?;
+    match answer {
+        Ok(moved) => is_page(page, &moved, now),
+        Err(_) => Ok(()),
+    }
+}
+
 // The path of a page after a move of a directory, and its directory before and after the move.
 fn ask_of_a_page(
     alloc: Global,
@@ -287,11 +306,7 @@ fn ask_of_a_page(
 ) -> Result<(), Fail> {
     begin(alloc);
     let answer = tree.moved_page(alloc, RelativePath::new(page));
-    end(alloc, answer.is_err())?;
-    match answer {
-        Ok(moved) => is_page(page, &moved, now),
-        Err(_) => Ok(()),
-    }
+    end_with_page(alloc, page, answer, now)
 }
 
 // Pages, their paths after a move of `docs` to `guide`, and their directories before and after it.
