@@ -1,1 +1,2 @@
 pub mod SpansLemmas
+mod StepsLemmas

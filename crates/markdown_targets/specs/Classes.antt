@@ -1,5 +1,5 @@
 -- Classes of bytes for which the finder searches a text.
-use Rattle.std.specs.Prelude.{ℕ, Bool, ◌==◌, ◌||◌, nat_le}
+use Rattle.std.specs.Prelude.{ℕ, Bool, ◌==◌, ◌||◌, nat_lt, nat_le}
 
 -- the byte ends a line
 abbrev pub is_line_end : ℕ → Bool
@@ -13,3 +13,7 @@ is_special b = b == 33 || b == 60 || b == 91 || b == 92 || b == 93 || b == 96
 -- `(`, `)` or a backslash
 abbrev pub is_destination_mark : ℕ → Bool
 is_destination_mark b = nat_le b 32 || b == 40 || b == 41 || b == 92 || b == 127
+
+-- the byte is the first one of a character
+abbrev pub begins_character : ℕ → Bool
+begins_character b = nat_lt b 128 || nat_le 192 b

@@ -1,7 +1,9 @@
 //! Classes of bytes, and steps over the bytes of a text.
-ghost use Rattle.std.specs.Prelude.{◌≡◌, ◌≤◌, ◌<◌, ◌+◌, length, IfSome};
+ghost use Rattle.std.specs.Prelude.{◌≡◌, ◌≤◌, ◌<◌, ◌==◌, ◌+◌, length, drop, IfSome};
 ghost use Rattle.markdown_targets.specs.Classes.{is_line_end, is_special, is_destination_mark};
-ghost use Rattle.markdown_targets.specs.Steps.{Skips, Advances};
+ghost use Rattle.markdown_targets.specs.Destinations.{is_space_or_control};
+ghost use Rattle.markdown_targets.specs.Steps.{Skips, Advances, first_from, step_len};
+ghost use Rattle.markdown_targets.specs.Words.{word_end};
 
 use byte_classes::{ByteClass, OneByte, len_before};
 use std::simd::prelude::*;
@@ -24,7 +26,9 @@ pub(crate) fn is_space(byte: u8) -> bool {
 }
 
 // Whether a byte is a space or a control byte of ASCII other than NUL, which CommonMark reads as U+FFFD.
-pub(crate) fn is_space_or_control(byte: u8) -> bool {
+pub(crate) fn is_space_or_control(byte: u8) -> bool
+    ensures { result ≡ is_space_or_control byte }
+{
     byte != 0 && byte <= b' ' || byte == 127
 }
 
@@ -57,7 +61,8 @@ pub(crate) fn run_end<F: Fn(u8) -> bool>(text: &[u8], from: usize, test: F) -> u
 // The offset of the first byte of a class from an offset on, or the end of the text.
 fn first_at<C: ByteClass>(text: &[u8], from: usize, class: &C) -> usize
     requires { from ≤ length text.now }
-    ensures { Skips text.now from result }
+    ensures first { result ≡ first_from (C.has class.now) text.now from }
+    ensures within { Skips text.now from result }
 {
     from + len_before(class, &text[from..])
 }
@@ -65,7 +70,8 @@ fn first_at<C: ByteClass>(text: &[u8], from: usize, class: &C) -> usize
 // The offset of the first of this byte from an offset on, or the end of the text.
 pub(crate) fn byte_at(text: &[u8], from: usize, byte: u8) -> usize
     requires { from ≤ length text.now }
-    ensures { Skips text.now from result }
+    ensures first { result ≡ first_from (λ b. b == byte) text.now from }
+    ensures within { Skips text.now from result }
 {
     first_at(text, from, &OneByte { byte })
 }
@@ -73,7 +79,8 @@ pub(crate) fn byte_at(text: &[u8], from: usize, byte: u8) -> usize
 // The offset of the first line end from an offset on, or the end of the text.
 pub(crate) fn line_end(text: &[u8], from: usize) -> usize
     requires { from ≤ length text.now }
-    ensures { Skips text.now from result }
+    ensures first { result ≡ first_from is_line_end text.now from }
+    ensures within { Skips text.now from result }
 {
     first_at(text, from, &LineEnd)
 }
@@ -98,7 +105,8 @@ impl ByteClass for LineEnd {
 // The offset of the first byte from an offset on with which an inline or an escape may begin, or the end of the text.
 pub(crate) fn special_at(text: &[u8], from: usize) -> usize
     requires { from ≤ length text.now }
-    ensures { Skips text.now from result }
+    ensures first { result ≡ first_from is_special text.now from }
+    ensures within { Skips text.now from result }
 {
     first_at(text, from, &Special)
 }
@@ -129,7 +137,8 @@ impl ByteClass for Special {
 // escape may begin or end, or the end of the text.
 pub(crate) fn destination_mark_at(text: &[u8], from: usize) -> usize
     requires { from ≤ length text.now }
-    ensures { Skips text.now from result }
+    ensures first { result ≡ first_from is_destination_mark text.now from }
+    ensures within { Skips text.now from result }
 {
     first_at(text, from, &DestinationMark)
 }
@@ -177,24 +186,37 @@ pub(crate) fn skip_byte(text: &[u8], k: usize, byte: u8) -> Option<usize>
 // The offset after the first of these words from an offset on.
 pub(crate) fn find_end(text: &[u8], from: usize, word: &[u8]) -> Option<usize>
     requires { from ≤ length text.now }
-    ensures { IfSome result (λ end. Skips text.now from end) }
+    ensures end { result ≡ word_end word.now from (drop from text.now) }
+    ensures within { IfSome result (λ end. Skips text.now from end) }
 {
-    let first = *word.first()?;
-    let mut k = byte_at(text, from, first);
+    let mut k = word_start(text, from, word);
     while k < text.len() {
         if let Some(rest) = text[k..].strip_prefix(word) {
             return Some(text.len() - rest.len());
         }
-        k = byte_at(text, k + 1, first);
+        k = word_start(text, k + 1, word);
     }
     None
+}
+
+// The first offset from an offset on where a word may begin, or the end of the text.
+fn word_start(text: &[u8], from: usize, word: &[u8]) -> usize
+    requires { from ≤ length text.now }
+    ensures none_before { word_end word.now from (drop from text.now) ≡ word_end word.now result (drop result text.now) }
+    ensures within { Skips text.now from result }
+{
+    match word.first() {
+        Some(first) => byte_at(text, from, *first),
+        None => from,
+    }
 }
 
 // The offset after the character at an offset, or after the two bytes of an escape.
 #[inline(always)]
 pub(crate) fn step_over(text: &[u8], k: usize) -> usize
     requires { k < length text.now }
-    ensures { Advances text.now k result }
+    ensures step { result ≡ k + step_len (drop k text.now) }
+    ensures within { Advances text.now k result }
 {
     match &text[k..] {
         [b'\\', escaped, ..] if escaped.is_ascii_punctuation() => k + 2,

@@ -25,9 +25,6 @@ impl Container {
         cursor: Cursor<'a>,
         is_in_paragraph: bool,
     ) -> Option<(Container, Cursor<'a>)> {
-        if cursor.is_at_letter() {
-            return None;
-        }
         if let Some(inner) = after_quote_mark(cursor) {
             return Some((Container::Quote, inner));
         }

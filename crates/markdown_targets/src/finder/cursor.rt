@@ -60,13 +60,6 @@ impl<'a> Cursor<'a> {
         self.rest.is_empty()
     }
 
-    // Whether the rest begins with a letter. Nothing but text and indented code begins so.
-    pub(crate) fn is_at_letter(self) -> bool {
-        self.rest
-            .first()
-            .is_some_and(|byte| byte.is_ascii_alphabetic())
-    }
-
     // The place some columns on, within the spaces and tabs.
     pub(crate) fn after_columns(self, columns: usize) -> Cursor<'a> {
         Cursor {

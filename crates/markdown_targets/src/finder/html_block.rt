@@ -1,6 +1,6 @@
 //! Blocks of HTML: what begins a block, and what ends it.
 
-use crate::finder::bytes::{byte_at, is_blank_text, run_end};
+use crate::finder::bytes::{is_blank_text, run_end};
 use crate::finder::cursor::Cursor;
 use crate::finder::tags::{StartTag, closing_tag_end};
 
@@ -171,25 +171,8 @@ fn is_one_of(names: &[&[u8]], name: &[u8]) -> bool {
     names.iter().any(|other| other.eq_ignore_ascii_case(name))
 }
 
-// Whether a text has a part, in any case. The part begins with no letter.
+// Whether a text has a part, in any case.
 fn has_part(text: &[u8], part: &[u8]) -> bool {
-    let Some(&first) = part.first() else {
-        return false;
-    };
-    let mut k = byte_at(text, 0, first);
-    while k < text.len() {
-        if begins_with(&text[k..], part) {
-            return true;
-        }
-        k = byte_at(text, k + 1, first);
-    }
-    false
-}
-
-// Whether a text begins with a part, in any case.
-fn begins_with(text: &[u8], part: &[u8]) -> bool {
-    match text.get(..part.len()) {
-        Some(front) => front.eq_ignore_ascii_case(part),
-        None => false,
-    }
+    text.windows(part.len().max(1))
+        .any(|window| window.eq_ignore_ascii_case(part))
 }

@@ -1,6 +1,7 @@
 //! The targets in the text of a page's blocks.
-ghost use Rattle.std.specs.Prelude.{◌≡◌, ◌≤◌, ◌<◌, length, IfOk, IfSome};
-ghost use Rattle.markdown_targets.specs.Steps.{Skips, Advances};
+ghost use Rattle.std.specs.Prelude.{◌≡◌, ◌≤◌, ◌<◌, ◌+◌, false, length, slice_index, Ok, IfOk, IfSome};
+ghost use Rattle.markdown_targets.specs.Classes.{is_special};
+ghost use Rattle.markdown_targets.specs.Steps.{Skips, Advances, first_from};
 
 use crate::finder::autolinks::autolink_end;
 use crate::finder::brackets::{Bracket, Brackets, Opener};
@@ -117,10 +118,13 @@ impl Reader {
         Ok(())
     }
 
-    // Reads what is at an offset, and returns the offset after it.
+    // Reads what is at an offset, and returns the offset after it. At a byte that isn't special nothing begins, so the
+    // next special byte is returned.
     fn read_inline(&mut self, text: &[u8], k: usize) -> Result<usize, AllocError>
         requires { k < length text.now }
-        ensures { IfOk result (λ end. Advances text.now k end) }
+        ensures nothing { is_special (slice_index text.now k) ≡ false
+            → (self.new ≡ self.old) × (result ≡ Ok (first_from is_special text.now (k + 1))) }
+        ensures within { IfOk result (λ end. Advances text.now k end) }
     {
         match &text[k..] {
             [b'`', ..] => Ok(self.runs.span_end(text, k)),

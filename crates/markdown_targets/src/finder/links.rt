@@ -1,5 +1,6 @@
 //! The parts of a link: its destination, its title and a label.
-ghost use Rattle.std.specs.Prelude.{◌≤◌, ◌<◌, length, IfSome};
+ghost use Rattle.std.specs.Prelude.{◌≡◌, ◌≤◌, ◌<◌, false, length, IfSome};
+ghost use Rattle.markdown_targets.specs.Destinations.{stops, depth_after, destination_end};
 ghost use Rattle.markdown_targets.specs.Steps.{Advances};
 
 use crate::finder::bytes::{
@@ -69,25 +70,44 @@ pub(crate) fn read_destination(text: &[u8], start: usize) -> Option<Destination>
 // The end of a destination without angles, whose parentheses are balanced.
 fn bare_destination_end(text: &[u8], start: usize) -> Option<usize>
     requires { start ≤ length text.now }
-    ensures { IfSome result (λ end. Advances text.now start end) }
+    ensures end { result ≡ destination_end text.now start }
+    ensures within { IfSome result (λ end. Advances text.now start end) }
 {
     let mut depth = 0;
     let mut k = destination_mark_at(text, start);
-    while k < text.len() {
-        match text[k] {
-            b'(' if depth == DEEPEST => return None,
-            b'(' => depth += 1,
-            b')' if depth == 0 => break,
-            b')' => depth -= 1,
-            byte if is_space_or_control(byte) => break,
-            _ => {}
-        }
+    while k < text.len() && !stops(depth, text[k]) {
+        depth = depth_after(depth, text[k]);
         k = destination_mark_at(text, step_over(text, k));
     }
     if depth == 0 && k > start {
         Some(k)
     } else {
         None
+    }
+}
+
+// Whether a destination with so many open parentheses stops before a byte.
+fn stops(depth: usize, byte: u8) -> bool
+    ensures { result ≡ stops depth byte }
+{
+    match byte {
+        b'(' => depth == DEEPEST,
+        b')' => depth == 0,
+        _ => is_space_or_control(byte),
+    }
+}
+
+// How many parentheses are open after a byte of a destination.
+fn depth_after(depth: usize, byte: u8) -> usize
+    requires goes_on { stops depth byte ≡ false }
+    requires few { depth ≤ DEEPEST }
+    ensures after { result ≡ depth_after depth byte }
+    ensures within { result ≤ DEEPEST }
+{
+    match byte {
+        b'(' => depth + 1,
+        b')' => depth - 1,
+        _ => depth,
     }
 }
 

@@ -1,5 +1,7 @@
 //! Names of links: the labels in brackets, and which of them are defined.
-ghost use Rattle.std.specs.Prelude.{◌≤◌, ◌<◌, length, IfSome};
+ghost use Rattle.std.specs.Prelude.{◌≡◌, ◌≤◌, ◌<◌, nat_lt, length, IfSome};
+ghost use Rattle.std.specs.List.{count_by};
+ghost use Rattle.markdown_targets.specs.Classes.{begins_character};
 ghost use Rattle.markdown_targets.specs.Steps.{Advances};
 
 use crate::finder::bytes::{find_unescaped, is_space, skip_byte};
@@ -44,12 +46,16 @@ impl<'a> Label<'a> {
 }
 
 // Whether a label has too many characters. The characters are counted only if there are as many bytes.
-fn is_too_long(name: &[u8]) -> bool {
+fn is_too_long(name: &[u8]) -> bool
+    ensures { result ≡ nat_lt LONGEST_LABEL (count_by begins_character name.now) }
+{
     name.len() > LONGEST_LABEL && character_count(name) > LONGEST_LABEL
 }
 
 // How many characters a text in UTF-8 has: as many as it has bytes that begin a character.
-fn character_count(text: &[u8]) -> usize {
+fn character_count(text: &[u8]) -> usize
+    ensures { result ≡ count_by begins_character text.now }
+{
     text.iter()
         .filter(|&&byte| !(128..192).contains(&byte))
         .count()

@@ -65,9 +65,6 @@ impl Start {
                 Start::Code
             };
         }
-        if cursor.is_at_letter() {
-            return Start::Text;
-        }
         let text = cursor.rest;
         if is_heading(text) {
             return Start::Heading;

@@ -2,7 +2,7 @@
 ghost use Rattle.std.specs.Prelude.{◌≤◌, ◌<◌, length, IfSome};
 ghost use Rattle.markdown_targets.specs.Steps.{Skips, Advances};
 
-use crate::finder::bytes::{byte_at, is_space, run_end, skip_byte, skip_spaces};
+use crate::finder::bytes::{is_space, run_end, skip_byte, skip_spaces};
 use crate::span::Span;
 use crate::target::Quote;
 
@@ -112,12 +112,10 @@ impl<'a> StartTag<'a> {
         if !TEXT_ELEMENTS.iter().any(|name| self.is(name)) {
             return after;
         }
-        let mut k = byte_at(text, after, b'<');
-        while k < text.len() {
+        for k in after..text.len() {
             if closes(&text[k..], self.name) {
                 return k;
             }
-            k = byte_at(text, k + 1, b'<');
         }
         text.len()
     }
