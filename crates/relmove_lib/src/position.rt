@@ -1,4 +1,8 @@
 //! Lines and columns of a page.
+ghost use Rattle.std.specs.Prelude.{◌≡◌};
+ghost use Rattle.std.specs.List.{after_last, count_by};
+ghost use Rattle.relmove_lib.specs.Position.{is_line_end, is_first_byte, first_place, place_after};
+
 use std::simd::prelude::*;
 
 /// A place in a text. Both numbers begin at 1, and columns count characters.
@@ -13,10 +17,15 @@ pub struct Position {
 /// Returns the place after a text: the line and the column of the character that follows it. Allocates nothing; time
 /// is linear.
 ///
+/// A text begins at line 1 and column 1. A line end, `\n`, leads to column 1 of the next line, and each other character
+/// leads to the next column. A number that is `usize::MAX` stays so.
+///
 /// ```
 /// assert_eq!(rt; position_after("a\né"), Position { line: 2, column: 2 });
 /// ```
-pub fn position_after(text: &str) -> Position {
+pub fn position_after(text: &str) -> Position
+    ensures { result ≡ place_after first_place text.now }
+{
     FIRST.after(text)
 }
 
@@ -25,7 +34,10 @@ const FIRST: Position = Position { line: 1, column: 1 };
 
 impl Position {
     // The place after a text that begins here.
-    fn after(self, text: &str) -> Position {
+    #[tactic(auto, using(crate::proofs::PositionLemmas::place_after_no_line_end, crate::proofs::PositionLemmas::place_after_line_ends))]
+    fn after(self, text: &str) -> Position
+        ensures { result ≡ place_after self text.now }
+    {
         let bytes = text.as_bytes();
         let lines = line_end_count(bytes);
         if lines == 0 {
@@ -72,34 +84,55 @@ impl<'a> Positions<'a> {
 const BLOCK: usize = 16;
 
 // How many line ends a text has.
-fn line_end_count(text: &[u8]) -> usize {
-    let mut count = 0usize;
+fn line_end_count(text: &[u8]) -> usize
+    ensures { result ≡ count_by is_line_end text.now }
+{
+    let mut count = 0;
     let mut start = 0;
     while start + BLOCK <= text.len() {
-        let ends = Simd::<u8, BLOCK>::from_slice(&text[start..])
-            .simd_eq(Simd::splat(b'\n'))
-            .to_bitmask();
-        count = count.saturating_add(ends.count_ones() as usize);
+        count += line_end_count_in_block(Simd::from_slice(&text[start..]));
         start += BLOCK;
     }
-    let rest = text[start..].iter().filter(|&&byte| byte == b'\n');
-    count.saturating_add(rest.count())
+    count + line_end_count_in_few(&text[start..])
+}
+
+// The same for a block.
+fn line_end_count_in_block(block: Simd<u8, BLOCK>) -> usize
+    ensures { result ≡ count_by is_line_end block }
+{
+    let ends = block.simd_eq(Simd::splat(b'\n')).to_bitmask();
+    ends.count_ones() as usize
+}
+
+// The same, byte by byte.
+fn line_end_count_in_few(text: &[u8]) -> usize
+    ensures { result ≡ count_by is_line_end text.now }
+{
+    text.iter().filter(|&&byte| byte == b'\n').count()
 }
 
 // What comes after the last line end of a text.
-fn last_line(text: &[u8]) -> &[u8] {
-    match text.rsplit(|&byte| byte == b'\n').next() {
-        Some(line) => line,
-        None => text,
+#[tactic(auto, using(crate::proofs::PositionLemmas::after_last_is))]
+fn last_line(text: &[u8]) -> &[u8]
+    ensures { result.now ≡ after_last is_line_end text.now }
+{
+    let mut start = text.len();
+    while start > 0 && text[start - 1] != b'\n' {
+        start -= 1;
     }
+    &text[start..]
 }
 
 // How many characters a text has.
-fn character_count(text: &[u8]) -> usize {
+fn character_count(text: &[u8]) -> usize
+    ensures { result ≡ count_by is_first_byte text.now }
+{
     text.iter().filter(|&&byte| is_first_byte(byte)).count()
 }
 
 // Whether a byte is the first one of a character.
-fn is_first_byte(byte: u8) -> bool {
+fn is_first_byte(byte: u8) -> bool
+    ensures { result ≡ is_first_byte byte }
+{
     byte < 128 || 192 <= byte
 }
