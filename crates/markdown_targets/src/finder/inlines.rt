@@ -1,6 +1,6 @@
 //! The targets in the text of a page's blocks.
-ghost use Rattle.std.specs.Prelude.{◌≡◌, ◌≤◌, ◌<◌, ◌+◌, false, length, slice_index, Ok, IfOk, IfSome};
-ghost use Rattle.markdown_targets.specs.Classes.{is_special};
+ghost use Rattle.std.specs.Prelude.{◌≡◌, ◌≤◌, ◌<◌, ◌+◌, true, length, slice_index, Ok, IfOk, IfSome};
+ghost use Rattle.markdown_targets.specs.Classes.{is_special, is_only_text};
 ghost use Rattle.markdown_targets.specs.Steps.{Skips, Advances, first_from};
 
 use crate::finder::autolinks::autolink_end;
@@ -118,11 +118,11 @@ impl Reader {
         Ok(())
     }
 
-    // Reads what is at an offset, and returns the offset after it. At a byte that isn't special nothing begins, so the
-    // next special byte is returned.
+    // Reads what is at an offset, and returns the offset after it. If it is only text, nothing changes, and the text goes
+    // on to the next special byte.
     fn read_inline(&mut self, text: &[u8], k: usize) -> Result<usize, AllocError>
         requires { k < length text.now }
-        ensures nothing { is_special (slice_index text.now k) ≡ false
+        ensures text { is_only_text (slice_index text.now k) (slice_index text.now (k + 1)) ≡ true
             → (self.new ≡ self.old) × (result ≡ Ok (first_from is_special text.now (k + 1))) }
         ensures within { IfOk result (λ end. Advances text.now k end) }
     {
