@@ -61,11 +61,17 @@ fn spelled(alloc: Global, path: &str) -> Result<String, AllocError>
 fn push_spelled(target: &mut String, path: &str) -> Result<(), AllocError>
     ensures { IfOk result (λ _. string_bytes target.new ≡ string_bytes target.old ++ spelled path.now) }
 {
-    if spells_itself(path) {
+    if has_room(target, path) && spells_itself(path) {
         target.push_str(path)
     } else {
         push_segments(target, path)
     }
+}
+
+// Whether a text fits into the capacity of a target. A text that doesn't fit is added character by character, so that the
+// capacity grows by doubling alone.
+fn has_room(target: &String, text: &str) -> bool {
+    text.len() <= target.capacity().saturating_sub(target.len())
 }
 
 // Whether a path spells itself, since none of its bytes is escaped. A path with a colon may do so all the same.
@@ -139,7 +145,7 @@ fn push_characters(target: &mut String, start: Place, text: &str) -> Result<(), 
     Ok(())
 }
 
-// Adds what is written for a text after a slash, run by run.
+// Adds what is written for a text after a slash, run by run as far as the runs fit into the capacity.
 fn push_after_slash(target: &mut String, text: &str) -> Result<(), AllocError>
     ensures { IfOk result (λ _. string_bytes target.new
         ≡ string_bytes target.old ++ written AfterSlash text.now) }
@@ -147,6 +153,9 @@ fn push_after_slash(target: &mut String, text: &str) -> Result<(), AllocError>
     let mut left = text;
     while !left.is_empty() {
         let (run, rest) = left.split_at(len_before(&EscapedLater, left.as_bytes()));
+        if !has_room(target, run) {
+            return push_characters(target, Place::AfterSlash, left);
+        }
         target.push_str(run)?;
         left = push_first_after_slash(target, rest)?;
     }
