@@ -1,5 +1,5 @@
 -- Each step goes to the next mark, and the destination goes on to there.
-use Rattle.std.proofs.Common.{◌≤◌, false, drop, sym, ap, ◌∙◌, arith}
+use Rattle.std.proofs.Common.{false, drop, sym, ap, ◌∙◌, arith}
 use Rattle.markdown_targets.specs.Destinations.{end_of}
 use Rattle.markdown_targets.proofs.StepsLemmas.{end_of-first, end_of-next}
 use Rattle.markdown_targets.proofs.finder.links.bare_destination_end.Goals as goal
