@@ -1,21 +1,19 @@
 -- What is written for characters.
-use Rattle.std.proofs.Common.{◌≡◌, ℕ, zero, suc, ◌+◌, ◌<◌, ◌≤◌, Bool, true, false, nat_lt, if◌then◌else◌, List, [], ◌∷◌, ◌++◌, length, take, drop, get_or, Some, None, ◌≢◌, lit<, ne_eqb, refl, sym, ap, ap₂, ◌∙◌, arith, append-nil, append_assoc, get_or-drop, subst, ⊎_elim, Bor}
-use Rattle.std.proofs.lemmas.Bool.{and_parts, cases_lt, eqb-true, not-true, or_parts}
+use Rattle.std.proofs.Common.{◌≡◌, ℕ, suc, ◌+◌, ◌<◌, ◌≤◌, Bool, true, false, nat_lt, if◌then◌else◌, List, [], ◌∷◌, ◌++◌, length, drop, get_or, Some, None, ◌≢◌, lit<, ne_eqb, refl, sym, ap, ap₂, ◌∙◌, arith, append-nil, append_assoc}
+use Rattle.std.proofs.lemmas.Bool.{and_parts, not-true, or_parts}
 use Rattle.std.proofs.lemmas.Bool.Decides.{nat_tests}
-use Rattle.std.proofs.lemmas.Str.{encode_ascii, length-encode, len_utf8_bounds, inside_one, IsCharBoundary-before_ascii, IsCharBoundary-end}
+use Rattle.std.proofs.lemmas.Str.{encode_ascii, length-encode, len_utf8_bounds, inside_one}
 use Rattle.std.proofs.lemmas.List.{at_drop_more, drop_all}
-use Rattle.std.proofs.lemmas.List.Sums.{passes_at_first, split_at_first}
-use Rattle.std.proofs.lemmas.Str.Pattern.{drop_at_char, split_once_first, IsSplitOnceResult}
+use Rattle.std.proofs.lemmas.Str.Pattern.{drop_at_char}
 use Rattle.std.specs.Char.{encode_utf8}
-use Rattle.std.specs.List.{list_all, position_or_len}
-use Rattle.std.specs.Str.{encode_utf8_all, IsCharBoundary}
+use Rattle.std.specs.List.{list_all}
+use Rattle.std.specs.Str.{encode_utf8_all}
 use Rattle.std.specs.Str.Pattern.{FindsCharPrefix, IsTrimStartMatches, CutsPrefixes, IsFullyTrimmed}
 use Rattle.target_paths.specs.declared.place.Place.{Place}
 use Rattle.target_paths.specs.declared.place.Place.TheVariants.{Start, Mark, FirstSegment, AfterSlash}
 use Rattle.target_paths.specs.Url.{slash, is_slash, is_colon}
-use Rattle.byte_classes.proofs.ForCallers.{position_le, list_all-take_before}
 use Rattle.target_paths.proofs.PiecesLemmas.{from_byte, from_byte-drop}
-use Rattle.target_paths.specs.Writing.{is_reserved, is_escaped, is_escaped_later, is_unescaped, start_of, spelled, place_after, percent_text, written_byte, written_character, written, without_slashes}
+use Rattle.target_paths.specs.Writing.{is_reserved, is_escaped, is_unescaped, start_of, spelled, place_after, percent_text, written_byte, written_character, written, without_slashes}
 
 -- each byte is past ASCII
 abbrev ArePastAscii : List ℕ → Type 0
@@ -185,93 +183,3 @@ spelled-itself-bytes [] bytes is some first all = refl
 spelled-itself-bytes (b ∷ bs) bytes is some first all =
     spelled-itself b bs (ap (λ l. is_escaped (start_of (b ∷ bs)) (get_or l 0 0)) (sym is) ∙ first)
     (ap (λ l. list_all is_unescaped l) (sym (from_byte-drop 1 (b ∷ bs)) ∙ ap (from_byte 1) (sym is)) ∙ all)
-
--- ---- a path written in parts
-
-is_escaped-slash : (place : Place) → is_escaped place slash ≡ false
-is_escaped-slash Start = refl
-is_escaped-slash Mark = refl
-is_escaped-slash FirstSegment = refl
-is_escaped-slash AfterSlash = refl
-
-place_after-slash : (place : Place) → place_after place slash ≡ AfterSlash
-place_after-slash Start = refl
-place_after-slash Mark = refl
-place_after-slash FirstSegment = refl
-place_after-slash AfterSlash = refl
-
--- the bytes before a slash, and those after it
-pub written-slash : (place : Place) (segment others : List ℕ)
-    → written place (segment ++ slash ∷ others) ≡ written place segment ++ slash ∷ written AfterSlash others
-written-slash place [] others =
-    ap (λ e. written_byte e slash ++ written (place_after place slash) others) (is_escaped-slash place)
-    ∙ ap (λ p. slash ∷ written p others) (place_after-slash place)
-written-slash place (b ∷ bs) others =
-    ap (λ text. written_byte (is_escaped place b) b ++ text) (written-slash (place_after place b) bs others)
-    ∙ sym (append_assoc (written_byte (is_escaped place b) b) (written (place_after place b) bs)
-    (slash ∷ written AfterSlash others))
-
--- bytes after a slash that aren't escaped, and what follows them
-pub written-run : (n : ℕ) (text : List ℕ) → list_all is_unescaped (take n text) ≡ true
-    → written AfterSlash text ≡ take n text ++ written AfterSlash (drop n text)
-written-run zero text all = refl
-written-run (suc n) [] all = refl
-written-run (suc n) (b ∷ bs) all =
-    let (first, others) = and_parts (is_unescaped b) (list_all is_unescaped (take n bs)) all in
-    ap (λ e. written_byte e b ++ written AfterSlash bs) (later-unescaped AfterSlash b after_slash first)
-    ∙ ap (λ text. b ∷ text) (written-run n bs others)
-
--- ---- the first byte that is escaped after a slash
-
-pub escaped_later-ascii : (b : ℕ) → is_escaped_later b ≡ true → b < 128
-escaped_later-ascii b is = grind (arith, nat_tests)
-
-module _ (text : List ℕ) (n : ℕ) (at : n ≡ position_or_len is_escaped_later text) where
-  first_escaped : n < length text → is_escaped_later (get_or text n 0) ≡ true
-  first_escaped some =
-      ap (λ k. is_escaped_later (get_or text k 0)) at ∙ passes_at_first is_escaped_later text 0 (omega (arith, at, some))
-
-  pub IsCharBoundary-escaped : IsCharBoundary text n
-  IsCharBoundary-escaped = ⊎_elim
-      (λ some. IsCharBoundary-before_ascii text n some (escaped_later-ascii (get_or text n 0) (first_escaped some)))
-      (λ none. let whole : n ≡ length text = omega (arith, at, none, position_le is_escaped_later text) in
-      subst (IsCharBoundary text) (sym whole) (IsCharBoundary-end text))
-      (cases_lt n (length text))
-
-  pub is_escaped-rest : (rest : List ℕ) → rest ≡ drop n text → is_escaped_later (get_or rest 0 0) ≡ true
-  is_escaped-rest rest is = ap (λ bs. is_escaped_later (get_or bs 0 0)) is ∙ ⊎_elim
-      (λ some. ap is_escaped_later (get_or-drop n text 0 0)
-      ∙ ap (λ k. is_escaped_later (get_or text k 0)) (omega arith) ∙ first_escaped some)
-      (λ none. ap (λ bs. is_escaped_later (get_or bs 0 0)) (drop_all n text none))
-      (cases_lt n (length text))
-
-  -- what is written so far with the run, and what is to be written for the rest
-  pub written-so_far : (run rest old new all : List ℕ) → run ≡ take n text → rest ≡ drop n text → new ≡ old ++ run
-      → old ++ written AfterSlash text ≡ all → new ++ written AfterSlash rest ≡ all
-  written-so_far run rest old new all front back grew so_far =
-      ap₂ (λ bs r. bs ++ written AfterSlash r) (grew ∙ ap (λ r. old ++ r) front) back
-      ∙ append_assoc old (take n text) (written AfterSlash (drop n text))
-      ∙ ap (λ bs. old ++ bs) (sym (written-run n text (list_all-take_before is_escaped_later text n at)))
-      ∙ so_far
-
--- ---- a path cut at its first slash
-
-pub split-slash : (path : List ℕ) (segment others : Bor (List ℕ)) → IsSplitOnceResult slash path (Some (segment, others))
-    → path ≡ segment.now ++ slash ∷ others.now
-split-slash path segment others found =
-    let (some, front, back) = split_once_first slash path (Some (segment, others)) found (lit< tt) in
-    let at = eqb-true (get_or path (position_or_len is_slash path) 0) slash (passes_at_first is_slash path 0 some) in
-    split_at_first is_slash path 0 some
-    ∙ ap₂ (λ xs ys. xs ++ get_or path (position_or_len is_slash path) 0 ∷ ys) (sym front) (sym back)
-    ∙ ap (λ b. segment.now ++ b ∷ others.now) at
-
-pub written-segments : (place : Place) (path segment others old first slashed new : List ℕ)
-    → path ≡ segment ++ slash ∷ others → first ≡ old ++ written place segment → slashed ≡ first ++ slash ∷ []
-    → new ≡ slashed ++ written AfterSlash others → new ≡ old ++ written place path
-written-segments place path segment others old first slashed new parts one two three =
-    three ∙ ap (λ bs. bs ++ written AfterSlash others) two
-    ∙ append_assoc first (slash ∷ []) (written AfterSlash others)
-    ∙ ap (λ bs. bs ++ slash ∷ written AfterSlash others) one
-    ∙ append_assoc old (written place segment) (slash ∷ written AfterSlash others)
-    ∙ ap (λ bs. old ++ bs) (sym (written-slash place segment others))
-    ∙ ap (λ bs. old ++ written place bs) (sym parts)

@@ -1,5 +1,5 @@
 //! How a path is written as a target.
-ghost use Rattle.std.specs.Prelude.{◌≡◌, ◌++◌, ◌<◌, ◌-◌, true, false, length, slice_index, IfOk, IsTrue, string_bytes};
+ghost use Rattle.std.specs.Prelude.{◌≡◌, ◌++◌, ◌<◌, true, false, length, IfOk, IsTrue, string_bytes};
 ghost use Rattle.std.specs.List.{list_all, list_any};
 ghost use Rattle.target_paths.specs.Reading.{path_before, unknown};
 ghost use Rattle.target_paths.specs.Writing.{
@@ -16,10 +16,8 @@ ghost use Rattle.target_paths.specs.Writing.{
   spelled,
   target_of,
   without_slashes,
-  written,
   written_character,
 };
-ghost use Rattle.target_paths.specs.declared.place.Place.TheVariants.{AfterSlash};
 ghost use Rattle.target_paths.specs.declared.target.WhyUnknown.TheVariants.{EncodedNul};
 
 use crate::place::Place;
@@ -64,7 +62,7 @@ fn push_spelled(target: &mut String, path: &str) -> Result<(), AllocError>
     if has_room(target, path) && spells_itself(path) {
         target.push_str(path)
     } else {
-        push_segments(target, path)
+        push_characters(target, path)
     }
 }
 
@@ -118,62 +116,16 @@ impl ByteClass for EscapedLater {
     }
 }
 
-// Adds the target that spells a path: the first segment, and then the others, in which fewer characters are escaped.
-fn push_segments(target: &mut String, path: &str) -> Result<(), AllocError>
+// Adds the target that spells a path, character by character.
+fn push_characters(target: &mut String, path: &str) -> Result<(), AllocError>
     ensures { IfOk result (λ _. string_bytes target.new ≡ string_bytes target.old ++ spelled path.now) }
 {
-    let place = Place::start_of(path);
-    match path.split_once('/') {
-        Some((segment, others)) => {
-            push_characters(target, place, segment)?;
-            target.push('/')?;
-            push_after_slash(target, others)
-        }
-        None => push_characters(target, place, path),
-    }
-}
-
-// Adds what is written for a text at a place, character by character.
-fn push_characters(target: &mut String, start: Place, text: &str) -> Result<(), AllocError>
-    ensures { IfOk result (λ _. string_bytes target.new ≡ string_bytes target.old ++ written start text.now) }
-{
-    let mut place = start;
-    for character in text.chars() {
+    let mut place = Place::start_of(path);
+    for character in path.chars() {
         push_character(target, place, character)?;
         place = place.after(character);
     }
     Ok(())
-}
-
-// Adds what is written for a text after a slash, run by run as far as the runs fit into the capacity.
-fn push_after_slash(target: &mut String, text: &str) -> Result<(), AllocError>
-    ensures { IfOk result (λ _. string_bytes target.new
-        ≡ string_bytes target.old ++ written AfterSlash text.now) }
-{
-    let mut left = text;
-    while !left.is_empty() {
-        let (run, rest) = left.split_at(len_before(&EscapedLater, left.as_bytes()));
-        if !has_room(target, run) {
-            return push_characters(target, Place::AfterSlash, left);
-        }
-        target.push_str(run)?;
-        left = push_first_after_slash(target, rest)?;
-    }
-    Ok(())
-}
-
-// Adds what is written after a slash for the first byte of a text, if there is one, and returns what comes after it.
-fn push_first_after_slash<'a>(target: &mut String, text: &'a str) -> Result<&'a str, AllocError>
-    requires { is_escaped_later (slice_index text.now 0) ≡ true }
-    ensures written { IfOk result (λ rest. string_bytes target.new ++ written AfterSlash rest.now
-        ≡ string_bytes target.old ++ written AfterSlash text.now) }
-    ensures shorter { IfOk result (λ rest. length rest.now ≡ length text.now - 1) }
-{
-    let Some(first) = text.as_bytes().first() else {
-        return Ok(text);
-    };
-    push_character(target, Place::AfterSlash, char::from(*first))?;
-    Ok(&text[1..])
 }
 
 // Adds what is written for a character.
