@@ -41,12 +41,11 @@ fn is_pushed(alloc: Global, capacity: usize, path: &str, expected: &str) -> Resu
 
 // A text grows as if it were written character by character.
 //
-// Requests: = 0, 8 = 0, 10 = 0, 8 16 = 0, 16 32 = 0
+// Requests: = 0, 8 = 0, 10 = 0, 8 16 = 0
 #[test]
 fn targets_after_a_text(rt: HostRuntime) -> Result<(), Fail> {
     is_pushed(rt.alloc(), 5, "b.md", "(b.md")?;
     is_pushed(rt.alloc(), 4, "b.md", "(b.md")?;
     is_pushed(rt.alloc(), 5, "a b", "(a%20b")?;
-    is_pushed(rt.alloc(), 1, "index.md", "(index.md")?;
-    is_pushed(rt.alloc(), 8, "a b/all-of-the-guide.md", "(a%20b/all-of-the-guide.md")
+    is_pushed(rt.alloc(), 1, "index.md", "(index.md")
 }
