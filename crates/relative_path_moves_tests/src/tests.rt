@@ -9,7 +9,7 @@ mod refusals;
 mod tree_moves;
 
 use relative_path::{RelativePath, RelativePathBuf};
-use relative_path_moves::{MoveTable, NormalPath, PlaceIndex, ReferenceError, moved};
+use relative_path_moves::{NormalPath, PlaceIndex, ReferenceError, moved};
 use std::alloc::{AllocError, Global};
 use std::fmt::Debug;
 use std::test::Fail;
@@ -24,12 +24,18 @@ fn text_of(buf: &RelativePathBuf) -> &str {
 
 // Fails in the words of this case where another value was found than is expected. A call of it costs
 // a proof a fourth of what `assert_eq!` with a message does.
-fn same<T: PartialEq + Debug>(case: &str, found: &T, expected: &T) -> Result<(), Fail> {
+fn same<T: PartialEq + Debug + Drop>(case: &str, found: T, expected: T) -> Result<(), Fail> {
     if found == expected {
         Ok(())
     } else {
         Err(Fail::new(format_args!("{case:?}: {found:?}, not {expected:?}")))
     }
+}
+
+// Fails where a call made another text than is expected, or found no memory.
+fn gives_text(case: &str, answer: Result<String, AllocError>, expected: &str) -> Result<(), Fail> {
+    let made = answer?;
+    same(case, made.as_str(), expected)
 }
 
 // Words for a case, moves, a reference of the first file that moves, and what it becomes, or an
@@ -73,7 +79,7 @@ fn becomes(
     expected: &str,
 ) -> Result<(), Fail> {
     let answer = told(alloc, moves, i, reference)?;
-    same(case, &(reference, answer.as_str()), &(reference, expected))
+    same(case, (reference, answer.as_str()), (reference, expected))
 }
 
 // What a reference of file number `i` becomes, or an error's words after `! `.
@@ -104,16 +110,6 @@ fn told_of(
     }
 }
 
-// What a reference of a page becomes after moves of files, as `told_of` says it.
-fn told_in(
-    alloc: Global,
-    moves: &[(RelativePath<'_>, RelativePath<'_>)],
-    (page, reference): (RelativePath<'_>, RelativePath<'_>),
-) -> Result<String, Fail> {
-    let table = MoveTable::new(alloc, moves)?;
-    Ok(told_of(alloc, table.moved_in(alloc, page, reference))?)
-}
-
 // Fails where an index finds another number by this path than is expected.
 fn finds(
     alloc: Global,
@@ -122,5 +118,5 @@ fn finds(
     expected: Option<usize>,
 ) -> Result<(), Fail> {
     let place = NormalPath::of(alloc, RelativePath::new(path))?;
-    same(path, &index.get(&place), &expected)
+    same(path, index.get(&place), expected)
 }

@@ -39,7 +39,7 @@ fn refers(
 ) -> Result<(), Fail> {
     let page = RelativePath::new("docs/a.md");
     let new = reference_after(alloc, table, page, RelativePath::new(reference))?;
-    same(reference, &text_of(&new), &expected)
+    same(reference, text_of(&new), expected)
 }
 
 #[test]

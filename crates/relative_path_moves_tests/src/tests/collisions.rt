@@ -23,22 +23,38 @@ fn read_files<'a>(alloc: Global, text: &'a str) -> Result<Vec<RelativePath<'a>>,
         .collect(alloc)
 }
 
-fn same_new(
-    alloc: Global,
-    moves: &[(RelativePath<'_>, RelativePath<'_>)],
-) -> Result<Option<(usize, usize)>, Fail> {
-    let table = MoveTable::new(alloc, moves)?;
-    Ok(table.same_new(alloc)?)
-}
-
-fn new_collides(
-    alloc: Global,
+// Fails where a call found other numbers than are expected, or found no memory.
+fn finds(
     case: &str,
-    moves: &str,
+    answer: Result<Option<(usize, usize)>, AllocError>,
     expected: Option<(usize, usize)>,
 ) -> Result<(), Fail> {
+    same(case, answer?, expected)
+}
+
+// Fails where other new paths of these moves collide than are expected.
+fn new_collide(
+    alloc: Global,
+    case: &str,
+    moves: &[(RelativePath<'_>, RelativePath<'_>)],
+    expected: Option<(usize, usize)>,
+) -> Result<(), Fail> {
+    let table = MoveTable::new(alloc, moves)?;
+    finds(case, table.same_new(alloc), expected)
+}
+
+// The same of the moves of a case.
+fn new_collide_in(alloc: Global, (case, moves, expected): NewCase) -> Result<(), Fail> {
     let moves = read_moves(alloc, moves)?;
-    same(case, &same_new(alloc, &moves)?, &expected)
+    new_collide(alloc, case, &moves, expected)
+}
+
+// The same of each of these cases.
+fn new_collide_in_all(alloc: Global, cases: &[NewCase]) -> Result<(), Fail> {
+    for case in cases {
+        new_collide_in(alloc, *case)?;
+    }
+    Ok(())
 }
 
 const NEW: [NewCase; 12] = [
@@ -78,10 +94,7 @@ const NEW: [NewCase; 12] = [
 
 #[test]
 fn two_new_paths_that_collide(rt: HostRuntime) -> Result<(), Fail> {
-    for (case, moves, expected) in &NEW {
-        new_collides(rt.alloc(), case, moves, *expected)?;
-    }
-    Ok(())
+    new_collide_in_all(rt.alloc(), &NEW)
 }
 
 const APART: [NewCase; 4] = [
@@ -93,30 +106,25 @@ const APART: [NewCase; 4] = [
 
 #[test]
 fn two_new_paths_that_the_call_takes_apart(rt: HostRuntime) -> Result<(), Fail> {
-    for (case, moves, expected) in &APART {
-        new_collides(rt.alloc(), case, moves, *expected)?;
-    }
-    Ok(())
+    new_collide_in_all(rt.alloc(), &APART)
 }
 
-fn same_new_as(
-    alloc: Global,
-    moves: &[(RelativePath<'_>, RelativePath<'_>)],
-    files: &[RelativePath<'_>],
-) -> Result<Option<(usize, usize)>, Fail> {
-    let table = MoveTable::new(alloc, moves)?;
-    Ok(table.same_new_as(alloc, files)?)
-}
-
-fn file_collides(
+// Fails where another new path of these moves collides with a file than is expected.
+fn new_collides_with(
     alloc: Global,
     case: &str,
-    (moves, files): (&str, &str),
+    (moves, files): (&[(RelativePath<'_>, RelativePath<'_>)], &str),
     expected: Option<(usize, usize)>,
 ) -> Result<(), Fail> {
-    let moves = read_moves(alloc, moves)?;
     let files = read_files(alloc, files)?;
-    same(case, &same_new_as(alloc, &moves, &files)?, &expected)
+    let table = MoveTable::new(alloc, moves)?;
+    finds(case, table.same_new_as(alloc, &files), expected)
+}
+
+// The same of the moves of a case.
+fn new_collides_in(alloc: Global, (case, moves, files, expected): FileCase) -> Result<(), Fail> {
+    let moves = read_moves(alloc, moves)?;
+    new_collides_with(alloc, case, (&moves, files), expected)
 }
 
 const WITH_FILES: [FileCase; 11] = [
@@ -150,30 +158,28 @@ const WITH_FILES: [FileCase; 11] = [
 
 #[test]
 fn a_new_path_and_a_file_that_stays(rt: HostRuntime) -> Result<(), Fail> {
-    for (case, moves, files, expected) in &WITH_FILES {
-        file_collides(rt.alloc(), case, (moves, files), *expected)?;
+    for case in &WITH_FILES {
+        new_collides_in(rt.alloc(), *case)?;
     }
     Ok(())
 }
 
-fn same_place(
-    alloc: Global,
-    moves: &[(RelativePath<'_>, RelativePath<'_>)],
-    files: &[RelativePath<'_>],
-) -> Result<Option<(usize, usize)>, Fail> {
-    let tree = TreeMoves::new(alloc, moves)?;
-    Ok(tree.same_place(alloc, files)?)
-}
-
-fn place_collides(
+// Fails where other files collide after these moves than are expected.
+fn files_collide(
     alloc: Global,
     case: &str,
-    (moves, files): (&str, &str),
+    (moves, files): (&[(RelativePath<'_>, RelativePath<'_>)], &str),
     expected: Option<(usize, usize)>,
 ) -> Result<(), Fail> {
-    let moves = read_moves(alloc, moves)?;
     let files = read_files(alloc, files)?;
-    same(case, &same_place(alloc, &moves, &files)?, &expected)
+    let tree = TreeMoves::new(alloc, moves)?;
+    finds(case, tree.same_place(alloc, &files), expected)
+}
+
+// The same of the moves of a case.
+fn files_collide_in(alloc: Global, (case, moves, files, expected): FileCase) -> Result<(), Fail> {
+    let moves = read_moves(alloc, moves)?;
+    files_collide(alloc, case, (&moves, files), expected)
 }
 
 const IN_A_TREE: [FileCase; 12] = [
@@ -238,8 +244,8 @@ const IN_A_TREE: [FileCase; 12] = [
 
 #[test]
 fn two_files_that_collide_after_the_moves(rt: HostRuntime) -> Result<(), Fail> {
-    for (case, moves, files, expected) in &IN_A_TREE {
-        place_collides(rt.alloc(), case, (moves, files), *expected)?;
+    for case in &IN_A_TREE {
+        files_collide_in(rt.alloc(), *case)?;
     }
     Ok(())
 }

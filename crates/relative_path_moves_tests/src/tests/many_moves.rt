@@ -1,4 +1,6 @@
-use super::{Case, all_become, as_paths, becomes, read_move, read_moves, same, text_of, told_in};
+use super::{
+    Case, all_become, as_paths, becomes, gives_text, read_move, read_moves, same, text_of, told_of,
+};
 use relative_path::RelativePath;
 use relative_path_moves::{MoveError, MoveTable, MoveTableError, ReferenceError};
 use std::alloc::{AllocError, Global};
@@ -110,17 +112,29 @@ const IN_A_PAGE: [Case; 7] = [
     ),
 ];
 
-// Fails where a link becomes another text than is expected in this case.
-fn becomes_in_a_page(alloc: Global, (case, moves, link, expected): Case) -> Result<(), Fail> {
+// Fails where a reference of a page becomes another text than is expected after these moves.
+fn becomes_in_a_page(
+    alloc: Global,
+    case: &str,
+    moves: &[(RelativePath<'_>, RelativePath<'_>)],
+    (page, reference): (RelativePath<'_>, RelativePath<'_>),
+    expected: &str,
+) -> Result<(), Fail> {
+    let table = MoveTable::new(alloc, moves)?;
+    let answer = table.moved_in(alloc, page, reference);
+    gives_text(case, told_of(alloc, answer), expected)
+}
+
+// The same of the moves of a case.
+fn link_becomes_in(alloc: Global, (case, moves, link, expected): Case) -> Result<(), Fail> {
     let moves = read_moves(alloc, moves)?;
-    let found = told_in(alloc, &moves, read_move(link))?;
-    same(case, &found.as_str(), &expected)
+    becomes_in_a_page(alloc, case, &moves, read_move(link), expected)
 }
 
 #[test]
 fn answers_in_pages(rt: HostRuntime) -> Result<(), Fail> {
     for case in &IN_A_PAGE {
-        becomes_in_a_page(rt.alloc(), *case)?;
+        link_becomes_in(rt.alloc(), *case)?;
     }
     Ok(())
 }
@@ -164,7 +178,7 @@ fn refers_to_one(alloc: Global, table: &MoveTable<'_>, i: usize) -> Result<(), F
     } else {
         "../500/page.md"
     };
-    same("500.md", &(i, text_of(&way)), &(i, expected))
+    same("500.md", (i, text_of(&way)), (i, expected))
 }
 
 // Asks a table for this reference of each of its files.
@@ -177,7 +191,7 @@ fn all_refer_to_one(alloc: Global, table: &MoveTable<'_>) -> Result<(), Fail> {
 
 // Asks a table of a thousand moves for ten references of each file.
 fn refers_ten_times(alloc: Global, table: &MoveTable<'_>) -> Result<(), Fail> {
-    same("a table", &table.len(), &1_000)?;
+    same("a table", table.len(), 1_000)?;
     for _ in 0..10 {
         all_refer_to_one(alloc, table)?;
     }
@@ -217,7 +231,7 @@ fn tells_refusals_apart() -> Result<(), Fail> {
         ),
         ("other reason", MoveError::AboveRoot, MoveError::NoPath),
     ] {
-        same(what, &(refusal == other), &false)?;
+        same(what, refusal == other, false)?;
         same(what, refusal, refusal)?;
     }
     Ok(())
@@ -225,9 +239,9 @@ fn tells_refusals_apart() -> Result<(), Fail> {
 
 // Fails if an error doesn't print these words, in a width and in a precision too.
 fn prints<T: Display>(alloc: Global, refusal: &T, words: &str) -> Result<(), Fail> {
-    let printed = format!(in alloc; "{refusal}|{refusal:5.99}|{refusal:>99}|{refusal:.2}")?;
     let expected = format!(in alloc; "{words}|{words}|{words}|{words}")?;
-    same(words, &printed, &expected)
+    let printed = format!(in alloc; "{refusal}|{refusal:5.99}|{refusal:>99}|{refusal:.2}");
+    gives_text(words, printed, expected.as_str())
 }
 
 #[test]

@@ -1,4 +1,4 @@
-use super::{finds, same};
+use super::{finds, gives_text, same};
 use relative_path::RelativePath;
 use relative_path_moves::{NormalPath, PlaceIndex, directory, has_place};
 use std::alloc::{AllocError, Global};
@@ -18,7 +18,7 @@ const PATHS: [(usize, &str, usize); 6] = [
 fn inserts(alloc: Global, index: &mut PlaceIndex) -> Result<(), Fail> {
     for (number, path, first) in &PATHS {
         let found = index.insert(alloc, RelativePath::new(path), *number)?;
-        same(path, &found, first)?;
+        same(path, found, *first)?;
     }
     Ok(())
 }
@@ -44,9 +44,11 @@ const NORMAL: [(&str, &str, &str, &str, bool); 6] = [
 
 // Fails where a normal path has another text, directory or place than is expected.
 fn looks(normal: &NormalPath, text: &str, above: &str, has: bool) -> Result<(), Fail> {
-    same(text, &normal.as_relative_path().as_str(), &text)?;
-    same(text, &normal.directory().as_str(), &above)?;
-    same(text, &normal.has_place(), &has)
+    let found = (
+        normal.as_relative_path().as_str(),
+        normal.directory().as_str(),
+    );
+    same(text, (found, normal.has_place()), ((text, above), has))
 }
 
 fn join(alloc: Global, base: &str, reference: &str) -> Result<NormalPath, AllocError> {
@@ -82,42 +84,53 @@ const PAIRS: [(&str, &str, bool); 4] = [
     ("a/..", "", true),
 ];
 
-// Fails where the normal paths of two texts are equal, unless that is expected.
-fn equals(alloc: Global, one: &str, other: &str, equal: bool) -> Result<(), Fail> {
-    let normal = NormalPath::of(alloc, RelativePath::new(one))?;
-    let found = NormalPath::of(alloc, RelativePath::new(other))?;
-    same(other, &(normal == found), &equal)
+// Fails where a normal path isn't printed as its own text is.
+fn prints_its_text(alloc: Global, normal: &NormalPath) -> Result<(), Fail> {
+    let text = format!(in alloc; "{:?}", normal.as_relative_path().as_str())?;
+    gives_text("printed", format!(in alloc; "{normal:?}"), text.as_str())
 }
 
-// Fails where the normal path of a text isn't printed as its own text is.
-fn prints_its_text(alloc: Global, text: &str) -> Result<(), Fail> {
-    let normal = NormalPath::of(alloc, RelativePath::new(text))?;
-    let printed = format!(in alloc; "{normal:?}")?;
-    let text = format!(in alloc; "{:?}", normal.as_relative_path().as_str())?;
-    same("printed", &printed, &text)
+// Fails there, and where it is equal to the normal path of a text, unless that is expected.
+fn equals(alloc: Global, normal: &NormalPath, other: &str, equal: bool) -> Result<(), Fail> {
+    prints_its_text(alloc, normal)?;
+    let found = NormalPath::of(alloc, RelativePath::new(other))?;
+    same(other, *normal == found, equal)
+}
+
+// The same of the normal path of a text.
+fn equals_of(alloc: Global, one: &str, other: &str, equal: bool) -> Result<(), Fail> {
+    let normal = NormalPath::of(alloc, RelativePath::new(one))?;
+    equals(alloc, &normal, other, equal)
 }
 
 #[test]
 fn tells_normal_paths_apart(rt: HostRuntime) -> Result<(), Fail> {
     for (one, other, equal) in &PAIRS {
-        equals(rt.alloc(), one, other, *equal)?;
-        prints_its_text(rt.alloc(), one)?;
+        equals_of(rt.alloc(), one, other, *equal)?;
     }
     Ok(())
 }
 
+// A path, whether it has a place, and its directory.
+const PLACES: [(&str, bool, &str); 5] = [
+    ("", true, ""),
+    ("a/b.md", true, "a"),
+    ("../b.md", false, ".."),
+    ("a/../../b.md", false, "a/../.."),
+    ("b.md/.", true, ""),
+];
+
+// Fails where a path has a place or a directory other than is expected.
+fn is_placed(alloc: Global, text: &str, has: bool, above: &str) -> Result<(), Fail> {
+    let path = RelativePath::new(text);
+    let found = (has_place(alloc, path)?, directory(path).as_str());
+    same(text, found, (has, above))
+}
+
 #[test]
 fn tells_places_and_directories(rt: HostRuntime) -> Result<(), Fail> {
-    for (text, has, above) in &[
-        ("", true, ""),
-        ("a/b.md", true, "a"),
-        ("../b.md", false, ".."),
-        ("a/../../b.md", false, "a/../.."),
-        ("b.md/.", true, ""),
-    ] {
-        let path = RelativePath::new(text);
-        let found = (has_place(rt.alloc(), path)?, directory(path).as_str());
-        same(text, &found, &(*has, *above))?;
+    for (text, has, above) in &PLACES {
+        is_placed(rt.alloc(), text, *has, above)?;
     }
     Ok(())
 }

@@ -2,7 +2,12 @@
 //! each of these tests again and again, and makes one request between its marks fail after another. So
 //! a test accepts a failed allocation as well as the result; without that script it accepts only the
 //! result.
+use super::same;
+use marks::end;
+use relative_path_moves::NormalPath;
 use std::alloc::{AllocError, Global};
+use std::fmt::Debug;
+use std::test::Fail;
 
 mod index;
 mod marks;
@@ -13,4 +18,33 @@ fn long_text(alloc: Global) -> Result<String, AllocError> {
     let mut text = "a/".repeat(alloc, 524_287)?;
     text.push_str("aa")?;
     Ok(text)
+}
+
+// The directory of a long text.
+fn directory_of(long: &str) -> &str {
+    long.strip_suffix("/aa").unwrap_or("")
+}
+
+// The mark after a call that found memory. Fails where it found another value than is expected.
+fn end_with<T: PartialEq + Debug + Drop>(
+    alloc: Global,
+    case: &str,
+    found: T,
+    expected: T,
+) -> Result<(), Fail> {
+    end(alloc, false)?;
+    same(case, found, expected)
+}
+
+// The mark after a call. Fails if no allocation failed and the normal path has another text.
+fn end_with_normal(
+    alloc: Global,
+    case: &str,
+    answer: Result<NormalPath, AllocError>,
+    text: &str,
+) -> Result<(), Fail> {
+    match answer {
+        Ok(normal) => end_with(alloc, case, normal.as_relative_path().as_str(), text),
+        Err(_) => end(alloc, true),
+    }
 }

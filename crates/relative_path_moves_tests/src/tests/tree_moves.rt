@@ -1,7 +1,7 @@
 //! Where files are after moves of directories.
-use super::{read_moves, same, told_of};
+use super::{gives_text, read_moves, same, told_of};
 use relative_path::RelativePath;
-use relative_path_moves::{MoveTableError, NormalPath, TreeMoves};
+use relative_path_moves::{MoveTableError, MovedPage, NormalPath, TreeMoves};
 use std::alloc::Global;
 use std::test::Fail;
 
@@ -27,7 +27,7 @@ const FILES: [(&str, &str); 12] = [
 
 // Fails where a normal path has another text than is expected.
 fn is_at(file: &str, now: &NormalPath, expected: &str) -> Result<(), Fail> {
-    same(file, &now.as_relative_path().as_str(), &expected)
+    same(file, now.as_relative_path().as_str(), expected)
 }
 
 // Fails where a file is at another path than is expected.
@@ -54,41 +54,39 @@ fn the_nearest_move_takes_a_file_along(rt: HostRuntime) -> Result<(), Fail> {
 fn two_moves_of_one_directory_are_an_error(rt: HostRuntime) -> Result<(), Fail> {
     let moves = read_moves(rt.alloc(), "a > b, docs > c, d/../docs > e")?;
     let error = TreeMoves::new(rt.alloc(), &moves).err();
-    same("docs", &error, &Some(MoveTableError::SameOld(1, 2)))
+    same("docs", error, Some(MoveTableError::SameOld(1, 2)))
 }
 
 // A page before moves, a reference in it, and what the reference becomes, `as it is`, or an error's words
 // after `! `.
 type Link = (&'static str, &'static str, &'static str);
 
-// What a reference of a page becomes after moves of directories, as `told_of` says it.
-fn told_in_tree(
+// Fails where a reference in a page becomes another text than is expected after moves of directories.
+fn becomes_in_page(
     alloc: Global,
     tree: &TreeMoves<'_>,
-    page: &str,
-    reference: &str,
-) -> Result<String, Fail> {
-    let page = tree.moved_page(alloc, RelativePath::new(page))?;
-    let answer = tree.moved_in(alloc, &page, RelativePath::new(reference));
-    Ok(told_of(alloc, answer)?)
-}
-
-// Fails where a reference in a page becomes another text than is expected.
-fn link_becomes(
-    alloc: Global,
-    tree: &TreeMoves<'_>,
-    page: &str,
+    page: &MovedPage,
     reference: &str,
     expected: &str,
 ) -> Result<(), Fail> {
-    let told = told_in_tree(alloc, tree, page, reference)?;
-    same(reference, &told.as_str(), &expected)
+    let answer = tree.moved_in(alloc, page, RelativePath::new(reference));
+    gives_text(reference, told_of(alloc, answer), expected)
 }
 
-// Fails where a reference becomes another text than is expected in one of these cases.
+// The same of the page of a row.
+fn link_becomes(
+    alloc: Global,
+    tree: &TreeMoves<'_>,
+    (page, reference, expected): Link,
+) -> Result<(), Fail> {
+    let page = tree.moved_page(alloc, RelativePath::new(page))?;
+    becomes_in_page(alloc, tree, &page, reference, expected)
+}
+
+// The same of each of these rows.
 fn links_become_in(alloc: Global, tree: &TreeMoves<'_>, links: &[Link]) -> Result<(), Fail> {
-    for (page, reference, expected) in links {
-        link_becomes(alloc, tree, page, reference, expected)?;
+    for link in links {
+        link_becomes(alloc, tree, *link)?;
     }
     Ok(())
 }
@@ -100,95 +98,100 @@ fn links_become(alloc: Global, moves: &str, links: &[Link]) -> Result<(), Fail> 
     links_become_in(alloc, &tree, links)
 }
 
+const TO_A_DIRECTORY: [Link; 9] = [
+    ("index.md", "docs/a.md", "guide/a.md"),
+    ("index.md", "docs", "guide"),
+    ("index.md", "./docs/sub/../a.md", "guide/a.md"),
+    ("index.md", "docs2/a.md", "as it is"),
+    ("x/y.md", "../docs/img/x.png", "../guide/img/x.png"),
+    ("x/y.md", "../docs2", "as it is"),
+    ("index.md", "", "as it is"),
+    ("index.md", ".", "as it is"),
+    ("index.md", "./b.md", "as it is"),
+];
+
 #[test]
 fn links_to_a_directory_that_moves(rt: HostRuntime) -> Result<(), Fail> {
-    let links = [
-        ("index.md", "docs/a.md", "guide/a.md"),
-        ("index.md", "docs", "guide"),
-        ("index.md", "./docs/sub/../a.md", "guide/a.md"),
-        ("index.md", "docs2/a.md", "as it is"),
-        ("x/y.md", "../docs/img/x.png", "../guide/img/x.png"),
-        ("x/y.md", "../docs2", "as it is"),
-        ("index.md", "", "as it is"),
-        ("index.md", ".", "as it is"),
-        ("index.md", "./b.md", "as it is"),
-    ];
-    links_become(rt.alloc(), "docs > guide", &links)
+    links_become(rt.alloc(), "docs > guide", &TO_A_DIRECTORY)
 }
+
+const OF_A_PAGE: [Link; 11] = [
+    ("docs/a.md", "img/x.png", "as it is"),
+    ("docs/a.md", "./b.md", "as it is"),
+    ("docs/sub/c.md", "../a.md", "as it is"),
+    ("docs/a.md", "../docs/b.md", "b.md"),
+    ("docs/a.md", "../index.md", "../../index.md"),
+    ("docs/a.md", "..", "../.."),
+    ("docs/a.md", "", "as it is"),
+    ("docs/a.md", ".", "as it is"),
+    ("docs/./a.md", "../docs2/x", "../../docs2/x"),
+    ("docs", "docs/a.md", "guide/a.md"),
+    ("docs/a.md/..", "a.md", "guide/a.md/a.md"),
+];
 
 #[test]
 fn links_of_a_page_in_a_directory_that_moves(rt: HostRuntime) -> Result<(), Fail> {
-    let links = [
-        ("docs/a.md", "img/x.png", "as it is"),
-        ("docs/a.md", "./b.md", "as it is"),
-        ("docs/sub/c.md", "../a.md", "as it is"),
-        ("docs/a.md", "../docs/b.md", "b.md"),
-        ("docs/a.md", "../index.md", "../../index.md"),
-        ("docs/a.md", "..", "../.."),
-        ("docs/a.md", "", "as it is"),
-        ("docs/a.md", ".", "as it is"),
-        ("docs/./a.md", "../docs2/x", "../../docs2/x"),
-        ("docs", "docs/a.md", "guide/a.md"),
-        ("docs/a.md/..", "a.md", "guide/a.md/a.md"),
-    ];
-    links_become(rt.alloc(), "docs > new/guide", &links)
+    links_become(rt.alloc(), "docs > new/guide", &OF_A_PAGE)
 }
 
 // The nearest move counts, for the page and for the target.
+const WITHIN_MOVES: [Link; 6] = [
+    ("docs/c.md", "a.md", "../b.md"),
+    ("docs/a.md", "c.md", "guide/c.md"),
+    ("docs/sub/e.md", "deep/g.md", "../../d/g.md"),
+    ("docs/sub/deep/g.md", "../e.md", "../guide/sub/e.md"),
+    ("docs/sub/deep/f/g.md", "../h.md", "as it is"),
+    ("docs/sub/deep/g.md", "../../a.md", "../b.md"),
+];
+
 #[test]
 fn links_with_moves_within_moves(rt: HostRuntime) -> Result<(), Fail> {
-    let links = [
-        ("docs/c.md", "a.md", "../b.md"),
-        ("docs/a.md", "c.md", "guide/c.md"),
-        ("docs/sub/e.md", "deep/g.md", "../../d/g.md"),
-        ("docs/sub/deep/g.md", "../e.md", "../guide/sub/e.md"),
-        ("docs/sub/deep/f/g.md", "../h.md", "as it is"),
-        ("docs/sub/deep/g.md", "../../a.md", "../b.md"),
-    ];
     links_become(
         rt.alloc(),
         "docs > guide, docs/sub/deep > d, docs/a.md > b.md",
-        &links,
+        &WITHIN_MOVES,
     )
 }
+
+const ABOVE_THE_ROOT: [Link; 7] = [
+    ("docs/a.md", "../../issues", "as it is"),
+    ("docs/sub/a.md", "../../../issues", "as it is"),
+    (
+        "deep/a.md",
+        "../../issues",
+        "! reference climbs above the root",
+    ),
+    ("index.md", "../issues", "as it is"),
+    (
+        "flat/b/a.md",
+        "../../../issues",
+        "! reference climbs above the root",
+    ),
+    ("flat/b/a.md", "../..", ".."),
+    (
+        "flat/b/a.md",
+        "../../../flat/b/c.md",
+        "! reference climbs above the root",
+    ),
+];
 
 #[test]
 fn links_above_the_root(rt: HostRuntime) -> Result<(), Fail> {
-    let links = [
-        ("docs/a.md", "../../issues", "as it is"),
-        ("docs/sub/a.md", "../../../issues", "as it is"),
-        (
-            "deep/a.md",
-            "../../issues",
-            "! reference climbs above the root",
-        ),
-        ("index.md", "../issues", "as it is"),
-        (
-            "flat/b/a.md",
-            "../../../issues",
-            "! reference climbs above the root",
-        ),
-        ("flat/b/a.md", "../..", ".."),
-        (
-            "flat/b/a.md",
-            "../../../flat/b/c.md",
-            "! reference climbs above the root",
-        ),
-    ];
     links_become(
         rt.alloc(),
         "docs > guide, deep > deep/er, flat/b > b",
-        &links,
+        &ABOVE_THE_ROOT,
     )
 }
 
+const TO_ABOVE_THE_ROOT: [Link; 4] = [
+    ("out/a.md", "../index.md", "! no path"),
+    ("out/a.md", "b.md", "as it is"),
+    ("out/a.md", "../out/b.md", "as it is"),
+    ("index.md", "out/a.md", "! reference climbs above the root"),
+];
+
 #[test]
 fn links_with_a_new_path_above_the_root(rt: HostRuntime) -> Result<(), Fail> {
-    let links = [
-        ("out/a.md", "../index.md", "! no path"),
-        ("out/a.md", "b.md", "as it is"),
-        ("out/a.md", "../out/b.md", "as it is"),
-        ("index.md", "out/a.md", "! reference climbs above the root"),
-    ];
-    links_become(rt.alloc(), "out > ../out", &links)
+    links_become(rt.alloc(), "out > ../out", &TO_ABOVE_THE_ROOT)
 }

@@ -1,6 +1,6 @@
 //! Paths by their places.
-use super::long_text;
 use super::marks::{begin, end};
+use super::{end_with, end_with_normal, long_text};
 use crate::tests::{finds, same};
 use relative_path::RelativePath;
 use relative_path_moves::{NormalPath, PlaceIndex, has_place};
@@ -39,9 +39,7 @@ fn get_of(alloc: Global, text: &str) -> Result<(), Fail> {
     index.insert(alloc, RelativePath::new(text), 0)?;
     let place = NormalPath::of(alloc, RelativePath::new(text))?;
     begin(alloc);
-    let found = index.get(&place);
-    end(alloc, false)?;
-    same("get", &found, &Some(0))
+    end_with(alloc, "get", index.get(&place), Some(0))
 }
 
 // Requests: = 0, = 0, = 0
@@ -50,20 +48,6 @@ fn get(rt: HostRuntime) -> Result<(), Fail> {
     get_of(rt.alloc(), "a//b")?;
     get_of(rt.alloc(), "")?;
     get_of(rt.alloc(), long_text(rt.alloc())?.as_str())
-}
-
-// The mark after a call. Fails if no allocation failed and the normal path has another text.
-fn end_with_normal(
-    alloc: Global,
-    case: &str,
-    answer: Result<NormalPath, AllocError>,
-    text: &str,
-) -> Result<(), Fail> {
-    end(alloc, answer.is_err())?;
-    match answer {
-        Ok(normal) => same(case, &normal.as_relative_path().as_str(), &text),
-        Err(_) => Ok(()),
-    }
 }
 
 fn normal_of(alloc: Global, text: &str, expected: &str) -> Result<(), Fail> {
@@ -104,7 +88,7 @@ fn place_of(alloc: Global, text: &str) -> Result<(), Fail> {
     begin(alloc);
     let has = has_place(alloc, RelativePath::new(text));
     end(alloc, has.is_err())?;
-    same("has_place", &has.unwrap_or(true), &true)
+    same("has_place", has.unwrap_or(true), true)
 }
 
 // Requests: 3s 1s = 0, 1s = 0, 524288s 1s = 0

@@ -1,6 +1,6 @@
 //! Files that move.
-use super::long_text;
 use super::marks::{begin, end};
+use super::{directory_of, end_with, end_with_normal, long_text};
 use crate::tests::{as_paths, same, text_of};
 use relative_path::{RelativePath, RelativePathBuf};
 use relative_path_moves::{
@@ -9,16 +9,28 @@ use relative_path_moves::{
 use std::alloc::{AllocError, Global};
 use std::test::Fail;
 
+// Moves of two pages.
+fn page_moves() -> [(RelativePath<'static>, RelativePath<'static>); 2] {
+    [("a.md", "x/a.md"), ("b.md", "y/b.md")].map(as_paths)
+}
+
+// A move of a directory.
+fn docs_moves() -> [(RelativePath<'static>, RelativePath<'static>); 1] {
+    [("docs", "guide")].map(as_paths)
+}
+
 // The mark after a call. Fails if no allocation failed and the result has another text.
 fn end_with_way(
     alloc: Global,
     answer: Result<RelativePathBuf, MoveError>,
     text: &str,
 ) -> Result<(), Fail> {
-    end(alloc, answer.is_err())?;
     match answer {
-        Ok(way) => same("a way", &text_of(&way), &text),
-        Err(error) => same("a refusal", &error, &MoveError::OutOfMemory),
+        Ok(way) => end_with(alloc, "a way", text_of(&way), text),
+        Err(error) => {
+            end(alloc, true)?;
+            same("a refusal", error, MoveError::OutOfMemory)
+        }
     }
 }
 
@@ -35,21 +47,24 @@ fn ask_one_move(
     end_with_way(alloc, answer, way)
 }
 
+// What the directory of a long path becomes.
+fn ask_a_long_move(alloc: Global, long: &str) -> Result<(), Fail> {
+    ask_one_move(alloc, (long, "b"), ".", directory_of(long))
+}
+
 // Requests: 2s 9 488 4s 9 2s 1s 2s 2s 15 = 1, 1s 4 488 1s = 0, 524288s 1048576 488 524288s 1048573 524287s 1s 524287s 1048573 = 1
 #[test]
 fn one_move(rt: HostRuntime) -> Result<(), Fail> {
     let first = ("docs/a.md", "docs/sub/b.md");
     ask_one_move(rt.alloc(), first, "../img/x.png", "../../img/x.png")?;
     ask_one_move(rt.alloc(), ("a.md", "b.md"), "", "")?;
-    let long = long_text(rt.alloc())?;
-    let above = long.strip_suffix("/aa").ok_or("a directory")?;
-    ask_one_move(rt.alloc(), (long.as_str(), "b"), ".", above)
+    ask_a_long_move(rt.alloc(), long_text(rt.alloc())?.as_str())
 }
 
 // Requests: 1s 4 488 1s 4 1s 4 2s 1s 1s 2s 9 = 1
 #[test]
 fn two_moves(rt: HostRuntime) -> Result<(), Fail> {
-    let moves = [("a.md", "x/a.md"), ("b.md", "y/b.md")].map(as_paths);
+    let moves = page_moves();
     let reference = RelativePath::new("b.md");
     begin(rt.alloc());
     let answer = moved(rt.alloc(), &moves, 0, reference);
@@ -64,26 +79,28 @@ fn a_move_without_a_file_name(rt: HostRuntime) -> Result<(), Fail> {
     let answer = moved(rt.alloc(), &moves, 0, RelativePath::new("x"));
     let error = answer.err();
     end(rt.alloc(), error == Some(MoveError::OutOfMemory))?;
-    same("a name", &error, &Some(MoveError::NoFileName(1)))
+    same("a name", error, Some(MoveError::NoFileName(1)))
+}
+
+// The mark after a call that makes a table of moves. Fails if no allocation failed.
+fn end_refused(alloc: Global, error: MoveTableError) -> Result<(), Fail> {
+    end(alloc, true)?;
+    same("a refusal", error, MoveTableError::OutOfMemory)
 }
 
 fn makes(alloc: Global, moves: &[(RelativePath<'_>, RelativePath<'_>)]) -> Result<(), Fail> {
     begin(alloc);
     let answer = MoveTable::new(alloc, moves);
-    end(alloc, answer.is_err())?;
     match answer {
-        Ok(table) => same("a table", &table.len(), &moves.len()),
-        Err(error) => same("a refusal", &error, &MoveTableError::OutOfMemory),
+        Ok(table) => end_with(alloc, "a table", table.len(), moves.len()),
+        Err(error) => end_refused(alloc, error),
     }
 }
 
 // Requests: 1s 4 488 1s 4 = 3, = 0, 524288s 1048576 488 = 2
 #[test]
 fn a_table(rt: HostRuntime) -> Result<(), Fail> {
-    makes(
-        rt.alloc(),
-        &[("a.md", "x/a.md"), ("b.md", "y/b.md")].map(as_paths),
-    )?;
+    makes(rt.alloc(), &page_moves())?;
     makes(rt.alloc(), &[])?;
     let long = long_text(rt.alloc())?;
     makes(rt.alloc(), &[as_paths((long.as_str(), "b"))])
@@ -99,7 +116,7 @@ fn a_table_with_one_old_path_twice(rt: HostRuntime) -> Result<(), Fail> {
     end(rt.alloc(), error == Some(MoveTableError::OutOfMemory))?;
     let is_told = error == Some(MoveTableError::SameOld(0, 1))
         || error == Some(MoveTableError::OutOfMemory);
-    same("one old path", &is_told, &true)
+    same("one old path", is_told, true)
 }
 
 // The mark after a call. Fails if no allocation failed and the reference isn't refused.
@@ -107,7 +124,7 @@ fn end_above_root(alloc: Global, error: Option<ReferenceError>) -> Result<(), Fa
     let is_refused = error == Some(ReferenceError::OutOfMemory);
     end(alloc, is_refused)?;
     let is_told = is_refused || error == Some(ReferenceError::AboveRoot);
-    same("above the root", &is_told, &true)
+    same("above the root", is_told, true)
 }
 
 // References of the first file of a table of two, and one that climbs above the root.
@@ -143,7 +160,7 @@ fn long_climb(alloc: Global) -> Result<String, AllocError> {
 // Requests: 1s 4 2s 1s 1s 2s 9 = 1, 2s 7 2s 1s = 0, 1s 1s 2 = 1, 524288s 1048576 524288s 1s 1s 524288s 1048579 = 1
 #[test]
 fn a_reference_of_a_table(rt: HostRuntime) -> Result<(), Fail> {
-    let moves = [("a.md", "x/a.md"), ("b.md", "y/b.md")].map(as_paths);
+    let moves = page_moves();
     let table = MoveTable::new(rt.alloc(), &moves)?;
     ask(rt.alloc(), &table, long_climb(rt.alloc())?.as_str())
 }
@@ -152,10 +169,9 @@ fn a_reference_of_a_table(rt: HostRuntime) -> Result<(), Fail> {
 fn ask_of_a_file(alloc: Global, table: &MoveTable<'_>, file: &str, now: &str) -> Result<(), Fail> {
     begin(alloc);
     let answer = table.path_after(alloc, RelativePath::new(file));
-    end(alloc, answer.is_err())?;
     match answer {
-        Ok(path) => same("a file", &path.as_str(), &now),
-        Err(_) => Ok(()),
+        Ok(path) => end_with(alloc, "a file", path.as_str(), now),
+        Err(_) => end(alloc, true),
     }
 }
 
@@ -169,7 +185,7 @@ fn ask_of_files(alloc: Global, table: &MoveTable<'_>) -> Result<(), Fail> {
 // Requests: 2s 4 = 0, = 0, 524288s 1048576 = 0
 #[test]
 fn the_path_of_a_file(rt: HostRuntime) -> Result<(), Fail> {
-    let moves = [("a.md", "x/a.md"), ("b.md", "y/b.md")].map(as_paths);
+    let moves = page_moves();
     let table = MoveTable::new(rt.alloc(), &moves)?;
     ask_of_files(rt.alloc(), &table)
 }
@@ -180,10 +196,9 @@ fn end_with_pair(
     answer: Result<Option<(usize, usize)>, AllocError>,
     pair: Option<(usize, usize)>,
 ) -> Result<(), Fail> {
-    end(alloc, answer.is_err())?;
     match answer {
-        Ok(found) => same("a pair", &found, &pair),
-        Err(_) => Ok(()),
+        Ok(found) => end_with(alloc, "a pair", found, pair),
+        Err(_) => end(alloc, true),
     }
 }
 
@@ -220,30 +235,33 @@ fn ask_for_a_place(
     end_with_pair(alloc, answer, pair)
 }
 
+fn ask_for_places(alloc: Global, tree: &TreeMoves<'_>) -> Result<(), Fail> {
+    let files = ["docs/a", "guide/a"].map(RelativePath::new);
+    ask_for_a_place(alloc, tree, &files, Some((0, 1)))?;
+    ask_for_a_place(alloc, tree, &[], None)
+}
+
 // Requests: 48 2s 6 7 2s 7 2s 7 488 2s 7 = 0, = 0
 #[test]
 fn two_files_in_a_tree(rt: HostRuntime) -> Result<(), Fail> {
-    let moves = [("docs", "guide")].map(as_paths);
+    let moves = docs_moves();
     let tree = TreeMoves::new(rt.alloc(), &moves)?;
-    let files = ["docs/a", "guide/a"].map(RelativePath::new);
-    ask_for_a_place(rt.alloc(), &tree, &files, Some((0, 1)))?;
-    ask_for_a_place(rt.alloc(), &tree, &[], None)
+    ask_for_places(rt.alloc(), &tree)
 }
 
 fn plants(alloc: Global, moves: &[(RelativePath<'_>, RelativePath<'_>)]) -> Result<(), Fail> {
     begin(alloc);
     let answer = TreeMoves::new(alloc, moves);
-    end(alloc, answer.is_err())?;
     match answer {
-        Ok(_) => Ok(()),
-        Err(error) => same("a refusal", &error, &MoveTableError::OutOfMemory),
+        Ok(_) => end(alloc, false),
+        Err(error) => end_refused(alloc, error),
     }
 }
 
 // Requests: 1s 4 488 1s 1s 5 = 4, = 0
 #[test]
 fn a_tree(rt: HostRuntime) -> Result<(), Fail> {
-    plants(rt.alloc(), &[as_paths(("docs", "guide"))])?;
+    plants(rt.alloc(), &docs_moves())?;
     plants(rt.alloc(), &[])
 }
 
@@ -251,11 +269,7 @@ fn a_tree(rt: HostRuntime) -> Result<(), Fail> {
 fn ask_of_a_tree(alloc: Global, tree: &TreeMoves<'_>, file: &str, now: &str) -> Result<(), Fail> {
     begin(alloc);
     let answer = tree.path_after(alloc, RelativePath::new(file));
-    end(alloc, answer.is_err())?;
-    match answer {
-        Ok(path) => same("a file", &path.as_relative_path().as_str(), &now),
-        Err(_) => Ok(()),
-    }
+    end_with_normal(alloc, "a file", answer, now)
 }
 
 fn ask_of_files_of_a_tree(alloc: Global, tree: &TreeMoves<'_>) -> Result<(), Fail> {
@@ -270,17 +284,18 @@ fn ask_of_files_of_a_tree(alloc: Global, tree: &TreeMoves<'_>) -> Result<(), Fai
 // Requests: 2s 6 7 = 1, 2s 7 = 1, = 0, 2s 4 = 1, 524288s 1048576 = 1
 #[test]
 fn the_path_of_a_file_in_a_tree(rt: HostRuntime) -> Result<(), Fail> {
-    let moves = [("docs", "guide")].map(as_paths);
+    let moves = docs_moves();
     let tree = TreeMoves::new(rt.alloc(), &moves)?;
     ask_of_files_of_a_tree(rt.alloc(), &tree)
 }
 
-// Fails where a page has another path after the moves, or another directory before or after them.
-fn is_page(page: &str, moved: &MovedPage, now: (&str, &str, &str)) -> Result<(), Fail> {
-    let (path, before, after) = now;
-    same(page, &moved.path.as_relative_path().as_str(), &path)?;
-    same(page, &moved.before.as_relative_path().as_str(), &before)?;
-    same(page, &moved.after.as_relative_path().as_str(), &after)
+// The path of a page after the moves, and its directories before and after them.
+fn texts_of(moved: &MovedPage) -> (&str, &str, &str) {
+    (
+        moved.path.as_relative_path().as_str(),
+        moved.before.as_relative_path().as_str(),
+        moved.after.as_relative_path().as_str(),
+    )
 }
 
 // The mark after a call. Fails if no allocation failed and the result is another page.
@@ -290,10 +305,9 @@ fn end_with_page(
     answer: Result<MovedPage, AllocError>,
     now: (&str, &str, &str),
 ) -> Result<(), Fail> {
-    end(alloc, answer.is_err())?;
     match answer {
-        Ok(moved) => is_page(page, &moved, now),
-        Err(_) => Ok(()),
+        Ok(moved) => end_with(alloc, page, texts_of(&moved), now),
+        Err(_) => end(alloc, true),
     }
 }
 
@@ -317,19 +331,21 @@ const PAGES: [(&str, (&str, &str, &str)); 3] = [
 ];
 
 fn ask_of_pages(alloc: Global, tree: &TreeMoves<'_>) -> Result<(), Fail> {
-    for (page, now) in PAGES {
-        ask_of_a_page(alloc, tree, page, now)?;
+    for (page, now) in &PAGES {
+        ask_of_a_page(alloc, tree, page, *now)?;
     }
-    let long = long_text(alloc)?;
-    let above = long.strip_suffix("/aa").ok_or("a directory")?;
-    let now = (long.as_str(), above, above);
-    ask_of_a_page(alloc, tree, long.as_str(), now)
+    ask_of_a_long_page(alloc, tree, long_text(alloc)?.as_str())
+}
+
+fn ask_of_a_long_page(alloc: Global, tree: &TreeMoves<'_>, long: &str) -> Result<(), Fail> {
+    let above = directory_of(long);
+    ask_of_a_page(alloc, tree, long, (long, above, above))
 }
 
 // Requests: 1s 4 2s 6 7 1s 5 = 3, 1s 1 2s 3 1s 1 = 3, = 0, 524287s 1048573 524288s 1048576 524287s 1048573 = 3
 #[test]
 fn a_page_of_a_tree(rt: HostRuntime) -> Result<(), Fail> {
-    let moves = [("docs", "guide")].map(as_paths);
+    let moves = docs_moves();
     let tree = TreeMoves::new(rt.alloc(), &moves)?;
     ask_of_pages(rt.alloc(), &tree)
 }
@@ -341,10 +357,12 @@ fn end_with_change(
     answer: Result<Option<RelativePathBuf>, ReferenceError>,
     text: Option<&str>,
 ) -> Result<(), Fail> {
-    end(alloc, answer.is_err())?;
     match answer {
-        Ok(way) => same(reference, &way.as_ref().map(text_of), &text),
-        Err(error) => same(reference, &error, &ReferenceError::OutOfMemory),
+        Ok(way) => end_with(alloc, reference, way.as_ref().map(text_of), text),
+        Err(error) => {
+            end(alloc, true)?;
+            same(reference, error, ReferenceError::OutOfMemory)
+        }
     }
 }
 
@@ -384,18 +402,17 @@ const REFERENCES: [((&str, &str), Option<&str>); 4] = [
 ];
 
 fn ask_for_references(alloc: Global, tree: &TreeMoves<'_>) -> Result<(), Fail> {
-    for (link, text) in REFERENCES {
-        ask_in_a_tree(alloc, tree, link, text)?;
+    for (link, text) in &REFERENCES {
+        ask_in_a_tree(alloc, tree, *link, *text)?;
     }
     ask_in_a_deeper_tree(alloc)?;
-    let long = long_text(alloc)?;
-    ask_in_a_tree(alloc, tree, ("c/d", long.as_str()), None)
+    ask_in_a_tree(alloc, tree, ("c/d", long_text(alloc)?.as_str()), None)
 }
 
 // Requests: 4s 6 7 11 = 1, 2s 6 7 8 = 1, 2s 6 7 = 0, 1s 1 = 0, 4s 4 = 0, 524289s 1048578 = 0
 #[test]
 fn a_reference_in_a_tree(rt: HostRuntime) -> Result<(), Fail> {
-    let moves = [("docs", "guide")].map(as_paths);
+    let moves = docs_moves();
     let tree = TreeMoves::new(rt.alloc(), &moves)?;
     ask_for_references(rt.alloc(), &tree)
 }
@@ -425,7 +442,7 @@ fn ask_in_pages(alloc: Global, table: &MoveTable<'_>) -> Result<(), Fail> {
 // 2s 6 524289s 1048578 1048578 524289s 524289s = 0
 #[test]
 fn a_reference_of_a_page(rt: HostRuntime) -> Result<(), Fail> {
-    let moves = [("a.md", "x/a.md"), ("b.md", "y/b.md")].map(as_paths);
+    let moves = page_moves();
     let table = MoveTable::new(rt.alloc(), &moves)?;
     ask_in_pages(rt.alloc(), &table)
 }
