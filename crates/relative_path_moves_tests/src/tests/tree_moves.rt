@@ -9,8 +9,11 @@ use std::test::Fail;
 const MOVES: &str =
     "docs > guide, docs/sub/deep > d, docs/a.md > b.md, guide > old/./guide, ../up > up, x/y > ../z";
 
-// A file before these moves and after them.
-const FILES: [(&str, &str); 12] = [
+// A file before moves and after them.
+type Moved = (&'static str, &'static str);
+
+// The files of these moves.
+const FILES: [Moved; 12] = [
     ("docs/c.md", "guide/c.md"),
     ("docs", "guide"),
     ("docs2/a.md", "docs2/a.md"),
@@ -36,18 +39,27 @@ fn is_after(alloc: Global, tree: &TreeMoves<'_>, file: &str, expected: &str) -> 
     is_at(file, &now, expected)
 }
 
-fn are_after(alloc: Global, tree: &TreeMoves<'_>) -> Result<(), Fail> {
-    for (file, expected) in &FILES {
+// Fails where one of these files is at another path than is expected.
+fn are_after(alloc: Global, tree: &TreeMoves<'_>, files: &[Moved]) -> Result<(), Fail> {
+    for (file, expected) in files {
         is_after(alloc, tree, file, expected)?;
     }
     Ok(())
 }
 
+// The same of the files of the table, after these moves.
+fn are_after_moves(
+    alloc: Global,
+    moves: &[(RelativePath<'_>, RelativePath<'_>)],
+) -> Result<(), Fail> {
+    let tree = TreeMoves::new(alloc, moves)?;
+    are_after(alloc, &tree, &FILES)
+}
+
 #[test]
 fn the_nearest_move_takes_a_file_along(rt: HostRuntime) -> Result<(), Fail> {
     let moves = read_moves(rt.alloc(), MOVES)?;
-    let tree = TreeMoves::new(rt.alloc(), &moves)?;
-    are_after(rt.alloc(), &tree)
+    are_after_moves(rt.alloc(), &moves)
 }
 
 #[test]
@@ -92,10 +104,19 @@ fn links_become_in(alloc: Global, tree: &TreeMoves<'_>, links: &[Link]) -> Resul
 }
 
 // The same, after these moves.
+fn links_become_after(
+    alloc: Global,
+    moves: &[(RelativePath<'_>, RelativePath<'_>)],
+    links: &[Link],
+) -> Result<(), Fail> {
+    let tree = TreeMoves::new(alloc, moves)?;
+    links_become_in(alloc, &tree, links)
+}
+
+// The same, after the moves of a text.
 fn links_become(alloc: Global, moves: &str, links: &[Link]) -> Result<(), Fail> {
     let moves = read_moves(alloc, moves)?;
-    let tree = TreeMoves::new(alloc, &moves)?;
-    links_become_in(alloc, &tree, links)
+    links_become_after(alloc, &moves, links)
 }
 
 const TO_A_DIRECTORY: [Link; 9] = [

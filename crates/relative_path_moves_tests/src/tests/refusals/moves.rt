@@ -7,6 +7,7 @@ use relative_path_moves::{
     MoveError, MoveTable, MoveTableError, MovedPage, ReferenceError, TreeMoves, moved,
 };
 use std::alloc::{AllocError, Global};
+use std::fmt::Debug;
 use std::test::Fail;
 
 // Moves of two pages.
@@ -97,13 +98,16 @@ fn makes(alloc: Global, moves: &[(RelativePath<'_>, RelativePath<'_>)]) -> Resul
     }
 }
 
+fn makes_of_one(alloc: Global, old: &str) -> Result<(), Fail> {
+    makes(alloc, &[as_paths((old, "b"))])
+}
+
 // Requests: 1s 4 488 1s 4 = 3, = 0, 524288s 1048576 488 = 2
 #[test]
 fn a_table(rt: HostRuntime) -> Result<(), Fail> {
     makes(rt.alloc(), &page_moves())?;
     makes(rt.alloc(), &[])?;
-    let long = long_text(rt.alloc())?;
-    makes(rt.alloc(), &[as_paths((long.as_str(), "b"))])
+    makes_of_one(rt.alloc(), long_text(rt.alloc())?.as_str())
 }
 
 // Requests: 1s 1 488 2s 1 = 0
@@ -112,19 +116,37 @@ fn a_table_with_one_old_path_twice(rt: HostRuntime) -> Result<(), Fail> {
     let moves = [("a", "b"), ("./a", "c")].map(as_paths);
     begin(rt.alloc());
     let answer = MoveTable::new(rt.alloc(), &moves);
-    let error = answer.err();
-    end(rt.alloc(), error == Some(MoveTableError::OutOfMemory))?;
-    let is_told = error == Some(MoveTableError::SameOld(0, 1))
-        || error == Some(MoveTableError::OutOfMemory);
-    same("one old path", is_told, true)
+    let expected = MoveTableError::SameOld(0, 1);
+    end_with_error(
+        rt.alloc(),
+        answer.err(),
+        MoveTableError::OutOfMemory,
+        expected,
+    )
 }
 
-// The mark after a call. Fails if no allocation failed and the reference isn't refused.
+// The mark after a call. Fails if no allocation failed and the error is another, or there is none.
+fn end_with_error<E: PartialEq + Debug + Drop>(
+    alloc: Global,
+    error: Option<E>,
+    out_of_memory: E,
+    expected: E,
+) -> Result<(), Fail> {
+    if error == Some(out_of_memory) {
+        end(alloc, true)
+    } else {
+        end_with(alloc, "an error", error, Some(expected))
+    }
+}
+
+// The same of a reference that climbs above the root.
 fn end_above_root(alloc: Global, error: Option<ReferenceError>) -> Result<(), Fail> {
-    let is_refused = error == Some(ReferenceError::OutOfMemory);
-    end(alloc, is_refused)?;
-    let is_told = is_refused || error == Some(ReferenceError::AboveRoot);
-    same("above the root", is_told, true)
+    end_with_error(
+        alloc,
+        error,
+        ReferenceError::OutOfMemory,
+        ReferenceError::AboveRoot,
+    )
 }
 
 // References of the first file of a table of two, and one that climbs above the root.
@@ -272,11 +294,18 @@ fn ask_of_a_tree(alloc: Global, tree: &TreeMoves<'_>, file: &str, now: &str) -> 
     end_with_normal(alloc, "a file", answer, now)
 }
 
+// Files before a move of `docs` to `guide`, and after it.
+const FILES: [(&str, &str); 4] = [
+    ("docs/a", "guide/a"),
+    ("docs2/a", "docs2/a"),
+    ("", ""),
+    ("../a", "../a"),
+];
+
 fn ask_of_files_of_a_tree(alloc: Global, tree: &TreeMoves<'_>) -> Result<(), Fail> {
-    ask_of_a_tree(alloc, tree, "docs/a", "guide/a")?;
-    ask_of_a_tree(alloc, tree, "docs2/a", "docs2/a")?;
-    ask_of_a_tree(alloc, tree, "", "")?;
-    ask_of_a_tree(alloc, tree, "../a", "../a")?;
+    for (file, now) in &FILES {
+        ask_of_a_tree(alloc, tree, file, now)?;
+    }
     let long = long_text(alloc)?;
     ask_of_a_tree(alloc, tree, long.as_str(), long.as_str())
 }
@@ -393,18 +422,26 @@ fn ask_above_root(alloc: Global, tree: &TreeMoves<'_>) -> Result<(), Fail> {
     end_above_root(alloc, answer.err())
 }
 
-// References in pages, and what these become after a move of `docs` to `guide`, if that is another.
-const REFERENCES: [((&str, &str), Option<&str>); 4] = [
+// A reference in a page, and what it becomes, if that is another.
+type Reference = ((&'static str, &'static str), Option<&'static str>);
+
+// References before a move of `docs` to `guide`.
+const REFERENCES: [Reference; 4] = [
     (("c/d", "../docs/b"), Some("../guide/b")),
     (("d", "docs/b"), Some("guide/b")),
     (("docs/a", "b"), None),
     (("c/d", ""), None),
 ];
 
-fn ask_for_references(alloc: Global, tree: &TreeMoves<'_>) -> Result<(), Fail> {
-    for (link, text) in &REFERENCES {
+fn ask_for_those_of(alloc: Global, tree: &TreeMoves<'_>, rows: &[Reference]) -> Result<(), Fail> {
+    for (link, text) in rows {
         ask_in_a_tree(alloc, tree, *link, *text)?;
     }
+    Ok(())
+}
+
+fn ask_for_references(alloc: Global, tree: &TreeMoves<'_>) -> Result<(), Fail> {
+    ask_for_those_of(alloc, tree, &REFERENCES)?;
     ask_in_a_deeper_tree(alloc)?;
     ask_in_a_tree(alloc, tree, ("c/d", long_text(alloc)?.as_str()), None)
 }
@@ -429,13 +466,19 @@ fn ask_in_a_page(
     end_with_change(alloc, reference, answer, text)
 }
 
+// References before moves of two pages.
+const OF_A_PAGE: [Reference; 3] = [
+    (("c/d.md", "../b.md"), Some("../y/b.md")),
+    (("c/d.md", "./e.md"), None),
+    (("", ""), None),
+];
+
 fn ask_in_pages(alloc: Global, table: &MoveTable<'_>) -> Result<(), Fail> {
-    let page = "c/d.md";
-    ask_in_a_page(alloc, table, (page, "../b.md"), Some("../y/b.md"))?;
-    ask_in_a_page(alloc, table, (page, "./e.md"), None)?;
-    ask_in_a_page(alloc, table, ("", ""), None)?;
+    for (link, text) in &OF_A_PAGE {
+        ask_in_a_page(alloc, table, *link, *text)?;
+    }
     let long = long_text(alloc)?;
-    ask_in_a_page(alloc, table, (page, long.as_str()), None)
+    ask_in_a_page(alloc, table, ("c/d.md", long.as_str()), None)
 }
 
 // Requests: 2s 6 3s 4 9 3s 2s 1s 2s 9 = 1, 2s 6 3s 6 8 3s 2s = 0, = 0,
