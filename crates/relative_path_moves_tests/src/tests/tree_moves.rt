@@ -119,6 +119,7 @@ fn links_become(alloc: Global, moves: &str, links: &[Link]) -> Result<(), Fail> 
     links_become_after(alloc, &moves, links)
 }
 
+// Links before a move of `docs` to `guide`.
 const TO_A_DIRECTORY: [Link; 9] = [
     ("index.md", "docs/a.md", "guide/a.md"),
     ("index.md", "docs", "guide"),
@@ -136,6 +137,7 @@ fn links_to_a_directory_that_moves(rt: HostRuntime) -> Result<(), Fail> {
     links_become(rt.alloc(), "docs > guide", &TO_A_DIRECTORY)
 }
 
+// Links before a move of `docs` to `new/guide`.
 const OF_A_PAGE: [Link; 11] = [
     ("docs/a.md", "img/x.png", "as it is"),
     ("docs/a.md", "./b.md", "as it is"),
@@ -174,6 +176,7 @@ fn links_with_moves_within_moves(rt: HostRuntime) -> Result<(), Fail> {
     )
 }
 
+// Links before moves of three directories, two of them to another depth.
 const ABOVE_THE_ROOT: [Link; 7] = [
     ("docs/a.md", "../../issues", "as it is"),
     ("docs/sub/a.md", "../../../issues", "as it is"),
@@ -205,6 +208,7 @@ fn links_above_the_root(rt: HostRuntime) -> Result<(), Fail> {
     )
 }
 
+// Links before a move of `out` above the root.
 const TO_ABOVE_THE_ROOT: [Link; 4] = [
     ("out/a.md", "../index.md", "! no path"),
     ("out/a.md", "b.md", "as it is"),

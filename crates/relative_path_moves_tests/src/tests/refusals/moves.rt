@@ -98,6 +98,7 @@ fn makes(alloc: Global, moves: &[(RelativePath<'_>, RelativePath<'_>)]) -> Resul
     }
 }
 
+// A table of the move of one file.
 fn makes_of_one(alloc: Global, old: &str) -> Result<(), Fail> {
     makes(alloc, &[as_paths((old, "b"))])
 }
@@ -257,6 +258,7 @@ fn ask_for_a_place(
     end_with_pair(alloc, answer, pair)
 }
 
+// Files of which two are at one place, and no file.
 fn ask_for_places(alloc: Global, tree: &TreeMoves<'_>) -> Result<(), Fail> {
     let files = ["docs/a", "guide/a"].map(RelativePath::new);
     ask_for_a_place(alloc, tree, &files, Some((0, 1)))?;
@@ -366,6 +368,7 @@ fn ask_of_pages(alloc: Global, tree: &TreeMoves<'_>) -> Result<(), Fail> {
     ask_of_a_long_page(alloc, tree, long_text(alloc)?.as_str())
 }
 
+// The same of a page with a long path.
 fn ask_of_a_long_page(alloc: Global, tree: &TreeMoves<'_>, long: &str) -> Result<(), Fail> {
     let above = directory_of(long);
     ask_of_a_page(alloc, tree, long, (long, above, above))
@@ -433,6 +436,7 @@ const REFERENCES: [Reference; 4] = [
     (("c/d", ""), None),
 ];
 
+// What the references of these rows become.
 fn ask_for_those_of(alloc: Global, tree: &TreeMoves<'_>, rows: &[Reference]) -> Result<(), Fail> {
     for (link, text) in rows {
         ask_in_a_tree(alloc, tree, *link, *text)?;
