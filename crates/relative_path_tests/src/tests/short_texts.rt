@@ -46,10 +46,7 @@ fn lead<'a>(
     depth: usize,
     path: RelativePath<'a>,
 ) -> Result<Option<Vec<&'a str>>, AllocError> {
-    let mut place = Vec::new(alloc);
-    for _ in 0..depth {
-        place.push("base")?;
-    }
+    let mut place = vec![in alloc; "base"; depth]?;
     for component in path.components() {
         if !step(&mut place, component)? {
             return Ok(None);
