@@ -3,7 +3,7 @@
 //! a test accepts a failed allocation as well as the result; without that script it accepts only the
 //! result.
 use super::{same, text_of};
-use marks::end;
+use marks::{end, end_answered};
 use relative_path::RelativePathBuf;
 use std::alloc::{AllocError, Global};
 use std::test::Fail;
@@ -14,6 +14,7 @@ mod naming;
 mod normalizing;
 mod platform;
 mod relating;
+mod rows;
 mod wrong;
 
 // A normal text of 524,288 components and 1,048,576 bytes.
@@ -29,9 +30,11 @@ fn gives(
     answer: Result<RelativePathBuf, AllocError>,
     text: &str,
 ) -> Result<(), Fail> {
-    end(alloc, answer.is_err())?;
     match answer {
-        Ok(buf) => same("text and room", (text_of(&buf), buf.spare()), (text, 0)),
-        Err(_) => Ok(()),
+        Ok(buf) => {
+            end_answered(alloc);
+            same("text and room", (text_of(&buf), buf.spare()), (text, 0))
+        }
+        Err(_) => end(alloc, true),
     }
 }

@@ -8,6 +8,11 @@ pub fn begin(alloc: Global) {
     let _ = String::with_capacity(alloc, 1_000_003);
 }
 
+/// The requests of a call that doesn't say that an allocation failed end before this mark.
+pub fn end_answered(alloc: Global) {
+    let _ = String::with_capacity(alloc, 1_000_037);
+}
+
 /// The requests of the call end before this mark. Its size says whether an allocation of the call
 /// failed. If one did, tools/refuse.c makes this mark fail too. If the mark is granted although the
 /// call says that an allocation failed, none failed, and the test fails.

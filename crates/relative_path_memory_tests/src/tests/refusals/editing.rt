@@ -1,5 +1,6 @@
 //! Copies, joins and pushes.
-use super::marks::{begin, end};
+use super::marks::{begin, end, end_answered};
+use super::rows::{Call, LONG, Making, check_rows, check_texts};
 use super::{gives, long_text};
 use crate::tests::{same, text_of};
 use relative_path::{RelativePath, RelativePathBuf};
@@ -12,27 +13,25 @@ use std::test::Fail;
 // A text of ten bytes.
 const SHORT: &str = "//a/b/./c/";
 
-fn from_text_of(alloc: Global, text: &str) -> Result<(), Fail> {
-    begin(alloc);
-    gives(alloc, RelativePathBuf::from_text(alloc, text), text)
-}
-
 // Requests: 10 = 1, = 0, 1048576 = 1
 #[test]
 fn from_text(rt: HostRuntime) -> Result<(), Fail> {
-    let alloc = rt.alloc();
-    from_text_of(alloc, SHORT)?;
-    from_text_of(alloc, "")?;
-    from_text_of(alloc, long_text(alloc)?.as_str())
+    check_texts(
+        rt.alloc(),
+        Call::Makes(Making::FromText),
+        &[SHORT, "", LONG],
+    )
 }
 
 fn with_capacity_of(alloc: Global, capacity: usize) -> Result<(), Fail> {
     begin(alloc);
     let answer = RelativePathBuf::with_capacity(alloc, capacity);
-    end(alloc, answer.is_err())?;
     match answer {
-        Ok(buf) => same("length and room", (buf.len(), buf.spare()), (0, capacity)),
-        Err(_) => Ok(()),
+        Ok(buf) => {
+            end_answered(alloc);
+            same("length and room", (buf.len(), buf.spare()), (0, capacity))
+        }
+        Err(_) => end(alloc, true),
     }
 }
 
@@ -45,7 +44,7 @@ fn with_capacity(rt: HostRuntime) -> Result<(), Fail> {
     with_capacity_of(alloc, 1_048_576)
 }
 
-fn clone_of(alloc: Global, text: &str) -> Result<(), Fail> {
+pub fn clone_of(alloc: Global, text: &str) -> Result<(), Fail> {
     let buf = RelativePathBuf::from_text(alloc, text)?;
     begin(alloc);
     gives(alloc, buf.clone(), text)
@@ -54,62 +53,64 @@ fn clone_of(alloc: Global, text: &str) -> Result<(), Fail> {
 // Requests: 10 = 1, = 0, 1048576 = 1
 #[test]
 fn clone(rt: HostRuntime) -> Result<(), Fail> {
-    let alloc = rt.alloc();
-    clone_of(alloc, SHORT)?;
-    clone_of(alloc, "")?;
-    clone_of(alloc, long_text(alloc)?.as_str())
-}
-
-fn to_relative_path_buf_of(alloc: Global, text: &str) -> Result<(), Fail> {
-    begin(alloc);
-    let answer = RelativePath::new(text).to_relative_path_buf(alloc);
-    gives(alloc, answer, text)
+    check_texts(rt.alloc(), Call::Clone, &[SHORT, "", LONG])
 }
 
 // Requests: 10 = 1, = 0, 1048576 = 1
 #[test]
 fn to_relative_path_buf(rt: HostRuntime) -> Result<(), Fail> {
-    let alloc = rt.alloc();
-    to_relative_path_buf_of(alloc, SHORT)?;
-    to_relative_path_buf_of(alloc, "")?;
-    to_relative_path_buf_of(alloc, long_text(alloc)?.as_str())
-}
-
-fn join_of(alloc: Global, text: &str, more: &str, joined: &str) -> Result<(), Fail> {
-    begin(alloc);
-    let answer = RelativePath::new(text).join(alloc, RelativePath::new(more));
-    gives(alloc, answer, joined)
+    check_texts(
+        rt.alloc(),
+        Call::Makes(Making::ToRelativePathBuf),
+        &[SHORT, "", LONG],
+    )
 }
 
 // Requests: 10 = 1, = 0, 1048576 = 1
 #[test]
 fn join(rt: HostRuntime) -> Result<(), Fail> {
-    let alloc = rt.alloc();
-    join_of(alloc, "foo/bar", "/az", "foo/bar/az")?;
-    join_of(alloc, "", "", "")?;
-    let long = long_text(alloc)?;
-    join_of(alloc, "", long.as_str(), long.as_str())
+    check_rows(
+        rt.alloc(),
+        Call::Makes(Making::Join),
+        &[
+            ("foo/bar", "/az", "foo/bar/az"),
+            ("", "", ""),
+            ("", LONG, LONG),
+        ],
+    )
 }
 
-// Pushes onto `foo`, which stays if an allocation fails.
-fn push_of(alloc: Global, more: &str) -> Result<(), Fail> {
+// The mark after a push onto `foo`. Fails if it leaves another text.
+fn end_pushed(
+    alloc: Global,
+    answer: Result<(), AllocError>,
+    left: &str,
+    more: &str,
+) -> Result<(), Fail> {
+    match answer {
+        Ok(()) => {
+            end_answered(alloc);
+            same("pushed", left.strip_prefix("foo/"), Some(more))
+        }
+        Err(_) => {
+            end(alloc, true)?;
+            same("refused", left, "foo")
+        }
+    }
+}
+
+/// Pushes onto `foo`, which stays if an allocation fails.
+pub fn push_of(alloc: Global, more: &str) -> Result<(), Fail> {
     let mut buf = RelativePathBuf::from_text(alloc, "foo")?;
     begin(alloc);
     let answer = buf.push(RelativePath::new(more));
-    end(alloc, answer.is_err())?;
-    match answer {
-        Ok(()) => same("pushed", text_of(&buf).strip_prefix("foo/"), Some(more)),
-        Err(_) => same("refused", text_of(&buf), "foo"),
-    }
+    end_pushed(alloc, answer, text_of(&buf), more)
 }
 
 // Requests: 10 = 0, 8 = 0, 1048580 = 0
 #[test]
 fn push(rt: HostRuntime) -> Result<(), Fail> {
-    let alloc = rt.alloc();
-    push_of(alloc, "barbaz")?;
-    push_of(alloc, "")?;
-    push_of(alloc, long_text(alloc)?.as_str())
+    check_texts(rt.alloc(), Call::Push, &["barbaz", "", LONG])
 }
 
 /// The mark after a call on a buffer that has room for it. Fails where it leaves another text.
@@ -139,20 +140,22 @@ fn fits(rt: HostRuntime) -> Result<(), Fail> {
     end_with_room(alloc, "extend", extended, &buf, "foo/bar/baz/qux")
 }
 
-fn pop_of(alloc: Global, name: &str) -> Result<(), Fail> {
-    let mut buf = RelativePathBuf::from_text(alloc, "foo/bar")?;
-    buf.push(RelativePath::new(name))?;
+// Pops two names off `foo/bar` and a longer name.
+fn pop_two(alloc: Global, buf: &mut RelativePathBuf) -> Result<(), Fail> {
     begin(alloc);
     let popped = (buf.pop(), buf.pop());
-    end(alloc, false)?;
-    same("pop", (popped, text_of(&buf)), ((true, true), "foo"))
+    end_answered(alloc);
+    same("pop", (popped, text_of(buf)), ((true, true), "foo"))
 }
 
 // A long name goes.
 // Requests: = 0
 #[test]
 fn pop(rt: HostRuntime) -> Result<(), Fail> {
-    pop_of(rt.alloc(), "b".repeat(rt.alloc(), 1_048_576)?.as_str())
+    let name = "b".repeat(rt.alloc(), 1_048_576)?;
+    let mut buf = RelativePathBuf::from_text(rt.alloc(), "foo/bar")?;
+    buf.push(RelativePath::new(name.as_str()))?;
+    pop_two(rt.alloc(), &mut buf)
 }
 
 fn sizes_of(buf: &RelativePathBuf) -> (usize, usize, usize) {
@@ -196,7 +199,7 @@ fn takes_no_memory(
         printed(&buf, other),
     );
     let taken = String::from(RelativePathBuf::from(buf.into_string()));
-    end(alloc, false)?;
+    end_answered(alloc);
     let sizes = (text.len(), 8, text.len());
     let lens = (32.min(text.len()), 32.min(text.len() + 2));
     let expected = (0, sizes, (true, false, Ordering::Equal), lens);
@@ -207,7 +210,7 @@ fn takes_no_memory(
     )
 }
 
-fn asks_for_nothing_of(alloc: Global, text: &str) -> Result<(), Fail> {
+pub fn asks_for_nothing_of(alloc: Global, text: &str) -> Result<(), Fail> {
     let buf = roomy(alloc, text)?;
     let other = RelativePathBuf::from_text(alloc, text)?;
     takes_no_memory(alloc, text, buf, &other)
@@ -216,19 +219,19 @@ fn asks_for_nothing_of(alloc: Global, text: &str) -> Result<(), Fail> {
 // Requests: = 0, = 0, = 0
 #[test]
 fn asks_for_nothing(rt: HostRuntime) -> Result<(), Fail> {
-    asks_for_nothing_of(rt.alloc(), SHORT)?;
-    asks_for_nothing_of(rt.alloc(), "")?;
-    asks_for_nothing_of(rt.alloc(), long_text(rt.alloc())?.as_str())
+    check_texts(rt.alloc(), Call::AsksForNothing, &[SHORT, "", LONG])
 }
 
 fn from_paths_of(alloc: Global, texts: [&str; 4], text: &str) -> Result<(), Fail> {
     let paths = texts.map(RelativePath::new);
     begin(alloc);
     let answer = RelativePathBuf::from_paths(alloc, paths);
-    end(alloc, answer.is_err())?;
     match answer {
-        Ok(buf) => same("from_paths", text_of(&buf), text),
-        Err(_) => Ok(()),
+        Ok(buf) => {
+            end_answered(alloc);
+            same("from_paths", text_of(&buf), text)
+        }
+        Err(_) => end(alloc, true),
     }
 }
 

@@ -1,47 +1,38 @@
 //! File names and extensions.
 use super::editing::end_with_room;
-use super::marks::{begin, end};
-use super::{gives, long_text};
+use super::marks::{begin, end, end_answered};
+use super::rows::{Call, LONG, Making, check_rows};
 use crate::tests::{same, text_of};
 use relative_path::{RelativePath, RelativePathBuf};
 use std::alloc::{AllocError, Global};
 use std::test::Fail;
 
-fn with_file_name_of(alloc: Global, text: &str, file_name: &str, named: &str) -> Result<(), Fail> {
-    begin(alloc);
-    let answer = RelativePath::new(text).with_file_name(alloc, file_name);
-    gives(alloc, answer, named)
-}
-
 // Requests: 10 = 1, = 0, 1048576 = 1
 #[test]
 fn with_file_name(rt: HostRuntime) -> Result<(), Fail> {
-    let alloc = rt.alloc();
-    with_file_name_of(alloc, "tmp/foo.txt", "bar.rs", "tmp/bar.rs")?;
-    with_file_name_of(alloc, "", "", "")?;
-    let long = long_text(alloc)?;
-    with_file_name_of(alloc, long.as_str(), "aa", long.as_str())
-}
-
-fn with_extension_of(
-    alloc: Global,
-    text: &str,
-    extension: &str,
-    extended: &str,
-) -> Result<(), Fail> {
-    begin(alloc);
-    let answer = RelativePath::new(text).with_extension(alloc, extension);
-    gives(alloc, answer, extended)
+    check_rows(
+        rt.alloc(),
+        Call::Makes(Making::WithFileName),
+        &[
+            ("tmp/foo.txt", "bar.rs", "tmp/bar.rs"),
+            ("", "", ""),
+            (LONG, "aa", LONG),
+        ],
+    )
 }
 
 // Requests: 10 = 1, = 0, 1048576 = 1
 #[test]
 fn with_extension(rt: HostRuntime) -> Result<(), Fail> {
-    let alloc = rt.alloc();
-    with_extension_of(alloc, "foobar.rs", "txt", "foobar.txt")?;
-    with_extension_of(alloc, "", "", "")?;
-    let long = long_text(alloc)?;
-    with_extension_of(alloc, long.as_str(), "", long.as_str())
+    check_rows(
+        rt.alloc(),
+        Call::Makes(Making::WithExtension),
+        &[
+            ("foobar.rs", "txt", "foobar.txt"),
+            ("", "", ""),
+            (LONG, "", LONG),
+        ],
+    )
 }
 
 /// The mark after a file name is set. Fails if this name isn't the one left below the directory, or, if an allocation
@@ -53,41 +44,48 @@ pub fn end_with_name(
     file_name: &str,
     first: &str,
 ) -> Result<(), Fail> {
-    end(alloc, answer.is_err())?;
-    let expected = if answer.is_ok() { file_name } else { first };
-    same("set_file_name", left, Some(expected))
+    match answer {
+        Ok(()) => {
+            end_answered(alloc);
+            same("set_file_name", left, Some(file_name))
+        }
+        Err(_) => {
+            end(alloc, true)?;
+            same("set_file_name", left, Some(first))
+        }
+    }
 }
 
-// Sets the file name of `f/b`, which stays if an allocation fails.
-fn set_file_name_of(alloc: Global, file_name: &str) -> Result<(), Fail> {
-    let mut buf = RelativePathBuf::from_text(alloc, "f/b")?;
+// Sets the file name of a path, which stays if an allocation fails: the first name, in this directory.
+fn set_file_name_of(
+    alloc: Global,
+    path: &str,
+    directory: &str,
+    first: &str,
+    file_name: &str,
+) -> Result<(), Fail> {
+    let mut buf = RelativePathBuf::from_text(alloc, path)?;
     begin(alloc);
     let answer = buf.set_file_name(file_name);
-    let left = text_of(&buf).strip_prefix("f/");
-    end_with_name(alloc, answer, left, file_name, "b")
+    let left = text_of(&buf).strip_prefix(directory);
+    end_with_name(alloc, answer, left, file_name, first)
 }
 
 // Requests: 10 = 0, = 0, 1048576 = 0
 #[test]
 fn set_file_name(rt: HostRuntime) -> Result<(), Fail> {
-    set_file_name_of(rt.alloc(), "barbarba")?;
-    set_file_name_of(rt.alloc(), "")?;
-    set_file_name_of(rt.alloc(), "b".repeat(rt.alloc(), 1_048_574)?.as_str())
-}
-
-// The same of `foo/bar`.
-fn set_longer_file_name_of(alloc: Global, file_name: &str) -> Result<(), Fail> {
-    let mut buf = RelativePathBuf::from_text(alloc, "foo/bar")?;
-    begin(alloc);
-    let answer = buf.set_file_name(file_name);
-    let left = text_of(&buf).strip_prefix("foo/");
-    end_with_name(alloc, answer, left, file_name, "bar")
+    let alloc = rt.alloc();
+    let long = "b".repeat(alloc, 1_048_574)?;
+    set_file_name_of(alloc, "f/b", "f/", "b", "barbarba")?;
+    set_file_name_of(alloc, "f/b", "f/", "b", "")?;
+    set_file_name_of(alloc, "f/b", "f/", "b", long.as_str())
 }
 
 // Requests: 4100 = 0
 #[test]
 fn set_a_long_file_name(rt: HostRuntime) -> Result<(), Fail> {
-    set_longer_file_name_of(rt.alloc(), "b".repeat(rt.alloc(), 4_096)?.as_str())
+    let name = "b".repeat(rt.alloc(), 4_096)?;
+    set_file_name_of(rt.alloc(), "foo/bar", "foo/", "bar", name.as_str())
 }
 
 // Requests: = 0
@@ -99,19 +97,32 @@ fn set_file_name_that_fits(rt: HostRuntime) -> Result<(), Fail> {
     end_with_room(rt.alloc(), "set_file_name", answer, &buf, "foo/baz")
 }
 
+// The mark after the extension of `f/.` is set. Fails if it leaves another text.
+fn end_extended(
+    alloc: Global,
+    answer: Result<bool, AllocError>,
+    left: &str,
+    extension: &str,
+) -> Result<(), Fail> {
+    match answer {
+        Ok(is_set) => {
+            end_answered(alloc);
+            let added = left.strip_prefix("f.");
+            same("set_extension", (is_set, added), (true, Some(extension)))
+        }
+        Err(_) => {
+            end(alloc, true)?;
+            same("refused", left, "f/.")
+        }
+    }
+}
+
 // Sets the extension of `f/.`, which stays if an allocation fails.
 fn set_extension_of(alloc: Global, extension: &str) -> Result<(), Fail> {
     let mut buf = RelativePathBuf::from_text(alloc, "f/.")?;
     begin(alloc);
     let answer = buf.set_extension(extension);
-    end(alloc, answer.is_err())?;
-    match answer {
-        Ok(is_set) => {
-            let added = text_of(&buf).strip_prefix("f.");
-            same("set_extension", (is_set, added), (true, Some(extension)))
-        }
-        Err(_) => same("refused", text_of(&buf), "f/."),
-    }
+    end_extended(alloc, answer, text_of(&buf), extension)
 }
 
 // Requests: 10 = 0, 1048576 = 0

@@ -1,14 +1,25 @@
 //! Platform paths, by their texts and as `Path` and `PathBuf`.
-use super::long_text;
-use super::marks::{begin, end};
+use super::marks::{begin, end, end_answered};
+use super::rows::{Call, LONG, check_rows};
 use crate::tests::{same, text_of};
 use relative_path::{
     FromPathError, FromPathErrorKind, PathExt, RelativePath, RelativePathBuf, RelativeToError,
     RelativeToErrorKind, unix,
 };
 use std::alloc::{AllocError, Global};
+use std::fmt::Debug;
 use std::path::{Path, PathBuf};
 use std::test::Fail;
+
+// The mark after a call that failed with this kind of error. Fails if it isn't lack of memory.
+fn end_out_of_memory<K: Copy + PartialEq + Debug + Drop>(
+    alloc: Global,
+    kind: K,
+    out_of_memory: K,
+) -> Result<(), Fail> {
+    end(alloc, kind == out_of_memory)?;
+    same("a kind", Some(kind), Some(out_of_memory))
+}
 
 // The mark after a call. Fails if no allocation failed and the result has another text.
 fn end_with_path(
@@ -16,11 +27,12 @@ fn end_with_path(
     answer: Result<RelativePathBuf, FromPathError>,
     text: &str,
 ) -> Result<(), Fail> {
-    let kind = answer.as_ref().err().map(FromPathError::kind);
-    end(alloc, kind == Some(FromPathErrorKind::OutOfMemory))?;
     match answer {
-        Ok(path) => same("a path", text_of(&path), text),
-        Err(_) => same("a kind", kind, Some(FromPathErrorKind::OutOfMemory)),
+        Ok(path) => {
+            end_answered(alloc);
+            same("a path", text_of(&path), text)
+        }
+        Err(error) => end_out_of_memory(alloc, error.kind(), FromPathErrorKind::OutOfMemory),
     }
 }
 
@@ -30,11 +42,12 @@ fn end_with_way(
     answer: Result<RelativePathBuf, RelativeToError>,
     text: &str,
 ) -> Result<(), Fail> {
-    let kind = answer.as_ref().err().map(RelativeToError::kind);
-    end(alloc, kind == Some(RelativeToErrorKind::OutOfMemory))?;
     match answer {
-        Ok(way) => same("a way", (text_of(&way), way.spare()), (text, 0)),
-        Err(_) => same("a kind", kind, Some(RelativeToErrorKind::OutOfMemory)),
+        Ok(way) => {
+            end_answered(alloc);
+            same("a way", (text_of(&way), way.spare()), (text, 0))
+        }
+        Err(error) => end_out_of_memory(alloc, error.kind(), RelativeToErrorKind::OutOfMemory),
     }
 }
 
@@ -44,15 +57,17 @@ fn end_with_text(
     answer: Result<String, AllocError>,
     text: &str,
 ) -> Result<(), Fail> {
-    end(alloc, answer.is_err())?;
     match answer {
-        Ok(found) => same("a text", found.as_str(), text),
-        Err(_) => Ok(()),
+        Ok(found) => {
+            end_answered(alloc);
+            same("a text", found.as_str(), text)
+        }
+        Err(_) => end(alloc, true),
     }
 }
 
-// Of a `Path`, and of a text.
-fn from_path_of(alloc: Global, text: &str, left: &str) -> Result<(), Fail> {
+/// Of a `Path`, and of a text.
+pub fn from_path_of(alloc: Global, text: &str, left: &str) -> Result<(), Fail> {
     begin(alloc);
     let answer = RelativePathBuf::from_path(alloc, Path::new(text));
     end_with_path(alloc, answer, left)?;
@@ -63,11 +78,11 @@ fn from_path_of(alloc: Global, text: &str, left: &str) -> Result<(), Fail> {
 // Requests: 11 = 1, 11 = 1, = 0, = 0, 1048576 = 1, 1048576 = 1
 #[test]
 fn from_path(rt: HostRuntime) -> Result<(), Fail> {
-    let alloc = rt.alloc();
-    from_path_of(alloc, "./a/./b//c/", "a/b/c")?;
-    from_path_of(alloc, "", "")?;
-    let long = long_text(alloc)?;
-    from_path_of(alloc, long.as_str(), long.as_str())
+    check_rows(
+        rt.alloc(),
+        Call::FromPath,
+        &[("./a/./b//c/", "", "a/b/c"), ("", "", ""), (LONG, "", LONG)],
+    )
 }
 
 fn kind_of(answer: Result<RelativePathBuf, FromPathError>) -> Option<FromPathErrorKind> {
@@ -81,13 +96,13 @@ fn from_path_of_a_root(rt: HostRuntime) -> Result<(), Fail> {
     begin(alloc);
     let as_path = kind_of(RelativePathBuf::from_path(alloc, Path::new("/")));
     let as_text = kind_of(unix::from_path(alloc, "/"));
-    end(alloc, false)?;
+    end_answered(alloc);
     let expected = Some(FromPathErrorKind::NonRelative);
     same("a root", (as_path, as_text), (expected, expected))
 }
 
-// After a `Path`, and after a text.
-fn to_path_of(alloc: Global, text: &str, base: &str, joined: &str) -> Result<(), Fail> {
+/// After a `Path`, and after a text.
+pub fn to_path_of(alloc: Global, text: &str, base: &str, joined: &str) -> Result<(), Fail> {
     let path = RelativePath::new(text);
     begin(alloc);
     let answer = path.to_path(alloc, Path::new(base));
@@ -99,15 +114,24 @@ fn to_path_of(alloc: Global, text: &str, base: &str, joined: &str) -> Result<(),
 // Requests: 18 = 1, 18 = 1, 1 = 1, 1 = 1, 1048577 = 1, 1048577 = 1
 #[test]
 fn to_path(rt: HostRuntime) -> Result<(), Fail> {
-    let alloc = rt.alloc();
-    to_path_of(alloc, "/hello///world//", ".", "./hello/world")?;
-    to_path_of(alloc, "", "", "")?;
-    let long = long_text(alloc)?;
-    to_path_of(alloc, long.as_str(), "", long.as_str())
+    check_rows(
+        rt.alloc(),
+        Call::ToPath,
+        &[
+            ("/hello///world//", ".", "./hello/world"),
+            ("", "", ""),
+            (LONG, "", LONG),
+        ],
+    )
 }
 
-// From a `Path`, and from a text.
-fn to_logical_path_of(alloc: Global, text: &str, base: &str, reached: &str) -> Result<(), Fail> {
+/// From a `Path`, and from a text.
+pub fn to_logical_path_of(
+    alloc: Global,
+    text: &str,
+    base: &str,
+    reached: &str,
+) -> Result<(), Fail> {
     let path = RelativePath::new(text);
     begin(alloc);
     let answer = path.to_logical_path(alloc, Path::new(base));
@@ -119,11 +143,11 @@ fn to_logical_path_of(alloc: Global, text: &str, base: &str, reached: &str) -> R
 // Requests: 14 = 1, 14 = 1, 1 = 1, 1 = 1, 1048577 = 1, 1048577 = 1
 #[test]
 fn to_logical_path(rt: HostRuntime) -> Result<(), Fail> {
-    let alloc = rt.alloc();
-    to_logical_path_of(alloc, "../../x", "/a/./b", "//x")?;
-    to_logical_path_of(alloc, "", "", "")?;
-    let long = long_text(alloc)?;
-    to_logical_path_of(alloc, long.as_str(), "", long.as_str())
+    check_rows(
+        rt.alloc(),
+        Call::ToLogicalPath,
+        &[("../../x", "/a/./b", "//x"), ("", "", ""), (LONG, "", LONG)],
+    )
 }
 
 // Of a `PathBuf`.
@@ -133,8 +157,8 @@ fn relative_to_of_a_buffer(alloc: Global, text: &str, root: &str, way: &str) -> 
     end_with_way(alloc, buf.relative_to(alloc, Path::new(root)), way)
 }
 
-// Of a text, a `Path` and a `PathBuf`.
-fn relative_to_of(alloc: Global, text: &str, root: &str, way: &str) -> Result<(), Fail> {
+/// Of a text, a `Path` and a `PathBuf`.
+pub fn relative_to_of(alloc: Global, text: &str, root: &str, way: &str) -> Result<(), Fail> {
     begin(alloc);
     end_with_way(alloc, unix::relative_to(alloc, text, root), way)?;
     begin(alloc);
@@ -146,16 +170,15 @@ fn relative_to_of(alloc: Global, text: &str, root: &str, way: &str) -> Result<()
 // Requests: 13 = 1, 13 = 1, 13 = 1, = 0, = 0, = 0, 1048576 = 1, 1048576 = 1, 1048576 = 1
 #[test]
 fn relative_to(rt: HostRuntime) -> Result<(), Fail> {
-    let alloc = rt.alloc();
-    relative_to_of(
-        alloc,
-        "some/path",
-        "some/foo/bar/../baz/path",
-        "../../../path",
-    )?;
-    relative_to_of(alloc, "", "", "")?;
-    let long = long_text(alloc)?;
-    relative_to_of(alloc, long.as_str(), "", long.as_str())
+    check_rows(
+        rt.alloc(),
+        Call::RelativeTo,
+        &[
+            ("some/path", "some/foo/bar/../baz/path", "../../../path"),
+            ("", "", ""),
+            (LONG, "", LONG),
+        ],
+    )
 }
 
 fn kind_of_way(answer: Result<RelativePathBuf, RelativeToError>) -> Option<RelativeToErrorKind> {
@@ -172,7 +195,7 @@ fn refuses_a_way(
     begin(alloc);
     let as_path = kind_of_way(Path::new(text).relative_to(alloc, Path::new(root)));
     let as_text = kind_of_way(unix::relative_to(alloc, text, root));
-    end(alloc, false)?;
+    end_answered(alloc);
     same(text, (as_path, as_text), (Some(kind), Some(kind)))
 }
 

@@ -1,26 +1,25 @@
 //! The way from one path to another, and where paths lead apart.
-use super::marks::{begin, end};
-use super::{gives, long_text};
+use super::long_text;
+use super::marks::{begin, end, end_answered};
+use super::rows::{Call, LONG, Making, check_rows};
 use crate::tests::{same, text_of};
 use relative_path::{RelativePath, RelativePathBuf};
 use std::alloc::Global;
 use std::test::Fail;
 
-fn relative_of(alloc: Global, from: &str, to: &str, way: &str) -> Result<(), Fail> {
-    begin(alloc);
-    let answer = RelativePath::new(from).relative(alloc, RelativePath::new(to));
-    gives(alloc, answer, way)
-}
-
 // Requests: 4s 4s 10 = 1, 1s 1 = 1, = 0, 524288s 1048576 = 1
 #[test]
 fn relative(rt: HostRuntime) -> Result<(), Fail> {
-    let alloc = rt.alloc();
-    relative_of(alloc, "a/b/c/d", "a/b/e/ff", "../../e/ff")?;
-    relative_of(alloc, "", "a", "a")?;
-    relative_of(alloc, "", "", "")?;
-    let long = long_text(alloc)?;
-    relative_of(alloc, "", long.as_str(), long.as_str())
+    check_rows(
+        rt.alloc(),
+        Call::Makes(Making::Relative),
+        &[
+            ("a/b/c/d", "a/b/e/ff", "../../e/ff"),
+            ("", "a", "a"),
+            ("", "", ""),
+            ("", LONG, LONG),
+        ],
+    )
 }
 
 fn text_and_room(buf: &RelativePathBuf) -> (&str, usize) {
@@ -35,14 +34,13 @@ fn try_relative_of(
 ) -> Result<(), Fail> {
     begin(alloc);
     let answer = RelativePath::new(from).try_relative(alloc, RelativePath::new(to));
-    end(alloc, answer.is_err())?;
     match answer {
-        Ok(way) => same(
-            "a way and its room",
-            way.as_ref().map(text_and_room),
-            expected,
-        ),
-        Err(_) => Ok(()),
+        Ok(way) => {
+            end_answered(alloc);
+            let found = way.as_ref().map(text_and_room);
+            same("a way and its room", found, expected)
+        }
+        Err(_) => end(alloc, true),
     }
 }
 
@@ -66,8 +64,13 @@ fn leads_apart_of(
 ) -> Result<(), Fail> {
     begin(alloc);
     let answer = RelativePath::new(text).leads_apart(alloc, RelativePath::new(other));
-    end(alloc, answer.is_err())?;
-    same("leads_apart", answer.unwrap_or(apart), apart)
+    match answer {
+        Ok(found) => {
+            end_answered(alloc);
+            same("leads_apart", found, apart)
+        }
+        Err(_) => end(alloc, true),
+    }
 }
 
 // Requests: 2s 2s = 0, 1s = 0, = 0, 524288s 524288s = 0
