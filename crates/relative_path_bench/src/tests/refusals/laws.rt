@@ -1,5 +1,5 @@
 //! The laws that take memory.
-use super::marks::{begin, end};
+use super::marks::{begin, end, end_answered};
 use crate::tests::{same, text_of};
 use crate::{
     End, associative, climb_law, extension_law, from_paths_law, join_law, join_normalized_law,
@@ -20,10 +20,12 @@ fn same_texts(
     answer: Result<(RelativePathBuf, RelativePathBuf), AllocError>,
     expected: (&str, &str),
 ) -> Result<(), Fail> {
-    end(alloc, answer.is_err())?;
     match answer {
-        Ok(pair) => same("two texts", texts_of(&pair), expected),
-        Err(_) => Ok(()),
+        Ok(pair) => {
+            end_answered(alloc);
+            same("two texts", texts_of(&pair), expected)
+        }
+        Err(_) => end(alloc, true),
     }
 }
 
@@ -33,10 +35,12 @@ fn same_join(
     answer: Result<RelativePathBuf, AllocError>,
     expected: &str,
 ) -> Result<(), Fail> {
-    end(alloc, answer.is_err())?;
     match answer {
-        Ok(buf) => same("a join", text_of(&buf), expected),
-        Err(_) => Ok(()),
+        Ok(buf) => {
+            end_answered(alloc);
+            same("a join", text_of(&buf), expected)
+        }
+        Err(_) => end(alloc, true),
     }
 }
 
@@ -52,10 +56,12 @@ fn same_three(
     answer: Result<(RelativePathBuf, RelativePathBuf, RelativePathBuf), AllocError>,
     expected: (&str, &str, &str),
 ) -> Result<(), Fail> {
-    end(alloc, answer.is_err())?;
     match answer {
-        Ok(bufs) => same("three texts", three_texts_of(&bufs), expected),
-        Err(_) => Ok(()),
+        Ok(bufs) => {
+            end_answered(alloc);
+            same("three texts", three_texts_of(&bufs), expected)
+        }
+        Err(_) => end(alloc, true),
     }
 }
 
@@ -113,10 +119,12 @@ fn normalize_twice_of_one(rt: HostRuntime) -> Result<(), Fail> {
 fn normalized_law_of(alloc: Global, text: &str, expected: (bool, &str)) -> Result<(), Fail> {
     begin(alloc);
     let answer = normalized_law(alloc, RelativePath::new(text));
-    end(alloc, answer.is_err())?;
     match answer {
-        Ok((is_normal, buf)) => same(text, (is_normal, text_of(&buf)), expected),
-        Err(_) => Ok(()),
+        Ok((is_normal, buf)) => {
+            end_answered(alloc);
+            same(text, (is_normal, text_of(&buf)), expected)
+        }
+        Err(_) => end(alloc, true),
     }
 }
 
@@ -133,10 +141,12 @@ fn normalized_law_of_one(rt: HostRuntime) -> Result<(), Fail> {
 fn climb_law_of_one(rt: HostRuntime) -> Result<(), Fail> {
     begin(rt.alloc());
     let answer = climb_law(rt.alloc(), RelativePath::new("a/../../b"));
-    end(rt.alloc(), answer.is_err())?;
     match answer {
-        Ok((climb, buf)) => same("a climb", (climb, text_of(&buf)), (1, "../b")),
-        Err(_) => Ok(()),
+        Ok((climb, buf)) => {
+            end_answered(rt.alloc());
+            same("a climb", (climb, text_of(&buf)), (1, "../b"))
+        }
+        Err(_) => end(rt.alloc(), true),
     }
 }
 
@@ -148,13 +158,13 @@ fn same_law_of(
 ) -> Result<(), Fail> {
     begin(alloc);
     let answer = same_law(alloc, RelativePath::new(path), RelativePath::new(other));
-    end(alloc, answer.is_err())?;
     match answer {
         Ok((buf, other_buf, apart)) => {
+            end_answered(alloc);
             let found = (text_of(&buf), text_of(&other_buf), apart);
             same(path, found, expected)
         }
-        Err(_) => Ok(()),
+        Err(_) => end(alloc, true),
     }
 }
 
@@ -188,10 +198,12 @@ fn try_law_of(
 ) -> Result<(), Fail> {
     begin(alloc);
     let answer = try_law(alloc, RelativePath::new(from), RelativePath::new(to));
-    end(alloc, answer.is_err())?;
     match answer {
-        Ok(found) => same(from, found.as_ref().map(texts_of), expected),
-        Err(_) => Ok(()),
+        Ok(found) => {
+            end_answered(alloc);
+            same(from, found.as_ref().map(texts_of), expected)
+        }
+        Err(_) => end(alloc, true),
     }
 }
 
@@ -219,14 +231,14 @@ fn strip_law_of_a_base(rt: HostRuntime) -> Result<(), Fail> {
     let [path, base] = ["//foo/bar/", "foo"].map(RelativePath::new);
     begin(rt.alloc());
     let answer = strip_law(rt.alloc(), path, base);
-    end(rt.alloc(), answer.is_err())?;
     match answer {
         Ok(Some((rest, buf))) => {
+            end_answered(rt.alloc());
             let found = (rest.as_str(), text_of(&buf));
             same("a rest", found, ("bar/", "foo/bar/"))
         }
         Ok(None) => Err(Fail::new("a rest")),
-        Err(_) => Ok(()),
+        Err(_) => end(rt.alloc(), true),
     }
 }
 
@@ -235,11 +247,19 @@ fn strip_law_of_a_base(rt: HostRuntime) -> Result<(), Fail> {
 fn extension_law_of_a_file(rt: HostRuntime) -> Result<(), Fail> {
     begin(rt.alloc());
     let answer = extension_law(rt.alloc(), RelativePath::new("..."), "x");
-    end(rt.alloc(), answer.is_err())?;
     match answer {
-        Ok(found) => same("a file", found.as_ref().map(text_of), Some("...x")),
-        Err(_) => Ok(()),
+        Ok(found) => {
+            end_answered(rt.alloc());
+            same("a file", found.as_ref().map(text_of), Some("...x"))
+        }
+        Err(_) => end(rt.alloc(), true),
     }
+}
+
+// The mark after a law that failed with this kind of error. It fails where it isn't lack of memory.
+fn end_out_of_memory(alloc: Global, kind: RelativeToErrorKind) -> Result<(), Fail> {
+    end(alloc, true)?;
+    same("a way", kind, RelativeToErrorKind::OutOfMemory)
 }
 
 // Requests: 10 = 1
@@ -247,10 +267,12 @@ fn extension_law_of_a_file(rt: HostRuntime) -> Result<(), Fail> {
 fn relative_to_law_of_texts(rt: HostRuntime) -> Result<(), Fail> {
     begin(rt.alloc());
     let answer = relative_to_law(rt.alloc(), "foo/bar", "./x");
-    end(rt.alloc(), answer.is_err())?;
     match answer {
-        Ok(buf) => same("a way", text_of(&buf), "../foo/bar"),
-        Err(error) => same("a way", error.kind(), RelativeToErrorKind::OutOfMemory),
+        Ok(buf) => {
+            end_answered(rt.alloc());
+            same("a way", text_of(&buf), "../foo/bar")
+        }
+        Err(error) => end_out_of_memory(rt.alloc(), error.kind()),
     }
 }
 
@@ -317,9 +339,11 @@ const TAKEN: [Option<Component<'static>>; 3] = [
 fn take_in_turn_from_a_path(rt: HostRuntime) -> Result<(), Fail> {
     begin(rt.alloc());
     let answer = take_in_turn(rt.alloc(), RelativePath::new("/x//./y/"), &ENDS);
-    end(rt.alloc(), answer.is_err())?;
     match answer {
-        Ok(taken) => same("components", taken.components.as_slice(), TAKEN.as_slice()),
-        Err(_) => Ok(()),
+        Ok(taken) => {
+            end_answered(rt.alloc());
+            same("components", taken.components.as_slice(), TAKEN.as_slice())
+        }
+        Err(_) => end(rt.alloc(), true),
     }
 }
