@@ -99,9 +99,8 @@ const WRITES: [(&str, &[u8; 8]); 2] = [("a//b", b"a|/|b|/|"), ("a", b"\0\0\0\0a|
 fn each_component_is_a_write_and_a_slash_another() -> Result<(), Fail> {
     for (text, writes) in &WRITES {
         let path = RelativePath::new(text);
-        same("view", &writes_of(&path), *writes)?;
-        let borrowed = CowRelativePath::from(path);
-        same("borrowed", &writes_of(&borrowed), *writes)?;
+        let found = [writes_of(&path), writes_of(&CowRelativePath::from(path))];
+        same("view and borrowed", &found, &[**writes; 2])?;
     }
     let writes = writes_of(&Component::ParentDir);
     same("`..` alone", &writes, b"\0\0\0..|/|")
@@ -129,25 +128,31 @@ fn owners_write_as_views(rt: HostRuntime) -> Result<(), Fail> {
 fn buffers_write_as_views(rt: HostRuntime) -> Result<(), Fail> {
     for (text, writes) in &WRITES {
         let buf = RelativePath::new(text).to_relative_path_buf(rt.alloc())?;
-        same("buffer", &writes_of(&buf), *writes)?;
-        let owned = CowRelativePath::from(buf);
-        same("owned", &writes_of(&owned), *writes)?;
+        let of_buf = writes_of(&buf);
+        let found = [of_buf, writes_of(&CowRelativePath::from(buf))];
+        same("buffer and owned", &found, &[**writes; 2])?;
     }
     Ok(())
+}
+
+// Fails where a map has another value for a key of this text.
+fn has_size(
+    alloc: Global,
+    sizes: &HashMap<BoxedRelativePath, u32>,
+    text: &str,
+    size: Option<u32>,
+) -> Result<(), Fail> {
+    let key = BoxedRelativePath::from_text(alloc, text)?;
+    same(text, &sizes.get(&key).copied(), &size)
 }
 
 #[test]
 fn boxed_keys_are_found_however_they_are_spelled(rt: HostRuntime) -> Result<(), Fail> {
     let mut sizes = HashMap::new(rt.alloc());
-    sizes.insert(
-        BoxedRelativePath::from_text(rt.alloc(), "src/main.rs")?,
-        120,
-    )?;
-    for (text, size) in &[("src//main.rs/", Some(120)), ("src", None)] {
-        let key = BoxedRelativePath::from_text(rt.alloc(), text)?;
-        same(text, &sizes.get(&key).copied(), size)?;
-    }
-    Ok(())
+    let key = BoxedRelativePath::from_text(rt.alloc(), "src/main.rs")?;
+    sizes.insert(key, 120)?;
+    has_size(rt.alloc(), &sizes, "src//main.rs/", Some(120))?;
+    has_size(rt.alloc(), &sizes, "src", None)
 }
 
 #[test]
@@ -196,17 +201,32 @@ fn views_buffers_and_either_form_are_equal(rt: HostRuntime) -> Result<(), Fail> 
     ])
 }
 
+// Fails where a box of a buffer isn't equal to these paths, or they to each other.
+fn equals_box(
+    answer: Result<BoxedRelativePath, RelativePathBuf>,
+    path: RelativePath<'_>,
+    other: RelativePath<'_>,
+) -> Result<(), Fail> {
+    let taken = answer.ok().ok_or("from_buf")?;
+    are_equal(&[path, other, taken.as_relative_path()])
+}
+
 #[test]
 fn boxes_are_equal_as_views(rt: HostRuntime) -> Result<(), Fail> {
     let buf = RelativePath::new("foo/bar").to_relative_path_buf(rt.alloc())?;
     let copied = BoxedRelativePath::from_text(rt.alloc(), "foo/bar")?;
     let answer = BoxedRelativePath::from_buf(rt.alloc(), pushed(rt.alloc())?);
+    equals_box(answer, buf.as_relative_path(), copied.as_relative_path())
+}
+
+// The same of an owner.
+fn equals_owner(
+    answer: Result<RcRelativePath, RelativePathBuf>,
+    path: RelativePath<'_>,
+    other: RelativePath<'_>,
+) -> Result<(), Fail> {
     let taken = answer.ok().ok_or("from_buf")?;
-    are_equal(&[
-        buf.as_relative_path(),
-        copied.as_relative_path(),
-        taken.as_relative_path(),
-    ])
+    are_equal(&[path, other, taken.as_relative_path()])
 }
 
 #[test]
@@ -214,10 +234,5 @@ fn owners_are_equal_as_views(rt: HostRuntime) -> Result<(), Fail> {
     let buf = RelativePath::new("foo/bar").to_relative_path_buf(rt.alloc())?;
     let copied = RcRelativePath::from_path_text(rt.alloc(), buf.as_relative_path())?;
     let answer = RcRelativePath::from_buf(rt.alloc(), pushed(rt.alloc())?);
-    let taken = answer.ok().ok_or("from_buf")?;
-    are_equal(&[
-        buf.as_relative_path(),
-        copied.as_relative_path(),
-        taken.as_relative_path(),
-    ])
+    equals_owner(answer, buf.as_relative_path(), copied.as_relative_path())
 }

@@ -1,7 +1,9 @@
 //! Paths from JSON strings, and JSON strings of paths.
 use super::{same, shows};
-use relative_path::RelativePath;
-use relative_path_shared::{FromValueError, boxed_from_value, from_value, to_value, view_value};
+use relative_path::{RelativePath, RelativePathBuf};
+use relative_path_shared::{
+    BoxedRelativePath, FromValueError, boxed_from_value, from_value, to_value, view_value,
+};
 use serde_json::Value;
 use std::alloc::Global;
 use std::test::Fail;
@@ -16,14 +18,27 @@ const STRINGS: [(&str, &str); 6] = [
     ("\"日本/\\t\"", "日本/\t"),
 ];
 
+// Fails where a value is not this path in a buffer.
+fn is_buffer(answer: Result<RelativePathBuf, FromValueError>, text: &str) -> Result<(), Fail> {
+    shows("buffer", answer?.as_relative_path(), text)
+}
+
+// The same in a box.
+fn is_box(answer: Result<BoxedRelativePath, FromValueError>, text: &str) -> Result<(), Fail> {
+    shows("box", answer?.as_relative_path(), text)
+}
+
+// The same of a value, in each form.
+fn is_path_value(alloc: Global, value: &Value, text: &str) -> Result<(), Fail> {
+    shows("view", view_value(value)?, text)?;
+    is_buffer(from_value(alloc, value), text)?;
+    is_box(boxed_from_value(alloc, value), text)
+}
+
 // Fails where a JSON text is not this path, as a view, in a buffer and in a box.
 fn is_path(alloc: Global, json: &str, text: &str) -> Result<(), Fail> {
     let value = Value::from_str(alloc, json)?;
-    shows("view", view_value(&value)?, text)?;
-    let buf = from_value(alloc, &value)?;
-    shows("buffer", buf.as_relative_path(), text)?;
-    let boxed = boxed_from_value(alloc, &value)?;
-    shows("box", boxed.as_relative_path(), text)
+    is_path_value(alloc, &value, text)
 }
 
 #[test]
@@ -76,12 +91,17 @@ const ERRORS: [(FromValueError, &str); 2] = [
     (FromValueError::OutOfMemory, "out of memory"),
 ];
 
+// Fails where an error prints another text, without a width and with one.
+fn prints(alloc: Global, error: FromValueError, text: &str) -> Result<(), Fail> {
+    let printed = format!(in alloc; "{error}|{error:5.99}")?;
+    let expected = format!(in alloc; "{text}|{text}")?;
+    same(text, &printed, &expected)
+}
+
 #[test]
 fn errors_print_their_text(rt: HostRuntime) -> Result<(), Fail> {
     for (error, text) in &ERRORS {
-        let printed = format!(in rt.alloc(); "{error}|{error:5.99}")?;
-        let expected = format!(in rt.alloc(); "{text}|{text}")?;
-        same(text, &printed, &expected)?;
+        prints(rt.alloc(), *error, text)?;
     }
     Ok(())
 }

@@ -1,139 +1,170 @@
 //! The forms that own or share a text, and the buffer's way to them.
-use super::long_text;
-use super::marks::{begin, end};
+use super::marks::{begin, end, end_answered};
+use super::{Call, check_texts};
 use crate::tests::{same, shows};
 use relative_path::{RelativePath, RelativePathBuf};
 use relative_path_shared::{BoxedRelativePath, BufExt, CowRelativePath, RcRelativePath};
-use std::alloc::Global;
+use std::alloc::{AllocError, Global};
 use std::boxed::BoxedStr;
 use std::cmp::Ordering;
 use std::hash::{DefaultHasher, Hash};
 use std::test::Fail;
 
-fn boxed_from_text_of(alloc: Global, text: &str) -> Result<(), Fail> {
-    begin(alloc);
-    let answer = BoxedRelativePath::from_text(alloc, text);
-    end(alloc, answer.is_err())?;
+// The mark after a call. Fails if no allocation failed and the result has another text.
+fn gives_box(
+    alloc: Global,
+    answer: Result<BoxedRelativePath, AllocError>,
+    text: &str,
+) -> Result<(), Fail> {
     match answer {
-        Ok(boxed) => shows("from_text", boxed.as_relative_path(), text),
-        Err(_) => Ok(()),
+        Ok(boxed) => {
+            end_answered(alloc);
+            shows("a box", boxed.as_relative_path(), text)
+        }
+        Err(_) => end(alloc, true),
     }
+}
+
+/// Copies a text into a box.
+pub fn boxed_from_text_of(alloc: Global, text: &str) -> Result<(), Fail> {
+    begin(alloc);
+    gives_box(alloc, BoxedRelativePath::from_text(alloc, text), text)
 }
 
 // Requests: 4 = 1, = 0, 1048576 = 1
 #[test]
 fn boxed_from_text(rt: HostRuntime) -> Result<(), Fail> {
-    boxed_from_text_of(rt.alloc(), "a//b")?;
-    boxed_from_text_of(rt.alloc(), "")?;
-    boxed_from_text_of(rt.alloc(), long_text(rt.alloc())?.as_str())
+    check_texts(rt.alloc(), Call::BoxedFromText)
 }
 
-fn boxed_clone_of(alloc: Global, text: &str) -> Result<(), Fail> {
+/// Copies a box.
+pub fn boxed_clone_of(alloc: Global, text: &str) -> Result<(), Fail> {
     let boxed = BoxedRelativePath::from_text(alloc, text)?;
     begin(alloc);
-    let answer = boxed.clone(alloc);
-    end(alloc, answer.is_err())?;
-    match answer {
-        Ok(copy) => shows("clone", copy.as_relative_path(), text),
-        Err(_) => Ok(()),
-    }
+    gives_box(alloc, boxed.clone(alloc), text)
 }
 
 // Requests: 4 = 1, = 0, 1048576 = 1
 #[test]
 fn boxed_clone(rt: HostRuntime) -> Result<(), Fail> {
-    boxed_clone_of(rt.alloc(), "a//b")?;
-    boxed_clone_of(rt.alloc(), "")?;
-    boxed_clone_of(rt.alloc(), long_text(rt.alloc())?.as_str())
+    check_texts(rt.alloc(), Call::BoxedClone)
 }
 
-fn boxed_from_buf_of(alloc: Global, text: &str) -> Result<(), Fail> {
+// The mark after a call that takes no memory. Fails if there is no result or it has another text.
+fn gives_taken_box(
+    alloc: Global,
+    answer: Result<BoxedRelativePath, RelativePathBuf>,
+    text: &str,
+) -> Result<(), Fail> {
+    match answer {
+        Ok(boxed) => {
+            end_answered(alloc);
+            shows("a box", boxed.as_relative_path(), text)
+        }
+        Err(_) => {
+            end(alloc, true)?;
+            Err(Fail::new("a box"))
+        }
+    }
+}
+
+/// Makes a buffer a box.
+pub fn boxed_from_buf_of(alloc: Global, text: &str) -> Result<(), Fail> {
     let buf = RelativePathBuf::from_text(alloc, text)?;
     begin(alloc);
-    let answer = BoxedRelativePath::from_buf(alloc, buf);
-    end(alloc, answer.is_err())?;
-    let boxed = answer.ok().ok_or("a box")?;
-    shows("a box", boxed.as_relative_path(), text)
+    gives_taken_box(alloc, BoxedRelativePath::from_buf(alloc, buf), text)
 }
 
 // Requests: = 0, = 0, = 0
 #[test]
 fn boxed_from_buf(rt: HostRuntime) -> Result<(), Fail> {
-    boxed_from_buf_of(rt.alloc(), "a//b")?;
-    boxed_from_buf_of(rt.alloc(), "")?;
-    boxed_from_buf_of(rt.alloc(), long_text(rt.alloc())?.as_str())
+    check_texts(rt.alloc(), Call::BoxedFromBuf)
 }
 
-fn into_boxed_relative_path_of(alloc: Global, text: &str) -> Result<(), Fail> {
+/// The same by the buffer's own call.
+pub fn into_boxed_relative_path_of(alloc: Global, text: &str) -> Result<(), Fail> {
     let buf = RelativePathBuf::from_text(alloc, text)?;
     begin(alloc);
-    let answer = buf.into_boxed_relative_path(alloc);
-    end(alloc, answer.is_err())?;
-    let boxed = answer.ok().ok_or("a box")?;
-    shows("a box", boxed.as_relative_path(), text)
+    gives_taken_box(alloc, buf.into_boxed_relative_path(alloc), text)
 }
 
 // Requests: = 0, = 0, = 0
 #[test]
 fn into_boxed_relative_path(rt: HostRuntime) -> Result<(), Fail> {
-    into_boxed_relative_path_of(rt.alloc(), "a//b")?;
-    into_boxed_relative_path_of(rt.alloc(), "")?;
-    into_boxed_relative_path_of(rt.alloc(), long_text(rt.alloc())?.as_str())
+    check_texts(rt.alloc(), Call::IntoBoxedRelativePath)
 }
 
-fn rc_from_path_text_of(alloc: Global, text: &str) -> Result<(), Fail> {
+/// Copies a text for its first owner.
+pub fn rc_from_path_text_of(alloc: Global, text: &str) -> Result<(), Fail> {
     begin(alloc);
-    let answer = RcRelativePath::from_path_text(alloc, RelativePath::new(text));
-    end(alloc, answer.is_err())?;
-    match answer {
-        Ok(shared) => shows("from_path_text", shared.as_relative_path(), text),
-        Err(_) => Ok(()),
+    match RcRelativePath::from_path_text(alloc, RelativePath::new(text)) {
+        Ok(shared) => {
+            end_answered(alloc);
+            shows("from_path_text", shared.as_relative_path(), text)
+        }
+        Err(_) => end(alloc, true),
     }
 }
 
 // Requests: 4 40 = 2, 40 = 1, 1048576 40 = 2
 #[test]
 fn rc_from_path_text(rt: HostRuntime) -> Result<(), Fail> {
-    rc_from_path_text_of(rt.alloc(), "a//b")?;
-    rc_from_path_text_of(rt.alloc(), "")?;
-    rc_from_path_text_of(rt.alloc(), long_text(rt.alloc())?.as_str())
+    check_texts(rt.alloc(), Call::RcFromPathText)
 }
 
-fn rc_from_buf_of(alloc: Global, text: &str) -> Result<(), Fail> {
+/// Gives a buffer's text to its first owner, or hands the buffer back.
+pub fn rc_from_buf_of(alloc: Global, text: &str) -> Result<(), Fail> {
     let buf = RelativePathBuf::from_text(alloc, text)?;
     begin(alloc);
-    let answer = RcRelativePath::from_buf(alloc, buf);
-    end(alloc, answer.is_err())?;
-    match answer {
-        Ok(shared) => shows("shared", shared.as_relative_path(), text),
-        Err(buf) => shows("handed back", buf.as_relative_path(), text),
+    match RcRelativePath::from_buf(alloc, buf) {
+        Ok(shared) => {
+            end_answered(alloc);
+            shows("shared", shared.as_relative_path(), text)
+        }
+        Err(buf) => {
+            end(alloc, true)?;
+            shows("handed back", buf.as_relative_path(), text)
+        }
     }
 }
 
 // Requests: 4 40 = 1, 40 = 1, 1048576 40 = 1
 #[test]
 fn rc_from_buf(rt: HostRuntime) -> Result<(), Fail> {
-    rc_from_buf_of(rt.alloc(), "a//b")?;
-    rc_from_buf_of(rt.alloc(), "")?;
-    rc_from_buf_of(rt.alloc(), long_text(rt.alloc())?.as_str())
+    check_texts(rt.alloc(), Call::RcFromBuf)
 }
 
-fn rc_share_of(alloc: Global, text: &str) -> Result<(), Fail> {
+// The mark after a text is shared. Fails if an owner shows another text.
+fn gives_second<E: Drop>(
+    alloc: Global,
+    answer: Result<RcRelativePath, E>,
+    first: RelativePath<'_>,
+    text: &str,
+) -> Result<(), Fail> {
+    match answer {
+        Ok(second) => {
+            end_answered(alloc);
+            let found = [second.as_relative_path().as_str(), first.as_str()];
+            same("the second owner and the first", &found, &[text; 2])
+        }
+        Err(_) => {
+            end(alloc, true)?;
+            Err(Fail::new("a second owner"))
+        }
+    }
+}
+
+/// Shares a text with a second owner.
+pub fn rc_share_of(alloc: Global, text: &str) -> Result<(), Fail> {
     let first = RcRelativePath::from_path_text(alloc, RelativePath::new(text))?;
     begin(alloc);
-    let answer = first.share();
-    end(alloc, answer.is_err())?;
-    let second = answer.ok().ok_or("a second owner")?;
-    shows("the second owner", second.as_relative_path(), text)?;
-    shows("the first owner", first.as_relative_path(), text)
+    gives_second(alloc, first.share(), first.as_relative_path(), text)
 }
 
 // Requests: = 0, = 0, = 0
 #[test]
 fn rc_share(rt: HostRuntime) -> Result<(), Fail> {
-    rc_share_of(rt.alloc(), "a//b")?;
-    rc_share_of(rt.alloc(), "")?;
-    rc_share_of(rt.alloc(), long_text(rt.alloc())?.as_str())
+    check_texts(rt.alloc(), Call::RcShare)
 }
 
 type Read = (bool, bool, Ordering);
@@ -145,38 +176,45 @@ fn read<T: Ord + Hash>(path: &T, other: &T) -> Read {
 }
 
 // The calls that take no memory, of each form of this text.
-fn asks_for_nothing_of(alloc: Global, text: &str) -> Result<(), Fail> {
-    let bare = BoxedStr::from_str(alloc, text)?;
-    let (boxed, shared, buf) = (
-        BoxedRelativePath::from_text(alloc, text)?,
-        RcRelativePath::from_path_text(alloc, RelativePath::new(text))?,
-        RelativePathBuf::from_text(alloc, text)?,
-    );
+fn takes_no_memory(
+    alloc: Global,
+    text: &str,
+    bare: BoxedStr,
+    buf: RelativePathBuf,
+    boxed: &BoxedRelativePath,
+    shared: &RcRelativePath,
+) -> Result<(), Fail> {
     begin(alloc);
     let from_bare = BoxedRelativePath::from(bare);
     let owned = CowRelativePath::from(buf);
     let borrowed = CowRelativePath::from(boxed.as_relative_path());
     let found = (
-        read(&from_bare, &boxed),
-        read(&shared, &shared),
+        read(&from_bare, boxed),
+        read(shared, shared),
         read(&owned, &borrowed),
     );
     let lens = [
-        from_bare.as_relative_path(),
-        shared.as_relative_path(),
-        owned.as_relative_path(),
-    ]
-    .map(|path| path.as_str().len());
-    end(alloc, false)?;
+        from_bare.as_relative_path().as_str().len(),
+        shared.as_relative_path().as_str().len(),
+        owned.as_relative_path().as_str().len(),
+    ];
+    end_answered(alloc);
     let alike = (true, false, Ordering::Equal);
-    same("compared", &found, &(alike, alike, alike))?;
-    same("lengths", &lens, &[text.len(); 3])
+    let expected = ((alike, alike, alike), [text.len(); 3]);
+    same("compared, and lengths", &(found, lens), &expected)
+}
+
+/// Makes each form of this text, of which the calls take no memory.
+pub fn asks_for_nothing_of(alloc: Global, text: &str) -> Result<(), Fail> {
+    let boxed = BoxedRelativePath::from_text(alloc, text)?;
+    let shared = RcRelativePath::from_path_text(alloc, RelativePath::new(text))?;
+    let bare = BoxedStr::from_str(alloc, text)?;
+    let buf = RelativePathBuf::from_text(alloc, text)?;
+    takes_no_memory(alloc, text, bare, buf, &boxed, &shared)
 }
 
 // Requests: = 0, = 0, = 0
 #[test]
 fn asks_for_nothing(rt: HostRuntime) -> Result<(), Fail> {
-    asks_for_nothing_of(rt.alloc(), "a//b")?;
-    asks_for_nothing_of(rt.alloc(), "")?;
-    asks_for_nothing_of(rt.alloc(), long_text(rt.alloc())?.as_str())
+    check_texts(rt.alloc(), Call::AsksForNothing)
 }
