@@ -202,11 +202,8 @@ fn views_buffers_and_either_form_are_equal(rt: HostRuntime) -> Result<(), Fail> 
 }
 
 // Fails where a box of a buffer isn't equal to these paths, or they to each other.
-fn equals_box(
-    answer: Result<BoxedRelativePath, RelativePathBuf>,
-    path: RelativePath<'_>,
-    other: RelativePath<'_>,
-) -> Result<(), Fail> {
+fn equal_a_box(alloc: Global, path: RelativePath<'_>, other: RelativePath<'_>) -> Result<(), Fail> {
+    let answer = BoxedRelativePath::from_buf(alloc, pushed(alloc)?);
     let taken = answer.ok().ok_or("from_buf")?;
     are_equal(&[path, other, taken.as_relative_path()])
 }
@@ -215,16 +212,20 @@ fn equals_box(
 fn boxes_are_equal_as_views(rt: HostRuntime) -> Result<(), Fail> {
     let buf = RelativePath::new("foo/bar").to_relative_path_buf(rt.alloc())?;
     let copied = BoxedRelativePath::from_text(rt.alloc(), "foo/bar")?;
-    let answer = BoxedRelativePath::from_buf(rt.alloc(), pushed(rt.alloc())?);
-    equals_box(answer, buf.as_relative_path(), copied.as_relative_path())
+    equal_a_box(
+        rt.alloc(),
+        buf.as_relative_path(),
+        copied.as_relative_path(),
+    )
 }
 
 // The same of an owner.
-fn equals_owner(
-    answer: Result<RcRelativePath, RelativePathBuf>,
+fn equal_an_owner(
+    alloc: Global,
     path: RelativePath<'_>,
     other: RelativePath<'_>,
 ) -> Result<(), Fail> {
+    let answer = RcRelativePath::from_buf(alloc, pushed(alloc)?);
     let taken = answer.ok().ok_or("from_buf")?;
     are_equal(&[path, other, taken.as_relative_path()])
 }
@@ -233,6 +234,9 @@ fn equals_owner(
 fn owners_are_equal_as_views(rt: HostRuntime) -> Result<(), Fail> {
     let buf = RelativePath::new("foo/bar").to_relative_path_buf(rt.alloc())?;
     let copied = RcRelativePath::from_path_text(rt.alloc(), buf.as_relative_path())?;
-    let answer = RcRelativePath::from_buf(rt.alloc(), pushed(rt.alloc())?);
-    equals_owner(answer, buf.as_relative_path(), copied.as_relative_path())
+    equal_an_owner(
+        rt.alloc(),
+        buf.as_relative_path(),
+        copied.as_relative_path(),
+    )
 }

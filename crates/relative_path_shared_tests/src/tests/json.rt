@@ -6,6 +6,7 @@ use relative_path_shared::{
 };
 use serde_json::Value;
 use std::alloc::Global;
+use std::fmt::InlineText;
 use std::test::Fail;
 
 // JSON text of a string, and the path.
@@ -91,17 +92,12 @@ const ERRORS: [(FromValueError, &str); 2] = [
     (FromValueError::OutOfMemory, "out of memory"),
 ];
 
-// Fails where an error prints another text, without a width and with one.
-fn prints(alloc: Global, error: FromValueError, text: &str) -> Result<(), Fail> {
-    let printed = format!(in alloc; "{error}|{error:5.99}")?;
-    let expected = format!(in alloc; "{text}|{text}")?;
-    same(text, &printed, &expected)
-}
-
 #[test]
-fn errors_print_their_text(rt: HostRuntime) -> Result<(), Fail> {
+fn errors_print_their_text() -> Result<(), Fail> {
     for (error, text) in &ERRORS {
-        prints(rt.alloc(), *error, text)?;
+        let printed = InlineText::<64>::of(&format_args!("{error}|{error:5.99}"));
+        let expected = InlineText::<64>::of(&format_args!("{text}|{text}"));
+        same(text, &printed.as_str(), &expected.as_str())?;
     }
     Ok(())
 }

@@ -5,12 +5,36 @@ use relative_path_shared::{BoxedRelativePath, BufExt, CowRelativePath, RcRelativ
 use std::boxed::BoxedStr;
 use std::test::Fail;
 
+// Whether two paths show this text.
+fn show(
+    case: &str,
+    path: RelativePath<'_>,
+    other: RelativePath<'_>,
+    text: &str,
+) -> Result<(), Fail> {
+    same(case, &[path.as_str(), other.as_str()], &[text; 2])
+}
+
+// Whether a box of a buffer shows this text.
+fn shows_box(
+    case: &str,
+    answer: Result<BoxedRelativePath, RelativePathBuf>,
+    text: &str,
+) -> Result<(), Fail> {
+    let boxed = answer.ok().ok_or(case)?;
+    shows(case, boxed.as_relative_path(), text)
+}
+
 #[test]
 fn copied_boxes_show_the_text(rt: HostRuntime) -> Result<(), Fail> {
     let copied = BoxedRelativePath::from_text(rt.alloc(), "a//b")?;
-    shows("from_text", copied.as_relative_path(), "a//b")?;
     let cloned = copied.clone(rt.alloc())?;
-    shows("clone", cloned.as_relative_path(), "a//b")
+    show(
+        "from_text and clone",
+        copied.as_relative_path(),
+        cloned.as_relative_path(),
+        "a//b",
+    )
 }
 
 #[test]
@@ -23,16 +47,14 @@ fn a_box_of_a_boxed_text_shows_it(rt: HostRuntime) -> Result<(), Fail> {
 fn a_box_of_a_buffer_shows_the_text(rt: HostRuntime) -> Result<(), Fail> {
     let buf = RelativePathBuf::from_text(rt.alloc(), "a//b")?;
     let answer = BoxedRelativePath::from_buf(rt.alloc(), buf);
-    let boxed = answer.ok().ok_or("from_buf")?;
-    shows("from_buf", boxed.as_relative_path(), "a//b")
+    shows_box("from_buf", answer, "a//b")
 }
 
 #[test]
 fn a_buffer_becomes_a_box_that_shows_the_text(rt: HostRuntime) -> Result<(), Fail> {
     let buf = RelativePathBuf::from_text(rt.alloc(), "a//b")?;
     let answer = buf.into_boxed_relative_path(rt.alloc());
-    let boxed = answer.ok().ok_or("BufExt")?;
-    shows("BufExt", boxed.as_relative_path(), "a//b")
+    shows_box("BufExt", answer, "a//b")
 }
 
 #[test]
@@ -55,10 +77,14 @@ fn an_owner_of_a_buffer_shows_the_text(rt: HostRuntime) -> Result<(), Fail> {
 
 #[test]
 fn either_form_shows_the_text(rt: HostRuntime) -> Result<(), Fail> {
-    let borrowed = CowRelativePath::from(RelativePath::new("a//b"));
-    shows("borrowed", borrowed.as_relative_path(), "a//b")?;
     let owned = CowRelativePath::from(RelativePathBuf::from_text(rt.alloc(), "a//b")?);
-    shows("owned", owned.as_relative_path(), "a//b")
+    let borrowed = CowRelativePath::from(RelativePath::new("a//b"));
+    show(
+        "owned and borrowed",
+        owned.as_relative_path(),
+        borrowed.as_relative_path(),
+        "a//b",
+    )
 }
 
 #[test]

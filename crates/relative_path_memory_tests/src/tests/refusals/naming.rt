@@ -142,6 +142,18 @@ const FITTING: [(&str, usize, &str, &str, bool); 5] = [
     ("", 0, "", "", false),
 ];
 
+// The mark after that. Fails if the result is another, or it leaves another text.
+fn end_fitting(
+    alloc: Global,
+    case: &str,
+    answer: Result<bool, AllocError>,
+    left: &str,
+    expected: (bool, &str),
+) -> Result<(), Fail> {
+    end(alloc, answer.is_err())?;
+    same(case, (answer.ok(), left), (Some(expected.0), expected.1))
+}
+
 // Sets an extension for which a buffer has the room.
 fn set_extension_in(
     alloc: Global,
@@ -154,9 +166,7 @@ fn set_extension_in(
     buf.push(RelativePath::new(text))?;
     begin(alloc);
     let answer = buf.set_extension(extension);
-    end(alloc, answer.is_err())?;
-    let (is_set, left) = expected;
-    same(text, (answer.ok(), text_of(&buf)), (Some(is_set), left))
+    end_fitting(alloc, text, answer, text_of(&buf), expected)
 }
 
 // Requests: = 0, = 0, = 0, = 0, = 0
