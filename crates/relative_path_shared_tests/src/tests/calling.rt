@@ -6,12 +6,10 @@ ghost use Rattle.relative_path.specs.RelativePath.{path_components};
 ghost use Rattle.relative_path_shared.specs.Json.{string_text};
 ghost use Rattle.relative_path_shared.specs.declared.json.FromValueError.TheVariants.{NotAString};
 
-use super::{same, shows};
 use relative_path::{RelativePath, RelativePathBuf};
 use relative_path_shared::{FromValueError, from_value};
 use serde_json::Value;
 use std::alloc::Global;
-use std::test::Fail;
 
 /// The file to which the path in a JSON value leads from a directory.
 fn file_of_value(
@@ -28,16 +26,14 @@ fn file_of_value(
     Ok(file)
 }
 
-// Fails where no file is found, or another.
-fn finds(answer: Result<RelativePathBuf, FromValueError>, text: &str) -> Result<(), Fail> {
-    shows("file_of_value", answer?.as_relative_path(), text)
-}
-
 #[test]
-fn finds_the_file_of_a_value(rt: HostRuntime) -> Result<(), Fail> {
+fn finds_the_file_of_a_value(rt: HostRuntime) -> Result<(), std::test::Fail> {
+    let alloc = rt.alloc();
     let docs = RelativePath::new("docs/guide");
-    let refused = file_of_value(rt.alloc(), docs, &Value::Null).err();
-    same("null", &refused, &Some(FromValueError::NotAString))?;
-    let value = Value::from_str(rt.alloc(), "\"../img/a.png\"")?;
-    finds(file_of_value(rt.alloc(), docs, &value), "docs/img/a.png")
+    let value = Value::from_str(alloc, "\"../img/a.png\"")?;
+    let file = file_of_value(alloc, docs, &value)?;
+    assert_eq!(rt; file.as_relative_path().as_str(), "docs/img/a.png");
+    let refused = file_of_value(alloc, docs, &Value::Null).err();
+    assert_eq!(rt; refused, Some(FromValueError::NotAString));
+    Ok(())
 }
