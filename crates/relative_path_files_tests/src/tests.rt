@@ -10,7 +10,7 @@ mod router;
 
 // Fails in the words of this case where another value was found than is expected. A call of it costs
 // a proof a fourth of what `assert_eq!` with a message does.
-fn same<T: PartialEq + Debug>(case: &str, found: &T, expected: &T) -> Result<(), Fail> {
+fn same<T: PartialEq + Debug + Drop>(case: &str, found: T, expected: T) -> Result<(), Fail> {
     if found == expected {
         Ok(())
     } else {
@@ -23,5 +23,5 @@ fn same<T: PartialEq + Debug>(case: &str, found: &T, expected: &T) -> Result<(),
 fn prints<T: Display>(alloc: Global, value: &T, words: &str) -> Result<(), Fail> {
     let printed = format!(in alloc; "{value}|{value:5.99}")?;
     let expected = format!(in alloc; "{words}|{words}")?;
-    same(words, &printed, &expected)
+    same(words, printed, expected)
 }

@@ -14,7 +14,7 @@ fn text_of(buf: &RelativePathBuf) -> &str {
 
 // Fails in the words of this case where another value was found than is expected. A call of it costs
 // a proof a fourth of what `assert_eq!` with a message does.
-fn same<T: PartialEq + Debug>(case: &str, found: &T, expected: &T) -> Result<(), Fail> {
+fn same<T: PartialEq + Debug + Drop>(case: &str, found: T, expected: T) -> Result<(), Fail> {
     if found == expected {
         Ok(())
     } else {
@@ -27,14 +27,14 @@ fn same<T: PartialEq + Debug>(case: &str, found: &T, expected: &T) -> Result<(),
 fn prints<T: Display>(alloc: Global, value: &T, words: &str) -> Result<(), Fail> {
     let printed = format!(in alloc; "{value}|{value:5.99}")?;
     let expected = format!(in alloc; "{words}|{words}")?;
-    same(words, &printed, &expected)
+    same(words, printed, expected)
 }
 
 // Fails where other files are there than are expected.
 fn are(files: &[RelativePathBuf], expected: &[&str]) -> Result<(), Fail> {
-    same("files", &files.len(), &expected.len())?;
+    same("files", files.len(), expected.len())?;
     for (file, text) in files.iter().zip(expected) {
-        same("a file", &text_of(file), text)?;
+        same("a file", text_of(file), *text)?;
     }
     Ok(())
 }

@@ -39,8 +39,8 @@ const PLAIN: [&str; 29] = [
 #[test]
 fn plain_names(rt: HostRuntime) -> Result<(), Fail> {
     for name in &PLAIN {
-        same(name, &is_plain_name(name), &true)?;
-        same(name, &has_plain_names(RelativePath::new(name)), &true)?;
+        same(name, is_plain_name(name), true)?;
+        same(name, has_plain_names(RelativePath::new(name)), true)?;
     }
     Ok(())
 }
@@ -55,7 +55,7 @@ const CUT: [&str; 36] = [
 #[test]
 fn names_that_some_platform_reads_otherwise() -> Result<(), Fail> {
     for name in &CUT {
-        same(name, &is_plain_name(name), &false)?;
+        same(name, is_plain_name(name), false)?;
     }
     Ok(())
 }
@@ -101,7 +101,7 @@ const LISTED: [&str; 34] = [
 #[test]
 fn names_of_the_lists() -> Result<(), Fail> {
     for name in &LISTED {
-        same(name, &is_plain_name(name), &false)?;
+        same(name, is_plain_name(name), false)?;
     }
     Ok(())
 }
@@ -124,7 +124,7 @@ const PATHS: [(&str, bool); 11] = [
 #[test]
 fn names_of_a_path() -> Result<(), Fail> {
     for (path, are_plain) in &PATHS {
-        same(path, &has_plain_names(RelativePath::new(path)), are_plain)?;
+        same(path, has_plain_names(RelativePath::new(path)), *are_plain)?;
     }
     Ok(())
 }
@@ -156,7 +156,7 @@ const SHORT: [(&str, bool); 20] = [
 #[test]
 fn short_names() -> Result<(), Fail> {
     for (name, may_be) in &SHORT {
-        same(name, &may_be_short_name(name), may_be)?;
+        same(name, may_be_short_name(name), *may_be)?;
     }
     Ok(())
 }

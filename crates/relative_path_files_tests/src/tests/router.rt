@@ -1,5 +1,7 @@
 use super::{prints, same};
-use relative_path_files::{RequestError, resolve_request, resolve_request_on_unix};
+use relative_path_files::{
+    RequestError, ResolvedRequest, resolve_request, resolve_request_on_unix,
+};
 use std::alloc::Global;
 use std::test::Fail;
 
@@ -41,8 +43,34 @@ const DIRECTORIES: [(&str, &str); 9] = [
     ("/a/b/..", "site/public/a"),
 ];
 
-// Fails if the request names another path below this root than is expected, or doesn't mean a directory
-// although it should, or the other way round.
+// Fails if this is another path than is expected, or doesn't mean a directory although it should, or the other
+// way round.
+fn is_path(
+    request: &str,
+    found: &ResolvedRequest,
+    path: &str,
+    is_directory: bool,
+) -> Result<(), Fail> {
+    same(
+        request,
+        (found.path.as_str(), found.is_directory),
+        (path, is_directory),
+    )
+}
+
+// Fails if the request names something else below this root on Unix.
+fn names_on_unix(
+    alloc: Global,
+    root: &str,
+    request: &str,
+    path: &str,
+    is_directory: bool,
+) -> Result<(), Fail> {
+    let found = resolve_request_on_unix(alloc, root, request)?;
+    is_path(request, &found, path, is_directory)
+}
+
+// Fails if the request names something else below this root, on every platform or on Unix.
 fn names(
     alloc: Global,
     root: &str,
@@ -51,23 +79,14 @@ fn names(
     is_directory: bool,
 ) -> Result<(), Fail> {
     let found = resolve_request(alloc, root, request)?;
-    same(
-        request,
-        &(found.path.as_str(), found.is_directory),
-        &(path, is_directory),
-    )?;
-    let found = resolve_request_on_unix(alloc, root, request)?;
-    same(
-        request,
-        &(found.path.as_str(), found.is_directory),
-        &(path, is_directory),
-    )
+    is_path(request, &found, path, is_directory)?;
+    names_on_unix(alloc, root, request, path, is_directory)
 }
 
 // Fails if the request isn't refused with this error.
 fn refuses(alloc: Global, request: &str, error: RequestError) -> Result<(), Fail> {
     let found = resolve_request(alloc, "/srv/www", request).err();
-    same(request, &found, &Some(error))
+    same(request, found, Some(error))
 }
 
 #[test]
@@ -106,40 +125,51 @@ fn leaves_the_root_as_it_is(rt: HostRuntime) -> Result<(), Fail> {
     names(rt.alloc(), "", "/", "", true)
 }
 
+// Fails if the request isn't refused with this error on Unix.
+fn refuses_on_unix(alloc: Global, request: &str, error: RequestError) -> Result<(), Fail> {
+    let found = resolve_request_on_unix(alloc, "/srv/www", request).err();
+    same(request, found, Some(error))
+}
+
+// Requests that climb above the top.
+const CLIMBS: [&str; 7] = [
+    "..",
+    "/../secrets",
+    "/../public/index.html",
+    "/a/../../x",
+    "//..//..//etc/passwd",
+    "/a/b/../../../x/../../public/a",
+    "/../aux",
+];
+
 #[test]
 fn refuses_what_climbs(rt: HostRuntime) -> Result<(), Fail> {
-    for request in &[
-        "..",
-        "/../secrets",
-        "/../public/index.html",
-        "/a/../../x",
-        "//..//..//etc/passwd",
-        "/a/b/../../../x/../../public/a",
-        "/../aux",
-    ] {
+    for request in &CLIMBS {
         refuses(rt.alloc(), request, RequestError::ClimbsAbove)?;
-        let found = resolve_request_on_unix(rt.alloc(), "/srv/www", request).err();
-        same(request, &found, &Some(RequestError::ClimbsAbove))?;
+        refuses_on_unix(rt.alloc(), request, RequestError::ClimbsAbove)?;
     }
     Ok(())
 }
 
+// Requests with a name that isn't plain.
+const NOT_PLAIN: [&str; 12] = [
+    "/..\\..\\x",
+    "/a\\..\\..\\x",
+    "/a.html\0.png",
+    "/C:/Windows/win.ini",
+    "/index.html::$DATA",
+    "/index.html?x=1",
+    "/index.php.",
+    "/.../x",
+    "/a /b/",
+    "/con.tar.gz/..a",
+    "/x/..namedfork/rsrc",
+    "/x/../aux",
+];
+
 #[test]
 fn refuses_a_name_that_is_not_plain(rt: HostRuntime) -> Result<(), Fail> {
-    for request in &[
-        "/..\\..\\x",
-        "/a\\..\\..\\x",
-        "/a.html\0.png",
-        "/C:/Windows/win.ini",
-        "/index.html::$DATA",
-        "/index.html?x=1",
-        "/index.php.",
-        "/.../x",
-        "/a /b/",
-        "/con.tar.gz/..a",
-        "/x/..namedfork/rsrc",
-        "/x/../aux",
-    ] {
+    for request in &NOT_PLAIN {
         refuses(rt.alloc(), request, RequestError::NotPlain)?;
     }
     Ok(())
@@ -158,29 +188,27 @@ const ON_UNIX: [(&str, &str); 6] = [
 #[test]
 fn refuses_no_name_on_unix(rt: HostRuntime) -> Result<(), Fail> {
     for (request, file) in &ON_UNIX {
-        let found = resolve_request_on_unix(rt.alloc(), "/srv/www", request)?;
-        same(
-            request,
-            &(found.path.as_str(), found.is_directory),
-            &(*file, false),
-        )?;
+        names_on_unix(rt.alloc(), "/srv/www", request, file, false)?;
     }
     Ok(())
 }
 
+// Errors, and what they print.
+const WORDS: [(RequestError, &str); 3] = [
+    (
+        RequestError::ClimbsAbove,
+        "the request climbs above the top",
+    ),
+    (
+        RequestError::NotPlain,
+        "the request has a name that isn't plain",
+    ),
+    (RequestError::OutOfMemory, "out of memory"),
+];
+
 #[test]
 fn errors_print_their_words(rt: HostRuntime) -> Result<(), Fail> {
-    for (error, words) in &[
-        (
-            RequestError::ClimbsAbove,
-            "the request climbs above the top",
-        ),
-        (
-            RequestError::NotPlain,
-            "the request has a name that isn't plain",
-        ),
-        (RequestError::OutOfMemory, "out of memory"),
-    ] {
+    for (error, words) in &WORDS {
         prints(rt.alloc(), error, words)?;
     }
     Ok(())

@@ -43,7 +43,7 @@ fn links_to(
         return Err(Fail::new("no page"));
     }
     let href = link_to(alloc, site, 0, RelativePath::new(path))?;
-    same(path, &href.as_ref().map(String::as_str), &expected)
+    same(path, href.as_ref().map(String::as_str), expected)
 }
 
 #[test]

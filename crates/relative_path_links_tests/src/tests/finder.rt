@@ -13,13 +13,13 @@ fn finds_targets_with_their_syntax(rt: HostRuntime) -> Result<(), Fail> {
         (TargetSyntax::Markdown, 48, 51),
     ]
     .map(|(syntax, start, end)| Target { syntax, start, end });
-    same(page, &found.as_slice(), &[b, c, g].as_slice())
+    same(page, found.as_slice(), [b, c, g].as_slice())
 }
 
 #[test]
 fn finds_nothing_where_links_have_another_base(rt: HostRuntime) -> Result<(), Fail> {
     let found = targets(rt.alloc(), "<base href='x/'>\n\n[a](b.md)")?;
-    same("a base", &found.len(), &0)
+    same("a base", found.len(), 0)
 }
 
 // Spans of two targets in this page, and whether they are in order there.
@@ -47,7 +47,7 @@ fn knows_targets_in_order(_rt: HostRuntime) -> Result<(), Fail> {
             end: *last,
         };
         let in_order = are_in_order("aébc", &[first, second]);
-        same("two spans", &in_order, expected)?;
+        same("two spans", in_order, *expected)?;
     }
     Ok(())
 }

@@ -1,15 +1,11 @@
 use super::pages::PAGE;
-use super::same;
+use super::{moves, same};
 use relative_path::RelativePath;
 use relative_path_links::{RewrittenPage, Unchanged, rewrite_links, targets};
 use relative_path_moves::{MovedPage, TreeMoves};
 use std::alloc::{AllocError, Global};
 use std::test::Fail;
 use target_paths::WhyUnknown;
-
-fn as_paths<'a>((old, new): (&'a str, &'a str)) -> (RelativePath<'a>, RelativePath<'a>) {
-    (RelativePath::new(old), RelativePath::new(new))
-}
 
 // Moves of three pages and an image; the page is the first.
 const MOVES: [(&str, &str); 4] = [
@@ -88,60 +84,59 @@ fn after_in(
 // What a page at a path becomes after these moves.
 fn after(
     alloc: Global,
-    moves: &[(RelativePath<'_>, RelativePath<'_>)],
+    pairs: &[(&str, &str)],
     from: &str,
     page: &str,
 ) -> Result<RewrittenPage, Fail> {
-    let tree = TreeMoves::new(alloc, moves)?;
+    let moves = moves(alloc, pairs)?;
+    let tree = TreeMoves::new(alloc, &moves)?;
     Ok(after_in(alloc, &tree, from, page)?)
 }
 
 // Fails where it becomes another text than is expected, or a link is reported as unchanged.
 fn becomes(
     alloc: Global,
-    moves: &[(RelativePath<'_>, RelativePath<'_>)],
+    pairs: &[(&str, &str)],
     from: &str,
     page: &str,
     expected: &str,
 ) -> Result<(), Fail> {
-    let new = after(alloc, moves, from, page)?;
-    same(page, &new.text.as_str(), &expected)?;
-    same(page, &new.unchanged.as_slice(), &[].as_slice())
+    let new = after(alloc, pairs, from, page)?;
+    same(page, new.text.as_str(), expected)?;
+    same(page, new.unchanged.as_slice(), [].as_slice())
 }
 
 // Fails where a page at this path becomes another text than its row says.
 fn all_become(
     alloc: Global,
-    moves: &[(RelativePath<'_>, RelativePath<'_>)],
+    pairs: &[(&str, &str)],
     from: &str,
     rows: &[(&str, &str)],
 ) -> Result<(), Fail> {
     for (page, expected) in rows {
-        becomes(alloc, moves, from, page, expected)?;
+        becomes(alloc, pairs, from, page, expected)?;
     }
     Ok(())
 }
 
 #[test]
 fn moves_the_targets_of_links(rt: HostRuntime) -> Result<(), Fail> {
-    all_become(rt.alloc(), &MOVES.map(as_paths), "docs/a.md", &LINKED)
+    all_become(rt.alloc(), &MOVES, "docs/a.md", &LINKED)
 }
 
 #[test]
 fn leaves_the_rest_as_it_is(rt: HostRuntime) -> Result<(), Fail> {
-    let moves = MOVES.map(as_paths);
     for page in &KEPT {
-        becomes(rt.alloc(), &moves, "docs/a.md", page, page)?;
+        becomes(rt.alloc(), &MOVES, "docs/a.md", page, page)?;
     }
     Ok(())
 }
 
 #[test]
 fn moves_a_page_that_stays(rt: HostRuntime) -> Result<(), Fail> {
-    let moves = MOVES.map(as_paths);
     let page = "[c](./../docs/c.md) [d](./d.md)";
     let expected = "[c](../e/f.md) [d](./d.md)";
-    becomes(rt.alloc(), &moves, "docs/d.md", page, expected)
+    becomes(rt.alloc(), &MOVES, "docs/d.md", page, expected)
 }
 
 // Old and new paths of a page, the page with one unchanged link, and where and why.
@@ -177,10 +172,9 @@ fn leaves(
     alloc: Global,
     (old, new, page, at, why): (&str, &str, &str, usize, Unchanged),
 ) -> Result<(), Fail> {
-    let moves = [(RelativePath::new(old), RelativePath::new(new))];
-    let moved = after(alloc, &moves, old, page)?;
-    same(old, &moved.text.as_str(), &page)?;
-    same(old, &moved.unchanged.as_slice(), &[(at, why)].as_slice())
+    let moved = after(alloc, &[(old, new)], old, page)?;
+    same(old, moved.text.as_str(), page)?;
+    same(old, moved.unchanged.as_slice(), [(at, why)].as_slice())
 }
 
 #[test]
@@ -193,13 +187,13 @@ fn leaves_a_link_that_it_cant_move(rt: HostRuntime) -> Result<(), Fail> {
 
 #[test]
 fn moves_the_others_beside_a_link_that_is_left(rt: HostRuntime) -> Result<(), Fail> {
-    let moves = [("My Docs/a.md", "b/a.md")].map(as_paths);
+    let moves = [("My Docs/a.md", "b/a.md")];
     let page = "[x](%2f) [y](<y.md#z>) [z](../../z.md)";
     let moved = after(rt.alloc(), &moves, "My Docs/a.md", page)?;
     let expected = "[x](%2f) [y](<../My%20Docs/y.md#z>) [z](../../z.md)";
-    same(page, &moved.text.as_str(), &expected)?;
+    same(page, moved.text.as_str(), expected)?;
     let slash = Unchanged::Unknown(WhyUnknown::EncodedSlash);
-    same(page, &moved.unchanged.as_slice(), &[(4, slash)].as_slice())
+    same(page, moved.unchanged.as_slice(), [(4, slash)].as_slice())
 }
 
 // Moves of files with awkward names, and of directories.
@@ -248,7 +242,7 @@ const SPELLED: [(&str, &str); 12] = [
 
 #[test]
 fn reads_and_writes_targets_as_a_browser_does(rt: HostRuntime) -> Result<(), Fail> {
-    all_become(rt.alloc(), &AWKWARD.map(as_paths), "index.md", &SPELLED)
+    all_become(rt.alloc(), &AWKWARD, "index.md", &SPELLED)
 }
 
 #[test]
@@ -259,7 +253,7 @@ fn reports_nothing_where_nothing_moves(rt: HostRuntime) -> Result<(), Fail> {
 
 #[test]
 fn keeps_links_within_a_directory_that_moves(rt: HostRuntime) -> Result<(), Fail> {
-    let moves = [("docs", "guide"), ("img", "docs")].map(as_paths);
+    let moves = [("docs", "guide"), ("img", "docs")];
     let page = "[b](b.md) [b](../docs/b.md) [c](./sub/../c.md) [i](../img/i.png) [o](../../o)";
     let expected = "[b](b.md) [b](b.md) [c](./sub/../c.md) [i](../docs/i.png) [o](../../o)";
     becomes(rt.alloc(), &moves, "docs/a.md", page, expected)
@@ -269,14 +263,13 @@ fn keeps_links_within_a_directory_that_moves(rt: HostRuntime) -> Result<(), Fail
 fn moves_a_link_in_each_line(rt: HostRuntime) -> Result<(), Fail> {
     let page = "- [c](c.md)\n".repeat(rt.alloc(), 500)?;
     let expected = "- [c](../../e/f.md)\n".repeat(rt.alloc(), 500)?;
-    let moves = MOVES.map(as_paths);
-    becomes(rt.alloc(), &moves, "docs/a.md", &page, &expected)
+    becomes(rt.alloc(), &MOVES, "docs/a.md", &page, &expected)
 }
 
 // Fails where a text lacks one of these parts.
 fn has_parts(text: &str, parts: &[&str]) -> Result<(), Fail> {
     for part in parts {
-        same(part, &text.contains(*part), &true)?;
+        same(part, text.contains(*part), true)?;
     }
     Ok(())
 }
@@ -315,8 +308,7 @@ fn as_moved_back(alloc: Global) -> Result<String, Fail> {
 #[test]
 fn moves_a_page_and_back(rt: HostRuntime) -> Result<(), Fail> {
     let expected = as_moved_back(rt.alloc())?;
-    let moved = after(rt.alloc(), &THERE.map(as_paths), "docs/PAGE.md", PAGE)?;
+    let moved = after(rt.alloc(), &THERE, "docs/PAGE.md", PAGE)?;
     has_parts(&moved.text, &PARTS)?;
-    let back = BACK.map(as_paths);
-    becomes(rt.alloc(), &back, "guide/links.md", &moved.text, &expected)
+    becomes(rt.alloc(), &BACK, "guide/links.md", &moved.text, &expected)
 }

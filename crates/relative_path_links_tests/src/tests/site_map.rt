@@ -1,4 +1,4 @@
-use super::{prints, same};
+use super::{paths, prints, same};
 use relative_path::RelativePath;
 use relative_path_links::{SiteMap, SiteMapError};
 use std::alloc::Global;
@@ -45,23 +45,29 @@ const FOUND: [(&str, Option<usize>); 12] = [
     ("", None),
 ];
 
-// Fails where a site of these pages finds another page at a path than a row says.
-fn finds(
+// Fails where a site finds another page at a path than a row says.
+fn site_finds(
     alloc: Global,
-    pages: &[RelativePath<'_>],
+    site: &SiteMap<'_>,
     rows: &[(&str, Option<usize>)],
 ) -> Result<(), Fail> {
-    let site = SiteMap::new(alloc, pages)?;
     for (path, page) in rows {
         let found = site.find(alloc, RelativePath::new(path))?;
-        same(path, &found, page)?;
+        same(path, found, *page)?;
     }
     Ok(())
 }
 
+// The same, for the site of these pages.
+fn finds(alloc: Global, pages: &[&str], rows: &[(&str, Option<usize>)]) -> Result<(), Fail> {
+    let pages = paths(alloc, pages)?;
+    let site = SiteMap::new(alloc, &pages)?;
+    site_finds(alloc, &site, rows)
+}
+
 #[test]
 fn finds_a_page_by_any_spelling(rt: HostRuntime) -> Result<(), Fail> {
-    finds(rt.alloc(), &PAGES.map(RelativePath::new), &FOUND)
+    finds(rt.alloc(), &PAGES, &FOUND)
 }
 
 // The numbers of two pages, and the reference from the first to the second.
@@ -95,31 +101,40 @@ fn refers(
     }
     let href = site.href(alloc, from, to)?;
     let found = href.as_ref().map(String::as_str);
-    same("a reference", &(from, to, found), &(from, to, expected))
+    same("a reference", (from, to, found), (from, to, expected))
 }
 
-// Fails where a site of these pages has another reference than a row says.
-fn all_refer(
+// Fails where a site has another reference than a row says.
+fn site_refers(
     alloc: Global,
-    pages: &[RelativePath<'_>],
+    site: &SiteMap<'_>,
     rows: &[(usize, usize, Option<&str>)],
 ) -> Result<(), Fail> {
-    let site = SiteMap::new(alloc, pages)?;
     for row in rows {
-        refers(alloc, &site, *row)?;
+        refers(alloc, site, *row)?;
     }
     Ok(())
 }
 
+// The same, for the site of these pages.
+fn all_refer(
+    alloc: Global,
+    pages: &[&str],
+    rows: &[(usize, usize, Option<&str>)],
+) -> Result<(), Fail> {
+    let pages = paths(alloc, pages)?;
+    let site = SiteMap::new(alloc, &pages)?;
+    site_refers(alloc, &site, rows)
+}
+
 #[test]
 fn refers_from_a_page_to_another(rt: HostRuntime) -> Result<(), Fail> {
-    all_refer(rt.alloc(), &PAGES.map(RelativePath::new), &HREFS)
+    all_refer(rt.alloc(), &PAGES, &HREFS)
 }
 
 #[test]
 fn no_reference_leads_down_to_a_page_of_unknown_names(rt: HostRuntime) -> Result<(), Fail> {
-    let pages = PAGES.map(RelativePath::new);
-    all_refer(rt.alloc(), &pages, &[(18, 0, None)])
+    all_refer(rt.alloc(), &PAGES, &[(18, 0, None)])
 }
 
 // Pages whose names have bytes that mean something else in a URL or in HTML.
@@ -148,8 +163,7 @@ const AWKWARD_HREFS: [(usize, usize, Option<&str>); 9] = [
 
 #[test]
 fn encodes_the_names(rt: HostRuntime) -> Result<(), Fail> {
-    let pages = AWKWARD.map(RelativePath::new);
-    all_refer(rt.alloc(), &pages, &AWKWARD_HREFS)
+    all_refer(rt.alloc(), &AWKWARD, &AWKWARD_HREFS)
 }
 
 // Directories' pages, whose paths end in a slash, and other pages.
@@ -188,8 +202,7 @@ const DIRECTORY_HREFS: [(usize, usize, Option<&str>); 19] = [
 
 #[test]
 fn refers_from_and_to_directories(rt: HostRuntime) -> Result<(), Fail> {
-    let pages = DIRECTORIES.map(RelativePath::new);
-    all_refer(rt.alloc(), &pages, &DIRECTORY_HREFS)
+    all_refer(rt.alloc(), &DIRECTORIES, &DIRECTORY_HREFS)
 }
 
 const FOUND_DIRECTORIES: [(&str, Option<usize>); 5] = [
@@ -202,24 +215,26 @@ const FOUND_DIRECTORIES: [(&str, Option<usize>); 5] = [
 
 #[test]
 fn finds_a_directory_with_and_without_a_slash(rt: HostRuntime) -> Result<(), Fail> {
-    let pages = DIRECTORIES.map(RelativePath::new);
-    finds(rt.alloc(), &pages, &FOUND_DIRECTORIES)
+    finds(rt.alloc(), &DIRECTORIES, &FOUND_DIRECTORIES)
 }
 
 // Fails where a site of these two pages is refused for another reason, or not at all.
 fn refuses(alloc: Global, texts: [&str; 2], refusal: SiteMapError) -> Result<(), Fail> {
     let error = SiteMap::new(alloc, &texts.map(RelativePath::new)).err();
-    same("pages", &(texts, error), &(texts, Some(refusal)))
+    same("pages", (texts, error), (texts, Some(refusal)))
 }
+
+// Pairs of pages, and which of the two lacks a file name.
+const WITHOUT_FILE_NAME: [([&str; 2], SiteMapError); 4] = [
+    (["a.html", "b/.."], SiteMapError::NoFileName(1)),
+    (["", "b.html"], SiteMapError::NoFileName(0)),
+    (["b/", "/"], SiteMapError::NoFileName(1)),
+    (["/.", ".."], SiteMapError::NoFileName(0)),
+];
 
 #[test]
 fn refuses_a_page_without_a_file_name(rt: HostRuntime) -> Result<(), Fail> {
-    for (texts, refusal) in &[
-        (["a.html", "b/.."], SiteMapError::NoFileName(1)),
-        (["", "b.html"], SiteMapError::NoFileName(0)),
-        (["b/", "/"], SiteMapError::NoFileName(1)),
-        (["/.", ".."], SiteMapError::NoFileName(0)),
-    ] {
+    for (texts, refusal) in &WITHOUT_FILE_NAME {
         refuses(rt.alloc(), *texts, *refusal)?;
     }
     Ok(())
@@ -251,22 +266,25 @@ fn refuses_a_name_that_is_not_plain(rt: HostRuntime) -> Result<(), Fail> {
 #[test]
 fn takes_no_pages(rt: HostRuntime) -> Result<(), Fail> {
     let site = SiteMap::new(rt.alloc(), &[])?;
-    same("no pages", &site.len(), &0)
+    same("no pages", site.len(), 0)
 }
+
+// Errors, and what they print.
+const WORDS: [(SiteMapError, &str); 3] = [
+    (
+        SiteMapError::NoFileName(1_000),
+        "page 1000 lacks a file name",
+    ),
+    (
+        SiteMapError::NotPlain(1_000),
+        "page 1000 has a name that isn't plain",
+    ),
+    (SiteMapError::OutOfMemory, "out of memory"),
+];
 
 #[test]
 fn refusals_print_their_words(rt: HostRuntime) -> Result<(), Fail> {
-    for (refusal, words) in &[
-        (
-            SiteMapError::NoFileName(1_000),
-            "page 1000 lacks a file name",
-        ),
-        (
-            SiteMapError::NotPlain(1_000),
-            "page 1000 has a name that isn't plain",
-        ),
-        (SiteMapError::OutOfMemory, "out of memory"),
-    ] {
+    for (refusal, words) in &WORDS {
         prints(rt.alloc(), refusal, words)?;
     }
     Ok(())

@@ -30,7 +30,7 @@ fn has_files(alloc: Global, json: &str, expected: Option<&[&str]>) -> Result<(),
     let manifest = Value::from_str(alloc, json)?;
     match (files_from_outside(alloc, &manifest)?, expected) {
         (Some(files), Some(expected)) => are(&files, expected),
-        (found, expected) => same(json, &found.is_some(), &expected.is_some()),
+        (found, expected) => same(json, found.is_some(), expected.is_some()),
     }
 }
 

@@ -14,19 +14,18 @@ const MANIFEST: &str = r#"{
     "files": ["img/x.png", "./css/../js/a.js", "\u00fc//b.css", "fonts/..\/./d", "/c.html", "..a"]
 }"#;
 
-// The result of the reader for a manifest in JSON.
-fn answered(
-    alloc: Global,
-    json: &str,
-) -> Result<Result<Vec<RelativePathBuf>, ManifestError>, Fail> {
-    let manifest = Value::from_str(alloc, json)?;
-    Ok(manifest_files(alloc, &manifest))
-}
-
 // Fails where the reader finds other files than are expected.
 fn reads(alloc: Global, json: &str, expected: &[&str]) -> Result<(), Fail> {
-    let files = answered(alloc, json)??;
+    let manifest = Value::from_str(alloc, json)?;
+    let files = manifest_files(alloc, &manifest)?;
     are(&files, expected)
+}
+
+// Fails where the reader doesn't refuse a manifest with this error.
+fn refuses(alloc: Global, json: &str, refusal: ManifestError) -> Result<(), Fail> {
+    let manifest = Value::from_str(alloc, json)?;
+    let error = manifest_files(alloc, &manifest).err();
+    same(json, error, Some(refusal))
 }
 
 #[test]
@@ -121,8 +120,7 @@ const REFUSED: [(&str, ManifestError); 21] = [
 #[test]
 fn refuses_a_manifest(rt: HostRuntime) -> Result<(), Fail> {
     for (json, refusal) in &REFUSED {
-        let answer = answered(rt.alloc(), json)?;
-        same(json, &answer.err(), &Some(*refusal))?;
+        refuses(rt.alloc(), json, *refusal)?;
     }
     Ok(())
 }
@@ -135,19 +133,18 @@ const ON_UNIX: [(&str, &str); 4] = [
     (r#"{"base": "a", "files": ["b\u0000"]}"#, "a/b\0"),
 ];
 
-// The result of the reader that accepts every name, for a manifest in JSON.
-fn answered_on_unix(
-    alloc: Global,
-    json: &str,
-) -> Result<Result<Vec<RelativePathBuf>, ManifestError>, Fail> {
+// Fails where the reader that accepts every name finds another file than is expected, or more.
+fn reads_on_unix(alloc: Global, json: &str, file: &str) -> Result<(), Fail> {
     let manifest = Value::from_str(alloc, json)?;
-    Ok(manifest_files_on_unix(alloc, &manifest))
+    let files = manifest_files_on_unix(alloc, &manifest)?;
+    are(&files, &[file])
 }
 
-// Fails where this reader finds another file than is expected, or more.
-fn reads_on_unix(alloc: Global, json: &str, file: &str) -> Result<(), Fail> {
-    let files = answered_on_unix(alloc, json)??;
-    are(&files, &[file])
+// Fails where this reader doesn't refuse a manifest with this error.
+fn refuses_on_unix(alloc: Global, json: &str, refusal: ManifestError) -> Result<(), Fail> {
+    let manifest = Value::from_str(alloc, json)?;
+    let error = manifest_files_on_unix(alloc, &manifest).err();
+    same(json, error, Some(refusal))
 }
 
 #[test]
@@ -158,26 +155,28 @@ fn accepts_every_name_on_unix(rt: HostRuntime) -> Result<(), Fail> {
     Ok(())
 }
 
+// Manifests, and why they aren't accepted on Unix.
+const REFUSED_ON_UNIX: [(&str, ManifestError); 5] = [
+    ("[]", ManifestError::NoBase),
+    (r#"{"base": "a"}"#, ManifestError::NoFiles),
+    (
+        r#"{"base": "a", "files": [7]}"#,
+        ManifestError::NotAString(0),
+    ),
+    (
+        r#"{"base": "a?", "files": ["b?", "../a?/c"]}"#,
+        ManifestError::ClimbsAbove(1),
+    ),
+    (
+        r#"{"base": "a", "files": ["b?/.."]}"#,
+        ManifestError::LeadsToBase(0),
+    ),
+];
+
 #[test]
 fn refuses_a_climb_on_unix(rt: HostRuntime) -> Result<(), Fail> {
-    for (json, refusal) in &[
-        ("[]", ManifestError::NoBase),
-        (r#"{"base": "a"}"#, ManifestError::NoFiles),
-        (
-            r#"{"base": "a", "files": [7]}"#,
-            ManifestError::NotAString(0),
-        ),
-        (
-            r#"{"base": "a?", "files": ["b?", "../a?/c"]}"#,
-            ManifestError::ClimbsAbove(1),
-        ),
-        (
-            r#"{"base": "a", "files": ["b?/.."]}"#,
-            ManifestError::LeadsToBase(0),
-        ),
-    ] {
-        let answer = answered_on_unix(rt.alloc(), json)?;
-        same(json, &answer.err(), &Some(*refusal))?;
+    for (json, refusal) in &REFUSED_ON_UNIX {
+        refuses_on_unix(rt.alloc(), json, *refusal)?;
     }
     Ok(())
 }
@@ -211,7 +210,7 @@ fn is_about(
     let Some(error) = error else {
         return Err(Fail::new("no error"));
     };
-    same(case, &(error.entry(), error.entry_text(manifest)), &entry)
+    same(case, (error.entry(), error.entry_text(manifest)), entry)
 }
 
 fn names_the_entry(
@@ -245,7 +244,7 @@ const BASES: [(&str, Option<&str>); 5] = [
 fn has_base(alloc: Global, json: &str, base: Option<&str>) -> Result<(), Fail> {
     let manifest = Value::from_str(alloc, json)?;
     let found = manifest_base(&manifest);
-    same(json, &found.map(RelativePath::as_str), &base)
+    same(json, found.map(RelativePath::as_str), base)
 }
 
 #[test]
@@ -272,13 +271,14 @@ const CLASHES: [(&str, Option<(usize, usize)>); 9] = [
 // The files of a manifest with this list.
 fn files_of(alloc: Global, list: &str) -> Result<Vec<RelativePathBuf>, Fail> {
     let json = format!(in alloc; r#"{{"base": "x", "files": {list}}}"#)?;
-    Ok(answered(alloc, &json)??)
+    let manifest = Value::from_str(alloc, &json)?;
+    Ok(manifest_files(alloc, &manifest)?)
 }
 
 // Fails where other files of a list clash.
 fn clashes(alloc: Global, list: &str, clash: Option<(usize, usize)>) -> Result<(), Fail> {
     let files = files_of(alloc, list)?;
-    same(list, &manifest_clash(alloc, &files)?, &clash)
+    same(list, manifest_clash(alloc, &files)?, clash)
 }
 
 #[test]
@@ -302,54 +302,60 @@ fn reads_a_manifest_without_files(rt: HostRuntime) -> Result<(), Fail> {
     reads(rt.alloc(), r#"{"base": "..", "files": []}"#, &[])
 }
 
+// Errors, and what they print.
+const WORDS: [(ManifestError, &str); 8] = [
+    (ManifestError::NoBase, "no base directory"),
+    (ManifestError::NoFiles, "no list of files"),
+    (
+        ManifestError::NotAString(1_000),
+        "files[1000] isn't a string",
+    ),
+    (
+        ManifestError::ClimbsAbove(1_000),
+        "files[1000] climbs above the base",
+    ),
+    (
+        ManifestError::LeadsToBase(1_000),
+        "files[1000] leads to the base",
+    ),
+    (
+        ManifestError::NotPlain(1_000),
+        "files[1000] has a name that isn't plain",
+    ),
+    (
+        ManifestError::BaseNotPlain,
+        "the base has a name that isn't plain",
+    ),
+    (ManifestError::OutOfMemory, "out of memory"),
+];
+
 #[test]
 fn refusals_print_their_words(rt: HostRuntime) -> Result<(), Fail> {
-    for (refusal, words) in &[
-        (ManifestError::NoBase, "no base directory"),
-        (ManifestError::NoFiles, "no list of files"),
-        (
-            ManifestError::NotAString(1_000),
-            "files[1000] isn't a string",
-        ),
-        (
-            ManifestError::ClimbsAbove(1_000),
-            "files[1000] climbs above the base",
-        ),
-        (
-            ManifestError::LeadsToBase(1_000),
-            "files[1000] leads to the base",
-        ),
-        (
-            ManifestError::NotPlain(1_000),
-            "files[1000] has a name that isn't plain",
-        ),
-        (
-            ManifestError::BaseNotPlain,
-            "the base has a name that isn't plain",
-        ),
-        (ManifestError::OutOfMemory, "out of memory"),
-    ] {
+    for (refusal, words) in &WORDS {
         prints(rt.alloc(), refusal, words)?;
     }
     Ok(())
 }
 
+// In what two refusals differ.
+const DIFFERENT: [(&str, ManifestError, ManifestError); 3] = [
+    (
+        "another number",
+        ManifestError::ClimbsAbove(0),
+        ManifestError::ClimbsAbove(1),
+    ),
+    (
+        "another reason",
+        ManifestError::ClimbsAbove(1),
+        ManifestError::LeadsToBase(1),
+    ),
+    ("no number", ManifestError::NoBase, ManifestError::NoFiles),
+];
+
 #[test]
 fn tells_refusals_apart() -> Result<(), Fail> {
-    for (what, refusal, other) in &[
-        (
-            "another number",
-            ManifestError::ClimbsAbove(0),
-            ManifestError::ClimbsAbove(1),
-        ),
-        (
-            "another reason",
-            ManifestError::ClimbsAbove(1),
-            ManifestError::LeadsToBase(1),
-        ),
-        ("no number", ManifestError::NoBase, ManifestError::NoFiles),
-    ] {
-        same(what, &(refusal == other), &false)?;
+    for (what, refusal, other) in &DIFFERENT {
+        same(what, refusal == other, false)?;
     }
     Ok(())
 }

@@ -1,6 +1,6 @@
 //! The router of static files.
 use super::long_text;
-use super::marks::{begin, end};
+use super::marks::{begin, end, end_answered};
 use crate::tests::same;
 use relative_path::RelativePath;
 use relative_path_files::{
@@ -18,12 +18,16 @@ fn end_with(
     answer: Answer,
     expected: Result<&str, RequestError>,
 ) -> Result<(), Fail> {
-    let is_refused = answer.as_ref().err() == Some(&RequestError::OutOfMemory);
-    end(alloc, is_refused)?;
     match answer {
-        Ok(found) => same("a path", &Ok(found.path.as_str()), &expected),
-        Err(RequestError::OutOfMemory) => Ok(()),
-        Err(error) => same("an error", &Err(error), &expected),
+        Ok(found) => {
+            end_answered(alloc);
+            same("a path", Ok(found.path.as_str()), expected)
+        }
+        Err(RequestError::OutOfMemory) => end(alloc, true),
+        Err(error) => {
+            end_answered(alloc);
+            same("an error", Err(error), expected)
+        }
     }
 }
 
@@ -84,15 +88,15 @@ fn a_request_on_unix(rt: HostRuntime) -> Result<(), Fail> {
 fn places(alloc: Global, path: &str, expected: Option<&str>) -> Result<(), Fail> {
     begin(alloc);
     let answer = place_from_top(alloc, RelativePath::new(path));
-    end(alloc, answer.is_err())?;
     match answer {
         Ok(place) => {
+            end_answered(alloc);
             let found = place
                 .as_ref()
                 .map(|place| place.as_relative_path().as_str());
-            same(path, &found, &expected)
+            same(path, found, expected)
         }
-        Err(_) => Ok(()),
+        Err(_) => end(alloc, true),
     }
 }
 

@@ -1,7 +1,7 @@
 //! The finder and the rewriter of links.
 use super::long_text;
-use super::marks::{begin, end};
-use crate::tests::same;
+use super::marks::{begin, end, end_answered};
+use crate::tests::{moves, same};
 use relative_path::RelativePath;
 use relative_path_links::{
     MovedSitePage, RewrittenPage, SitePage, rewrite_links, rewrite_site, targets,
@@ -16,10 +16,12 @@ fn end_with_page(
     answer: Result<RewrittenPage, AllocError>,
     expected: &str,
 ) -> Result<(), Fail> {
-    end(alloc, answer.is_err())?;
     match answer {
-        Ok(new) => same("a page", &new.text.as_str(), &expected),
-        Err(_) => Ok(()),
+        Ok(new) => {
+            end_answered(alloc);
+            same("a page", new.text.as_str(), expected)
+        }
+        Err(_) => end(alloc, true),
     }
 }
 
@@ -37,22 +39,27 @@ fn moved_in(
     end_with_page(alloc, answer, expected)
 }
 
-// The same, on the page a.md, which these moves take elsewhere.
-fn moved_by(
+// The same, on the page a.md, which the tree's moves take elsewhere.
+fn first_moved_in(
     alloc: Global,
-    moves: &[(RelativePath<'_>, RelativePath<'_>)],
+    tree: &TreeMoves<'_>,
     page: &str,
     expected: &str,
 ) -> Result<(), Fail> {
-    let tree = TreeMoves::new(alloc, moves)?;
     let moved = tree.moved_page(alloc, RelativePath::new("a.md"))?;
-    moved_in(alloc, &tree, &moved, page, expected)
+    moved_in(alloc, tree, &moved, page, expected)
+}
+
+// The same, for a tree with these moves.
+fn moved_by(alloc: Global, pairs: &[(&str, &str)], page: &str, expected: &str) -> Result<(), Fail> {
+    let moves = moves(alloc, pairs)?;
+    let tree = TreeMoves::new(alloc, &moves)?;
+    first_moved_in(alloc, &tree, page, expected)
 }
 
 // The same, where the page alone moves.
 fn moved_down(alloc: Global, page: &str, expected: &str) -> Result<(), Fail> {
-    let moves = [(RelativePath::new("a.md"), RelativePath::new("b/a.md"))];
-    moved_by(alloc, &moves, page, expected)
+    moved_by(alloc, &[("a.md", "b/a.md")], page, expected)
 }
 
 // Requests: 19 4 4 1s 4 8 4 4 1s 4 8 38 = 1
@@ -77,10 +84,7 @@ fn a_long_link(rt: HostRuntime) -> Result<(), Fail> {
 // Requests: 11 6 4 2s 3 5 9 22 = 1
 #[test]
 fn a_link_to_a_directory_that_moves(rt: HostRuntime) -> Result<(), Fail> {
-    let moves = [("a.md", "b/a.md"), ("c", "d e")].map(|(old, new)| (
-        RelativePath::new(old),
-        RelativePath::new(new),
-    ));
+    let moves = [("a.md", "b/a.md"), ("c", "d e")];
     moved_by(rt.alloc(), &moves, "[c](c/x/#t)", "[c](../d%20e/x/#t)")
 }
 
@@ -102,8 +106,8 @@ fn begins_with(pages: &[MovedSitePage], path: &str, text: &str) -> Result<(), Fa
     let Some(first) = pages.first() else {
         return Err(Fail::new("a page"));
     };
-    same("a path", &first.path.as_relative_path().as_str(), &path)?;
-    same("a page", &first.page.text.as_str(), &text)
+    same("a path", first.path.as_relative_path().as_str(), path)?;
+    same("a page", first.page.text.as_str(), text)
 }
 
 // The mark after a call. Fails if no allocation failed and the site has another page than is expected.
@@ -112,10 +116,12 @@ fn end_with_site(
     answer: Result<Vec<MovedSitePage>, AllocError>,
     expected: &str,
 ) -> Result<(), Fail> {
-    end(alloc, answer.is_err())?;
     match answer {
-        Ok(pages) => begins_with(&pages, "b/a.md", expected),
-        Err(_) => Ok(()),
+        Ok(pages) => {
+            end_answered(alloc);
+            begins_with(&pages, "b/a.md", expected)
+        }
+        Err(_) => end(alloc, true),
     }
 }
 
@@ -139,7 +145,7 @@ fn site_moved_in(
 
 // The same, where the page moves into a directory.
 fn site_moved_down(alloc: Global, text: &str, expected: &str) -> Result<(), Fail> {
-    let moves = [(RelativePath::new("a.md"), RelativePath::new("b/a.md"))];
+    let moves = moves(alloc, &[("a.md", "b/a.md")])?;
     let tree = TreeMoves::new(alloc, &moves)?;
     site_moved_in(alloc, &tree, text, expected)
 }
@@ -153,10 +159,12 @@ fn a_site(rt: HostRuntime) -> Result<(), Fail> {
 fn finds(alloc: Global, page: &str, count: usize) -> Result<(), Fail> {
     begin(alloc);
     let answer = targets(alloc, page);
-    end(alloc, answer.is_err())?;
     match answer {
-        Ok(found) => same(page, &found.len(), &count),
-        Err(_) => Ok(()),
+        Ok(found) => {
+            end_answered(alloc);
+            same(page, found.len(), count)
+        }
+        Err(_) => end(alloc, true),
     }
 }
 

@@ -1,6 +1,6 @@
 //! The manifest reader.
 use super::long_text;
-use super::marks::{begin, end};
+use super::marks::{begin, end, end_answered};
 use crate::tests::{are, same};
 use relative_path::RelativePathBuf;
 use relative_path_manifest::{
@@ -10,26 +10,53 @@ use serde_json::Value;
 use std::alloc::Global;
 use std::test::Fail;
 
-// The result of the reader for a manifest, between two marks.
-fn marked(
-    alloc: Global,
-    manifest: &Value,
-) -> Result<Result<Vec<RelativePathBuf>, ManifestError>, Fail> {
+// What the reader returns.
+type Answer = Result<Vec<RelativePathBuf>, ManifestError>;
+
+// The mark after a call. Fails if no allocation failed and the files are others.
+fn end_with_files(alloc: Global, answer: Answer, expected: &[&str]) -> Result<(), Fail> {
+    match answer {
+        Ok(files) => {
+            end_answered(alloc);
+            are(&files, expected)
+        }
+        Err(error) => {
+            end(alloc, true)?;
+            same("a refusal", error, ManifestError::OutOfMemory)
+        }
+    }
+}
+
+// The mark after a call. Fails if no allocation failed and the call isn't refused for this reason.
+fn end_with_error(alloc: Global, answer: Answer, expected: ManifestError) -> Result<(), Fail> {
+    match answer.err() {
+        Some(ManifestError::OutOfMemory) => end(alloc, true),
+        error => {
+            end_answered(alloc);
+            same("an error", error, Some(expected))
+        }
+    }
+}
+
+fn reads(alloc: Global, json: &str, expected: &[&str]) -> Result<(), Fail> {
+    let manifest = Value::from_str(alloc, json)?;
     begin(alloc);
-    let answer = manifest_files(alloc, manifest);
-    let error = answer.as_ref().err();
-    end(alloc, error == Some(&ManifestError::OutOfMemory))?;
-    Ok(answer)
+    let answer = manifest_files(alloc, &manifest);
+    end_with_files(alloc, answer, expected)
+}
+
+fn is_refused(alloc: Global, json: &str, refusal: ManifestError) -> Result<(), Fail> {
+    let manifest = Value::from_str(alloc, json)?;
+    begin(alloc);
+    let answer = manifest_files(alloc, &manifest);
+    end_with_error(alloc, answer, refusal)
 }
 
 // Requests: 4 3s 5 96 3 3s 3 = 3
 #[test]
 fn two_files(rt: HostRuntime) -> Result<(), Fail> {
-    let manifest = Value::from_str(rt.alloc(), r#"{"base": "a", "files": ["b//c", "./d"]}"#)?;
-    match marked(rt.alloc(), &manifest)? {
-        Ok(files) => are(&files, &["a/b/c", "a/d"]),
-        Err(error) => same("a refusal", &error, &ManifestError::OutOfMemory),
-    }
+    let json = r#"{"base": "a", "files": ["b//c", "./d"]}"#;
+    reads(rt.alloc(), json, &["a/b/c", "a/d"])
 }
 
 // Requests: 1048576 524288s 1048576 96 = 2
@@ -37,33 +64,14 @@ fn two_files(rt: HostRuntime) -> Result<(), Fail> {
 fn a_long_file(rt: HostRuntime) -> Result<(), Fail> {
     let long = long_text(rt.alloc())?;
     let json = format!(in rt.alloc(); r#"{{"base": "", "files": ["{long}"]}}"#)?;
-    let manifest = Value::from_str(rt.alloc(), json.as_str())?;
-    match marked(rt.alloc(), &manifest)? {
-        Ok(files) => are(&files, &[long.as_str()]),
-        Err(error) => same("a refusal", &error, &ManifestError::OutOfMemory),
-    }
-}
-
-fn reads_no_file(alloc: Global, json: &str) -> Result<(), Fail> {
-    let manifest = Value::from_str(alloc, json)?;
-    match marked(alloc, &manifest)? {
-        Ok(files) => are(&files, &[]),
-        Err(error) => same("no file", &error, &ManifestError::OutOfMemory),
-    }
-}
-
-// Fails where a manifest isn't refused for this reason. No request is made for it.
-fn is_refused(alloc: Global, json: &str, refusal: ManifestError) -> Result<(), Fail> {
-    let manifest = Value::from_str(alloc, json)?;
-    let error = marked(alloc, &manifest)?.err();
-    same(json, &error, &Some(refusal))
+    reads(rt.alloc(), json.as_str(), &[long.as_str()])
 }
 
 // Requests: = 0, = 0
 #[test]
 fn a_manifest_of_no_file(rt: HostRuntime) -> Result<(), Fail> {
     let refusal = ManifestError::LeadsToBase(0);
-    reads_no_file(rt.alloc(), r#"{"base": "", "files": []}"#)?;
+    reads(rt.alloc(), r#"{"base": "", "files": []}"#, &[])?;
     is_refused(rt.alloc(), r#"{"base": "", "files": [""]}"#, refusal)
 }
 
@@ -76,11 +84,8 @@ fn a_manifest_without_a_base(rt: HostRuntime) -> Result<(), Fail> {
 // Requests: 1 2s 3 96 = 0
 #[test]
 fn a_file_that_climbs(rt: HostRuntime) -> Result<(), Fail> {
-    let manifest = Value::from_str(rt.alloc(), r#"{"base": "a", "files": ["b", "../c"]}"#)?;
-    match marked(rt.alloc(), &manifest)?.err() {
-        Some(ManifestError::OutOfMemory) => Ok(()),
-        error => same("a file", &error, &Some(ManifestError::ClimbsAbove(1))),
-    }
+    let json = r#"{"base": "a", "files": ["b", "../c"]}"#;
+    is_refused(rt.alloc(), json, ManifestError::ClimbsAbove(1))
 }
 
 // Requests: 5 3s 6 96 3 3s 3 = 3
@@ -89,12 +94,7 @@ fn two_files_on_unix(rt: HostRuntime) -> Result<(), Fail> {
     let manifest = Value::from_str(rt.alloc(), r#"{"base": "a", "files": ["b//c?", "./d"]}"#)?;
     begin(rt.alloc());
     let answer = manifest_files_on_unix(rt.alloc(), &manifest);
-    let error = answer.as_ref().err();
-    end(rt.alloc(), error == Some(&ManifestError::OutOfMemory))?;
-    match answer {
-        Ok(files) => are(&files, &["a/b/c?", "a/d"]),
-        Err(error) => same("a refusal", &error, &ManifestError::OutOfMemory),
-    }
+    end_with_files(rt.alloc(), answer, &["a/b/c?", "a/d"])
 }
 
 // Fails where other files clash, and no allocation failed.
@@ -105,8 +105,13 @@ fn clashes(
 ) -> Result<(), Fail> {
     begin(alloc);
     let answer = manifest_clash(alloc, files);
-    end(alloc, answer.is_err())?;
-    same("a clash", &answer.unwrap_or(clash), &clash)
+    match answer {
+        Ok(found) => {
+            end_answered(alloc);
+            same("a clash", found, clash)
+        }
+        Err(_) => end(alloc, true),
+    }
 }
 
 // Requests: 3 488 3 3 = 0, = 0
