@@ -20,9 +20,10 @@ fn end_with_files(alloc: Global, answer: Answer, expected: &[&str]) -> Result<()
             end_answered(alloc);
             are(&files, expected)
         }
+        Err(ManifestError::OutOfMemory) => end(alloc, true),
         Err(error) => {
-            end(alloc, true)?;
-            same("a refusal", error, ManifestError::OutOfMemory)
+            end_answered(alloc);
+            same("an error", Some(error), None)
         }
     }
 }
