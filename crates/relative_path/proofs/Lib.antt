@@ -6,6 +6,7 @@ mod WalkLemmas
 mod NormalStepsLemmas
 mod ClimbingLemmas
 mod SlashesLemmas
+mod MaskedLemmas
 mod CountingLemmas
 mod EditingLemmas
 mod WritingLemmas

@@ -17,7 +17,7 @@ step_of (Normal n) = name n.now
 
 -- the text that is left in a `Components`
 abbrev pub text_left : Components → List ℕ
-text_left it = it.text.now
+text_left it = it.left.text.now
 
 -- the components that are left in a `Components`
 abbrev pub components_left : Components → List Step

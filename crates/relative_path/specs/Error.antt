@@ -6,6 +6,8 @@ use Rattle.relative_path.specs.declared.error.FromPathErrorKind.TheVariants as f
 use Rattle.relative_path.specs.declared.error.RelativeToError.{RelativeToError}
 use Rattle.relative_path.specs.declared.error.RelativeToErrorKind.{RelativeToErrorKind}
 use Rattle.relative_path.specs.declared.error.RelativeToErrorKind.TheVariants as relative_to_kinds
+use Rattle.relative_path.specs.declared.error.WriteError.{WriteError}
+use Rattle.relative_path.specs.declared.error.WriteError.TheVariants as write_errors
 
 -- the kind of a `FromPathError`
 abbrev pub from_path_kind : FromPathError → FromPathErrorKind
@@ -29,3 +31,8 @@ relative_to_words relative_to_kinds.PrefixMismatch = codes "paths contain differ
 relative_to_words relative_to_kinds.AmbiguousTraversal = codes "path traversal cannot be determined"
 relative_to_words relative_to_kinds.IllegalComponent = codes "path contains illegal components"
 relative_to_words relative_to_kinds.OutOfMemory = codes "out of memory"
+
+-- what a `WriteError` prints
+abbrev pub write_words : WriteError → List ℕ
+write_words (write_errors.NoRoom needed) = codes "too few bytes for the text"
+write_words write_errors.OutOfMemory = codes "out of memory"

@@ -10,6 +10,7 @@ pub mod Writing
 pub mod Spans
 pub mod NormalForm
 pub mod Prefixing
+pub mod Masked
 pub mod Naming
 pub mod RelativePath
 pub mod RelativePathBuf
@@ -20,3 +21,4 @@ pub mod ComparingLaws
 pub mod Unix
 pub mod UnixComponents
 pub mod Error
+pub mod Bytes

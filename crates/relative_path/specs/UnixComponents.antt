@@ -6,4 +6,4 @@ use Rattle.relative_path.specs.Unix.{counted}
 
 -- the components that are left in the iterator
 abbrev pub unix_left : UnixComponents → List Step
-unix_left it = counted it.skips_cur_dirs (components it.left.now)
+unix_left it = counted it.skips_cur_dirs (components it.left.text.now)

@@ -8,7 +8,8 @@ ghost use Rattle.relative_path.specs.ComparingLaws.{partial_eq_law, partial_ord_
 ghost use Rattle.std.specs.Ordering.{on, as_partial_cmp};
 ghost use Rattle.std.proofs.Common.{refl};
 
-use crate::slashes::{split_first, split_last, without_leading_slashes, without_trailing_slashes};
+use crate::masked::Masked;
+use crate::slashes::{split_last, without_trailing_slashes};
 use std::alloc::AllocError;
 use std::cmp::Ordering;
 use std::hash::{Hash, Hasher};
@@ -131,7 +132,7 @@ impl Hash for Component<'_> {
 /// ```
 #[derive(Drop)]
 pub struct Components<'a> {
-    text: &'a str,
+    left: Masked<'a>,
 }
 
 impl<'a> Components<'a> {
@@ -139,14 +140,32 @@ impl<'a> Components<'a> {
     pub(crate) fn new(text: &'a str) -> Components<'a>
         ensures { text_left result ≡ text.now }
     {
-        Components { text }
+        Components {
+            left: Masked::new(text),
+        }
+    }
+
+    // Returns the iterator over a text, with what is known of its slashes.
+    #[inline(always)]
+    pub(crate) fn of(left: Masked<'a>) -> Components<'a>
+        ensures { text_left result ≡ left.entry.text.now }
+    {
+        Components { left }
+    }
+
+    // Returns the text that is left, with what is known of its slashes.
+    #[inline(always)]
+    pub(crate) fn left(&self) -> Masked<'a>
+        ensures { result.text.now ≡ text_left self.now }
+    {
+        self.left
     }
 
     // Returns the text that is left.
     pub(crate) fn as_str(&self) -> &'a str
         ensures { result.now ≡ text_left self.now }
     {
-        self.text
+        self.left.text
     }
 }
 
@@ -156,7 +175,7 @@ impl Clone for Components<'_> {
     ghost is_infallible = { λ _. ⊤ };
 
     fn clone(&self) -> Result<Self, AllocError> {
-        Ok(Components { text: self.text })
+        Ok(Components { left: self.left })
     }
 }
 
@@ -169,7 +188,7 @@ impl PartialEq for Components<'_> {
         ensures value { result ≡ steps_eq (components_left self.now) (components_left other.now) }
         ensures same { IsTrue result ↔ (components_left self.now ≡ components_left other.now) }
     {
-        compare(self.text, other.text).is_eq()
+        compare(self.left.text, other.left.text).is_eq()
     }
 }
 
@@ -183,13 +202,12 @@ impl<'a> Iterator for Components<'a> {
     /// Takes the first component off the text that is left.
     #[inline(always)]
     fn next(&mut self) -> Option<Component<'a>> {
-        let text = without_leading_slashes(self.text);
-        if text.is_empty() {
-            self.text = text;
+        self.left.trim_start();
+        if self.left.text.is_empty() {
             return None;
         }
-        let (piece, rest) = split_first(text);
-        self.text = without_leading_slashes(rest);
+        let piece = self.left.take_piece();
+        self.left.trim_start();
         Some(component_of(piece))
     }
 }
@@ -200,13 +218,13 @@ impl<'a> DoubleEndedIterator for Components<'a> {
     /// Takes the last component off the text that is left.
     #[inline(always)]
     fn next_back(&mut self) -> Option<Component<'a>> {
-        let text = without_trailing_slashes(self.text);
+        let text = without_trailing_slashes(self.left.text);
         if text.is_empty() {
-            self.text = text;
+            self.left = Masked::new(text);
             return None;
         }
         let (front, piece) = split_last(text);
-        self.text = without_trailing_slashes(front);
+        self.left = Masked::new(without_trailing_slashes(front));
         Some(component_of(piece))
     }
 }
@@ -243,7 +261,11 @@ impl Clone for Iter<'_> {
     ghost is_infallible = { λ _. ⊤ };
 
     fn clone(&self) -> Result<Self, AllocError> {
-        Ok(Iter::new(self.components.text))
+        Ok(Iter {
+            components: Components {
+                left: self.components.left,
+            },
+        })
     }
 }
 

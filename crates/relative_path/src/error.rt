@@ -1,7 +1,8 @@
 //! The errors of the calls on platform paths: the path isn't relative, or no relative path leads from one to the other.
+//! The error of the calls that write into the caller's bytes: the bytes are too few, or memory is lacking.
 ghost use Rattle.std.specs.Prelude.{◌≡◌, Some, ⊤};
 ghost use Rattle.std.specs.Fmt.{styled_text};
-ghost use Rattle.relative_path.specs.Error.{from_path_kind, from_path_words, relative_to_kind, relative_to_words};
+ghost use Rattle.relative_path.specs.Error.{from_path_kind, from_path_words, relative_to_kind, relative_to_words, write_words};
 ghost use Rattle.relative_path.specs.declared.error.FromPathErrorKind.TheVariants as from_path_kinds;
 ghost use Rattle.relative_path.specs.declared.error.RelativeToErrorKind.TheVariants as relative_to_kinds;
 
@@ -194,3 +195,43 @@ impl fmt::Display for RelativeToError {
 }
 
 impl Error for RelativeToError {}
+
+/// The error of the calls in [`crate::bytes`]: the caller's bytes are too few for the text, or an
+/// allocation failed.
+///
+/// ```
+/// let error = bytes::push(&mut [0; 2], 0, RelativePath::new("foo")).unwrap_err();
+/// assert_eq!(rt; error, WriteError::NoRoom(3));
+/// assert_eq!(rt; error.to_string(alloc)?.as_str(), "too few bytes for the text");
+/// ```
+#[derive(Clone, Copy, Debug, PartialEq, Eq)]
+pub enum WriteError {
+    /// The text has this many bytes, and the caller gave fewer.
+    NoRoom(usize),
+    /// An allocation failed.
+    OutOfMemory,
+}
+
+impl WriteError {
+    // Returns the words that the error prints.
+    fn words(self) -> &'static str
+        ensures { result.now ≡ write_words self }
+    {
+        match self {
+            WriteError::NoRoom(_) => "too few bytes for the text",
+            WriteError::OutOfMemory => "out of memory",
+        }
+    }
+}
+
+impl fmt::Display for WriteError {
+    ghost output = { λ error. Some (write_words error) };
+
+    ghost styled_output = { λ error spec. Some (styled_text spec (write_words error)) };
+
+    fn fmt<W: fmt::Write>(&self, f: &mut fmt::Formatter<W>) -> fmt::Result {
+        f.pad(self.words())
+    }
+}
+
+impl Error for WriteError {}

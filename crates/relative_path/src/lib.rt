@@ -4,24 +4,28 @@
 //! other.
 //!
 //! ```text
-//! what callers see      error  path  buf  unix
+//! what callers see      error  path  buf  unix  bytes
 //! computed from them    naming  prefixing  normal_form  relating  unix_components  unix_texts
 //! components            component
-//! texts                 slashes  counting  editing  writing  spans
+//! texts                 slashes  masked  counting  editing  writing  spans
 //! ```
 #![tactic(auto)]
 
 pub use self::buf::RelativePathBuf;
 pub use self::component::{Component, Components, Iter};
-pub use self::error::{FromPathError, FromPathErrorKind, RelativeToError, RelativeToErrorKind};
+pub use self::error::{
+    FromPathError, FromPathErrorKind, RelativeToError, RelativeToErrorKind, WriteError,
+};
 pub use self::path::{Display, RelativePath, StripPrefixError};
 pub use self::unix::PathExt;
 
 mod buf;
+pub mod bytes;
 mod component;
 mod counting;
 mod editing;
 mod error;
+mod masked;
 mod naming;
 mod normal_form;
 mod path;

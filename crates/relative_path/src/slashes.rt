@@ -1,6 +1,6 @@
 //! A text cut at its slashes.
 ghost use Rattle.std.specs.Prelude.{◌≡◌, ◌≢◌, ◌≤◌, ◌+◌, ◌-◌, ◌<◌, MatchOption, drop, length, map, slice_index, take};
-ghost use Rattle.std.specs.List.{position_or_len, before_first, after_first, before_last, after_last};
+ghost use Rattle.std.specs.List.{position_or_len, before_last, after_last};
 ghost use Rattle.std.specs.Simd.Lanes.{mask_l};
 ghost use Rattle.relative_path.specs.Slashes.{last_start};
 ghost use Rattle.relative_path.specs.Steps.{slash, is_slash, components};
@@ -72,52 +72,10 @@ fn without_trailing_slashes_slow(text: &str) -> &str
     front.trim_end_matches('/')
 }
 
-// Returns the bytes before the first slash, and the bytes after it.
-#[inline(always)]
-#[tactic(auto, using(crate::proofs::SlashesLemmas::position_le, crate::proofs::SlashesLemmas::IsCharBoundary_first, crate::proofs::SlashesLemmas::IsCharBoundary_after_first))]
-pub(crate) fn split_first(text: &str) -> (&str, &str)
-    ensures piece { result.0.now ≡ before_first is_slash text.now }
-    ensures rest { result.1.now ≡ after_first is_slash text.now }
-{
-    let len = first_piece_len(text);
-    let next = len + 1;
-    if next < text.len() {
-        (&text[..len], &text[next..])
-    } else {
-        (&text[..len], &text[text.len()..])
-    }
-}
-
-// Counts the bytes before the first slash.
-#[inline(always)]
-#[tactic(auto, using(crate::proofs::SlashesLemmas::position_is))]
-fn first_piece_len(text: &str) -> usize
-    ensures { result ≡ position_or_len is_slash text.now }
-{
-    let bytes = text.as_bytes();
-    if bytes.len() >= BLOCK {
-        return match first_in::<BLOCK>(bytes, 0) {
-            Some(len) => len,
-            None => far_first_piece_len(bytes),
-        };
-    }
-    if bytes.len() >= HALF {
-        return match first_in::<HALF>(bytes, 0) {
-            Some(len) => len,
-            None => first_in_last::<HALF>(bytes),
-        };
-    }
-    let mut len = 0;
-    while len < bytes.len() && bytes[len] != b'/' {
-        len += 1;
-    }
-    len
-}
-
 // Counts the bytes before the first slash, if the first block has none.
 #[inline(never)]
 #[tactic(auto, using(crate::proofs::SlashesLemmas::position_le))]
-fn far_first_piece_len(bytes: &[u8]) -> usize
+pub(crate) fn far_first_piece_len(bytes: &[u8]) -> usize
     requires block { BLOCK ≤ length bytes.now }
     requires near { BLOCK ≤ position_or_len is_slash bytes.now }
     ensures { result ≡ position_or_len is_slash bytes.now }

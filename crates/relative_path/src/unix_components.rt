@@ -9,13 +9,14 @@ ghost use Rattle.relative_path.specs.UnixComponents.{unix_left};
 ghost use Rattle.relative_path.specs.Walk.{walk};
 
 use crate::component::{Component, Components};
+use crate::masked::Masked;
 use crate::slashes::without_trailing_slashes;
 
 // An iterator over the components of a platform path that count, from the front.
 #[derive(Clone, Copy)]
 pub(crate) struct UnixComponents<'a> {
     // What is left of the path.
-    left: &'a str,
+    left: Masked<'a>,
     // Whether each `.` is skipped: after a root, and after the first component.
     skips_cur_dirs: bool,
 }
@@ -26,7 +27,7 @@ impl<'a> UnixComponents<'a> {
         ensures { unix_left result ≡ unix_components text.now }
     {
         UnixComponents {
-            left: text,
+            left: Masked::new(text),
             skips_cur_dirs: has_root(text),
         }
     }
@@ -36,7 +37,7 @@ impl<'a> UnixComponents<'a> {
         ensures { unix_left result ≡ without_cur_dirs (components text.now) }
     {
         UnixComponents {
-            left: text,
+            left: Masked::new(text),
             skips_cur_dirs: true,
         }
     }
@@ -51,12 +52,15 @@ impl<'a> Iterator for UnixComponents<'a> {
 
     #[inline(always)]
     fn next(&mut self) -> Option<Component<'a>> {
-        let mut components = Components::new(self.left);
+        let mut components = Components::of(self.left);
         loop {
             match components.next() {
                 Some(Component::CurDir) if self.skips_cur_dirs => {}
                 first => {
-                    *self = UnixComponents::without_cur_dirs(components.as_str());
+                    *self = UnixComponents {
+                        left: components.left(),
+                        skips_cur_dirs: true,
+                    };
                     return first;
                 }
             }

@@ -5,11 +5,13 @@ use std::fmt::Debug;
 use std::test::Fail;
 
 mod awkward;
+mod bytes;
 mod calling;
 mod comparing;
 mod decompositions;
 mod editing;
 mod joining;
+mod masks;
 mod naming;
 mod normalizing;
 mod platform;
@@ -76,9 +78,11 @@ fn filled_with_normal_form(
     Ok(filled)
 }
 
-// Whether a text has this normal form, by the call that makes a buffer and by the one that fills it.
+// Whether a text has this normal form, by the call that makes a buffer, by the one that fills it, and by the one that
+// writes into bytes.
 fn normalizes(alloc: Global, text: &str, normal: &str) -> Result<(), Fail> {
     let path = RelativePath::new(text);
     gives(text, path.normalize(alloc), normal)?;
-    gives(text, filled_with_normal_form(alloc, path), normal)
+    gives(text, filled_with_normal_form(alloc, path), normal)?;
+    bytes::normalizes(alloc, path, normal)
 }

@@ -122,6 +122,9 @@ pub(crate) fn tree_of(
         not_text: Vec::new(alloc),
         with_base: Vec::new(alloc),
         unreadable_names: Vec::new(alloc),
+        unlisted: Vec::new(alloc),
+        directories: Vec::new(alloc),
+        unread: Vec::new(alloc),
     };
     for (place, text) in places.iter().zip(texts) {
         let path = place.path(alloc)?;

@@ -44,7 +44,7 @@ fn is_of_from_its_end(mut iter: Iter<'_>, texts: &[&str]) -> bool {
 }
 
 // Whether `iter` and `into_iter` give these texts, and `iter` backwards too.
-fn gives(path: RelativePath<'_>, texts: &[&str]) -> (bool, bool, bool) {
+pub fn gives(path: RelativePath<'_>, texts: &[&str]) -> (bool, bool, bool) {
     (
         is_of(path.iter(), texts),
         is_of(path.into_iter(), texts),

@@ -4,5 +4,5 @@ use Rattle.relative_path.proofs.unix_components.depth.Goals as goal
 
 pub loop-component-init : goal.loop-component-init
 loop-component-init c =
-    let most = length-counted_le c.args.left.skips_cur_dirs c.args.left.left.now in
+    let most = length-counted_le c.args.left.skips_cur_dirs c.args.left.left.text.now in
     rw c.into_iter-component-iterator.ensures.into_iter_gives ([], refl, refl, omega (arith, most))

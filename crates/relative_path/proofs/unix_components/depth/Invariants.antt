@@ -7,4 +7,4 @@ abbrev pub invariant-loop-component : goal.invariant-loop-component
 invariant-loop-component l =
     let left = unix_left l.component-iterator in
     (place : List (List ℕ)) × (l.depth ≡ length place) × (walk [] (unix_left l.fn.left) ≡ walk place left)
-    × (l.depth + length left ≤ length l.fn.left.left.now + 1)
+    × (l.depth + length left ≤ length l.fn.left.left.text.now + 1)

@@ -14,12 +14,12 @@ whole c =
     let climbs = replicate c.args.climb (step_text up) in
     let written = c.push_climb.ensures.text ∙ ap (λ text. fold with_piece text climbs) c.in_ok-text.ensures.bytes in
     ap (λ text. onto text (unix_left c.args.components)) written
-    ∙ onto-counted c.args.climb c.args.components.skips_cur_dirs c.args.components.left.now
+    ∙ onto-counted c.args.climb c.args.components.skips_cur_dirs c.args.components.left.text.now
 
 pub push_climb-requires : goal.push_climb-requires
 push_climb-requires c =
     let len = rw c.in_ok-len.ensures.ok_part at c.climbed_len.ensures in
-    let spelled = onto-counted c.args.climb c.args.components.skips_cur_dirs c.args.components.left.now in
+    let spelled = onto-counted c.args.climb c.args.components.skips_cur_dirs c.args.components.left.text.now in
     let climbs = fold with_piece [] (replicate c.args.climb (step_text up)) in
     let shorter = length-onto_le climbs (unix_left c.args.components) in
     rw c.in_ok-text.ensures.bytes (omega (arith, ap length spelled, shorter, len, c.in_ok-text.ensures.capacity))

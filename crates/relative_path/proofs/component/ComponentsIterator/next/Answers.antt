@@ -8,23 +8,24 @@ use Rattle.relative_path.proofs.component.ComponentsIterator.next.Goals as goal
 
 pub returns-then-is_empty : goal.returns-then-is_empty
 returns-then-is_empty c =
-    let trim = c.without_leading_slashes-text.ensures in
-    let trimmed = c.without_leading_slashes-text.result in
+    let trim = c.trim_start.ensures in
+    let trimmed = c.trim_start.new.self.text in
     let empty = nil_from_is_empty trimmed.now _ c.is_empty.ensures c.if-is_empty.true in
-    let none = TakesFirst-none c.args.self.now.text.now trimmed.now
+    let none = TakesFirst-none c.args.self.now.left.text.now trimmed.now
     (record { suffix = IsSuffix-from trim.suffix; start = trim.start; same = trim.same }) empty in
-    record { steps = none; goes = MakesProgress-TakesFirst c.args.self.now (record { text = trimmed }) None none }
+    record { steps = none; goes = MakesProgress-TakesFirst c.args.self.now _ None none }
 
 pub returns : goal.returns
 returns c =
-    let trim = c.without_leading_slashes-text.ensures in
-    let trim' = c.without_leading_slashes-self.ensures in
-    let left = c.without_leading_slashes-self.result in
+    let trim = c.trim_start.ensures in
+    let trim' = c.trim_start-2.ensures in
+    let trimmed = c.trim_start.new.self.text in
+    let left = c.trim_start-2.new.self.text in
     let some = some_from_is_empty _ _ c.is_empty.ensures c.if-is_empty.false in
-    let taken : TakesFirst c.args.self.now.text.now (Some c.component_of.result) left.now =
-    TakesFirst-some c.args.self.now.text.now c.without_leading_slashes-text.result.now left.now c.component_of.result
+    let taken : TakesFirst c.args.self.now.left.text.now (Some c.component_of.result) left.now =
+    TakesFirst-some c.args.self.now.left.text.now trimmed.now left.now c.component_of.result
     (record { suffix = IsSuffix-from trim.suffix; start = trim.start; same = trim.same })
-    (subst (λ rest. IsTrimmedStart rest left.now) c.split_first.ensures.rest
+    (subst (λ rest. IsTrimmedStart rest left.now) c.take_piece-piece.ensures.rest
     (record { suffix = IsSuffix-from trim'.suffix; start = trim'.start; same = trim'.same }))
-    some (c.component_of.ensures ∙ ap classed c.split_first.ensures.piece) in
-    record { steps = taken; goes = MakesProgress-TakesFirst c.args.self.now (record { text = left }) _ taken }
+    some (c.component_of.ensures ∙ ap classed c.take_piece-piece.ensures.piece) in
+    record { steps = taken; goes = MakesProgress-TakesFirst c.args.self.now _ _ taken }
