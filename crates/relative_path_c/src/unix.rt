@@ -1,0 +1,177 @@
+//! Calls on platform paths under the Unix rules: the module `unix` of `relative_path`.
+ghost use Rattle.std.specs.Prelude.{◌≡◌, ◌≢◌, ◌≤◌, ◌⊎◌, ◌↔◌, IsTrue, List, Some, None};
+ghost use Rattle.std.specs.Str.{IsUtf8};
+ghost use Rattle.relative_path.specs.Editing.{without_cur_dirs};
+ghost use Rattle.relative_path.specs.Steps.{Step, components, spell};
+ghost use Rattle.relative_path.specs.Unix.{has_root, onto, unix_components, way_to, IsAbove, IsLogical};
+ghost use Rattle.relative_path.specs.declared.error.FromPathErrorKind.TheVariants as from_path_kinds;
+ghost use Rattle.relative_path.specs.declared.error.RelativeToErrorKind.TheVariants as relative_to_kinds;
+ghost use Rattle.relative_path_c.specs.Memory.{HandsOut, Writes, Needs};
+ghost use Rattle.relative_path_c.specs.Status.{done, not_utf8, absent, no_room, out_of_memory, non_relative, prefix_mismatch, ambiguous_traversal};
+
+use crate::memory::{hand_out, nothing_written, write, write_string};
+use crate::status::{
+    AMBIGUOUS_TRAVERSAL, DONE, NON_RELATIVE, NOT_UTF8, OUT_OF_MEMORY, PREFIX_MISMATCH, Written,
+    view,
+};
+use relative_path::{FromPathErrorKind, RelativeToErrorKind, unix};
+use std::alloc::Global;
+
+/// Hands out the shortest prefix of `text` that has the same root and all its components but the last.
+#[unsafe(no_mangle)]
+pub extern "C" fn relative_path_unix_parent_text<'a>(text: &'a [u8], part: &mut &'a [u8]) -> u32
+    ensures above { HandsOut result part.new.now (IsAbove text.now) }
+    ensures not_utf8 { (result ≡ not_utf8) ↔ (¬ IsUtf8 text.now) }
+    ensures kept { result ≢ done → part.new ≡ part.old }
+    ensures status { result ≤ not_utf8 }
+{
+    let Some(path) = view(text) else {
+        return NOT_UTF8;
+    };
+    // The parent of `/a` is a constant, so the part is cut out of the caller's text.
+    let parent = unix::parent_text(path.as_str());
+    *part = &text[..parent.len()];
+    DONE
+}
+
+/// Hands out `text` whole, as a relative path. The status is 'non-relative' if it begins with a slash.
+#[unsafe(no_mangle)]
+pub extern "C" fn relative_path_unix_view<'a>(text: &'a [u8], part: &mut &'a [u8]) -> u32
+    ensures text { HandsOut result part.new.now (λ view. view ≡ text.now) }
+    ensures non_relative { (result ≡ non_relative) ↔ (IsUtf8 text.now × IsTrue (has_root text.now)) }
+    ensures not_utf8 { (result ≡ not_utf8) ↔ (¬ IsUtf8 text.now) }
+    ensures kept { result ≢ done → part.new ≡ part.old }
+    ensures status { (result ≤ not_utf8) ⊎ (result ≡ non_relative) }
+{
+    let Some(text) = view(text) else {
+        return NOT_UTF8;
+    };
+    match unix::view(text.as_str()) {
+        Ok(view) => hand_out(Some(view.as_str()), part),
+        Err(_) => NON_RELATIVE,
+    }
+}
+
+// Returns the status of an error of `from_path`.
+fn from_path_status(kind: FromPathErrorKind) -> u32
+    ensures non_relative { (result ≡ non_relative) ↔ (kind ≡ from_path_kinds.NonRelative) }
+    ensures status { (result ≡ non_relative) ⊎ (result ≡ out_of_memory) }
+{
+    match kind {
+        FromPathErrorKind::NonRelative => NON_RELATIVE,
+        _ => OUT_OF_MEMORY,
+    }
+}
+
+/// Writes the components of `text`, without any `.`, joined by single slashes. The status is 'non-relative' if `text`
+/// begins with a slash.
+#[unsafe(no_mangle)]
+pub extern "C" fn relative_path_unix_from_path(
+    alloc: Global,
+    text: &[u8],
+    out: &mut [u8],
+) -> Written
+    ensures text { Writes result.status result.len out.new
+        (λ path. path ≡ spell (without_cur_dirs (unix_components text.now))) }
+    ensures needs { Needs result.status result.len out.old
+        (λ path. path ≡ spell (without_cur_dirs (unix_components text.now))) }
+    ensures non_relative { (result.status ≡ non_relative)
+        ↔ (IsUtf8 text.now × IsTrue (has_root text.now)) }
+    ensures not_utf8 { (result.status ≡ not_utf8) ↔ (¬ IsUtf8 text.now) }
+    ensures kept { result.status ≢ done → out.new ≡ out.old }
+    ensures status { (result.status ≤ non_relative) × (result.status ≢ absent) }
+{
+    let Some(text) = view(text) else {
+        return nothing_written(NOT_UTF8);
+    };
+    match unix::from_path(alloc, text.as_str()) {
+        Ok(path) => write(path.as_relative_path().as_str(), out),
+        Err(error) => nothing_written(from_path_status(error.kind())),
+    }
+}
+
+/// Writes `base` followed by the text of each component of `text`.
+#[unsafe(no_mangle)]
+pub extern "C" fn relative_path_unix_to_path(
+    alloc: Global,
+    text: &[u8],
+    base: &[u8],
+    out: &mut [u8],
+) -> Written
+    ensures path { Writes result.status result.len out.new
+        (λ path. path ≡ onto base.now (components text.now)) }
+    ensures needs { Needs result.status result.len out.old
+        (λ path. path ≡ onto base.now (components text.now)) }
+    ensures not_utf8 { (result.status ≡ not_utf8) ↔ (¬ (IsUtf8 text.now × IsUtf8 base.now)) }
+    ensures kept { result.status ≢ done → out.new ≡ out.old }
+    ensures status { (result.status ≤ out_of_memory) × (result.status ≢ absent) }
+{
+    let (Some(text), Some(base)) = (view(text), view(base)) else {
+        return nothing_written(NOT_UTF8);
+    };
+    write_string(unix::to_path(alloc, text, base.as_str()), out)
+}
+
+/// Writes the platform path where `text` leads from `base`.
+#[unsafe(no_mangle)]
+pub extern "C" fn relative_path_unix_to_logical_path(
+    alloc: Global,
+    text: &[u8],
+    base: &[u8],
+    out: &mut [u8],
+) -> Written
+    ensures path { Writes result.status result.len out.new (IsLogical base.now (components text.now)) }
+    ensures needs { Needs result.status result.len out.old (IsLogical base.now (components text.now)) }
+    ensures not_utf8 { (result.status ≡ not_utf8) ↔ (¬ (IsUtf8 text.now × IsUtf8 base.now)) }
+    ensures kept { result.status ≢ done → out.new ≡ out.old }
+    ensures status { (result.status ≤ out_of_memory) × (result.status ≢ absent) }
+{
+    let (Some(text), Some(base)) = (view(text), view(base)) else {
+        return nothing_written(NOT_UTF8);
+    };
+    write_string(unix::to_logical_path(alloc, text, base.as_str()), out)
+}
+
+// Returns the status of an error of `relative_to`.
+fn relative_to_status(kind: RelativeToErrorKind) -> u32
+    ensures prefix_mismatch { (result ≡ prefix_mismatch) ↔ (kind ≡ relative_to_kinds.PrefixMismatch) }
+    ensures ambiguous_traversal { (result ≡ ambiguous_traversal)
+        ↔ (kind ≡ relative_to_kinds.AmbiguousTraversal) }
+    ensures status { (result ≡ prefix_mismatch) ⊎ (result ≡ ambiguous_traversal) ⊎ (result ≡ out_of_memory) }
+{
+    match kind {
+        RelativeToErrorKind::PrefixMismatch => PREFIX_MISMATCH,
+        RelativeToErrorKind::AmbiguousTraversal => AMBIGUOUS_TRAVERSAL,
+        _ => OUT_OF_MEMORY,
+    }
+}
+
+/// Writes the relative path from `root` to `text`. The status is 'prefix mismatch' if only one of the two begins with a
+/// slash, and 'ambiguous traversal' if the rest of `root` climbs above what both begin with.
+#[unsafe(no_mangle)]
+pub extern "C" fn relative_path_unix_relative_to(
+    alloc: Global,
+    text: &[u8],
+    root: &[u8],
+    out: &mut [u8],
+) -> Written
+    ensures way { Writes result.status result.len out.new
+        (λ path. (way : List Step) × (way_to text.now root.now ≡ Some way) × (path ≡ spell way)) }
+    ensures needs { Needs result.status result.len out.old
+        (λ path. (way : List Step) × (way_to text.now root.now ≡ Some way) × (path ≡ spell way)) }
+    ensures prefix_mismatch { result.status ≡ prefix_mismatch → has_root text.now ≢ has_root root.now }
+    ensures ambiguous_traversal { result.status ≡ ambiguous_traversal
+        → (has_root text.now ≡ has_root root.now) × (way_to text.now root.now ≡ None) }
+    ensures not_utf8 { (result.status ≡ not_utf8) ↔ (¬ (IsUtf8 text.now × IsUtf8 root.now)) }
+    ensures kept { result.status ≢ done → out.new ≡ out.old }
+    ensures status { (result.status ≤ ambiguous_traversal) × (result.status ≢ absent)
+        × (result.status ≢ non_relative) }
+{
+    let (Some(text), Some(root)) = (view(text), view(root)) else {
+        return nothing_written(NOT_UTF8);
+    };
+    match unix::relative_to(alloc, text.as_str(), root.as_str()) {
+        Ok(way) => write(way.as_relative_path().as_str(), out),
+        Err(error) => nothing_written(relative_to_status(error.kind())),
+    }
+}
