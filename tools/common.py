@@ -137,9 +137,15 @@ def source_folder(crate):
     return CRATES / crate / "src"
 
 
+def static_libraries():
+    """The crates that C calls, by crates.txt. No other crate can call them."""
+    return re.findall(r"^(\w+) staticlib\b", (ROOT / "crates.txt").read_text(), re.M)
+
+
 def is_library(crate):
-    """Whether other crates can call a crate: it is no program, and has more than tests."""
-    return (source_folder(crate) / "lib.rt").is_file() and not crate.endswith("_tests")
+    """Whether other crates can call a crate: it is no program and no static library, and has more than tests."""
+    is_called = crate not in static_libraries() and not crate.endswith("_tests")
+    return is_called and (source_folder(crate) / "lib.rt").is_file()
 
 
 def is_program(crate):
@@ -306,14 +312,14 @@ class Run:
         return self.status == 0 and re.fullmatch(pattern, self.trace)
 
 
-def build_refuser(folder):
-    """The library that refuses, built by the compiler that comes with `rt`."""
+def build_library(folder, name):
+    """The library of tools/NAME.c, to be preloaded, built by the compiler that comes with `rt`."""
     page = subprocess.run(["rt", "doc"], capture_output=True, text=True, check=True).stdout.strip()
-    refuser = f"{folder}/refuse.so"
+    library = f"{folder}/{name}.so"
     words = [pathlib.Path(page).parent / "toolchain/bin/clang", "-O1", "-Wall", "-Wextra", "-Werror"]
     words += ["-shared", "-fPIC", "-ffreestanding", "-nostdlib", "-fuse-ld=lld"]
-    subprocess.run([*words, "-o", refuser, ROOT / "tools/refuse.c"], check=True)
-    return refuser
+    subprocess.run([*words, "-o", library, ROOT / f"tools/{name}.c"], check=True)
+    return library
 
 
 def each_refusal(number):

@@ -1,4 +1,5 @@
 //! What the arguments of a call mean.
+use relmove_run::{Printable, Way};
 use std::alloc::{AllocError, AllocFailed, Global};
 use std::error::Error;
 use std::fmt;
@@ -17,15 +18,14 @@ pub enum Command<'a> {
         /// `--json`
         json: bool,
     },
-    /// `--resume ROOT`
-    Resume {
+    /// `--resume ROOT` or `--undo ROOT`
+    End {
         /// The root.
         root: &'a str,
-    },
-    /// `--undo ROOT`
-    Undo {
-        /// The root.
-        root: &'a str,
+        /// Which way the run is ended.
+        way: Way,
+        /// `--trust-journal`, and whether `--write` is there too.
+        trust: Option<Effect>,
     },
     /// `ROOT OLD NEW [OLD NEW]...`
     Move {
@@ -42,6 +42,15 @@ pub enum Command<'a> {
     },
 }
 
+/// What a call does with the changes that a journal asks for.
+#[derive(Clone, Copy, Debug, PartialEq, Eq)]
+pub enum Effect {
+    /// It prints them.
+    Print,
+    /// It prints them and makes them: `--write`.
+    Write,
+}
+
 /// What is wrong with a call.
 #[derive(Clone, Copy, Debug, PartialEq, Eq)]
 pub enum WrongCall<'a> {
@@ -55,6 +64,8 @@ pub enum WrongCall<'a> {
     OptionOfAnother(&'static str),
     /// There is no ROOT.
     NoRoot,
+    /// ROOT is empty.
+    EmptyRoot,
     /// There is no OLD.
     NoMove,
     /// An OLD has no NEW.
@@ -67,7 +78,10 @@ impl fmt::Display for WrongCall<'_> {
     fn fmt<W: fmt::Write>(&self, f: &mut fmt::Formatter<W>) -> fmt::Result {
         match self {
             WrongCall::OutOfMemory => f.write_str("memory ran out"),
-            WrongCall::UnknownOption(option) => write!(f, "there is no option {option}"),
+            WrongCall::UnknownOption(option) => {
+                let option = Printable(option);
+                write!(f, "there is no option {option}")
+            }
             WrongCall::TwoCommands => {
                 f.write_str("--check, --resume and --undo can't be together in a call")
             }
@@ -75,9 +89,16 @@ impl fmt::Display for WrongCall<'_> {
                 write!(f, "{option} isn't an option of this command")
             }
             WrongCall::NoRoot => f.write_str("ROOT is missing"),
+            WrongCall::EmptyRoot => { f.write_str("ROOT is empty: the current directory is .") }
             WrongCall::NoMove => f.write_str("OLD and NEW are missing"),
-            WrongCall::NoNew(old) => write!(f, "NEW is missing after {old}"),
-            WrongCall::AfterRoot(word) => write!(f, "{word} after ROOT is too much"),
+            WrongCall::NoNew(old) => {
+                let old = Printable(old);
+                write!(f, "NEW is missing after {old}")
+            }
+            WrongCall::AfterRoot(word) => {
+                let word = Printable(word);
+                write!(f, "{word} after ROOT is too much")
+            }
         }
     }
 }
@@ -96,7 +117,7 @@ impl<T: Drop> From<AllocFailed<T>> for WrongCall<'_> {
     }
 }
 
-const OPTIONS: [&str; 8] = [
+const OPTIONS: [&str; 9] = [
     "--help",
     "--version",
     "--check",
@@ -105,6 +126,7 @@ const OPTIONS: [&str; 8] = [
     "--write",
     "--json",
     "--any-name",
+    "--trust-journal",
 ];
 
 /// Returns what a call with these arguments asks for, or what is wrong with the call. The name of the program isn't
@@ -132,12 +154,8 @@ pub fn command_of<'a>(alloc: Global, words: &[&'a str]) -> Result<Command<'a>, W
     match commands {
         [false, false, false] => move_of(alloc, &options, &operands),
         [true, false, false] => check_of(&options, &operands),
-        [false, true, false] => Ok(Command::Resume {
-            root: bare_root(&options, &operands)?,
-        }),
-        [false, false, true] => Ok(Command::Undo {
-            root: bare_root(&options, &operands)?,
-        }),
+        [false, true, false] => end_of(Way::Resume, &options, &operands),
+        [false, false, true] => end_of(Way::Undo, &options, &operands),
         _ => Err(WrongCall::TwoCommands),
     }
 }
@@ -196,9 +214,11 @@ fn move_of<'a>(
     options: &[&'a str],
     operands: &[&'a str],
 ) -> Result<Command<'a>, WrongCall<'a>> {
+    need_none(options, "--trust-journal")?;
     let Some((root, paths)) = operands.split_first() else {
         return Err(WrongCall::NoRoot);
     };
+    need_root(root)?;
     if paths.is_empty() {
         return Err(WrongCall::NoMove);
     }
@@ -231,18 +251,46 @@ fn pairs_of<'a>(
 fn check_of<'a>(options: &[&'a str], operands: &[&'a str]) -> Result<Command<'a>, WrongCall<'a>> {
     need_none(options, "--write")?;
     need_none(options, "--any-name")?;
+    need_none(options, "--trust-journal")?;
     Ok(Command::Check {
         root: only_root(operands)?,
         json: has(options, "--json"),
     })
 }
 
-// The root of a call that has no other option.
-fn bare_root<'a>(options: &[&'a str], operands: &[&'a str]) -> Result<&'a str, WrongCall<'a>> {
-    need_none(options, "--write")?;
+// The call that ends a run.
+fn end_of<'a>(
+    way: Way,
+    options: &[&'a str],
+    operands: &[&'a str],
+) -> Result<Command<'a>, WrongCall<'a>> {
     need_none(options, "--any-name")?;
     need_none(options, "--json")?;
-    only_root(operands)
+    if !has(options, "--trust-journal") {
+        need_none(options, "--write")?;
+    }
+    Ok(Command::End {
+        root: only_root(operands)?,
+        way,
+        trust: trust_of(options),
+    })
+}
+
+// Whether a call trusts the journal, and whether it writes then.
+fn trust_of(options: &[&str]) -> Option<Effect> {
+    match (has(options, "--trust-journal"), has(options, "--write")) {
+        (false, _) => None,
+        (true, false) => Some(Effect::Print),
+        (true, true) => Some(Effect::Write),
+    }
+}
+
+// Fails if the root is empty.
+fn need_root<'a>(root: &str) -> Result<(), WrongCall<'a>> {
+    if root.is_empty() {
+        return Err(WrongCall::EmptyRoot);
+    }
+    Ok(())
 }
 
 // Fails if an option is there.
@@ -257,7 +305,10 @@ fn need_none<'a>(options: &[&'a str], option: &'static str) -> Result<(), WrongC
 fn only_root<'a>(operands: &[&'a str]) -> Result<&'a str, WrongCall<'a>> {
     match operands {
         [] => Err(WrongCall::NoRoot),
-        [root] => Ok(root),
+        [root] => {
+            need_root(root)?;
+            Ok(root)
+        }
         [_, word, ..] => Err(WrongCall::AfterRoot(word)),
     }
 }

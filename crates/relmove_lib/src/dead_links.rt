@@ -1,10 +1,10 @@
 //! Finds the links of pages that lead to nothing.
-use crate::fault::Fault;
 use crate::position::{Position, Positions};
 use crate::root::Root;
 use crate::tree::{EntryKind, Page, Tree};
 use relative_path::RelativePath;
 use relative_path_links::{Target, targets};
+use relmove_run::Fault;
 use std::fs;
 use std::rt::Files;
 use target_paths::{TargetReading, path_of_target};
@@ -122,7 +122,7 @@ fn why_dead<R: Files + AllocGlobal>(
     }
     let file = file.as_relative_path().as_str();
     let is_there = match tree.entries.get(file) {
-        Some(EntryKind::File) => !is_of_directory(path),
+        Some(EntryKind::File | EntryKind::Other) => !is_of_directory(path),
         Some(EntryKind::Directory) => true,
         Some(EntryKind::Link(_)) => leads_somewhere(root, file)?,
         None => file.is_empty() || leads_somewhere(root, file)?,

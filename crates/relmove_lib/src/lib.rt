@@ -6,38 +6,31 @@
 //! ```text
 //! a call              program
 //! what is printed     report  summary
-//! whole pieces        run  dead_links  moving
-//! the work            journal  worker  tree
+//! whole pieces        dead_links  moving
+//! the work            tree
 //! files below ROOT    root
-//! what all share      fault  position  arguments  progress
+//! what all share      position  arguments  progress
 //! ```
 #![tactic(auto)]
 
-pub use self::arguments::{Command, WrongCall, command_of};
+pub use self::arguments::{Command, Effect, WrongCall, command_of};
 pub use self::dead_links::{DeadLink, WhyDead, dead_links_of};
-pub use self::fault::{Call, Fault};
-pub use self::journal::{Journal, Stage, Work, journal_of, journal_text};
 pub use self::moving::{
     ChangedLink, LeftLink, Moving, WhyRefused, changed_links_of, is_directory, moving_of,
 };
 pub use self::position::{Position, position_after};
 pub use self::program::{Status, answer};
-pub use self::progress::{Progress, WithProgress};
+pub use self::progress::{Progress, StoreWithProgress, WithProgress};
 pub use self::root::Root;
-pub use self::run::{Ended, carry_out, resume, undo};
-pub use self::tree::{EntryKind, Page, Tree, read_tree};
+pub use self::tree::{EntryKind, Page, Tree, Unread, read_tree};
 
 mod arguments;
 mod dead_links;
-mod fault;
-mod journal;
 mod moving;
 mod position;
 mod program;
 mod progress;
 pub mod report;
 mod root;
-mod run;
 mod summary;
 mod tree;
-mod worker;

@@ -3,7 +3,6 @@ ghost use Rattle.relative_path_links.specs.Site.{HaveTargets};
 ghost use Rattle.std.specs.Prelude.{IsTrue};
 
 use crate::dead_links::leads_somewhere;
-use crate::fault::Fault;
 use crate::position::{Position, Positions};
 use crate::root::Root;
 use crate::tree::{EntryKind, Page, Tree};
@@ -13,6 +12,7 @@ use relative_path_links::{
 };
 use relative_path_moves::{MovedPage, TreeMoves};
 use relmove_plan::{Entry, Kind, Plan, Refusal, make_plan};
+use relmove_run::Fault;
 use std::alloc::{AllocError, AllocFailed, Global};
 use std::rt::Files;
 use target_paths::{TargetReading, path_of_target};
@@ -95,7 +95,7 @@ pub struct Moving<'a> {
 
 /// Plans the moves of a tree: each OLD with its NEW. Nothing is changed.
 ///
-/// Asks the system only whether what the links that stay lead to is there.
+/// Asks the system only whether what the links that stay lead to is there. What is above the root isn't asked for.
 pub fn moving_of<'a, R: Files + AllocGlobal + Clone + Drop>(
     root: &Root<'_, R>,
     tree: &'a Tree,
@@ -228,8 +228,10 @@ fn entries_of<'a>(alloc: Global, tree: &'a Tree) -> Result<Vec<Entry<'a>>, Alloc
     for (path, kind) in &tree.entries {
         let kind = match kind {
             EntryKind::File => Kind::File,
+            EntryKind::Other => Kind::File,
             EntryKind::Directory => directory_of(tree, path.as_str()),
-            EntryKind::Link(target) => link_of(target.as_str()),
+            EntryKind::Link(Some(target)) => link_of(target.as_str()),
+            EntryKind::Link(None) => Kind::Link { target: None },
         };
         let path = RelativePath::new(path.as_str());
         entries.push(Entry { path, kind })?;
@@ -237,13 +239,26 @@ fn entries_of<'a>(alloc: Global, tree: &'a Tree) -> Result<Vec<Entry<'a>>, Alloc
     Ok(entries)
 }
 
-// The directory at a path.
+// Returns the directory at a path of a tree.
 fn directory_of<'a>(tree: &Tree, path: &str) -> Kind<'a> {
     Kind::Directory {
-        has_foreign_name: tree
-            .unreadable_names
-            .iter()
-            .any(|directory| directory.as_str() == path),
+        has_foreign_name: has_path(&tree.unreadable_names, path),
+        is_read: !file_name(path).starts_with('.') && !has_path(&tree.unlisted, path),
+    }
+}
+
+// Whether a path is among sorted ones.
+fn has_path(paths: &[String], path: &str) -> bool {
+    paths
+        .binary_search_by(|other| other.as_str().cmp(path))
+        .is_ok()
+}
+
+// Returns the last name of a path.
+fn file_name(path: &str) -> &str {
+    match path.rsplit_once('/') {
+        Some((_, name)) => name,
+        None => path,
     }
 }
 
@@ -369,7 +384,9 @@ fn may_lead<R: Files + AllocGlobal + Clone + Drop>(
                 .parent()
                 .unwrap_or(RelativePath::new(""));
             let file = directory.join_normalized(alloc, RelativePath::new(path.as_str()))?;
-            Ok(leads_somewhere(root, file.as_relative_path().as_str())?)
+            let file = file.as_relative_path();
+            // What is above the root isn't looked at.
+            Ok(file.climb() > 0 || leads_somewhere(root, file.as_str())?)
         }
     }
 }

@@ -1,26 +1,29 @@
 //! A whole call of the program: its arguments, what it does, what it prints, its status.
-use crate::arguments::{Command, command_of};
+use crate::arguments::{Command, Effect, command_of};
 use crate::dead_links::{DeadLink, dead_links_of};
-use crate::fault::Fault;
 use crate::moving::{Moving, moving_of};
-use crate::report::{HELP, USAGE, print_dead_link, print_dead_link_as_json, print_end};
+use crate::report::{
+    HELP, USAGE, print_changes, print_dead_link, print_dead_link_as_json, print_end,
+};
 use crate::root::Root;
-use crate::run::{Ended, carry_out, resume, undo};
 use crate::summary::{
     Counts, counts_of, print_did, print_moving, print_moving_as_json, print_refused, print_would,
 };
-use crate::tree::{Tree, read_tree};
-use relmove_plan::Steps;
-use std::alloc::Global;
+use crate::tree::{Tree, is_staging_name, read_tree};
+use relmove_run::{
+    Call, Ended, Fault, Locked, Machine, PageText, Printable, Trust, Way, carry_out,
+    changes_to_end, fault_of, need_no_journal_near, need_no_own_files, need_possible, need_rest,
+    resume, undo,
+};
+use std::alloc::{AllocError, Global};
 use std::io::{self, Write};
-use std::rt::Files;
 
 /// How a call ended.
 #[derive(Clone, Copy, Debug, PartialEq, Eq)]
 pub enum Status {
     /// All is done, and every link is kept.
     Kept,
-    /// A link is left that would lead elsewhere, or a link is dead.
+    /// A link is left that would lead elsewhere, or a link is dead, or a run ended and left something to look at.
     LinksLeft,
     /// Nothing is changed.
     Refused,
@@ -40,10 +43,10 @@ impl Status {
     }
 }
 
-const VERSION: &str = "relmove 0.1.0\n";
+const VERSION: &str = "relmove 0.2.0\n";
 
 /// Does what a call with these arguments asks for. The name of the program isn't among the arguments.
-pub fn answer<R: Files + AllocGlobal + Clone + Drop, O: Write, E: Write>(
+pub fn answer<R: Machine, O: Write, E: Write>(
     runtime: &R,
     words: &[&str],
     out: &mut O,
@@ -60,7 +63,7 @@ pub fn answer<R: Files + AllocGlobal + Clone + Drop, O: Write, E: Write>(
 }
 
 // Does what a command asks for.
-fn obey<R: Files + AllocGlobal + Clone + Drop, O: Write, E: Write>(
+fn obey<R: Machine, O: Write, E: Write>(
     runtime: &R,
     command: Command<'_>,
     out: &mut O,
@@ -69,15 +72,16 @@ fn obey<R: Files + AllocGlobal + Clone + Drop, O: Write, E: Write>(
     match command {
         Command::Help => {
             let outcome = write!(out, "{USAGE}{HELP}");
-            printed(outcome, Status::Kept, out)
+            print_status(outcome, Status::Kept, out)
         }
         Command::Version => {
             let outcome = write!(out, "{VERSION}");
-            printed(outcome, Status::Kept, out)
+            print_status(outcome, Status::Kept, out)
         }
         Command::Check { root, json } => check(Root::new(runtime, root), json, out, errors),
-        Command::Resume { root } => end(resume(Root::new(runtime, root)), root, out, errors),
-        Command::Undo { root } => end(undo(Root::new(runtime, root)), root, out, errors),
+        Command::End { root, way, trust } => {
+            end_run(Root::new(runtime, root), way, trust, out, errors)
+        }
         Command::Move {
             root,
             moves,
@@ -104,69 +108,145 @@ struct MoveOptions {
 }
 
 // Moves files below a root, or prints what would change.
-fn move_below<R: Files + AllocGlobal + Clone + Drop, O: Write, E: Write>(
+fn move_below<R: Machine, O: Write, E: Write>(
     root: Root<'_, R>,
     moves: &[(&str, &str)],
     options: MoveOptions,
     out: &mut O,
     errors: &mut E,
 ) -> Status {
-    match read_whole(&root, errors) {
-        Ok(tree) => move_in(root, &tree, moves, options, out, errors),
-        Err(fault) => refuse(&root, &fault, errors),
+    let moved = if options.write {
+        move_and_write(&root, moves, options, out, errors)
+    } else {
+        move_and_print(&root, moves, options, out, errors)
+    };
+    match moved {
+        Ok(status) | Err(CallEnd::Status(status)) => status,
+        Err(CallEnd::Fault(fault)) => refuse(&root, &fault, errors),
     }
 }
 
-// Prints why a call is refused.
-fn refuse<R: Files + AllocGlobal, E: Write>(
+// Why a call that moves files ends before its end.
+#[derive(Drop)]
+enum CallEnd {
+    // A fault, of which nothing is printed yet.
+    Fault(Fault),
+    // The reason is printed, and this is the call's status.
+    Status(Status),
+}
+
+impl From<Fault> for CallEnd {
+    fn from(fault: Fault) -> CallEnd {
+        CallEnd::Fault(fault)
+    }
+}
+
+impl From<AllocError> for CallEnd {
+    fn from(_: AllocError) -> CallEnd {
+        CallEnd::Fault(Fault::OutOfMemory)
+    }
+}
+
+// Prints what moves would change.
+fn move_and_print<R: Machine, O: Write, E: Write>(
     root: &Root<'_, R>,
-    fault: &Fault,
-    errors: &mut E,
-) -> Status {
-    let path = root.path();
-    let _ = writeln!(errors, "relmove: {path}: {fault}");
-    Status::Refused
-}
-
-// Moves files of a tree, or prints what would change.
-fn move_in<R: Files + AllocGlobal + Clone + Drop, O: Write, E: Write>(
-    root: Root<'_, R>,
-    tree: &Tree,
     moves: &[(&str, &str)],
     options: MoveOptions,
     out: &mut O,
     errors: &mut E,
-) -> Status {
-    let moving = match moving_of(&root, tree, moves, options.any_name) {
-        Ok(moving) => moving,
-        Err(why) => {
-            let _ = print_refused(errors, root.path(), tree, moves, &why);
-            return Status::Refused;
-        }
-    };
-    let Ok(counts) = counts_of(root.runtime().alloc(), tree, moves, &moving) else {
-        return refuse(&root, &Fault::OutOfMemory, errors);
-    };
-    let status = status_of_moving(&moving);
-    if print_plan(&root, tree, moves, &moving, options, out).is_err() {
-        return Status::Refused;
-    }
-    if options.write {
-        return carry(
-            root,
-            moving.plan.steps,
-            (counts, status),
-            options,
-            out,
-            errors,
-        );
-    }
+) -> Result<Status, CallEnd> {
+    let mut store = root.runtime().store_at(root.path())?;
+    need_rest(&mut store)?;
+    let tree = read_whole(root, errors)?;
+    need_no_journal_near(&mut store, &directories_of(root.runtime().alloc(), &tree)?)?;
+    let (moving, counts, status) = plan(root, &tree, moves, options, out, errors)?;
+    need_possible(&mut store, &moving.plan.steps)?;
     let outcome = if options.json {
         Ok(())
     } else {
         print_would(out, counts)
     };
-    printed(outcome, status, out)
+    Ok(print_status(outcome, status, out))
+}
+
+// Moves files.
+fn move_and_write<R: Machine, O: Write, E: Write>(
+    root: &Root<'_, R>,
+    moves: &[(&str, &str)],
+    options: MoveOptions,
+    out: &mut O,
+    errors: &mut E,
+) -> Result<Status, CallEnd> {
+    let mut locked = Locked::new(root.runtime().store_at(root.path())?)?;
+    need_no_own_files(locked.store())?;
+    need_no_journal_near(locked.store(), &[])?;
+    let tree = read_whole(root, errors)?;
+    let (moving, counts, status) = plan(root, &tree, moves, options, out, errors)?;
+    let alloc = root.runtime().alloc();
+    let directories = directories_of(alloc, &tree)?;
+    let texts = old_texts(alloc, &tree, &moving)?;
+    let ended = carry_out(locked, moving.plan.steps, &texts, &directories);
+    let done = (counts, status);
+    Ok(print_run(root.path(), ended, done, options, out, errors))
+}
+
+// Plans moves, and prints what they do. Returns the plan, what is counted of it, and the status of a run that does all of
+// it.
+fn plan<'a, R: Machine, O: Write, E: Write>(
+    root: &Root<'_, R>,
+    tree: &'a Tree,
+    moves: &[(&str, &str)],
+    options: MoveOptions,
+    out: &mut O,
+    errors: &mut E,
+) -> Result<(Moving<'a>, Counts, Status), CallEnd> {
+    let moving = match moving_of(root, tree, moves, options.any_name) {
+        Ok(moving) => moving,
+        Err(why) => {
+            let _ = print_refused(errors, root.path(), tree, moves, &why);
+            return Err(CallEnd::Status(Status::Refused));
+        }
+    };
+    let counts = counts_of(root.runtime().alloc(), tree, moves, &moving)?;
+    if print_plan(root, tree, moves, &moving, options, out).is_err() {
+        return Err(CallEnd::Status(Status::Refused));
+    }
+    let status = status_of_moving(&moving);
+    Ok((moving, counts, status))
+}
+
+// The directories below the root that were read.
+fn directories_of(alloc: Global, tree: &Tree) -> Result<Vec<&str>, AllocError> {
+    let mut directories = Vec::with_capacity(alloc, tree.directories.len())?;
+    for directory in &tree.directories {
+        directories.push(directory.as_str())?;
+    }
+    Ok(directories)
+}
+
+// The pages that change, with their texts before.
+fn old_texts<'a>(
+    alloc: Global,
+    tree: &'a Tree,
+    moving: &Moving<'_>,
+) -> Result<Vec<PageText<'a>>, AllocError> {
+    let mut texts = Vec::with_capacity(alloc, moving.plan.changed.len())?;
+    for change in &moving.plan.changed {
+        if let Some(page) = tree.pages.get(change.number) {
+            texts.push(PageText {
+                path: page.path.as_str(),
+                text: page.text.as_str(),
+            })?;
+        }
+    }
+    Ok(texts)
+}
+
+// Prints why a call is refused.
+fn refuse<R: Machine, E: Write>(root: &Root<'_, R>, fault: &Fault, errors: &mut E) -> Status {
+    let path = Printable(root.path());
+    let _ = writeln!(errors, "relmove: {path}: {fault}");
+    Status::Refused
 }
 
 // The status of a run that does all of the plan.
@@ -179,7 +259,7 @@ fn status_of_moving(moving: &Moving<'_>) -> Status {
 }
 
 // Prints what moves do.
-fn print_plan<R: Files + AllocGlobal, O: Write>(
+fn print_plan<R: Machine, O: Write>(
     root: &Root<'_, R>,
     tree: &Tree,
     moves: &[(&str, &str)],
@@ -195,45 +275,43 @@ fn print_plan<R: Files + AllocGlobal, O: Write>(
     out.flush()
 }
 
-// Carries out the steps of a plan, and prints how many files it moved, if it is done.
-fn carry<R: Files + AllocGlobal, O: Write, E: Write>(
-    root: Root<'_, R>,
-    steps: Steps,
-    done: (Counts, Status),
+// Prints how a run ended: how many files it moved, if it did all of its plan. Returns the status of the call.
+fn print_run<O: Write, E: Write>(
+    root: &str,
+    ended: Ended,
+    (counts, status): (Counts, Status),
     options: MoveOptions,
     out: &mut O,
     errors: &mut E,
 ) -> Status {
-    let path = root.path();
-    match carry_out(root, steps) {
-        Ended::Done => {
-            let (counts, status) = done;
-            // The work is done, whether this is printed or not.
-            if !options.json {
-                let _ = print_did(out, counts);
-            }
-            let _ = out.flush();
-            status
-        }
-        ended => end(ended, path, out, errors),
+    if !is_done_whole(&ended) {
+        return end(ended, root, out, errors);
+    }
+    // The work is done, whether this is printed or not.
+    if !options.json {
+        let _ = print_did(out, counts);
+    }
+    let _ = out.flush();
+    status
+}
+
+// Whether a run did all of its plan, and has nothing to say.
+fn is_done_whole(ended: &Ended) -> bool {
+    match ended {
+        Ended::Done(remarks) => remarks.is_empty(),
+        _ => false,
     }
 }
 
-// The tree below a root. Fails if the root has a journal.
-fn read_whole<R: Files + AllocGlobal + Clone + Drop, E: Write>(
-    root: &Root<'_, R>,
-    errors: &mut E,
-) -> Result<Tree, Fault> {
-    if root.has_journal()? {
-        return Err(Fault::HasJournal);
-    }
+// The tree below a root.
+fn read_whole<R: Machine, E: Write>(root: &Root<'_, R>, errors: &mut E) -> Result<Tree, Fault> {
     let tree = read_tree(root)?;
     print_unread(root.path(), &tree, errors);
     Ok(tree)
 }
 
 // The status of a call that only prints: this one, unless that failed.
-fn printed<O: Write>(outcome: io::Result<()>, status: Status, out: &mut O) -> Status {
+fn print_status<O: Write>(outcome: io::Result<()>, status: Status, out: &mut O) -> Status {
     if outcome.is_err() || out.flush().is_err() {
         return Status::Refused;
     }
@@ -241,16 +319,16 @@ fn printed<O: Write>(outcome: io::Result<()>, status: Status, out: &mut O) -> St
 }
 
 // Prints the dead links.
-fn check<R: Files + AllocGlobal + Clone + Drop, O: Write, E: Write>(
+fn check<R: Machine, O: Write, E: Write>(
     root: Root<'_, R>,
     json: bool,
     out: &mut O,
     errors: &mut E,
 ) -> Status {
-    match found(&root, errors) {
+    match find_dead_links(&root, errors) {
         Ok(links) => {
             let outcome = print_links(root.runtime().alloc(), root.path(), json, &links, out);
-            printed(outcome, status_of_links(&links), out)
+            print_status(outcome, status_of_links(&links), out)
         }
         Err(fault) => refuse(&root, &fault, errors),
     }
@@ -266,31 +344,50 @@ fn status_of_links(links: &[DeadLink]) -> Status {
 }
 
 // The dead links below a root.
-fn found<R: Files + AllocGlobal + Clone + Drop, E: Write>(
+fn find_dead_links<R: Machine, E: Write>(
     root: &Root<'_, R>,
     errors: &mut E,
 ) -> Result<Vec<DeadLink>, Fault> {
+    let mut store = root.runtime().store_at(root.path())?;
+    need_rest(&mut store)?;
     let tree = read_whole(root, errors)?;
+    need_no_journal_near(&mut store, &directories_of(root.runtime().alloc(), &tree)?)?;
     dead_links_of(root, &tree)
 }
 
 // Prints what isn't read.
 fn print_unread<E: Write>(root: &str, tree: &Tree, errors: &mut E) {
     for path in &tree.not_text {
+        let path = Printable(path.as_str());
         let _ = writeln!(errors, "relmove: {path} isn't UTF-8, and isn't read");
     }
     for path in &tree.with_base {
+        let path = Printable(path.as_str());
         let _ = writeln!(
             errors,
             "relmove: {path} has a <base href>, and its links aren't read"
         );
     }
+    for unread in &tree.unread {
+        let (path, why) = (Printable(unread.path.as_str()), unread.why.as_str());
+        let _ = writeln!(errors, "relmove: {path} isn't read: {why}");
+    }
     for path in &tree.unreadable_names {
         let path = if path.is_empty() { root } else { path.as_str() };
+        let path = Printable(path);
         let _ = writeln!(
             errors,
-            "relmove: a name in the directory {path} isn't UTF-8"
+            "relmove: a name in the directory {path} can't be read, or isn't UTF-8"
         );
+    }
+    for path in tree.entries.keys() {
+        if is_staging_name(path.as_str()) {
+            let path = Printable(path.as_str());
+            let _ = writeln!(
+                errors,
+                "relmove: {path} has a name of relmove's own, and there is no run to which it belongs"
+            );
+        }
     }
 }
 
@@ -312,7 +409,60 @@ fn print_links<O: Write>(
     Ok(())
 }
 
-// Prints how `resume` or `undo` ended.
+// Ends a run that stopped.
+fn end_run<R: Machine, O: Write, E: Write>(
+    root: Root<'_, R>,
+    way: Way,
+    trust: Option<Effect>,
+    out: &mut O,
+    errors: &mut E,
+) -> Status {
+    let ended = match trust {
+        None => end_trusting(&root, way, Trust::ThisFolder),
+        Some(effect) => {
+            if let Err(fault) = print_what_ends(&root, way, out) {
+                return refuse(&root, &fault, errors);
+            }
+            if effect == Effect::Print {
+                return print_status(Ok(()), Status::Kept, out);
+            }
+            end_trusting(&root, way, Trust::AnyFolder)
+        }
+    };
+    end(ended, root.path(), out, errors)
+}
+
+// Ends a run that stopped, if its journal is believed.
+fn end_trusting<R: Machine>(root: &Root<'_, R>, way: Way, trust: Trust) -> Ended {
+    match lock(root) {
+        Ok(locked) => match way {
+            Way::Resume => resume(locked, trust),
+            Way::Undo => undo(locked, trust),
+        },
+        Err(fault) => Ended::Refused(fault),
+    }
+}
+
+// Takes the lock of a root.
+fn lock<R: Machine>(root: &Root<'_, R>) -> Result<Locked<R::Store>, Fault> {
+    Locked::new(root.runtime().store_at(root.path())?)
+}
+
+// Prints the changes that the end of a run makes.
+fn print_what_ends<R: Machine, O: Write>(
+    root: &Root<'_, R>,
+    way: Way,
+    out: &mut O,
+) -> Result<(), Fault> {
+    let changes = changes_to_end(&mut lock(root)?, way)?;
+    // A call that can't print them must not make them.
+    match print_changes(out, root.path(), &changes) {
+        Ok(()) => Ok(()),
+        Err(error) => Err(fault_of(root.runtime().alloc(), Call::Write, "the output", &error)),
+    }
+}
+
+// Prints how a run ended.
 fn end<O: Write, E: Write>(ended: Ended, root: &str, out: &mut O, errors: &mut E) -> Status {
     let status = status_of(&ended);
     // The work is done or not, whether this is printed or not.
@@ -327,7 +477,13 @@ fn end<O: Write, E: Write>(ended: Ended, root: &str, out: &mut O, errors: &mut E
 // The status of a run.
 fn status_of(ended: &Ended) -> Status {
     match ended {
-        Ended::Done | Ended::TakenBack => Status::Kept,
+        Ended::Done(remarks) | Ended::TakenBack(remarks) => {
+            if remarks.is_empty() {
+                Status::Kept
+            } else {
+                Status::LinksLeft
+            }
+        }
         Ended::Refused(_) => Status::Refused,
         Ended::Stopped { .. } => Status::Stopped,
     }

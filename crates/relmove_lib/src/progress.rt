@@ -1,5 +1,6 @@
 //! The progress of a long call: a runtime that prints how many files the call has opened, and how many renames it made.
-use std::alloc::{Alloc, Allocator, Global};
+use relmove_run::{Found, Machine, Store};
+use std::alloc::{Alloc, AllocError, Allocator, Global};
 use std::cell::Cell;
 use std::fs::{Metadata, OpenOptions};
 use std::io::{self, Eprint};
@@ -41,8 +42,8 @@ impl Progress {
     }
 }
 
-/// A runtime that passes the library's calls on to another one. It counts the files that are opened and renamed. While
-/// that goes on, it prints the two numbers on standard error each half second.
+/// A runtime that passes the library's calls on to another one. It counts the files that are opened and renamed, also
+/// those of a run. While that goes on, it prints the two numbers on standard error each half second.
 ///
 /// It passes on only the calls that this library makes. Each other call fails with `Unsupported`. Nothing is printed if
 /// the clock can't be read. A line that can't be printed is left out.
@@ -56,6 +57,16 @@ impl<'a, R: Clock + Eprint> WithProgress<'a, R> {
     /// A runtime that works by another one, and prints this progress. Allocates nothing.
     pub fn new(runtime: &'a R, progress: &'a Progress) -> WithProgress<'a, R> {
         WithProgress { runtime, progress }
+    }
+
+    // Counts a file that is opened.
+    fn count_opened(&self) {
+        self.count(&self.progress.opened);
+    }
+
+    // Counts a rename.
+    fn count_renamed(&self) {
+        self.count(&self.progress.renamed);
     }
 
     // Counts a file.
@@ -89,7 +100,7 @@ impl<R: Files + Clock + Eprint> Files for WithProgress<'_, R> {
     type Dir = R::Dir;
 
     fn open_file(&self, how: &OpenOptions, path: &str) -> io::Result<R::File> {
-        self.count(&self.progress.opened);
+        self.count_opened();
         self.runtime.open_file(how, path)
     }
 
@@ -110,7 +121,7 @@ impl<R: Files + Clock + Eprint> Files for WithProgress<'_, R> {
     }
 
     fn rename(&self, from: &str, to: &str) -> io::Result<()> {
-        self.count(&self.progress.renamed);
+        self.count_renamed();
         self.runtime.rename(from, to)
     }
 
@@ -132,5 +143,106 @@ impl<R: Files + Clock + Eprint> Files for WithProgress<'_, R> {
 
     fn read_link<B: Allocator>(&self, alloc: B, path: &str) -> io::Result<PathBuf<B>> {
         self.runtime.read_link(alloc, path)
+    }
+}
+
+impl<'a, R: Machine + Clock + Eprint> Machine for WithProgress<'a, R> {
+    type Store = StoreWithProgress<'a, R, R::Store>;
+
+    fn store_at(&self, root: &str) -> Result<StoreWithProgress<'a, R, R::Store>, AllocError> {
+        Ok(StoreWithProgress {
+            store: self.runtime.store_at(root)?,
+            watch: WithProgress {
+                runtime: self.runtime,
+                progress: self.progress,
+            },
+        })
+    }
+}
+
+/// The files below a root, by another store. What the run opens and renames is counted, and printed as by
+/// [`WithProgress`].
+#[derive(Drop)]
+pub struct StoreWithProgress<'a, R, S: Drop> {
+    store: S,
+    watch: WithProgress<'a, R>,
+}
+
+impl<R: Clock + Eprint, S: Store + Drop> Store for StoreWithProgress<'_, R, S> {
+    type NewFile = S::NewFile;
+
+    fn alloc(&self) -> Global {
+        self.store.alloc()
+    }
+
+    fn root(&self) -> &str {
+        self.store.root()
+    }
+
+    fn find(&mut self, path: &str) -> io::Result<Option<Found>> {
+        self.store.find(path)
+    }
+
+    fn read(&mut self, path: &str) -> io::Result<Vec<u8>> {
+        self.watch.count_opened();
+        self.store.read(path)
+    }
+
+    fn create(&mut self, path: &str, mode: u32) -> io::Result<S::NewFile> {
+        self.watch.count_opened();
+        self.store.create(path, mode)
+    }
+
+    fn find_new(&mut self, file: &S::NewFile) -> io::Result<Found> {
+        self.store.find_new(file)
+    }
+
+    fn write(&mut self, file: &mut S::NewFile, bytes: &[u8]) -> io::Result<()> {
+        self.store.write(file, bytes)
+    }
+
+    fn set_owner(&mut self, file: &S::NewFile, owner: u32, group: u32) -> io::Result<()> {
+        self.store.set_owner(file, owner, group)
+    }
+
+    fn set_mode(&mut self, file: &S::NewFile, mode: u32) -> io::Result<()> {
+        self.store.set_mode(file, mode)
+    }
+
+    fn sync(&mut self, file: &S::NewFile) -> io::Result<()> {
+        self.store.sync(file)
+    }
+
+    fn sync_directory(&mut self, path: &str) -> io::Result<()> {
+        self.store.sync_directory(path)
+    }
+
+    fn rename(&mut self, from: &str, to: &str) -> io::Result<()> {
+        self.watch.count_renamed();
+        self.store.rename(from, to)
+    }
+
+    fn link(&mut self, from: &str, to: &str) -> io::Result<()> {
+        self.store.link(from, to)
+    }
+
+    fn make_directory(&mut self, path: &str) -> io::Result<()> {
+        self.store.make_directory(path)
+    }
+
+    fn remove_file(&mut self, path: &str) -> io::Result<()> {
+        self.store.remove_file(path)
+    }
+
+    fn remove_directory(&mut self, path: &str) -> io::Result<()> {
+        self.store.remove_directory(path)
+    }
+
+    fn lock(&mut self) -> io::Result<bool> {
+        self.store.lock()
+    }
+
+    fn is_locked(&mut self) -> io::Result<bool> {
+        self.store.is_locked()
     }
 }

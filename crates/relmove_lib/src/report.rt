@@ -1,8 +1,7 @@
 //! What a call prints.
 use crate::dead_links::DeadLink;
-use crate::journal::Stage;
 use crate::position::Position;
-use crate::run::Ended;
+use relmove_run::{Change, Ended, Printable, Remark, Stage};
 use serde_json::json;
 use std::alloc::Global;
 use std::io::{self, Write};
@@ -10,8 +9,8 @@ use std::io::{self, Write};
 /// The usage of the program.
 pub const USAGE: &str = "usage: relmove [--write] [--json] [--any-name] ROOT OLD NEW [OLD NEW]...
        relmove --check [--json] ROOT
-       relmove --resume ROOT
-       relmove --undo ROOT
+       relmove --resume [--trust-journal [--write]] ROOT
+       relmove --undo [--trust-journal [--write]] ROOT
        relmove --help | --version
 ";
 
@@ -28,6 +27,9 @@ nothing is moved into a directory NEW, and nothing that is there is replaced. Mi
   --check     print each relative link of a page that leads above ROOT, or to a path below ROOT where nothing is
   --resume    end a run that stopped: the run goes on, or, if it was going back, it goes back
   --undo      take back a run that stopped before everything was at its new path
+  --trust-journal
+              with --resume or --undo: believe a journal that was written in another folder, of which ROOT is a copy;
+              print what it asks for, and do it only with --write
   --          the words after it are paths, also if they begin with -
 
 Pages are the files below ROOT whose names end in .md or .markdown, and that are UTF-8. Pages with a name in their path
@@ -36,15 +38,16 @@ HTML in a page. The links of a page with a <base href> aren't read. A link that 
 isn't changed. Links in other files, such as HTML, aren't changed. Fragments aren't checked. Symbolic links aren't
 followed.
 
-A directory that a run leaves empty is removed, unless a link of a page leads to it. A run with --write first writes
-the file ROOT/.relmove, its journal. The run gives all that moves and all pages that change the names .relmove-1,
-.relmove-2 and so on, and then their new paths. At its end the run removes the journal. If a run stops in the middle,
---resume or --undo ends this run, and no file is lost. Two things aren't safe: a loss of power, and another program
-that puts a file at a path to which relmove is about to rename a file.
+A directory that a run leaves empty is removed, unless a link of a page leads to it. A run with --write first locks
+ROOT and writes the file ROOT/.relmove, its journal. The run gives all that moves and all pages that change the names
+.relmove-1, .relmove-2 and so on, and then their new paths. At its end the run removes the journal. If a run stops in
+the middle, also by a loss of power, --resume or --undo ends this run, and no file is lost. One thing isn't safe: another
+program that puts a file at a path while relmove renames a file to it. A text that somebody changes during the run is
+kept, and printed.
 
 Exit status: 0 if all is done, 1 if a link is left that led to a file, or may have, or if a symbolic link moves or
-leads to what moves (with --check: if a link is dead), 2 if the call was wrong or failed and nothing was changed, 3 if
-a run stopped in the middle.
+leads to what moves, or if a text is kept that was changed during the run (with --check: if a link is dead), 2 if the
+call was wrong or failed and nothing was changed, 3 if a run stopped in the middle.
 ";
 
 /// Prints a dead link: page, line, column and target.
@@ -62,6 +65,8 @@ pub fn print_dead_link<W: Write>(out: &mut W, root: &str, link: &DeadLink) -> io
         "/"
     };
     let words = why.words();
+    let (root, page) = (Printable(root), Printable(page.as_str()));
+    let target = Printable(target.as_str());
     writeln!(
         out,
         "{root}{separator}{page}:{line}:{column}: {target}: {words}"
@@ -90,43 +95,95 @@ pub fn print_dead_link_as_json<W: Write>(
     writeln!(out, "{text}")
 }
 
+/// Prints the changes that the end of a run makes.
+pub fn print_changes<W: Write>(out: &mut W, root: &str, changes: &[Change]) -> io::Result<()> {
+    let root = Printable(root);
+    for change in changes {
+        writeln!(out, "{root}: {change}")?;
+    }
+    out.flush()
+}
+
 /// Prints how a run ended.
 pub fn print_end<W: Write>(out: &mut W, root: &str, ended: &Ended) -> io::Result<()> {
     match ended {
-        Ended::Done => writeln!(out, "{root}: everything is at its new path"),
-        Ended::TakenBack => writeln!(
-            out,
-            "{root}: the run was taken back, everything is as before"
-        ),
-        Ended::Refused(fault) => writeln!(out, "relmove: {root}: {fault}"),
-        Ended::Stopped { stage, fault } => {
+        Ended::Done(remarks) => {
+            print_remarks(out, root, remarks)?;
+            let root = Printable(root);
+            writeln!(out, "{root}: everything is at its new path")
+        }
+        Ended::TakenBack(remarks) => {
+            print_remarks(out, root, remarks)?;
+            let root = Printable(root);
+            let state = state_before(remarks);
+            writeln!(out, "{root}: the run was taken back, {state}")
+        }
+        Ended::Refused(fault) => {
+            let root = Printable(root);
+            writeln!(out, "relmove: {root}: {fault}")
+        }
+        Ended::Stopped {
+            stage,
+            fault,
+            has_journal,
+        } => {
+            let root = Printable(root);
             let (state, commands) = (state_at(*stage), commands_at(*stage));
             writeln!(
                 out,
-                "relmove: {root}: {fault}\nrelmove: stopped in the middle: {state}. Call relmove with {commands} and {root}.\nrelmove lost no file: the journal .relmove in {root} has the old paths, the names in between and the new paths."
-            )
+                "relmove: {root}: {fault}\nrelmove: stopped in the middle: {state}. Call relmove with {commands} and {root}."
+            )?;
+            if *has_journal {
+                writeln!(
+                    out,
+                    "relmove: the journal .relmove in {root} has the old paths, the names that begin with .relmove- and the new paths."
+                )
+            } else {
+                writeln!(out, "relmove: no journal .relmove was found in {root}.")
+            }
         }
+    }
+}
+
+// Prints what a run left.
+fn print_remarks<W: Write>(out: &mut W, root: &str, remarks: &[Remark]) -> io::Result<()> {
+    let root = Printable(root);
+    for remark in remarks {
+        writeln!(out, "{root}: {remark}")?;
+    }
+    Ok(())
+}
+
+// How everything is after a run that was taken back.
+fn state_before(remarks: &[Remark]) -> &'static str {
+    if remarks.is_empty() {
+        "everything is as before"
+    } else {
+        "and all else is as before"
     }
 }
 
 // Where everything is if a run stopped at a stage.
 fn state_at(stage: Stage) -> &'static str {
     match stage {
-        Stage::Returning => "everything is at its old path, or was going back there",
-        Stage::Parting => "some files have names in between",
-        Stage::Making => "all that moves has a name in between",
-        Stage::Joining => "some files are at their new paths",
+        Stage::Writing => "everything is at its old path",
+        Stage::Staging => "some files have names that begin with .relmove-",
+        Stage::Making => "all that moves has a name that begins with .relmove-",
+        Stage::Placing => "some files are at their new paths",
         Stage::Cleaning => "everything is at its new path, and what is left over was being removed",
-        Stage::Unjoining => "everything was going back to names in between",
+        Stage::Unplacing | Stage::Unmaking | Stage::Unstaging => {
+            "everything was going back to its old path"
+        }
+        Stage::Erasing => "everything is at its old path, and what is left over was being removed",
     }
 }
 
 // The commands that go on after a run stopped at a stage.
 fn commands_at(stage: Stage) -> &'static str {
     match stage {
-        Stage::Returning | Stage::Unjoining => "--undo",
-        Stage::Parting | Stage::Making | Stage::Joining =>
+        Stage::Staging | Stage::Making | Stage::Placing =>
             "--resume to go on, or with --undo to go back,",
         Stage::Cleaning => "--resume",
+        _ => "--undo",
     }
 }

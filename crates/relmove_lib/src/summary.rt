@@ -4,6 +4,7 @@ use crate::position::Position;
 use crate::tree::Tree;
 use relative_path_links::{MovedSitePage, Unchanged};
 use relmove_plan::{ChangedPage, LinkNotice, Refusal};
+use relmove_run::Printable;
 use serde_json::json;
 use std::alloc::{AllocError, Global};
 use std::fmt;
@@ -19,8 +20,8 @@ struct Below<'a> {
 
 impl fmt::Display for Below<'_> {
     fn fmt<W: fmt::Write>(&self, f: &mut fmt::Formatter<W>) -> fmt::Result {
-        let (root, path) = (self.root, self.path);
-        if root.is_empty() || root.ends_with('/') {
+        let (root, path) = (Printable(self.root), Printable(self.path));
+        if self.root.is_empty() || self.root.ends_with('/') {
             write!(f, "{root}{path}")
         } else {
             write!(f, "{root}/{path}")
@@ -125,7 +126,7 @@ fn print_left_link<W: Write>(out: &mut W, root: &str, link: &LeftLink<'_>) -> io
         path: link.page,
     };
     let Position { line, column } = link.position;
-    let target = link.target;
+    let (root, target) = (Printable(root), Printable(link.target));
     let why = why_left(link.why);
     match link.why {
         Unchanged::AboveRoot => writeln!(
@@ -357,7 +358,10 @@ pub fn print_refused<W: Write>(
     why: &WhyRefused,
 ) -> io::Result<()> {
     match why {
-        WhyRefused::Fault(fault) => writeln!(errors, "relmove: {root}: {fault}"),
+        WhyRefused::Fault(fault) => {
+            let root = Printable(root);
+            writeln!(errors, "relmove: {root}: {fault}")
+        }
         WhyRefused::NoDirectory(number) => print_move_refused(
             errors,
             moves,
@@ -393,16 +397,20 @@ fn print_refusal<W: Write>(
             print_both_refused(errors, moves, first, second, "the new paths are the same")
         }
         Refusal::Collision(first, second) => {
-            let (first, second) = (entry_at(tree, first), entry_at(tree, second));
+            let first = Printable(entry_at(tree, first));
+            let second = Printable(entry_at(tree, second));
             writeln!(
                 errors,
                 "relmove: {first} and {second} would get the same path"
             )
         }
-        Refusal::NoFreeName => writeln!(
-            errors,
-            "relmove: {root}: no name .relmove-1, .relmove-2 and so on is free"
-        ),
+        Refusal::NoFreeName => {
+            let root = Printable(root);
+            writeln!(
+                errors,
+                "relmove: {root}: no name .relmove-1, .relmove-2 and so on is free"
+            )
+        }
         _ => writeln!(errors, "relmove: memory ran out"),
     }
 }
@@ -420,7 +428,10 @@ fn words_of_move(refusal: Refusal) -> Option<(usize, &'static str)> {
             "a name of the new path isn't plain on every platform; --any-name allows it",
         )),
         Refusal::OwnName(number) => {
-            Some((number, "a name of the new path begins with .relmove"))
+            Some((
+                number,
+                "a name of the old or the new path begins with .relmove",
+            ))
         }
         _ => words_in_tree(refusal),
     }
@@ -431,12 +442,19 @@ fn words_in_tree(refusal: Refusal) -> Option<(usize, &'static str)> {
     match refusal {
         Refusal::NotThere(number) => Some((number, "nothing is at the old path")),
         Refusal::ForeignName(number) => {
-            Some((number, "what moves holds a name that isn't UTF-8"))
+            Some((
+                number,
+                "what moves holds a name that isn't UTF-8, or a directory that can't be read",
+            ))
         }
         Refusal::Taken(number) => Some((number, "something is at the new path")),
         Refusal::BelowFile(number) => Some((
             number,
             "the new path is below a file or a symbolic link",
+        )),
+        Refusal::BelowUnread(number) => Some((
+            number,
+            "after the moves the new path is in a directory that isn't read",
         )),
         _ => None,
     }
@@ -450,6 +468,7 @@ fn print_move_refused<W: Write>(
     words: &str,
 ) -> io::Result<()> {
     let (old, new) = move_at(moves, number);
+    let (old, new) = (Printable(old), Printable(new));
     writeln!(errors, "relmove: {old} to {new}: {words}")
 }
 
@@ -463,6 +482,8 @@ fn print_both_refused<W: Write>(
 ) -> io::Result<()> {
     let (old, new) = move_at(moves, first);
     let (other_old, other_new) = move_at(moves, second);
+    let (old, new) = (Printable(old), Printable(new));
+    let (other_old, other_new) = (Printable(other_old), Printable(other_new));
     writeln!(
         errors,
         "relmove: {old} to {new}, and {other_old} to {other_new}: {words}"

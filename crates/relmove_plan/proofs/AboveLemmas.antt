@@ -1,6 +1,6 @@
--- Files and symbolic links above a path, after the moves: found from the path upwards.
-use Rattle.std.proofs.Common.{◌≡◌, ◌≢◌, ℕ, zero, suc, ◌<◌, ◌≤◌, Bool, true, false, not, true≢false, List, [], ◌∷◌, ◌++◌, map, length, take, get_or, MatchBool, inl, inr, refl, sym, ap, subst, ◌∙◌, append_assoc, append-nil, take_at, arith}
-use Rattle.std.proofs.lemmas.Bool.{cases_lt, cases_order, not-true, not-false}
+-- Entries of a kind above a path, after the moves: found from the path upwards.
+use Rattle.std.proofs.Common.{◌≡◌, ◌≢◌, ℕ, zero, suc, ◌<◌, ◌≤◌, Bool, true, false, true≢false, List, [], ◌∷◌, ◌++◌, map, length, take, get_or, MatchBool, inl, inr, refl, sym, ap, subst, ◌∙◌, append_assoc, append-nil, take_at, arith}
+use Rattle.std.proofs.lemmas.Bool.{cases_lt, cases_order}
 use Rattle.std.proofs.lemmas.List.{get_or-map, get_or_default, length-append, length-map, nil_from_length}
 use Rattle.std.proofs.lemmas.Option.{slice_get_cases}
 use Rattle.std.proofs.lemmas.Slice.Zip.{AllZip-long}
@@ -17,7 +17,8 @@ use Rattle.relative_path_moves.specs.Moves.{Move}
 use Rattle.relative_path_moves.specs.PlaceIndex.{IsFirstAt, IsNoneAt, path_at}
 use Rattle.relative_path_moves.proofs.ForCallers.{IsTreeTarget-only}
 use Rattle.relmove_plan.specs.declared.entry.Entry.{Entry}
-use Rattle.relmove_plan.specs.Trees.{is_directory, IsAfter, IndexesAfter, IsFileAt, HasFileAt, HasFileAbove}
+use Rattle.relmove_plan.specs.declared.entry.Kind.{Kind}
+use Rattle.relmove_plan.specs.Trees.{IsAfter, IndexesAfter, IsAtAfter, HasAt, HasAbove}
 
 -- ---- the directory above a path
 
@@ -59,29 +60,29 @@ pub same_front : (front other rest more : List Step) → front ++ rest ≡ other
 same_front front other rest more is count =
     sym (take_at front rest (length other) count) ∙ ap (take (length other)) is ∙ take_at other more (length other) refl
 
--- the components begin with the front, and no front of theirs that is as long or longer leads to a file
-pub record IsClearFrom (moves : List Move) (entries : List Entry) (cs front : List Step) : Type 0 where
+-- the components begin with the front, and no front of theirs that is as long or longer leads to such an entry
+pub record IsClearFrom (is_kind : Kind → Bool) (moves : List Move) (entries : List Entry) (cs front : List Step) : Type 0 where
   pub under : List Step
   pub split : cs ≡ front ++ under
   pub clear : (longer rest : List Step) → cs ≡ longer ++ rest → rest ≢ [] → length front ≤ length longer
-      → ¬ HasFileAt moves entries longer
+      → ¬ HasAt is_kind moves entries longer
 
-pub IsClearFrom-start : (moves : List Move) (entries : List Entry) (cs : List Step) → IsClearFrom moves entries cs cs
-IsClearFrom-start moves entries cs = record {
+pub IsClearFrom-start : (is_kind : Kind → Bool) (moves : List Move) (entries : List Entry) (cs : List Step) → IsClearFrom is_kind moves entries cs cs
+IsClearFrom-start is_kind moves entries cs = record {
   under = [];
   split = sym (append-nil cs);
   clear = λ longer rest is some long file.
       some (nil_from_length rest (omega (arith, ap length is, length-append longer rest, long)));
 }
 
-module _ (moves : List Move) (entries : List Entry) (cs front directory : List Step) (last : Step)
-    (above : IsClearFrom moves entries cs front) (is : front ≡ directory ++ last ∷ [])
+module _ (is_kind : Kind → Bool) (moves : List Move) (entries : List Entry) (cs front directory : List Step) (last : Step)
+    (above : IsClearFrom is_kind moves entries cs front) (is : front ≡ directory ++ last ∷ [])
   where
     split_here : cs ≡ directory ++ last ∷ above.under
     split_here = above.split ∙ ap (λ ds. ds ++ above.under) is ∙ append_assoc directory (last ∷ []) above.under
 
-    -- the directory is no file
-    pub IsClearFrom-next : ¬ HasFileAt moves entries directory → IsClearFrom moves entries cs directory
+    -- no such entry is at the directory
+    pub IsClearFrom-next : ¬ HasAt is_kind moves entries directory → IsClearFrom is_kind moves entries cs directory
     IsClearFrom-next none = record {
       under = last ∷ above.under;
       split = split_here;
@@ -93,27 +94,27 @@ module _ (moves : List Move) (entries : List Entry) (cs front directory : List S
         | inr no_less ↦
             let same =
             same_front longer directory rest (last ∷ above.under) (sym split ∙ split_here) (omega (arith, long, no_less)) in
-            none (subst (HasFileAt moves entries) same file)
+            none (subst (HasAt is_kind moves entries) same file)
       ];
     }
 
-    -- the directory is a file
-    pub HasFileAbove-here : directory ≢ [] → HasFileAt moves entries directory → HasFileAbove moves entries cs
-    HasFileAbove-here some file = record {
+    -- such an entry is at the directory
+    pub HasAbove-here : directory ≢ [] → HasAt is_kind moves entries directory → HasAbove is_kind moves entries cs
+    HasAbove-here some file = record {
       front = directory;
       rest = last ∷ above.under;
       split = split_here;
       some_front = some;
       some_rest = λ none. absurd (let count = ap length none in omega (arith, count));
-      file = file;
+      there = file;
     }
 
 -- at the end no front is left
-pub IsClearFrom-end : (moves : List Move) (entries : List Entry) (cs front : List Step) → length front ≤ 1
-    → IsClearFrom moves entries cs front → ¬ HasFileAbove moves entries cs
-IsClearFrom-end moves entries cs front short above has =
+pub IsClearFrom-end : (is_kind : Kind → Bool) (moves : List Move) (entries : List Entry) (cs front : List Step) → length front ≤ 1
+    → IsClearFrom is_kind moves entries cs front → ¬ HasAbove is_kind moves entries cs
+IsClearFrom-end is_kind moves entries cs front short above has =
     let long = some_long has.front has.some_front in
-    above.clear has.front has.rest has.split has.some_rest (omega (arith, short, long)) has.file
+    above.clear has.front has.rest has.split has.some_rest (omega (arith, short, long)) has.there
 
 -- ---- the entry where components lead, after the moves
 
@@ -125,7 +126,7 @@ AllZip-at R (a ∷ xs) [] k x y zipped within = absurd zipped
 AllZip-at R (a ∷ xs) (b ∷ ys) zero x y zipped within = zipped.0
 AllZip-at R (a ∷ xs) (b ∷ ys) (suc k) x y zipped within = AllZip-at R xs ys k x y zipped.1 (omega (arith, within))
 
-module _ (moves : List Move) (entries : List Entry) (index : PlaceIndex) (known : IndexesAfter moves entries index)
+module _ (is_kind : Kind → Bool) (moves : List Move) (entries : List Entry) (index : PlaceIndex) (known : IndexesAfter moves entries index)
     (cs : List Step)
   where
     count : length known.after ≡ length entries
@@ -144,11 +145,11 @@ module _ (moves : List Move) (entries : List Entry) (index : PlaceIndex) (known 
         subst (λ e. IsAfter moves e (get_or known.after k [])) is
         (AllZip-at (IsAfter moves) entries known.after k entry [] known.are_after within)
 
-    -- a file is where the path of its number leads
+    -- an entry that comes there is where the path of its number leads
     leads_there : (k : ℕ) (entry : Entry) → k < length entries → get_or entries k entry ≡ entry
-        → IsFileAt moves cs entry → IsSame cs (path_at (map components known.after) k)
-    leads_there k entry within is file =
-        let (one, one_is, same) = file.there in
+        → IsAtAfter is_kind moves cs entry → IsSame cs (path_at (map components known.after) k)
+    leads_there k entry within is at =
+        let (one, one_is, same) = at.there in
         let (other, other_is, normal) = is_after k entry within is in
         let only : other ≡ one =
         IsTreeTarget-only moves (path_components entry.path) one other known.apart one_is other_is in
@@ -157,49 +158,47 @@ module _ (moves : List Move) (entries : List Entry) (index : PlaceIndex) (known 
         (subst (λ target. IsSame target (components (get_or known.after k []))) only normal.same))
 
     -- no path leads there
-    pub HasFileAt-none : IsNoneAt (map components known.after) cs → ¬ HasFileAt moves entries cs
-    HasFileAt-none none (k, entry, within, is, file) =
-        none k (omega (arith, within, count_paths)) (leads_there k entry within is file)
+    pub HasAt-none : IsNoneAt (map components known.after) cs → ¬ HasAt is_kind moves entries cs
+    HasAt-none none (k, entry, within, is, at) =
+        none k (omega (arith, within, count_paths)) (leads_there k entry within is at)
 
     module _ (number : ℕ) (entry : Entry) (within : number < length entries) (is : get_or entries number entry ≡ entry)
         (first : IsFirstAt (map components known.after) cs number)
       where
-        -- the entry that is there is a file
-        HasFileAt-file : is_directory entry.kind ≡ false → HasFileAt moves entries cs
-        HasFileAt-file file =
+        -- the entry that is there is of the kind
+        HasAt-true : is_kind entry.kind ≡ true → HasAt is_kind moves entries cs
+        HasAt-true kind =
             let (target, target_is, normal) = is_after number entry within is in
             let there = subst (IsSame cs) (path_of number within) first.same in
             let same = IsSame-trans normal.same (IsSame-sym there) in
-            (number, entry, within, is, record { file = file; there = (target, target_is, same) })
+            (number, entry, within, is, record { kind = kind; there = (target, target_is, same) })
 
-        -- the entry that is there is a directory
-        HasFileAt-directory : is_directory entry.kind ≡ true → ¬ HasFileAt moves entries cs
-        HasFileAt-directory directory (k, other, other_within, other_is, file) =
-            let leads = leads_there k other other_within other_is file in
+        -- the entry that is there is of another kind
+        HasAt-false : is_kind entry.kind ≡ false → ¬ HasAt is_kind moves entries cs
+        HasAt-false kind (k, other, other_within, other_is, at) =
+            let leads = leads_there k other other_within other_is at in
             elim (cases_order number k) [
               | inl same ↦
                   let here = ap (λ j. get_or entries j entry) same in
                   let e : entry ≡ other = sym is ∙ here ∙ get_or_default entries k entry other other_within ∙ other_is in
-                  true≢false (sym directory ∙ ap (λ x. is_directory x.kind) e ∙ file.file)
+                  true≢false (sym at.kind ∙ ap (λ x. is_kind x.kind) (sym e) ∙ kind)
               | inr (inl less) ↦
                   let k_within : k < length (map components known.after) = omega (arith, other_within, count_paths) in
                   (known.distinct k k_within).first number less (IsSame-trans (IsSame-sym leads) first.same)
               | inr (inr more) ↦ first.first k more leads
             ]
 
-    -- the first path that leads there tells whether a file is there
-    pub HasFileAt-number : (number : ℕ) (file : Bool) → IsFirstAt (map components known.after) cs number
-        → ((none : Entry) → number < length entries → file ≡ not (is_directory (get_or entries number none).kind))
-        → MatchBool file (HasFileAt moves entries cs) (¬ HasFileAt moves entries cs)
-    HasFileAt-number number true first is = elim ((slice_get_cases entries number).1) [
+    -- the first path that leads there tells whether an entry of the kind is there
+    pub HasAt-number : (number : ℕ) (answer : Bool) → IsFirstAt (map components known.after) cs number
+        → ((none : Entry) → number < length entries → answer ≡ is_kind (get_or entries number none).kind)
+        → MatchBool answer (HasAt is_kind moves entries cs) (¬ HasAt is_kind moves entries cs)
+    HasAt-number number true first is = elim ((slice_get_cases entries number).1) [
       | inl (entry, within, get, same) ↦
-          HasFileAt-file number entry within same first
-          (ap (λ e. is_directory e.kind) (sym same) ∙ not-true _ (sym (is entry within)))
+          HasAt-true number entry within same first (ap (λ e. is_kind e.kind) (sym same) ∙ sym (is entry within))
       | inr (past, none) ↦ absurd (omega (arith, past, first.within, count_paths))
     ]
-    HasFileAt-number number false first is = elim ((slice_get_cases entries number).1) [
+    HasAt-number number false first is = elim ((slice_get_cases entries number).1) [
       | inl (entry, within, get, same) ↦
-          HasFileAt-directory number entry within same first
-          (ap (λ e. is_directory e.kind) (sym same) ∙ not-false _ (sym (is entry within)))
+          HasAt-false number entry within same first (ap (λ e. is_kind e.kind) (sym same) ∙ sym (is entry within))
       | inr (past, none) ↦ absurd (omega (arith, past, first.within, count_paths))
     ]

@@ -79,7 +79,7 @@ module _ {entries : List Entry} {pages changed : List (List Step)} {moves : List
           place,
           leads,
           named (move_at moves j).new place (λ none. is.placed.named (inr none)) leads,
-          walk-own (move_at moves j).new [] place is.foreign_to_run (All-nil (λ n. is_own n ≡ false)) leads,
+          walk-own (move_at moves j).new [] place is.not_own_new (All-nil (λ n. is_own n ≡ false)) leads,
         )
       where
         named : (cs : List Step) (place : List (List ℕ)) → last_name cs ≢ None → place_of cs ≡ Some place → place ≢ []

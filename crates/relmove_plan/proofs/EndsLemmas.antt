@@ -1,6 +1,6 @@
 -- What is above a new path after the moves: a directory of the tree, or nothing; and where such a directory is before the
 -- renames of `together`.
-use Rattle.std.proofs.Common.{All, Bool, true, false, true≢false, ◌≡◌, ◌≢◌, ◌⊎◌, ℕ, ◌<◌, ◌≤◌, ◌+◌, List, [], ◌∷◌, ◌++◌, Some, length, map, drop, get_or, inl, inr, refl, sym, ap, subst, ◌∙◌, append_assoc, append-nil, arith}
+use Rattle.std.proofs.Common.{All, Bool, true, false, true≢false, ◌≡◌, ◌≢◌, ◌⊎◌, ℕ, ◌<◌, ◌≤◌, ◌+◌, List, [], ◌∷◌, ◌++◌, Some, length, map, drop, get_or, inl, inr, refl, sym, ap, subst, ◌∙◌, append_assoc, append-nil, not, arith}
 use Rattle.std.specs.List.{Any}
 use Rattle.std.proofs.Math.Seq.{drop-append_seam}
 use Rattle.std.proofs.lemmas.Bool.{cases_lt}
@@ -102,7 +102,7 @@ module _ {entries : List Entry} {pages changed : List (List Step)} {moves : List
           inside,
           is,
           record {
-            file = kind;
+            kind = ap not kind;
             there = (
               target,
               target_is,

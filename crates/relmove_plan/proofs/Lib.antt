@@ -1,6 +1,7 @@
 pub mod MovesLemmas
 pub mod TreesLemmas
 pub mod AboveLemmas
+pub mod ForeignLemmas
 pub mod PagesLemmas
 pub mod PlanLemmas
 pub mod OrderLemmas

@@ -1,5 +1,5 @@
 -- The directories that a run makes come to those that are missing above new paths.
-use Rattle.std.proofs.Common.{All, Bool, false, ◌≡◌, ◌≢◌, ◌⊎◌, ℕ, zero, suc, ◌<◌, ◌≤◌, List, [], ◌∷◌, ◌++◌, Contains, Some, length, map, take, drop, get_or, inl, inr, refl, sym, ap, subst, ◌∙◌, append_assoc, append-nil, arith}
+use Rattle.std.proofs.Common.{All, Bool, false, ◌≡◌, ◌≢◌, ◌⊎◌, ℕ, zero, suc, ◌<◌, ◌≤◌, List, [], ◌∷◌, ◌++◌, Contains, Some, length, map, take, drop, get_or, inl, inr, refl, sym, ap, subst, ◌∙◌, append_assoc, append-nil, not, arith}
 use Rattle.std.specs.List.{AllZip, join_with_byte, zip}
 use Rattle.std.proofs.Math.Seq.{drop-append_seam}
 use Rattle.std.proofs.lemmas.List.{get_or-map, length-map, map-append, take_at, take-append-drop, take-map, drop-map}
@@ -18,7 +18,7 @@ use Rattle.relmove_plan.specs.Directories.{AreMade, IsMissingText, IsTakenTo, Le
 use Rattle.relmove_plan.specs.Moves.{move_of}
 use Rattle.relmove_plan.specs.Runs.{names_of, carried, IsMadeFor, DirectoriesArrive}
 use Rattle.relmove_plan.specs.Steps.{StepTexts, names_left}
-use Rattle.relmove_plan.specs.Trees.{HasFileAt}
+use Rattle.relmove_plan.specs.Trees.{HasAt, is_file}
 use Rattle.relmove_plan.proofs.CarriedLemmas.{HasNoName, coming, is_own}
 use Rattle.relmove_plan.proofs.CarriedLemmas as carrying
 use Rattle.relmove_plan.proofs.ArrivalsLemmas as arrivals
@@ -143,16 +143,16 @@ module _ {entries : List Entry} {pages changed : List (List Step)} {moves : List
     -- after the moves no file is above a new path
     pub no_file-above : (k : ℕ) → k < length moves → (front rest : List (List ℕ))
         → place_of (move_at moves k).new ≡ Some (front ++ rest) → front ≢ [] → rest ≢ []
-        → ¬ HasFileAt moves entries (map name front)
+        → ¬ HasAt is_file moves entries (map name front)
     no_file-above k within front rest leads some some_rest file =
-        let (normal, normal_is, none) = run.accepted.above k within in
+        let (normal, normal_is, none) = run.accepted.below_no_file k within in
         none (record {
           front = map name front;
           rest = map name rest;
           split = components-place normal_is leads ∙ map-append name front rest;
           some_front = map-some front some;
           some_rest = map-some rest some_rest;
-          file = file;
+          there = file;
         })
 
     -- what is at the old path of a move comes to its new path
@@ -190,7 +190,7 @@ module _ {entries : List Entry} {pages changed : List (List Step)} {moves : List
           entry,
           within_3,
           is,
-          record { file = at.kind; there = (target, target_is, IsSame-one_place top arrives (walk-names [] top)) },
+          record { kind = ap not at.kind; there = (target, target_is, IsSame-one_place top arrives (walk-names [] top)) },
         )
 
     -- what is known of a directory that is missing above a new path

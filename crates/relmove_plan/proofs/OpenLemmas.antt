@@ -257,7 +257,7 @@ module _ {entries : List Entry} {pages changed : List (List Step)} {moves : List
         → (i : ℕ) × (text : List ℕ) × (i < length made) × (get_or made i text ≡ text)
         × (it : IsMadeAt moves after between missing i text) × (it.at.place ≡ front)
     made-above k within front rest new some some_rest none =
-        let (normal, normal_is, above) = run.accepted.above k within in
+        let (normal, normal_is, above) = run.accepted.below_no_file k within in
         let is_missing : IsMissing moves after (map name front) =
         record {
           move = k;

@@ -6,7 +6,7 @@ use Rattle.relative_path_moves.specs.PlaceIndex.{Indexes}
 use Rattle.relative_path_moves.specs.declared.place_index.PlaceIndex.{PlaceIndex}
 use Rattle.relmove_plan.specs.declared.entry.Entry.{Entry}
 use Rattle.relmove_plan.specs.declared.refusal.Refusal.{Refusal}
-use Rattle.relmove_plan.specs.declared.refusal.Refusal.TheVariants.{NoFileName, LeavesRoot, IntoItself, NotPlain, OwnName, SameOld, NotThere, ForeignName, SameNew, Taken, Collision, BelowFile, NoFreeName, OutOfMemory}
+use Rattle.relmove_plan.specs.declared.refusal.Refusal.TheVariants.{NoFileName, LeavesRoot, IntoItself, NotPlain, OwnName, SameOld, NotThere, ForeignName, SameNew, Taken, Collision, BelowFile, BelowUnread, NoFreeName, OutOfMemory}
 use Rattle.relmove_plan.specs.Refusals.{IsStepsRefusal}
 use Rattle.relmove_plan.specs.Trees.{IndexesAfter}
 use Rattle.relmove_plan.specs.Plan.{StayApart, IsAccepted, IsRefused, names, memory}
@@ -38,5 +38,6 @@ IsRefused-steps entries moves any_name (SameNew i j) is accepted = absurd is
 IsRefused-steps entries moves any_name (Taken j) is accepted = absurd is
 IsRefused-steps entries moves any_name (Collision d e) is accepted = absurd is
 IsRefused-steps entries moves any_name (BelowFile j) is accepted = absurd is
+IsRefused-steps entries moves any_name (BelowUnread j) is accepted = absurd is
 IsRefused-steps entries moves any_name NoFreeName is accepted = names accepted refl
 IsRefused-steps entries moves any_name OutOfMemory is accepted = memory refl

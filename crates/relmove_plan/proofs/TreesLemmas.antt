@@ -1,5 +1,5 @@
 -- Where entries are after the moves.
-use Rattle.std.proofs.Common.{◌≡◌, ◌↔◌, ℕ, ◌<◌, ◌≤◌, ◌+◌, Bool, false, true≢false, List, [], ◌∷◌, ◌++◌, map, length, take, get_or, IsTrue, inl, inr, sym, ap, subst, ◌∙◌, arith}
+use Rattle.std.proofs.Common.{◌≡◌, ◌↔◌, ℕ, ◌<◌, ◌≤◌, ◌+◌, Bool, true, false, true≢false, List, [], ◌∷◌, ◌++◌, Option, Some, None, is_some, map, length, take, get_or, IsTrue, inl, inr, sym, ap, subst, ◌∙◌, arith}
 use Rattle.std.proofs.lemmas.Bool.{cases_lt}
 use Rattle.std.proofs.lemmas.Slice.Zip.{all_zipped_more}
 use Rattle.std.proofs.lemmas.List.{get_or-map, get_or-take, length-map, take_more, length-take-le}
@@ -10,10 +10,10 @@ use Rattle.relative_path.specs.RelativePath.{path_components}
 use Rattle.relative_path.proofs.ForCallers.{IsSame-refl, IsSame-sym, IsSame-trans}
 use Rattle.relative_path_moves.specs.Moves.{Move}
 use Rattle.relative_path_moves.specs.TreeMoves.{AtTreePath}
-use Rattle.relative_path_moves.specs.PlaceIndex.{Indexes, IsFirstAt, path_at}
+use Rattle.relative_path_moves.specs.PlaceIndex.{Indexes, IsFirstAt, IsFoundAt, path_at}
 use Rattle.relative_path_moves.specs.declared.place_index.PlaceIndex.{PlaceIndex}
 use Rattle.relmove_plan.specs.declared.entry.Entry.{Entry}
-use Rattle.relmove_plan.specs.Trees.{entry_paths, IsAfter, AreAfter}
+use Rattle.relmove_plan.specs.Trees.{entry_paths, IsThere, IsAfter, AreAfter}
 
 -- what gets another normal path is elsewhere after the moves
 pub AtTreePath-elsewhere : (moves : List Move) (cs : List Step) (after place : List ℕ) (equal : Bool)
@@ -39,6 +39,12 @@ pub length-take_entry_paths : (entries : List Entry) (k : ℕ) → k < length en
 length-take_entry_paths entries k l =
     let count = length-map entries (λ entry. path_components entry.path) in
     length-take-le k (entry_paths entries) (omega (arith, l, count))
+
+-- an entry that an index finds is there
+pub IsThere-found : (entries : List Entry) (cs : List Step) (found : Option ℕ) → is_some found ≡ true
+    → IsFoundAt (entry_paths entries) cs found → IsThere entries cs
+IsThere-found entries cs None some is = absurd (true≢false (sym some))
+IsThere-found entries cs (Some e) some is = (e, is)
 
 -- ---- paths without a collision
 

@@ -45,9 +45,22 @@ is_own_step cur = false
 is_own_step up = false
 is_own_step (name n) = starts_with nat_eq n (codes ".relmove")
 
+-- names that aren't plain on every platform are allowed, or the components have none
+abbrev pub HasNames : Bool → List Step → Type 0
+HasNames any_name cs = (any_name ≡ true) ⊎ All (IfName IsPlainName) cs
+
+-- a component is a name that begins as those of a run's own files
+abbrev pub HasOwnName : List Step → Type 0
+HasOwnName cs = list_any is_own_step cs ≡ true
+
+-- no component is such a name
+abbrev pub HasNoOwnName : List Step → Type 0
+HasNoOwnName cs = list_any is_own_step cs ≡ false
+
 -- the paths of the move may be taken, whatever the tree is
 pub record HasFinePaths (any_name : Bool) (move : Move) : Type 0 where
   pub placed : IsPlaced move
   pub outside : StaysOutside move
-  pub plain : (any_name ≡ true) ⊎ All (IfName IsPlainName) move.new
-  pub foreign_to_run : list_any is_own_step move.new ≡ false
+  pub names : HasNames any_name move.new
+  pub not_own_old : HasNoOwnName move.old
+  pub not_own_new : HasNoOwnName move.new

@@ -3,10 +3,11 @@ use Rattle.std.specs.Prelude.{◌≡◌, ℕ, Bool, List, map}
 use Rattle.relative_path.specs.Steps.{components}
 use Rattle.relative_path_moves.specs.Moves.{Move, AreApart}
 use Rattle.relmove_plan.specs.declared.entry.Entry.{Entry}
+use Rattle.relmove_plan.specs.declared.refused.Barrier.TheVariants.{Files, UnreadDirectories}
 use Rattle.relmove_plan.specs.declared.refusal.Refusal.{Refusal}
 use Rattle.relmove_plan.specs.declared.refusal.Refusal.TheVariants.{NoFreeName, OutOfMemory}
 use Rattle.relmove_plan.specs.Moves.{EachMove, HasFinePaths}
-use Rattle.relmove_plan.specs.Trees.{IsOldFine, IsFree, IsBelowNoFile, AreAfter, AreDistinct}
+use Rattle.relmove_plan.specs.Trees.{IsOldFine, IsFree, IsBelowNo, AreAfter, AreDistinct, is_file, is_unread}
 use Rattle.relmove_plan.specs.Refusals.{IsOfFirst, IsPathRefusal, IsOldRefusal, IsNewRefusal, IsTableRefusal, turned, IsSameNewRefusal, IsCollisionRefusal, IsAboveRefusal}
 
 -- the moves leave from where something is, each from a place of its own
@@ -28,10 +29,11 @@ pub record StayApart (entries : List Entry) (moves : List Move) (any_name : Bool
   pub are_after : AreAfter moves entries after
   pub distinct : AreDistinct (map components after)
 
--- and no new path is below what is, after the moves, a file or a symbolic link
+-- and no new path is below what is, after the moves, a file, a symbolic link, or a directory that isn't read
 pub record IsAccepted (entries : List Entry) (moves : List Move) (any_name : Bool) : Type 0 where
   pub apart : StayApart entries moves any_name
-  pub above : EachMove (λ move. IsBelowNoFile moves entries move.new) moves
+  pub below_no_file : EachMove (λ move. IsBelowNo is_file moves entries move.new) moves
+  pub below_no_unread : EachMove (λ move. IsBelowNo is_unread moves entries move.new) moves
 
 -- the paths after the moves are refused
 pub record Collide (entries : List Entry) (moves : List Move) (refusal : Refusal) : Type 0 where
@@ -55,8 +57,11 @@ pub data IsRefused (entries : List Entry) (moves : List Move) (any_name : Bool) 
       → IsRefused entries moves any_name refusal
   collision : MayCome entries moves any_name → Collide entries moves refusal → IsRefused entries moves any_name refusal
   below_file : StayApart entries moves any_name
-      → IsOfFirst (λ move. IsBelowNoFile moves entries move.new) (IsAboveRefusal moves entries) moves refusal
+      → IsOfFirst (λ move. IsBelowNo is_file moves entries move.new) (IsAboveRefusal Files moves entries) moves refusal
       → IsRefused entries moves any_name refusal
+  below_unread : StayApart entries moves any_name → EachMove (λ move. IsBelowNo is_file moves entries move.new) moves
+      → IsOfFirst (λ move. IsBelowNo is_unread moves entries move.new) (IsAboveRefusal UnreadDirectories moves entries) moves
+      refusal → IsRefused entries moves any_name refusal
   names : IsAccepted entries moves any_name → refusal ≡ NoFreeName → IsRefused entries moves any_name refusal
   memory : refusal ≡ OutOfMemory → IsRefused entries moves any_name refusal
 

@@ -1,15 +1,17 @@
 -- Why moves are refused: the first move that isn't fine, in the first of the tests that it doesn't pass.
-use Rattle.std.specs.Prelude.{◌≡◌, ◌<◌, ℕ, Bool, true, false, List, map, length, ⊤}
-use Rattle.std.specs.List.{All, list_any}
+use Rattle.std.specs.Prelude.{◌≡◌, ◌⊎◌, ◌<◌, ℕ, Bool, false, List, map, length, ⊤}
+use Rattle.std.specs.List.{All}
 use Rattle.relative_path_files.specs.Names.{IfName, IsPlainName}
 use Rattle.relative_path_moves.specs.Moves.{Move, move_at, LacksFileName, IsFirstPair}
 use Rattle.relative_path.specs.Steps.{Step}
 use Rattle.relmove_plan.specs.declared.entry.Entry.{Entry}
+use Rattle.relmove_plan.specs.declared.refused.Barrier.{Barrier}
+use Rattle.relmove_plan.specs.declared.refused.Barrier.TheVariants.{Files, UnreadDirectories}
 use Rattle.relmove_plan.specs.declared.refusal.Refusal.{Refusal}
-use Rattle.relmove_plan.specs.declared.refusal.Refusal.TheVariants.{NoFileName, LeavesRoot, IntoItself, NotPlain, OwnName, SameOld, NotThere, ForeignName, SameNew, Taken, Collision, BelowFile, NoFreeName, OutOfMemory}
+use Rattle.relmove_plan.specs.declared.refusal.Refusal.TheVariants.{NoFileName, LeavesRoot, IntoItself, NotPlain, OwnName, SameOld, NotThere, ForeignName, SameNew, Taken, Collision, BelowFile, BelowUnread, NoFreeName, OutOfMemory}
 use Rattle.relmove_plan.specs.Moves as paths
-use Rattle.relmove_plan.specs.Moves.{EachMove, move_of, IsPlaced, LeadsIntoItself, StaysOutside, is_own_step, HasFinePaths}
-use Rattle.relmove_plan.specs.Trees.{IsNotThere, IsOldForeign, IsTaken, IsBelowFile, IsFirstCollision}
+use Rattle.relmove_plan.specs.Moves.{EachMove, move_of, IsPlaced, LeadsIntoItself, StaysOutside, HasNames, HasOwnName}
+use Rattle.relmove_plan.specs.Trees.{IsNotThere, IsOldForeign, IsTaken, IsBelowSome, IsFirstCollision, is_barrier}
 
 -- the refusal is of the first move that isn't fine
 pub record IsOfFirst (Fine : Move → Type 0) (Refused : ℕ → Move → Refusal → Type 0) (moves : List Move)
@@ -27,7 +29,9 @@ IsPathRefusal any_name k move (LeavesRoot j) = (j ≡ k) × (¬ LacksFileName mo
 IsPathRefusal any_name k move (IntoItself j) = (j ≡ k) × IsPlaced move × LeadsIntoItself move
 IsPathRefusal any_name k move (NotPlain j) =
     (j ≡ k) × IsPlaced move × StaysOutside move × (any_name ≡ false) × (¬ All (IfName IsPlainName) move.new)
-IsPathRefusal any_name k move (OwnName j) = (j ≡ k) × IsPlaced move × StaysOutside move × (list_any is_own_step move.new ≡ true)
+IsPathRefusal any_name k move (OwnName j) =
+    (j ≡ k) × IsPlaced move × StaysOutside move × HasNames any_name move.new
+    × (HasOwnName move.old ⊎ HasOwnName move.new)
 IsPathRefusal any_name k move (SameOld i j) = ⊥
 IsPathRefusal any_name k move (NotThere j) = ⊥
 IsPathRefusal any_name k move (ForeignName j) = ⊥
@@ -35,6 +39,7 @@ IsPathRefusal any_name k move (SameNew i j) = ⊥
 IsPathRefusal any_name k move (Taken j) = ⊥
 IsPathRefusal any_name k move (Collision d e) = ⊥
 IsPathRefusal any_name k move (BelowFile j) = ⊥
+IsPathRefusal any_name k move (BelowUnread j) = ⊥
 IsPathRefusal any_name k move NoFreeName = ⊥
 IsPathRefusal any_name k move OutOfMemory = ⊤
 
@@ -52,6 +57,7 @@ IsOldRefusal entries k move (SameNew i j) = ⊥
 IsOldRefusal entries k move (Taken j) = ⊥
 IsOldRefusal entries k move (Collision d e) = ⊥
 IsOldRefusal entries k move (BelowFile j) = ⊥
+IsOldRefusal entries k move (BelowUnread j) = ⊥
 IsOldRefusal entries k move NoFreeName = ⊥
 IsOldRefusal entries k move OutOfMemory = ⊤
 
@@ -69,6 +75,7 @@ IsNewRefusal moves entries k move (SameNew i j) = ⊥
 IsNewRefusal moves entries k move (Taken j) = (j ≡ k) × IsTaken moves entries move.new
 IsNewRefusal moves entries k move (Collision d e) = ⊥
 IsNewRefusal moves entries k move (BelowFile j) = ⊥
+IsNewRefusal moves entries k move (BelowUnread j) = ⊥
 IsNewRefusal moves entries k move NoFreeName = ⊥
 IsNewRefusal moves entries k move OutOfMemory = ⊤
 
@@ -86,6 +93,7 @@ IsTableRefusal moves (SameNew i j) = ⊥
 IsTableRefusal moves (Taken j) = ⊥
 IsTableRefusal moves (Collision d e) = ⊥
 IsTableRefusal moves (BelowFile j) = ⊥
+IsTableRefusal moves (BelowUnread j) = ⊥
 IsTableRefusal moves NoFreeName = ⊥
 IsTableRefusal moves OutOfMemory = ⊤
 
@@ -107,6 +115,7 @@ IsSameNewRefusal moves (SameNew i j) = IsFirstPair moves i j
 IsSameNewRefusal moves (Taken j) = ⊥
 IsSameNewRefusal moves (Collision d e) = ⊥
 IsSameNewRefusal moves (BelowFile j) = ⊥
+IsSameNewRefusal moves (BelowUnread j) = ⊥
 IsSameNewRefusal moves NoFreeName = ⊥
 IsSameNewRefusal moves OutOfMemory = ⊤
 
@@ -124,25 +133,20 @@ IsCollisionRefusal paths (SameNew i j) = ⊥
 IsCollisionRefusal paths (Taken j) = ⊥
 IsCollisionRefusal paths (Collision d e) = IsFirstCollision paths d e
 IsCollisionRefusal paths (BelowFile j) = ⊥
+IsCollisionRefusal paths (BelowUnread j) = ⊥
 IsCollisionRefusal paths NoFreeName = ⊥
 IsCollisionRefusal paths OutOfMemory = ⊤
 
--- why move number k is refused for what is above its new path
-abbrev pub IsAboveRefusal : List Move → List Entry → ℕ → Move → Refusal → Type 0
-IsAboveRefusal moves entries k move (NoFileName j) = ⊥
-IsAboveRefusal moves entries k move (LeavesRoot j) = ⊥
-IsAboveRefusal moves entries k move (IntoItself j) = ⊥
-IsAboveRefusal moves entries k move (NotPlain j) = ⊥
-IsAboveRefusal moves entries k move (OwnName j) = ⊥
-IsAboveRefusal moves entries k move (SameOld i j) = ⊥
-IsAboveRefusal moves entries k move (NotThere j) = ⊥
-IsAboveRefusal moves entries k move (ForeignName j) = ⊥
-IsAboveRefusal moves entries k move (SameNew i j) = ⊥
-IsAboveRefusal moves entries k move (Taken j) = ⊥
-IsAboveRefusal moves entries k move (Collision d e) = ⊥
-IsAboveRefusal moves entries k move (BelowFile j) = (j ≡ k) × IsBelowFile moves entries move.new
-IsAboveRefusal moves entries k move NoFreeName = ⊥
-IsAboveRefusal moves entries k move OutOfMemory = ⊤
+-- the refusal of move number k, if its new path is below such a barrier
+abbrev pub refusal_below : Barrier → ℕ → Refusal
+refusal_below Files = BelowFile
+refusal_below UnreadDirectories = BelowUnread
+
+-- why move number k is refused for what is above its new path. A failed allocation says nothing of the move
+abbrev pub IsAboveRefusal : Barrier → List Move → List Entry → ℕ → Move → Refusal → Type 0
+IsAboveRefusal barrier moves entries k move refusal =
+    (refusal ≡ OutOfMemory)
+    ⊎ (refusal ≡ refusal_below barrier k) × IsBelowSome (is_barrier barrier) moves entries move.new
 
 -- no name is free, or an allocation failed
 abbrev pub IsStepsRefusal : Refusal → Type 0
@@ -158,5 +162,6 @@ IsStepsRefusal (SameNew i j) = ⊥
 IsStepsRefusal (Taken j) = ⊥
 IsStepsRefusal (Collision d e) = ⊥
 IsStepsRefusal (BelowFile j) = ⊥
+IsStepsRefusal (BelowUnread j) = ⊥
 IsStepsRefusal NoFreeName = ⊤
 IsStepsRefusal OutOfMemory = ⊤

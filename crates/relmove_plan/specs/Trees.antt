@@ -1,6 +1,10 @@
 -- The entries of a tree, before the moves and after them.
-use Rattle.std.specs.Prelude.{◌≡◌, ◌≢◌, ◌⊎◌, ◌<◌, ℕ, Bool, true, false, List, [], ◌++◌, map, length}
+use Rattle.std.specs.Prelude.{◌≡◌, ◌≢◌, ◌⊎◌, ◌<◌, ℕ, Bool, true, false, not, List, [], ◌++◌, IsPermutation, filter, map, length}
 use Rattle.std.specs.List.{All, AllZip, Any}
+use Rattle.std.specs.List.Sorted.{IsSorted}
+use Rattle.std.specs.Ordering.{on}
+use Rattle.relative_path.specs.Comparing.{steps_cmp}
+use Rattle.relative_path.specs.declared.path.RelativePath.{RelativePath}
 use Rattle.relative_path.specs.Steps.{Step, components}
 use Rattle.relative_path.specs.Walk.{IsSame}
 use Rattle.relative_path.specs.Normalizing.{IsNormalTextOf}
@@ -13,6 +17,8 @@ use Rattle.relative_path_moves.specs.declared.place_index.PlaceIndex.{PlaceIndex
 use Rattle.relmove_plan.specs.declared.entry.Entry.{Entry}
 use Rattle.relmove_plan.specs.declared.entry.Kind.{Kind}
 use Rattle.relmove_plan.specs.declared.entry.Kind.TheVariants.{File, Directory, Link}
+use Rattle.relmove_plan.specs.declared.refused.Barrier.{Barrier}
+use Rattle.relmove_plan.specs.declared.refused.Barrier.TheVariants.{Files, UnreadDirectories}
 
 -- the components of the paths of the entries
 abbrev pub entry_paths : List Entry → List (List Step)
@@ -29,14 +35,41 @@ IsNotThere entries cs = IsNoneAt (entry_paths entries) cs
 -- the entry is a directory that holds a name that isn't UTF-8
 abbrev pub is_foreign : Kind → Bool
 is_foreign File = false
-is_foreign (Directory foreign) = foreign
+is_foreign (Directory foreign read) = foreign
 is_foreign (Link target) = false
 
 -- the entry is a directory
 abbrev pub is_directory : Kind → Bool
 is_directory File = false
-is_directory (Directory foreign) = true
+is_directory (Directory foreign read) = true
 is_directory (Link target) = false
+
+-- the entry is a file or a symbolic link
+abbrev pub is_file : Kind → Bool
+is_file kind = not (is_directory kind)
+
+-- the entry is a directory that isn't read
+abbrev pub is_unread : Kind → Bool
+is_unread File = false
+is_unread (Directory foreign read) = not read
+is_unread (Link target) = false
+
+-- the entry is of the kind below which no new path may be
+abbrev pub is_barrier : Barrier → Kind → Bool
+is_barrier Files = is_file
+is_barrier UnreadDirectories = is_unread
+
+-- the entries that hold such a name
+abbrev pub foreign_directories : List Entry → List Entry
+foreign_directories = filter (λ entry. is_foreign entry.kind)
+
+-- the paths are those of these entries
+abbrev pub AreForeignPaths : List Entry → List RelativePath → Type 0
+AreForeignPaths entries = IsPermutation (map (λ (entry : Entry). entry.path) (foreign_directories entries))
+
+-- the paths are in the order of their components
+abbrev pub AreInOrder : List RelativePath → Type 0
+AreInOrder = IsSorted (on path_components steps_cmp)
 
 -- the entry is at the components or below them, and holds a name that isn't UTF-8
 pub record IsForeignBelow (cs : List Step) (entry : Entry) : Type 0 where
@@ -88,33 +121,33 @@ pub record IndexesAfter (moves : List Move) (entries : List Entry) (index : Plac
   pub distinct : AreDistinct (map components after)
   pub indexes : Indexes (map components after) index
 
--- the entry is a file or a symbolic link, and after the moves it is where the components lead
-pub record IsFileAt (moves : List Move) (cs : List Step) (entry : Entry) : Type 0 where
-  pub file : is_directory entry.kind ≡ false
+-- the entry is of this kind, and after the moves it is where the components lead
+pub record IsAtAfter (is_kind : Kind → Bool) (moves : List Move) (cs : List Step) (entry : Entry) : Type 0 where
+  pub kind : is_kind entry.kind ≡ true
   pub there : AtTreePath moves (path_components entry.path) (λ target. IsSame target cs)
 
--- after the moves a file or a symbolic link is where the components lead
-abbrev pub HasFileAt : List Move → List Entry → List Step → Type 0
-HasFileAt moves entries cs = Any (IsFileAt moves cs) entries
+-- after the moves an entry of this kind is where the components lead
+abbrev pub HasAt : (Kind → Bool) → List Move → List Entry → List Step → Type 0
+HasAt is_kind moves entries cs = Any (IsAtAfter is_kind moves cs) entries
 
--- a front of the components, neither empty nor all of them, leads to where a file or a symbolic link is after the moves
-pub record HasFileAbove (moves : List Move) (entries : List Entry) (cs : List Step) : Type 0 where
+-- a front of the components, neither empty nor all of them, leads to where an entry of this kind is after the moves
+pub record HasAbove (is_kind : Kind → Bool) (moves : List Move) (entries : List Entry) (cs : List Step) : Type 0 where
   pub front : List Step
   pub rest : List Step
   pub split : cs ≡ front ++ rest
   pub some_front : front ≢ []
   pub some_rest : rest ≢ []
-  pub file : HasFileAt moves entries front
+  pub there : HasAt is_kind moves entries front
 
--- after the moves the path is below a file or a symbolic link
-abbrev pub IsBelowFile : List Move → List Entry → List Step → Type 0
-IsBelowFile moves entries cs =
-    (normal : List ℕ) × IsNormalTextOf cs normal × HasFileAbove moves entries (components normal)
+-- the path is below where an entry of this kind is after the moves
+abbrev pub IsBelowSome : (Kind → Bool) → List Move → List Entry → List Step → Type 0
+IsBelowSome is_kind moves entries cs =
+    (normal : List ℕ) × IsNormalTextOf cs normal × HasAbove is_kind moves entries (components normal)
 
--- after the moves the path is below no file and no symbolic link
-abbrev pub IsBelowNoFile : List Move → List Entry → List Step → Type 0
-IsBelowNoFile moves entries cs =
-    (normal : List ℕ) × IsNormalTextOf cs normal × (¬ HasFileAbove moves entries (components normal))
+-- the path is below where no entry of this kind is after the moves
+abbrev pub IsBelowNo : (Kind → Bool) → List Move → List Entry → List Step → Type 0
+IsBelowNo is_kind moves entries cs =
+    (normal : List ℕ) × IsNormalTextOf cs normal × (¬ HasAbove is_kind moves entries (components normal))
 
 -- an entry is at the old path, and no entry at it or below it holds a name that isn't UTF-8
 pub record IsOldFine (entries : List Entry) (old : List Step) : Type 0 where

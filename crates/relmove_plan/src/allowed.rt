@@ -9,8 +9,9 @@ ghost use Rattle.relmove_plan.specs.Trees.{AreAfter, entry_paths};
 
 use crate::after::{index_after, paths_after};
 use crate::entry::Entry;
+use crate::foreign::foreign_paths;
 use crate::refusal::Refusal;
-use crate::refused::{check_above, check_news, check_olds, check_paths};
+use crate::refused::{Barrier, check_above, check_news, check_olds, check_paths};
 use relative_path::RelativePath;
 use relative_path_moves::{MoveTableError, PlaceIndex, TreeMoves};
 use std::alloc::{AllocError, Global};
@@ -30,7 +31,8 @@ pub(crate) fn leaving_table<'a>(
 {
     check_paths(alloc, moves, any_name)?;
     let table = table_of(alloc, moves)?;
-    check_olds(alloc, entries, index, moves)?;
+    let foreign = foreign_paths(alloc, entries)?;
+    check_olds(alloc, &foreign, index, moves)?;
     Ok(table)
 }
 
@@ -73,7 +75,8 @@ pub(crate) fn coming_index(
     check_news(alloc, entries, index, table, moves)?;
     let paths = paths_after(alloc, entries, table)?;
     let after = index_after(alloc, &paths)?;
-    check_above(alloc, entries, &after, moves)?;
+    check_above(alloc, entries, &after, moves, Barrier::Files)?;
+    check_above(alloc, entries, &after, moves, Barrier::UnreadDirectories)?;
     Ok(after)
 }
 

@@ -6,10 +6,13 @@ use relative_path::RelativePath;
 pub enum Kind<'a> {
     /// A file.
     File,
-    /// A directory, and whether it holds, itself, a name that isn't UTF-8.
+    /// A directory, and what is known of what it holds.
     Directory {
-        /// It holds such a name, which no entry has.
+        /// It holds, itself, a name that isn't UTF-8. No entry has such a name.
         has_foreign_name: bool,
+        /// It is read: what it holds is among the entries, but for names that aren't UTF-8. If it isn't read, anything may
+        /// be in it, and no new path may be below where it is after the moves.
+        is_read: bool,
     },
     /// A symbolic link, and the path that it has. `None` if that isn't a relative path in UTF-8.
     Link {

@@ -7,7 +7,7 @@
 //! the plan              plan
 //! its parts             pages  symbolic  renames  directories  order
 //! what moves may not    allowed  refused  after
-//! what they need        between  above
+//! what they need        between  foreign  above
 //! what all share        entry  refusal  steps
 //! ```
 #![tactic(auto)]
@@ -25,6 +25,7 @@ mod allowed;
 mod between;
 mod directories;
 mod entry;
+mod foreign;
 mod order;
 mod pages;
 mod plan;

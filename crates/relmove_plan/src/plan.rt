@@ -36,7 +36,8 @@ use std::alloc::{AllocError, Global};
 /// A tree of files, and the pages among them.
 #[derive(Clone, Copy, Debug)]
 pub struct Tree<'a> {
-    /// All that is below the root: each entry with its normal path, and each after the directory that holds it.
+    /// All that is below the root: each entry with its normal path, and each after the directory that holds it. It has no
+    /// name that isn't UTF-8, and not what is in a directory that isn't read.
     pub entries: &'a [Entry<'a>],
     /// The pages, with their targets.
     pub pages: &'a [SitePage<'a>],

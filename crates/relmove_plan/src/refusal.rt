@@ -7,7 +7,7 @@ use std::fmt;
 /// Why moves are refused, before anything is done. Moves and entries are numbered from 0.
 ///
 /// The refusals are tried in this order. Those of the first group, up to `OwnName`, are tried for one move after
-/// another, and so are `NotThere` and `ForeignName`, and then `Taken`, and then `BelowFile`.
+/// another, and so are `NotThere` and `ForeignName`, and then `Taken`, and then `BelowFile`, and then `BelowUnread`.
 ///
 /// ```
 /// let refusal = Refusal::NotThere(3);
@@ -23,7 +23,7 @@ pub enum Refusal {
     IntoItself(usize),
     /// The new path of this move has a name that isn't plain on every platform.
     NotPlain(usize),
-    /// The new path of this move has a name that begins with `.relmove`, as the run's own files have.
+    /// The old or the new path of this move has a name that begins with `.relmove`, as the run's own files have.
     OwnName(usize),
     /// These two moves have the same old path.
     SameOld(usize, usize),
@@ -39,6 +39,8 @@ pub enum Refusal {
     Collision(usize, usize),
     /// The new path of this move is below what is, after the moves, a file or a symbolic link.
     BelowFile(usize),
+    /// The new path of this move is below what is, after the moves, a directory that isn't read.
+    BelowUnread(usize),
     /// No name is free for what moves, while it moves.
     NoFreeName,
     /// An allocation failed.
@@ -55,7 +57,7 @@ impl fmt::Display for Refusal {
                 "move {k}: its new path is its old one or below it"
             ),
             Refusal::NotPlain(k) => write!(f, "move {k}: a new name isn't plain on every platform"),
-            Refusal::OwnName(k) => write!(f, "move {k}: a new name begins with .relmove"),
+            Refusal::OwnName(k) => write!(f, "move {k}: a name begins with .relmove"),
             Refusal::SameOld(j, k) => write!(f, "moves {j} and {k} have the same old path"),
             Refusal::NotThere(k) => write!(f, "move {k}: nothing is at its old path"),
             Refusal::ForeignName(k) => write!(
@@ -66,6 +68,10 @@ impl fmt::Display for Refusal {
             Refusal::Taken(k) => write!(f, "move {k}: its new path is taken"),
             Refusal::Collision(d, e) => write!(f, "entries {d} and {e} get the same path"),
             Refusal::BelowFile(k) => write!(f, "move {k}: its new path is below a file"),
+            Refusal::BelowUnread(k) => write!(
+                f,
+                "move {k}: its new path is below a directory that isn't read"
+            ),
             Refusal::NoFreeName => f.write_str("no name is free"),
             Refusal::OutOfMemory => f.write_str("out of memory"),
         }

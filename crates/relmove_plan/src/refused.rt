@@ -1,5 +1,5 @@
 //! Which moves are refused.
-ghost use Rattle.std.specs.Prelude.{◌≡◌, ◌≢◌, ◌↔◌, ◌<◌, ℕ, Bool, List, Option, None, IsSome, IsTrue, OnOk, IfOk, IfErr, MatchBool, true, false, not, length, slice_index_or};
+ghost use Rattle.std.specs.Prelude.{◌≡◌, ◌≢◌, ◌<◌, ℕ, All, Bool, List, Option, None, IsSome, OnOk, IfOk, IfErr, MatchBool, true, false, length, slice_index_or};
 ghost use Rattle.std.specs.List.{list_any};
 ghost use Rattle.relative_path.specs.Components.{step_of};
 ghost use Rattle.relative_path.specs.Steps.{Step, components};
@@ -9,26 +9,27 @@ ghost use Rattle.relative_path.specs.RelativePath.{path_components, path_text};
 ghost use Rattle.relative_path_files.specs.Names.{IfName, IsPlainName};
 ghost use Rattle.relative_path_moves.specs.Moves.{AreApart, Move, moves_of};
 ghost use Rattle.relative_path_moves.specs.PlaceIndex.{Indexes};
-ghost use Rattle.relmove_plan.specs.Moves.{EachMove, HasFinePaths, IsPlaced, StaysOutside, is_own_step, move_of};
+ghost use Rattle.relmove_plan.specs.Moves.{EachMove, HasFinePaths, HasNames, IsPlaced, StaysOutside, is_own_step, move_of};
 ghost use Rattle.relmove_plan.specs.Trees.{
-  HasFileAbove,
-  HasFileAt,
-  HoldsForeignName,
-  HoldsNoForeignName,
+  AreForeignPaths,
+  AreInOrder,
+  HasAbove,
+  HasAt,
   IndexesAfter,
-  IsBelowNoFile,
-  IsForeignBelow,
+  IsBelowNo,
   IsFree,
   IsOldFine,
   IsTaken,
   entry_paths,
+  is_barrier,
 };
 ghost use Rattle.relmove_plan.specs.Trees as trees;
-ghost use Rattle.relmove_plan.specs.Refusals.{IsAboveRefusal, IsNewRefusal, IsOfFirst, IsOldRefusal, IsPathRefusal};
+ghost use Rattle.relmove_plan.specs.Refusals.{IsAboveRefusal, IsNewRefusal, IsOfFirst, IsOldRefusal, IsPathRefusal, refusal_below};
 ghost use Rattle.relmove_plan.specs.declared.entry.Entry.{Entry};
 
 use crate::above::directory_above;
 use crate::entry::{Entry, Kind};
+use crate::foreign::has_path_below;
 use crate::refusal::Refusal;
 use relative_path::{Component, RelativePath};
 use relative_path_files::has_plain_names;
@@ -66,7 +67,7 @@ fn check_move(
 {
     check_placed(number, old, new)?;
     check_outside(alloc, number, old, new)?;
-    check_names(number, new, any_name)
+    check_names(number, old, new, any_name)
 }
 
 // Fails if a path of a move has no file name, or leads above the root.
@@ -129,25 +130,40 @@ fn check_outside(
     Ok(())
 }
 
-// Fails if the new path has a name that isn't plain on every platform, or one of a run's own.
-fn check_names(number: usize, new: RelativePath<'_>, any_name: bool) -> Result<(), Refusal>
-    ensures fine { OnOk result ((old : List Step) → IsPlaced (move_of old (path_components new.entry))
-        → StaysOutside (move_of old (path_components new.entry))
-        → HasFinePaths any_name (move_of old (path_components new.entry))) }
-    ensures refused { IfErr result (λ refusal. (old : List Step)
-        → IsPlaced (move_of old (path_components new.entry))
-        → StaysOutside (move_of old (path_components new.entry))
-        → IsPathRefusal any_name number (move_of old (path_components new.entry)) refusal) }
+// Fails if the new path has a name that isn't plain on every platform, or a path has one of a run's own.
+fn check_names(
+    number: usize,
+    old: RelativePath<'_>,
+    new: RelativePath<'_>,
+    any_name: bool,
+) -> Result<(), Refusal>
+    ensures fine { OnOk result (IsPlaced (move_of (path_components old.entry) (path_components new.entry))
+        → StaysOutside (move_of (path_components old.entry) (path_components new.entry))
+        → HasFinePaths any_name (move_of (path_components old.entry) (path_components new.entry))) }
+    ensures refused { IfErr result (λ refusal.
+        IsPlaced (move_of (path_components old.entry) (path_components new.entry))
+        → StaysOutside (move_of (path_components old.entry) (path_components new.entry))
+        → IsPathRefusal any_name number
+        (move_of (path_components old.entry) (path_components new.entry)) refusal) }
 {
-    if !any_name {
-        if !has_plain_names(new) {
-            return Err(Refusal::NotPlain(number));
-        }
+    if !may_be_named(new, any_name) {
+        return Err(Refusal::NotPlain(number));
+    }
+    if has_own_name(old) {
+        return Err(Refusal::OwnName(number));
     }
     if has_own_name(new) {
         return Err(Refusal::OwnName(number));
     }
     Ok(())
+}
+
+// Returns whether the names of a path are plain on every platform, or any name is allowed.
+fn may_be_named(path: RelativePath<'_>, any_name: bool) -> bool
+    ensures { MatchBool result (HasNames any_name (path_components path.entry))
+        ((any_name ≡ false) × (¬ All (IfName IsPlainName) (path_components path.entry))) }
+{
+    any_name || has_plain_names(path)
 }
 
 // Whether a path has a name that begins as those of a run's own files.
@@ -175,17 +191,20 @@ fn is_own_step(component: Component<'_>) -> bool
 // Fails at the first move whose old path isn't there, or whose entries have a name that isn't UTF-8.
 pub(crate) fn check_olds(
     alloc: Global,
-    entries: &[Entry<'_>],
+    foreign: &[RelativePath<'_>],
     index: &PlaceIndex,
     moves: &[(RelativePath<'_>, RelativePath<'_>)],
 ) -> Result<(), Refusal>
-    requires { Indexes (entry_paths entries.now) index.now }
-    ensures fine { OnOk result (EachMove (λ move. IsOldFine entries.now move.old) (moves_of moves.now)) }
-    ensures refused { IfErr result (IsOfFirst (λ move. IsOldFine entries.now move.old)
-        (IsOldRefusal entries.now) (moves_of moves.now)) }
+    requires { AreInOrder foreign.now }
+    ensures fine { OnOk result ((entries : List Entry) → Indexes (entry_paths entries) index.now
+        → AreForeignPaths entries foreign.now
+        → EachMove (λ move. IsOldFine entries move.old) (moves_of moves.now)) }
+    ensures refused { IfErr result (λ refusal. (entries : List Entry) → Indexes (entry_paths entries) index.now
+        → AreForeignPaths entries foreign.now
+        → IsOfFirst (λ move. IsOldFine entries move.old) (IsOldRefusal entries) (moves_of moves.now) refusal) }
 {
     for (number, (old, _)) in moves.iter().enumerate() {
-        check_old(alloc, entries, index, number, *old)?;
+        check_old(alloc, foreign, index, number, *old)?;
     }
     Ok(())
 }
@@ -193,55 +212,26 @@ pub(crate) fn check_olds(
 // Fails if nothing is at the old path of a move, or an entry there has a name that isn't UTF-8.
 fn check_old(
     alloc: Global,
-    entries: &[Entry<'_>],
+    foreign: &[RelativePath<'_>],
     index: &PlaceIndex,
     number: usize,
     old: RelativePath<'_>,
 ) -> Result<(), Refusal>
-    requires { Indexes (entry_paths entries.now) index.now }
-    ensures fine { OnOk result (IsOldFine entries.now (path_components old.entry)) }
-    ensures refused { IfErr result (λ refusal. (new : List Step)
-        → IsOldRefusal entries.now number (move_of (path_components old.entry) new) refusal) }
+    requires { AreInOrder foreign.now }
+    ensures fine { OnOk result ((entries : List Entry) → Indexes (entry_paths entries) index.now
+        → AreForeignPaths entries foreign.now → IsOldFine entries (path_components old.entry)) }
+    ensures refused { IfErr result (λ refusal. (entries : List Entry) (new : List Step)
+        → Indexes (entry_paths entries) index.now → AreForeignPaths entries foreign.now
+        → IsOldRefusal entries number (move_of (path_components old.entry) new) refusal) }
 {
     let old = NormalPath::of(alloc, old)?;
     if index.get(&old).is_none() {
         return Err(Refusal::NotThere(number));
     }
-    if holds_foreign_name(entries, old.as_relative_path()) {
+    if has_path_below(foreign, old.as_relative_path()) {
         return Err(Refusal::ForeignName(number));
     }
     Ok(())
-}
-
-// Whether a directory at or below a path holds a name that isn't UTF-8.
-fn holds_foreign_name(entries: &[Entry<'_>], path: RelativePath<'_>) -> bool
-    ensures { MatchBool result (HoldsForeignName entries.now (path_components path.entry))
-        (HoldsNoForeignName entries.now (path_components path.entry)) }
-{
-    for entry in entries {
-        if is_foreign_below(*entry, path) {
-            return true;
-        }
-    }
-    false
-}
-
-// Whether an entry is a directory at or below a path, and holds a name that isn't UTF-8.
-fn is_foreign_below(entry: Entry<'_>, path: RelativePath<'_>) -> bool
-    ensures { IsTrue result ↔ IsForeignBelow (path_components path.entry) entry.entry }
-{
-    is_foreign(entry.kind) && entry.path.starts_with(path)
-}
-
-// Whether an entry is a directory that holds a name that isn't UTF-8.
-fn is_foreign(kind: Kind<'_>) -> bool
-    ensures { result ≡ trees.is_foreign kind.entry }
-{
-    match kind {
-        Kind::Directory { has_foreign_name } => has_foreign_name,
-        Kind::File => false,
-        Kind::Link { .. } => false,
-    }
 }
 
 // Fails at the first move to whose new path an entry is, and stays.
@@ -288,62 +278,84 @@ fn check_new(
     Ok(())
 }
 
-// Fails at the first move whose new path is below what is, after the moves, a file or a symbolic link.
+// What no new path may be below, after the moves.
+#[derive(Clone, Copy)]
+pub(crate) enum Barrier {
+    // Files and symbolic links.
+    Files,
+    // Directories that aren't read.
+    UnreadDirectories,
+}
+
+// Fails at the first move whose new path is below such a barrier.
 pub(crate) fn check_above(
     alloc: Global,
     entries: &[Entry<'_>],
     after: &PlaceIndex,
     moves: &[(RelativePath<'_>, RelativePath<'_>)],
+    barrier: Barrier,
 ) -> Result<(), Refusal>
     ensures fine { OnOk result ((tree : List Move) → IndexesAfter tree entries.now after.now
-        → EachMove (λ move. IsBelowNoFile tree entries.now move.new) (moves_of moves.now)) }
+        → EachMove (λ move. IsBelowNo (is_barrier barrier) tree entries.now move.new) (moves_of moves.now)) }
     ensures refused { IfErr result (λ refusal. (tree : List Move) → IndexesAfter tree entries.now after.now
-        → IsOfFirst (λ move. IsBelowNoFile tree entries.now move.new)
-        (IsAboveRefusal tree entries.now) (moves_of moves.now) refusal) }
+        → IsOfFirst (λ move. IsBelowNo (is_barrier barrier) tree entries.now move.new)
+        (IsAboveRefusal barrier tree entries.now) (moves_of moves.now) refusal) }
 {
     for (number, (_, new)) in moves.iter().enumerate() {
-        check_place(alloc, entries, after, number, *new)?;
+        check_place(alloc, entries, after, number, *new, barrier)?;
     }
     Ok(())
 }
 
-// Fails if the new path of a move is below what is, after the moves, a file or a symbolic link.
+// Fails if the new path of a move is below such a barrier.
 fn check_place(
     alloc: Global,
     entries: &[Entry<'_>],
     after: &PlaceIndex,
     number: usize,
     new: RelativePath<'_>,
+    barrier: Barrier,
 ) -> Result<(), Refusal>
     ensures fine { OnOk result ((tree : List Move) → IndexesAfter tree entries.now after.now
-        → IsBelowNoFile tree entries.now (path_components new.entry)) }
+        → IsBelowNo (is_barrier barrier) tree entries.now (path_components new.entry)) }
     ensures refused { IfErr result (λ refusal. (old : List Step) (tree : List Move)
         → IndexesAfter tree entries.now after.now
-        → IsAboveRefusal tree entries.now number (move_of old (path_components new.entry)) refusal) }
+        → IsAboveRefusal barrier tree entries.now number (move_of old (path_components new.entry)) refusal) }
 {
     let place = NormalPath::of(alloc, new)?;
-    let is_below = is_below_file(alloc, entries, after, place.as_relative_path())?;
+    let is_below = is_below_barrier(alloc, entries, after, place.as_relative_path(), barrier)?;
     if is_below {
-        return Err(Refusal::BelowFile(number));
+        return Err(refusal_below(number, barrier));
     }
     Ok(())
 }
 
-// Whether a file or a symbolic link is, after the moves, above a path.
-fn is_below_file(
+// Returns the refusal of a move whose new path is below such a barrier.
+fn refusal_below(number: usize, barrier: Barrier) -> Refusal
+    ensures { result ≡ refusal_below barrier number }
+{
+    match barrier {
+        Barrier::Files => Refusal::BelowFile(number),
+        Barrier::UnreadDirectories => Refusal::BelowUnread(number),
+    }
+}
+
+// Returns whether such a barrier is, after the moves, above a path.
+fn is_below_barrier(
     alloc: Global,
     entries: &[Entry<'_>],
     after: &PlaceIndex,
     path: RelativePath<'_>,
+    barrier: Barrier,
 ) -> Result<bool, AllocError>
     ensures { IfOk result (λ is_below. (tree : List Move) → IndexesAfter tree entries.now after.now
-        → MatchBool is_below (HasFileAbove tree entries.now (path_components path.entry))
-        (¬ HasFileAbove tree entries.now (path_components path.entry))) }
+        → MatchBool is_below (HasAbove (is_barrier barrier) tree entries.now (path_components path.entry))
+        (¬ HasAbove (is_barrier barrier) tree entries.now (path_components path.entry))) }
 {
     let mut left = path;
     while let Some(directory) = directory_above(left) {
-        let has_file = has_file_at(alloc, entries, after, directory)?;
-        if has_file {
+        let has_barrier = has_barrier_at(alloc, entries, after, directory, barrier)?;
+        if has_barrier {
             return Ok(true);
         }
         left = directory;
@@ -351,41 +363,63 @@ fn is_below_file(
     Ok(false)
 }
 
-// Whether a file or a symbolic link is, after the moves, where a path leads.
-fn has_file_at(
+// Returns whether such a barrier is, after the moves, where a path leads.
+fn has_barrier_at(
     alloc: Global,
     entries: &[Entry<'_>],
     after: &PlaceIndex,
     path: RelativePath<'_>,
+    barrier: Barrier,
 ) -> Result<bool, AllocError>
-    ensures { IfOk result (λ has_file. (tree : List Move) → IndexesAfter tree entries.now after.now
-        → MatchBool has_file (HasFileAt tree entries.now (path_components path.entry))
-        (¬ HasFileAt tree entries.now (path_components path.entry))) }
+    ensures { IfOk result (λ has_barrier. (tree : List Move) → IndexesAfter tree entries.now after.now
+        → MatchBool has_barrier (HasAt (is_barrier barrier) tree entries.now (path_components path.entry))
+        (¬ HasAt (is_barrier barrier) tree entries.now (path_components path.entry))) }
 {
     let place = NormalPath::of(alloc, path)?;
     match after.get(&place) {
-        Some(number) => Ok(is_file(entries, number)),
+        Some(number) => Ok(is_barrier_at(entries, number, barrier)),
         None => Ok(false),
     }
 }
 
-// Whether an entry, given by its number, is a file or a symbolic link.
-fn is_file(entries: &[Entry<'_>], number: usize) -> bool
+// Returns whether an entry, given by its number, is such a barrier.
+fn is_barrier_at(entries: &[Entry<'_>], number: usize, barrier: Barrier) -> bool
     ensures { (none : Entry) → number < length entries.now
-        → result ≡ not (trees.is_directory (slice_index_or entries.now number none).kind) }
+        → result ≡ is_barrier barrier (slice_index_or entries.now number none).kind }
 {
     match entries.get(number) {
-        Some(entry) => !is_directory(entry.kind),
+        Some(entry) => is_barrier(entry.kind, barrier),
         None => false,
     }
 }
 
-// Whether an entry is a directory.
-fn is_directory(kind: Kind<'_>) -> bool
-    ensures { result ≡ trees.is_directory kind.entry }
+// Returns whether an entry is such a barrier.
+fn is_barrier(kind: Kind<'_>, barrier: Barrier) -> bool
+    ensures { result ≡ trees.is_barrier barrier kind.entry }
+{
+    match barrier {
+        Barrier::Files => is_file(kind),
+        Barrier::UnreadDirectories => is_unread(kind),
+    }
+}
+
+// Returns whether an entry is a file or a symbolic link.
+fn is_file(kind: Kind<'_>) -> bool
+    ensures { result ≡ trees.is_file kind.entry }
 {
     match kind {
-        Kind::Directory { .. } => true,
+        Kind::Directory { .. } => false,
+        Kind::File => true,
+        Kind::Link { .. } => true,
+    }
+}
+
+// Returns whether an entry is a directory that isn't read.
+fn is_unread(kind: Kind<'_>) -> bool
+    ensures { result ≡ trees.is_unread kind.entry }
+{
+    match kind {
+        Kind::Directory { is_read, .. } => !is_read,
         Kind::File => false,
         Kind::Link { .. } => false,
     }

@@ -7,8 +7,13 @@ mod cases;
 mod faults;
 mod journal;
 mod moving;
+mod power;
 mod progress;
 mod reading;
+mod runs;
+mod shapes;
+mod strangers;
+mod surprises;
 
 // Fails in the words of this case where another value was found than is expected. A call of it costs
 // a proof a fourth of what `assert_eq!` with a message does.

@@ -10,14 +10,21 @@ fn as_paths<'a>((old, new): (&'a str, &'a str)) -> (RelativePath<'a>, RelativePa
     (RelativePath::new(old), RelativePath::new(new))
 }
 
-// An entry of a row: a directory, a directory with a name that isn't UTF-8, a symbolic link, or a file.
+// An entry of a row: a directory, a directory with a name that isn't UTF-8, a directory that isn't read, a symbolic
+// link, or a file.
 fn entry_of<'a>((path, text): (&'a str, &'a str)) -> Entry<'a> {
     let kind = match text {
         DIRECTORY => Kind::Directory {
             has_foreign_name: false,
+            is_read: true,
         },
         "/?" => Kind::Directory {
             has_foreign_name: true,
+            is_read: true,
+        },
+        "/..." => Kind::Directory {
+            has_foreign_name: false,
+            is_read: false,
         },
         _ => match text.strip_prefix("-> ") {
             Some(target) => Kind::Link {

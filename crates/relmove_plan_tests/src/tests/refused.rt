@@ -5,7 +5,7 @@ use relmove_plan::Refusal;
 use std::alloc::Global;
 use std::test::Fail;
 
-const ROWS: [(&str, &str); 10] = [
+const ROWS: [(&str, &str); 13] = [
     ("a.md", "a"),
     ("b.md", "b"),
     ("d", "/"),
@@ -16,9 +16,12 @@ const ROWS: [(&str, &str); 10] = [
     ("f/g", "/?"),
     ("l", "-> d"),
     ("m", "/"),
+    ("v", "/..."),
+    ("d/v", "/..."),
+    ("f.x", "/?"),
 ];
 
-const REFUSED: [(&str, &[(&str, &str)], Refusal); 20] = [
+const REFUSED: [(&str, &[(&str, &str)], Refusal); 22] = [
     (
         "the root moves",
         &[("a.md", "n"), ("", "x")],
@@ -64,6 +67,16 @@ const REFUSED: [(&str, &[(&str, &str)], Refusal); 20] = [
         Refusal::ForeignName(1),
     ),
     (
+        "its directory",
+        &[("f/g", "y"), ("f", "x")],
+        Refusal::ForeignName(0),
+    ),
+    (
+        "a longer name",
+        &[("a.md", "x"), ("f.x", "y")],
+        Refusal::ForeignName(1),
+    ),
+    (
         "one new path",
         &[("a.md", "x"), ("b.md", "m/../x")],
         Refusal::SameNew(0, 1),
@@ -97,6 +110,112 @@ const REFUSED: [(&str, &[(&str, &str)], Refusal); 20] = [
     ),
 ];
 
+// Old and new paths with a name of a run's own.
+const OWN_NAMES: [(&str, &[(&str, &str)], Refusal); 7] = [
+    (
+        "the journal moves",
+        &[(".relmove", "x")],
+        Refusal::OwnName(0),
+    ),
+    (
+        "a new journal moves",
+        &[("a.md", "x"), (".relmove-journal", "y")],
+        Refusal::OwnName(1),
+    ),
+    (
+        "a name of the old path",
+        &[("d/.relmove-1/a.md", "x")],
+        Refusal::OwnName(0),
+    ),
+    (
+        "a name that the old path leaves again",
+        &[(".relmove-1/../a.md", "x")],
+        Refusal::OwnName(0),
+    ),
+    (
+        "a name of the new path",
+        &[("a.md", ".relmove-1/x")],
+        Refusal::OwnName(0),
+    ),
+    (
+        "the new name isn't plain either",
+        &[("a.md", ".relmove?")],
+        Refusal::NotPlain(0),
+    ),
+    (
+        "and neither is another new name",
+        &[(".relmove", "m/nul.md")],
+        Refusal::NotPlain(0),
+    ),
+];
+
+// New paths near a directory that isn't read.
+const UNREAD: [(&str, &[(&str, &str)], Refusal); 11] = [
+    (
+        "into a directory that isn't read",
+        &[("a.md", "v/x")],
+        Refusal::BelowUnread(0),
+    ),
+    (
+        "far below it",
+        &[("a.md", "x"), ("b.md", "v/x/y/z")],
+        Refusal::BelowUnread(1),
+    ),
+    (
+        "into where it moves",
+        &[("v", "n"), ("a.md", "n/x")],
+        Refusal::BelowUnread(1),
+    ),
+    (
+        "into it where its directory moves",
+        &[("d", "n"), ("a.md", "n/v/x")],
+        Refusal::BelowUnread(1),
+    ),
+    (
+        "into it where it leaves a directory that moves",
+        &[("a.md", "w/x"), ("d", "n"), ("d/v", "w")],
+        Refusal::BelowUnread(0),
+    ),
+    ("onto it", &[("a.md", "v")], Refusal::Taken(0)),
+    (
+        "onto where it moves",
+        &[("v", "n"), ("a.md", "n")],
+        Refusal::SameNew(0, 1),
+    ),
+    (
+        "onto where its directory takes it",
+        &[("d", "n"), ("a.md", "n/v")],
+        Refusal::Collision(0, 11),
+    ),
+    ("from inside it", &[("v/x", "y")], Refusal::NotThere(0)),
+    (
+        "it is below a file",
+        &[("v", "l/v"), ("a.md", "l/v/x")],
+        Refusal::BelowFile(0),
+    ),
+    (
+        "another move is below a file",
+        &[("a.md", "v/x"), ("b.md", "l/y")],
+        Refusal::BelowFile(1),
+    ),
+];
+
+const ACCEPTED: [(&str, &[(&str, &str)]); 7] = [
+    ("a directory that isn't read moves", &[("v", "n")]),
+    ("beside it", &[("v", "n"), ("a.md", "x/n")]),
+    ("a longer name", &[("v", "n"), ("a.md", "nn/x")]),
+    ("a shorter name", &[("v", "nn"), ("a.md", "n/x")]),
+    ("where it was", &[("v", "n"), ("a.md", "v/x")]),
+    (
+        "it comes into a new directory",
+        &[("v", "n/v"), ("a.md", "n/x")],
+    ),
+    (
+        "a name nearly of a run's own",
+        &[("a.md", ".relmov/x.relmove")],
+    ),
+];
+
 fn is_refused(
     alloc: Global,
     case: &str,
@@ -109,6 +228,13 @@ fn is_refused(
     }
 }
 
+fn is_accepted(alloc: Global, case: &str, moves: &[(&str, &str)]) -> Result<(), Fail> {
+    match planned(alloc, &ROWS, moves, false)? {
+        Ok(_) => Ok(()),
+        Err(refusal) => Err(Fail::new(format_args!("{case:?}: {refusal}"))),
+    }
+}
+
 #[test]
 fn refuses_moves(rt: HostRuntime) -> Result<(), Fail> {
     for (case, moves, expected) in &REFUSED {
@@ -118,7 +244,33 @@ fn refuses_moves(rt: HostRuntime) -> Result<(), Fail> {
 }
 
 #[test]
+fn refuses_the_names_of_a_run(rt: HostRuntime) -> Result<(), Fail> {
+    for (case, moves, expected) in &OWN_NAMES {
+        is_refused(rt.alloc(), case, moves, *expected)?;
+    }
+    Ok(())
+}
+
+#[test]
+fn refuses_moves_into_directories_that_are_not_read(rt: HostRuntime) -> Result<(), Fail> {
+    for (case, moves, expected) in &UNREAD {
+        is_refused(rt.alloc(), case, moves, *expected)?;
+    }
+    Ok(())
+}
+
+#[test]
+fn accepts_moves(rt: HostRuntime) -> Result<(), Fail> {
+    for (case, moves) in &ACCEPTED {
+        is_accepted(rt.alloc(), case, moves)?;
+    }
+    Ok(())
+}
+
+#[test]
 fn takes_any_name(rt: HostRuntime) -> Result<(), Fail> {
     let plan = planned(rt.alloc(), &ROWS, &[("a.md", "m/nul.md")], true)?;
-    same("a device", &plan.is_ok(), &true)
+    same("a device", &plan.is_ok(), &true)?;
+    let own = planned(rt.alloc(), &ROWS, &[("a.md", ".relmove?")], true)?;
+    same("a run's own", &own.err(), &Some(Refusal::OwnName(0)))
 }

@@ -1,6 +1,7 @@
 //! What the arguments of a call mean.
 use crate::tests::same;
-use relmove_lib::{Command, WrongCall, command_of};
+use relmove_lib::{Command, Effect, WrongCall, command_of};
+use relmove_run::Way;
 use std::alloc::Global;
 use std::test::Fail;
 
@@ -57,14 +58,39 @@ fn asks_for_what_is_no_move(rt: HostRuntime) -> Result<(), Fail> {
         alloc,
         &["docs", "--json", "--check"],
         Command::Check { root, json },
-    )?;
-    means(alloc, &["--resume", "docs"], Command::Resume { root })?;
-    means(alloc, &["--undo", "docs"], Command::Undo { root })?;
-    let root = "--undo";
-    means(alloc, &["--undo", "--", "--undo"], Command::Undo { root })
+    )
 }
 
-const WRONG: [(&[&str], WrongCall<'static>); 11] = [
+// The end of a run below `docs`.
+fn end(way: Way, trust: Option<Effect>) -> Command<'static> {
+    let root = "docs";
+    Command::End { root, way, trust }
+}
+
+#[test]
+fn asks_for_the_end_of_a_run(rt: HostRuntime) -> Result<(), Fail> {
+    let alloc = rt.alloc();
+    means(alloc, &["--resume", "docs"], end(Way::Resume, None))?;
+    means(alloc, &["--undo", "docs"], end(Way::Undo, None))?;
+    means(
+        alloc,
+        &["--undo", "docs", "--trust-journal"],
+        end(Way::Undo, Some(Effect::Print)),
+    )?;
+    means(
+        alloc,
+        &["--write", "--resume", "--trust-journal", "docs"],
+        end(Way::Resume, Some(Effect::Write)),
+    )?;
+    let (root, way, trust) = ("--undo", Way::Undo, None);
+    means(
+        alloc,
+        &["--undo", "--", "--undo"],
+        Command::End { root, way, trust },
+    )
+}
+
+const WRONG: [(&[&str], WrongCall<'static>); 17] = [
     (&[], WrongCall::NoRoot),
     (&["--write"], WrongCall::NoRoot),
     (&["docs"], WrongCall::NoMove),
@@ -82,6 +108,21 @@ const WRONG: [(&[&str], WrongCall<'static>); 11] = [
         &["--check", "--write", "docs"],
         WrongCall::OptionOfAnother("--write"),
     ),
+    (
+        &["--resume", "--write", "docs"],
+        WrongCall::OptionOfAnother("--write"),
+    ),
+    (
+        &["--trust-journal", "docs", "a", "b"],
+        WrongCall::OptionOfAnother("--trust-journal"),
+    ),
+    (
+        &["--check", "--trust-journal", "docs"],
+        WrongCall::OptionOfAnother("--trust-journal"),
+    ),
+    (&["--resume", ""], WrongCall::EmptyRoot),
+    (&["--check", ""], WrongCall::EmptyRoot),
+    (&["", "a", "b"], WrongCall::EmptyRoot),
 ];
 
 #[test]

@@ -111,10 +111,10 @@ pub const PAGE_CHANGES: Case = Case {
         ("y", None),
         ("y/x.md", Some("xx")),
     ],
-    texts: &[("a.md", ".relmove-2-a.md", "[x](y/x.md) more")],
+    texts: &[("a.md", ".relmove-9", "[x](y/x.md) more")],
     apart: &[
         ("a.md", ".relmove-1"),
-        (".relmove-2-a.md", ".relmove-2"),
+        (".relmove-9", ".relmove-2"),
         ("x.md", ".relmove-3"),
     ],
     made: &["y"],
@@ -138,10 +138,10 @@ pub const PAGE_IN_A_DIRECTORY: Case = Case {
         ("in/docs/b", Some("bb")),
         ("x", Some("xx")),
     ],
-    texts: &[("docs/a.md", "docs/.relmove-2-a.md", "[x](../../x)")],
+    texts: &[("docs/a.md", "docs/.relmove-9", "[x](../../x)")],
     apart: &[
         ("docs/a.md", ".relmove-1"),
-        ("docs/.relmove-2-a.md", ".relmove-2"),
+        ("docs/.relmove-9", ".relmove-2"),
         ("docs", ".relmove-3"),
     ],
     made: &["in"],
@@ -166,10 +166,10 @@ pub const PAGE_LEAVES: Case = Case {
         ("c/in/a.md", Some("cc")),
         ("c/in/b", Some("bb")),
     ],
-    texts: &[("docs/in/a.md", "docs/in/.relmove-2-a.md", "[b](c/in/b)")],
+    texts: &[("docs/in/a.md", "docs/in/.relmove-9", "[b](c/in/b)")],
     apart: &[
         ("docs/in/a.md", ".relmove-1"),
-        ("docs/in/.relmove-2-a.md", ".relmove-2"),
+        ("docs/in/.relmove-9", ".relmove-2"),
         ("c.md", ".relmove-3"),
         ("docs", ".relmove-4"),
     ],
@@ -260,7 +260,7 @@ pub fn below_site(alloc: Global, path: &str) -> Result<String, AllocError> {
 
 /// A disk with these places below `site`.
 pub fn disk_of(alloc: Global, places: &[Place]) -> io::Result<Disk> {
-    let disk = Disk::new(alloc);
+    let disk = Disk::new(alloc)?;
     disk.add("site", Content::Directory)?;
     for (path, text) in places {
         let content = match text {

@@ -1,104 +1,173 @@
-//! What is read from a journal is what was written.
+//! What is read from a journal is what was written, and what no run wrote is no journal.
 use crate::tests::same;
-use relmove_lib::{Fault, Stage, Work, journal_of, journal_text};
 use relmove_plan::Rename;
+use relmove_run::{
+    Fault, Leftover, Origin, Stage, TextDigest, TextFile, Work, journal_of, journal_text,
+};
 use std::alloc::{AllocError, Global};
 use std::test::Fail;
 
-// Work with each kind of step, and paths with all that is escaped.
-fn work(alloc: Global) -> Result<Work, AllocError> {
-    let text = |text: &str| String::from_str(alloc, text);
-    Ok(Work {
-        texts: vec![in alloc; text(".relmove-2-a b.md")?, text("d/é\\n")?]?,
-        apart: vec![in alloc;
-            Rename {
-                from: text("a\tb\nc\\")?,
-                to: text(".relmove-1")?
-            },
-        ]?,
-        made: vec![in alloc; text("\r")?]?,
-        together: vec![in alloc;
-            Rename {
-                from: text(".relmove-1")?,
-                to: text("\\t/\\\\n")?
-            },
-        ]?,
-        removed: vec![in alloc; text("end")?]?,
-        emptied: vec![in alloc; text(" ")?, text("a/b")?]?,
+const ORIGIN: Origin = Origin {
+    root: u64::MAX,
+    file: 7,
+};
+
+// The digest of the text `abc`, as `sha256sum` prints it.
+const ABC: TextDigest = TextDigest {
+    length: 3,
+    sha256: [
+        0xba, 0x78, 0x16, 0xbf, 0x8f, 0x01, 0xcf, 0xea, 0x41, 0x41, 0x40, 0xde, 0x5d, 0xae, 0x22,
+        0x23, 0xb0, 0x03, 0x61, 0xa3, 0x96, 0x17, 0x7a, 0x9c, 0xb4, 0x10, 0xff, 0x61, 0xf2, 0x00,
+        0x15, 0xad,
+    ],
+};
+
+// The digest of the empty text.
+const EMPTY: TextDigest = TextDigest {
+    length: 0,
+    sha256: [
+        0xe3, 0xb0, 0xc4, 0x42, 0x98, 0xfc, 0x1c, 0x14, 0x9a, 0xfb, 0xf4, 0xc8, 0x99, 0x6f, 0xb9,
+        0x24, 0x27, 0xae, 0x41, 0xe4, 0x64, 0x9b, 0x93, 0x4c, 0xa4, 0x95, 0x99, 0x1b, 0x78, 0x52,
+        0xb8, 0x55,
+    ],
+};
+
+// A rename.
+fn rename(alloc: Global, from: &str, to: &str) -> Result<Rename, AllocError> {
+    Ok(Rename {
+        from: String::from_str(alloc, from)?,
+        to: String::from_str(alloc, to)?,
     })
 }
 
-const TEXT: &str =
-    "relmove journal 1\nstage\tparting\ntext\t.relmove-2-a b.md\ntext\td/é\\\\n\napart\ta\\tb\\nc\\\\\t.relmove-1\nmade\t\r\ntogether\t.relmove-1\t\\\\t/\\\\\\\\n\nremoved\tend\nemptied\t \nemptied\ta/b\nend\n";
+// A text in a file.
+fn text_file(alloc: Global, path: &str, digest: TextDigest) -> Result<TextFile, AllocError> {
+    Ok(TextFile {
+        path: String::from_str(alloc, path)?,
+        digest,
+    })
+}
+
+// What is removed at the end of the run.
+fn cleaned(alloc: Global) -> Result<Vec<Leftover>, AllocError> {
+    let mut cleaned = Vec::new(alloc);
+    cleaned.push(Leftover::Text(text_file(alloc, ".relmove-3", EMPTY)?))?;
+    cleaned.push(Leftover::Directory(String::from_str(alloc, "end")?))?;
+    cleaned.push(Leftover::Directory(String::from_str(alloc, " /b")?))?;
+    Ok(cleaned)
+}
+
+// Work with each kind of step, and paths with all that is escaped.
+fn work(alloc: Global) -> Result<Work, AllocError> {
+    let mut work = Work::new(alloc);
+    work.texts.push(text_file(alloc, "d/.relmove-9", ABC)?)?;
+    work.staged.push(rename(alloc, "a\tb\nc\\", ".relmove-1")?)?;
+    work.staged
+        .push(rename(alloc, "d/.relmove-9", ".relmove-2")?)?;
+    work.staged.push(rename(alloc, "d/é\\n", ".relmove-3")?)?;
+    work.made.push(String::from_str(alloc, "x\r")?)?;
+    work.placed.push(rename(alloc, ".relmove-1", "\\t/\\\\n")?)?;
+    work.placed.push(rename(alloc, ".relmove-2", "d/é\\n")?)?;
+    work.cleaned = cleaned(alloc)?;
+    Ok(work)
+}
+
+const LINES: &str =
+    "relmove journal 2\nroot\t18446744073709551615\nfile\t7\nstage\tplacing\ntext\td/.relmove-9\t3\tba7816bf8f01cfea414140de5dae2223b00361a396177a9cb410ff61f20015ad\nstaged\ta\\tb\\nc\\\\\t.relmove-1\nstaged\td/.relmove-9\t.relmove-2\nstaged\td/é\\\\n\t.relmove-3\nmade\tx\r\nplaced\t.relmove-1\t\\\\t/\\\\\\\\n\nplaced\t.relmove-2\td/é\\\\n\nremoved\t.relmove-3\t0\te3b0c44298fc1c149afbf4c8996fb92427ae41e4649b934ca495991b7852b855\nemptied\tend\nemptied\t /b\n";
+
+// The digest is what `sha256sum` prints of the lines before.
+const END: &str = "end\t407\t970bfddbf3eb6391a3603b379ecac152f8e4a3c2e1a23b71e3319d2832faf8d2\n";
+
+// The journal of the work.
+fn pinned(alloc: Global) -> Result<String, AllocError> {
+    let mut text = String::from_str(alloc, LINES)?;
+    text.push_str(END)?;
+    Ok(text)
+}
 
 #[test]
 fn writes_a_journal(rt: HostRuntime) -> Result<(), Fail> {
-    let text = journal_text(rt.alloc(), Stage::Parting, &work(rt.alloc())?)?;
-    same("a journal", &text.as_str(), &TEXT)
+    let text = journal_text(rt.alloc(), ORIGIN, Stage::Placing, &work(rt.alloc())?)?;
+    same("a journal", &text.as_str(), &pinned(rt.alloc())?.as_str())
 }
 
-const STAGES: [Stage; 6] = [
-    Stage::Returning,
-    Stage::Parting,
+const STAGES: [Stage; 9] = [
+    Stage::Writing,
+    Stage::Staging,
     Stage::Making,
-    Stage::Joining,
+    Stage::Placing,
     Stage::Cleaning,
-    Stage::Unjoining,
+    Stage::Unplacing,
+    Stage::Unmaking,
+    Stage::Unstaging,
+    Stage::Erasing,
 ];
+
+// Whether a journal of a stage reads back.
+fn reads_back(alloc: Global, stage: Stage) -> Result<(), Fail> {
+    let work = work(alloc)?;
+    let text = journal_text(alloc, ORIGIN, stage, &work)?;
+    let journal = journal_of(alloc, text.as_str())?;
+    same("an origin", &journal.origin, &ORIGIN)?;
+    same("a stage", &journal.stage, &stage)?;
+    same("the work", &journal.work, &work)
+}
 
 #[test]
 fn reads_what_it_wrote(rt: HostRuntime) -> Result<(), Fail> {
     for stage in &STAGES {
-        let work = work(rt.alloc())?;
-        let text = journal_text(rt.alloc(), *stage, &work)?;
-        let journal = journal_of(rt.alloc(), text.as_str())?;
-        same("a stage", &journal.stage, stage)?;
-        same("the work", &journal.work, &work)?;
+        reads_back(rt.alloc(), *stage)?;
     }
     Ok(())
 }
 
-const NO_JOURNALS: [(&str, &str); 12] = [
-    ("nothing", ""),
-    ("no end", "relmove journal 1\nstage\tparting\n"),
-    ("no stage", "relmove journal 1\nend\n"),
-    ("another stage", "relmove journal 1\nstage\tpart\nend\n"),
-    ("another head", "relmove journal 2\nstage\tparting\nend\n"),
-    (
-        "after the end",
-        "relmove journal 1\nstage\tparting\nend\nmade\ta\n",
-    ),
-    (
-        "another word",
-        "relmove journal 1\nstage\tparting\nremove\ta\nend\n",
-    ),
-    (
-        "one path",
-        "relmove journal 1\nstage\tparting\napart\ta\nend\n",
-    ),
-    (
-        "above",
-        "relmove journal 1\nstage\tparting\nremoved\ta/../../b\nend\n",
-    ),
-    (
-        "from the root",
-        "relmove journal 1\nstage\tparting\nremoved\t/b\nend\n",
-    ),
-    (
-        "the root itself",
-        "relmove journal 1\nstage\tparting\nremoved\t\nend\n",
-    ),
-    (
-        "half an escape",
-        "relmove journal 1\nstage\tparting\nremoved\ta\\\nend\n",
-    ),
-];
+// Whether a text is no journal.
+fn is_none(alloc: Global, case: &str, text: &str) -> Result<(), Fail> {
+    let read = journal_of(alloc, text);
+    same(case, &matches!(&read, Err(Fault::NotAJournal)), &true)
+}
 
 #[test]
-fn tells_what_is_no_journal(rt: HostRuntime) -> Result<(), Fail> {
-    for (case, text) in &NO_JOURNALS {
-        let read = journal_of(rt.alloc(), text);
-        same(case, &matches!(&read, Err(Fault::NotAJournal)), &true)?;
+fn reads_no_journal_that_is_cut_off(rt: HostRuntime) -> Result<(), Fail> {
+    let text = pinned(rt.alloc())?;
+    for end in 0..text.len() {
+        if let Some(cut) = text.as_str().get(..end) {
+            is_none(rt.alloc(), "a journal that is cut off", cut)?;
+        }
     }
     Ok(())
+}
+
+// Whether a journal with another byte is none.
+fn is_none_with(alloc: Global, index: usize, byte: u8) -> Result<(), Fail> {
+    let mut bytes = pinned(alloc)?.into_bytes();
+    if let Some(changed) = bytes.get_mut(index) {
+        *changed = byte;
+    }
+    let Ok(text) = String::from_utf8(bytes) else {
+        return Ok(());
+    };
+    let text = text.as_str();
+    let is_of_first_version = text.starts_with("relmove journal 1");
+    if is_of_first_version || text == pinned(alloc)?.as_str() {
+        return Ok(());
+    }
+    is_none(alloc, "a journal with another byte", text)
+}
+
+#[test]
+fn reads_no_journal_with_another_byte(rt: HostRuntime) -> Result<(), Fail> {
+    for index in 0..pinned(rt.alloc())?.len() {
+        for byte in [b'0', b'a', b'A', b'\t', b'\n', b'\\', b'\0'] {
+            is_none_with(rt.alloc(), index, byte)?;
+        }
+    }
+    Ok(())
+}
+
+#[test]
+fn tells_a_journal_of_the_first_version(rt: HostRuntime) -> Result<(), Fail> {
+    let text = "relmove journal 1\nstage\tparting\nend\n";
+    let read = journal_of(rt.alloc(), text);
+    same("old", &matches!(&read, Err(Fault::OldJournal)), &true)
 }

@@ -1,10 +1,11 @@
 //! What a call that moves files prints, its status, and the tree after it.
 use crate::tests::cases::{Place, disk_of};
-use crate::tests::faults::holds;
 use crate::tests::reading::answers;
+use crate::tests::runs::holds;
 use crate::tests::same;
-use relmove_disk::{Content, Disk, Machine, Way};
-use relmove_lib::{Ended, Root, Status, answer, resume};
+use relmove_disk::{Content, Disk, DiskMachine, Way};
+use relmove_lib::{Status, answer};
+use relmove_run::{Ended, Locked, Machine, Trust, resume};
 use std::alloc::Global;
 use std::test::Fail;
 
@@ -36,6 +37,13 @@ pub const SITE: &[Place] = &[
 pub const MOVED_SITE: &[Place] = &[
     ("index.md", Some("[o](n.md#a) [o](n.md)\n")),
     ("n.md", Some("[i](index.md)\n")),
+];
+
+// The site after that call, if the directory that it emptied can't be removed.
+const LEFT_SITE: &[Place] = &[
+    ("index.md", Some("[o](n.md#a) [o](n.md)\n")),
+    ("n.md", Some("[i](index.md)\n")),
+    ("guide", None),
 ];
 
 /// A call that moves a page.
@@ -158,15 +166,35 @@ fn leaves_a_link_above_the_root(rt: HostRuntime) -> Result<(), Fail> {
 }
 
 #[test]
-fn keeps_its_status_for_a_link_that_was_dead(rt: HostRuntime) -> Result<(), Fail> {
+fn looks_at_nothing_above_the_root(rt: HostRuntime) -> Result<(), Fail> {
     let row = Row {
         words: &["--write", "site", "d/a.md", "a.md"],
         before: &[("d", None), ("d/a.md", Some("\n[l](../../L)"))],
         after: &[("a.md", Some("\n[l](../../L)"))],
-        status: Status::Kept,
+        status: Status::LinksLeft,
         printed: LEFT,
     };
     does(rt.alloc(), &row)
+}
+
+#[test]
+fn escapes_what_a_terminal_obeys(rt: HostRuntime) -> Result<(), Fail> {
+    let places: &[Place] = &[
+        ("d", None),
+        ("d/\u{1b}]0;x\u{7}.md", Some("[l](<../../\u{202e}L\u{9b}>)")),
+    ];
+    let row = Row {
+        words: &["--any-name", "site", "d/\u{1b}]0;x\u{7}.md", "a\nb.md"],
+        before: places,
+        after: places,
+        status: Status::LinksLeft,
+        printed: "site/d/\\u{1b}]0;x\\u{7}.md:1:6: ../../\\u{202e}L\\u{9b} leads above site, left as it is\n0 pages would change, 1 file would move. Nothing is written: add --write.\n",
+    };
+    does(rt.alloc(), &row)?;
+    let disk = disk_of(rt.alloc(), places)?;
+    let printed = "relmove: none\\u{a}.md to x.md: nothing is at the old path\n";
+    let words = ["site", "none\n.md", "x.md"];
+    answers(rt.alloc(), &disk, &words, (Status::Refused, "", printed))
 }
 
 #[test]
@@ -174,7 +202,7 @@ fn names_symbolic_links(rt: HostRuntime) -> Result<(), Fail> {
     let disk = disk_of(rt.alloc(), &[("d", None), ("d/f", Some("ff"))])?;
     for (path, target) in [("site/d/l", "/x"), ("site/r", "o"), ("site/s", "d/f")] {
         let target = String::from_str(rt.alloc(), target)?;
-        disk.add(path, Content::Link(target))?;
+        disk.add(path, Content::Symlink(target))?;
     }
     let printed =
         "site/d/l: this symbolic link moves, left as it is\nsite/s: this symbolic link leads to what moves, left as it is\n0 pages would change, 1 directory would move. Nothing is written: add --write.\n";
@@ -187,6 +215,8 @@ fn names_symbolic_links(rt: HostRuntime) -> Result<(), Fail> {
 }
 
 const TREE: &[Place] = &[
+    (".g", None),
+    (".g/config", Some("gg")),
     ("a.md", Some("[c](d/c.md)")),
     ("b.md", Some("bb")),
     ("d", None),
@@ -204,7 +234,7 @@ fn refuses(alloc: Global, moves: &[&str], printed: &str) -> Result<(), Fail> {
     holds(alloc, printed, &disk, TREE)
 }
 
-const REFUSED_PATHS: [(&[&str], &str); 7] = [
+const REFUSED_PATHS: [(&[&str], &str); 8] = [
     (
         &[".", "x"],
         "relmove: . to x: a path is the root, or ends in ..\n",
@@ -223,7 +253,11 @@ const REFUSED_PATHS: [(&[&str], &str); 7] = [
     ),
     (
         &["a.md", ".relmove-x"],
-        "relmove: a.md to .relmove-x: a name of the new path begins with .relmove\n",
+        "relmove: a.md to .relmove-x: a name of the old or the new path begins with .relmove\n",
+    ),
+    (
+        &[".relmove-journal", "x"],
+        "relmove: .relmove-journal to x: a name of the old or the new path begins with .relmove\n",
     ),
     (
         &["a.md", ".d/a.md"],
@@ -243,7 +277,7 @@ fn refuses_paths(rt: HostRuntime) -> Result<(), Fail> {
     Ok(())
 }
 
-const REFUSED_MOVES: [(&[&str], &str); 6] = [
+const REFUSED_MOVES: [(&[&str], &str); 7] = [
     (
         &["b.md", "x.md", "none.md", "y.md"],
         "relmove: none.md to y.md: nothing is at the old path\n",
@@ -255,6 +289,10 @@ const REFUSED_MOVES: [(&[&str], &str); 6] = [
     (
         &["a.md", "b.md/x.md"],
         "relmove: a.md to b.md/x.md: the new path is below a file or a symbolic link\n",
+    ),
+    (
+        &[".g", "g", "a.md", "g/config"],
+        "relmove: a.md to g/config: after the moves the new path is in a directory that isn't read\n",
     ),
     (
         &["a.md", "x.md", "./a.md", "y.md"],
@@ -283,10 +321,44 @@ fn refuses_a_name_that_is_not_utf_8(rt: HostRuntime) -> Result<(), Fail> {
     let places: &[Place] = &[("d", None), ("d/NOT-UTF-8", Some("nn"))];
     let disk = disk_of(rt.alloc(), places)?;
     let printed =
-        "relmove: a name in the directory d isn't UTF-8\nrelmove: d to e: what moves holds a name that isn't UTF-8\n";
+        "relmove: a name in the directory d can't be read, or isn't UTF-8\nrelmove: d to e: what moves holds a name that isn't UTF-8, or a directory that can't be read\n";
     let expected = (Status::Refused, "", printed);
     answers(rt.alloc(), &disk, &["--write", "site", "d", "e"], expected)?;
     holds(rt.alloc(), "the tree", &disk, places)
+}
+
+#[test]
+fn passes_over_what_it_cannot_read(rt: HostRuntime) -> Result<(), Fail> {
+    let disk = disk_of(rt.alloc(), &[("a.md", Some("aa")), ("l", None)])?;
+    disk.add("site/f.md", Content::File(Vec::new(rt.alloc())))?;
+    disk.set_mode("site/f.md", 0o200)?;
+    disk.set_mode("site/l", 0o300)?;
+    let unread =
+        "relmove: l isn't read: permission denied\nrelmove: f.md isn't read: permission denied\nrelmove: a name in the directory l can't be read, or isn't UTF-8\n";
+    answers(
+        rt.alloc(),
+        &disk,
+        &["--check", "site"],
+        (Status::Kept, "", unread),
+    )?;
+    let printed = format!(in rt.alloc();
+        "{unread}relmove: a.md to l/a.md: after the moves the new path is in a directory that isn't read\n"
+    )?;
+    answers(
+        rt.alloc(),
+        &disk,
+        &["--write", "site", "a.md", "l/a.md"],
+        (Status::Refused, "", printed.as_str()),
+    )?;
+    let printed = format!(in rt.alloc();
+        "{unread}relmove: l to m: what moves holds a name that isn't UTF-8, or a directory that can't be read\n"
+    )?;
+    answers(
+        rt.alloc(),
+        &disk,
+        &["site", "l", "m"],
+        (Status::Refused, "", printed.as_str()),
+    )
 }
 
 #[test]
@@ -294,7 +366,7 @@ fn refuses_all_else_beside_a_journal(rt: HostRuntime) -> Result<(), Fail> {
     let places: &[Place] = &[("a.md", Some("aa")), (".relmove", Some("jj"))];
     let disk = disk_of(rt.alloc(), places)?;
     let printed =
-        "relmove: site: a run before this one didn't end: call relmove --resume ROOT or relmove --undo ROOT\n";
+        "relmove: site: a run before this one didn't end; its journal .relmove was written on Sun, 09 Sep 2001 01:46:40 GMT. If it was your run, call relmove --resume ROOT or relmove --undo ROOT. If the folder came from elsewhere, the journal may have come with it: then remove it\n";
     let words = ["--write", "site", "a.md", "b.md"];
     let expected = (Status::Refused, "", printed);
     answers(rt.alloc(), &disk, &words, expected)?;
@@ -306,7 +378,7 @@ fn refuses_all_else_beside_a_journal(rt: HostRuntime) -> Result<(), Fail> {
 // The status of the call that writes.
 fn written(alloc: Global, disk: &Disk) -> Status {
     let (mut out, mut errors) = (Vec::new(alloc), Vec::new(alloc));
-    answer(&Machine(disk), WRITE, &mut out, &mut errors)
+    answer(&DiskMachine(disk), WRITE, &mut out, &mut errors)
 }
 
 // Makes a call of the run fail. Returns its status, after it saw that the tree is as the status says.
@@ -316,7 +388,8 @@ fn fails_at(alloc: Global, number: u32) -> Result<Status, Fail> {
     let status = written(alloc, &disk);
     disk.fail_at(0, Way::Refused);
     match status {
-        Status::Kept | Status::LinksLeft => holds(alloc, "moved", &disk, MOVED_SITE)?,
+        Status::Kept => holds(alloc, "moved", &disk, MOVED_SITE)?,
+        Status::LinksLeft => holds(alloc, "moved, and a directory stays", &disk, LEFT_SITE)?,
         Status::Refused => holds(alloc, "refused", &disk, SITE)?,
         Status::Stopped => is_resumed(alloc, &disk)?,
     }
@@ -325,8 +398,9 @@ fn fails_at(alloc: Global, number: u32) -> Result<Status, Fail> {
 
 // Whether a run that stopped after its first rename can be resumed.
 fn is_resumed(alloc: Global, disk: &Disk) -> Result<(), Fail> {
-    let ended = resume(Root::new(&Machine(disk), "site"));
-    same("resumed", &matches!(&ended, Ended::Done), &true)?;
+    let locked = Locked::new(DiskMachine(disk).store_at("site")?)?;
+    let ended = resume(locked, Trust::ThisFolder);
+    same("resumed", &matches!(&ended, Ended::Done(_)), &true)?;
     holds(alloc, "resumed", disk, MOVED_SITE)
 }
 

@@ -1,29 +1,32 @@
 //! What a long call prints of its progress, and a run that stopped.
 use crate::tests::cases::disk_of;
-use crate::tests::faults::holds;
 use crate::tests::moving::{MOVED_SITE, SITE, WRITE};
+use crate::tests::runs::holds;
 use crate::tests::same;
-use relmove_disk::Machine;
+use relmove_disk::DiskMachine;
 use relmove_lib::report::print_end;
-use relmove_lib::{Ended, Fault, Progress, Stage, Status, WithProgress, answer};
+use relmove_lib::{Progress, Status, WithProgress, answer};
+use relmove_run::{Ended, Fault, Stage};
+use std::alloc::Global;
 use std::test::Fail;
 
-// The call opens the two pages and the journal, and renames the journal. It opens two new texts and the journal, and
-// renames the journal, two pages and their new texts. It opens and renames the journal twice, and renames the new texts.
-// It opens and renames the journal, and removes the old pages. From the first of these calls on, each third call is
-// 600 milliseconds after the last line.
-const LINES: &str = "relmove: 3 files opened, 1 renamed
-relmove: 6 files opened, 1 renamed
-relmove: 6 files opened, 4 renamed
-relmove: 7 files opened, 6 renamed
-relmove: 8 files opened, 8 renamed
-relmove: 9 files opened, 10 renamed
+// The call opens the two pages, the first journal, the spare one, two new texts and the next journal, and renames that.
+// It renames two pages and their new texts, and opens the two old texts to compare them. It opens and renames the
+// journal twice, renames the new texts, and opens and renames the journal. It opens the old texts again, and removes
+// them. From the first of these calls on, each third call is 600 milliseconds after the last line.
+const LINES: &str = "relmove: 4 files opened, 0 renamed
+relmove: 7 files opened, 0 renamed
+relmove: 7 files opened, 3 renamed
+relmove: 8 files opened, 5 renamed
+relmove: 10 files opened, 6 renamed
+relmove: 11 files opened, 8 renamed
+relmove: 12 files opened, 10 renamed
 ";
 
 #[test]
 fn prints_progress_each_half_second(rt: HostRuntime) -> Result<(), Fail> {
     let disk = disk_of(rt.alloc(), SITE)?;
-    let machine = Machine(&disk);
+    let machine = DiskMachine(&disk);
     let progress = Progress::new();
     let watched = WithProgress::new(&machine, &progress);
     let (mut out, mut errors) = (Vec::new(rt.alloc()), Vec::new(rt.alloc()));
@@ -33,46 +36,81 @@ fn prints_progress_each_half_second(rt: HostRuntime) -> Result<(), Fail> {
     holds(rt.alloc(), "the tree", &disk, MOVED_SITE)
 }
 
-const STOPS: [(Stage, &str); 6] = [
+const GO_ON: &str = "--resume to go on, or with --undo to go back, and d/.\n";
+
+// What is printed of a run that stopped at a stage, in two parts.
+const STOPS: [(Stage, &str, &str); 9] = [
     (
-        Stage::Returning,
-        "everything is at its old path, or was going back there. Call relmove with --undo and d/",
+        Stage::Writing,
+        "everything is at its old path",
+        "--undo and d/.\n",
     ),
     (
-        Stage::Parting,
-        "some files have names in between. Call relmove with --resume to go on, or with --undo to go back, and d/",
+        Stage::Staging,
+        "some files have names that begin with .relmove-",
+        GO_ON,
     ),
     (
         Stage::Making,
-        "all that moves has a name in between. Call relmove with --resume to go on, or with --undo to go back, and d/",
+        "all that moves has a name that begins with .relmove-",
+        GO_ON,
     ),
-    (
-        Stage::Joining,
-        "some files are at their new paths. Call relmove with --resume to go on, or with --undo to go back, and d/",
-    ),
+    (Stage::Placing, "some files are at their new paths", GO_ON),
     (
         Stage::Cleaning,
-        "everything is at its new path, and what is left over was being removed. Call relmove with --resume and d/",
+        "everything is at its new path, and what is left over was being removed",
+        "--resume and d/.\n",
     ),
     (
-        Stage::Unjoining,
-        "everything was going back to names in between. Call relmove with --undo and d/",
+        Stage::Unplacing,
+        "everything was going back to its old path",
+        "--undo and d/.\n",
+    ),
+    (
+        Stage::Unmaking,
+        "everything was going back to its old path",
+        "--undo and d/.\n",
+    ),
+    (
+        Stage::Unstaging,
+        "everything was going back to its old path",
+        "--undo and d/.\n",
+    ),
+    (
+        Stage::Erasing,
+        "everything is at its old path, and what is left over was being removed",
+        "--undo and d/.\n",
     ),
 ];
 
+// Whether this is printed of a run that stopped.
+fn is_told(alloc: Global, stage: Stage, has_journal: bool, expected: String) -> Result<(), Fail> {
+    let stopped = Ended::Stopped {
+        stage,
+        fault: Fault::Missing(String::from_str(alloc, "a.md")?),
+        has_journal,
+    };
+    let mut out = Vec::new(alloc);
+    print_end(&mut out, "d/", &stopped)?;
+    same("a stop", &out.as_slice(), &expected.as_str().as_bytes())
+}
+
 #[test]
 fn says_how_to_go_on(rt: HostRuntime) -> Result<(), Fail> {
-    for (stage, words) in &STOPS {
-        let stopped = Ended::Stopped {
-            stage: *stage,
-            fault: Fault::Missing(String::from_str(rt.alloc(), "a.md")?),
-        };
-        let mut out = Vec::new(rt.alloc());
-        print_end(&mut out, "d/", &stopped)?;
+    for (stage, state, commands) in &STOPS {
         let expected = format!(in rt.alloc();
-            "relmove: d/: a.md isn't there\nrelmove: stopped in the middle: {words}.\nrelmove lost no file: the journal .relmove in d/ has the old paths, the names in between and the new paths.\n"
+            "relmove: d/: a.md isn't there\nrelmove: stopped in the middle: {state}. Call relmove with {commands}relmove: the journal .relmove in d/ has the old paths, the names that begin with .relmove- and the new paths.\n"
         )?;
-        same("a stop", &out.as_slice(), &expected.as_str().as_bytes())?;
+        is_told(rt.alloc(), *stage, true, expected)?;
     }
     Ok(())
+}
+
+#[test]
+fn claims_no_journal_that_is_not_there(rt: HostRuntime) -> Result<(), Fail> {
+    let expected = String::from_str(
+        rt.alloc(),
+        "relmove: d/: a.md isn't there\nrelmove: stopped in the middle: everything is at its old path. Call relmove with --undo and d/.\nrelmove: no journal .relmove was found in d/.\n",
+    )?;
+    is_told(rt.alloc(), Stage::Writing, false, expected)
 }

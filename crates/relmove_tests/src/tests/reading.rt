@@ -1,9 +1,10 @@
 //! What is read below a root, and which links lead to nothing.
 use crate::tests::same;
-use relmove_disk::{Content, Disk, Machine};
+use relmove_disk::{Content, Disk, DiskMachine};
 use relmove_lib::{
-    EntryKind, Fault, Position, Root, Status, answer, dead_links_of, position_after, read_tree,
+    EntryKind, Position, Root, Status, answer, dead_links_of, position_after, read_tree,
 };
+use relmove_run::Fault;
 use std::alloc::Global;
 use std::io;
 use std::test::Fail;
@@ -26,7 +27,7 @@ const GUIDE: &[u8] = b"[a](../a.md)\n![i](i.png)";
 
 // A site with a page of links, names with dots, symbolic links, and what isn't UTF-8.
 fn site(alloc: Global) -> io::Result<Disk> {
-    let disk = Disk::new(alloc);
+    let disk = Disk::new(alloc)?;
     disk.add("site", Content::Directory)?;
     add_file(&disk, alloc, "site/index.md", INDEX)?;
     add_file(&disk, alloc, "site/a.md", b"")?;
@@ -41,8 +42,14 @@ fn site(alloc: Global) -> io::Result<Disk> {
     add_file(&disk, alloc, "site/guide/ h.md", b"")?;
     add_file(&disk, alloc, "site/guide/i.markdown", GUIDE)?;
     add_file(&disk, alloc, "site/guide/NOT-UTF-8", b"")?;
-    disk.add("site/s", Content::Link(String::from_str(alloc, "guide")?))?;
-    disk.add("site/z", Content::Link(String::from_str(alloc, "nowhere")?))?;
+    disk.add(
+        "site/s",
+        Content::Symlink(String::from_str(alloc, "guide")?),
+    )?;
+    disk.add(
+        "site/z",
+        Content::Symlink(String::from_str(alloc, "nowhere")?),
+    )?;
     add_file(&disk, alloc, "site/NOT-UTF-8", b"")?;
     Ok(disk)
 }
@@ -50,7 +57,7 @@ fn site(alloc: Global) -> io::Result<Disk> {
 #[test]
 fn reads_a_tree(rt: HostRuntime) -> Result<(), Fail> {
     let disk = site(rt.alloc())?;
-    let machine = Machine(&disk);
+    let machine = DiskMachine(&disk);
     let tree = read_tree(&Root::new(&machine, "site"))?;
     let entries = tree.entries.keys().map(|path| path.as_str());
     let entries = entries.collect::<Vec<_>>(rt.alloc())?;
@@ -88,9 +95,9 @@ fn reads_a_tree(rt: HostRuntime) -> Result<(), Fail> {
 #[test]
 fn reads_where_links_lead(rt: HostRuntime) -> Result<(), Fail> {
     let disk = site(rt.alloc())?;
-    let machine = Machine(&disk);
+    let machine = DiskMachine(&disk);
     let tree = read_tree(&Root::new(&machine, "site"))?;
-    let guide = EntryKind::Link(String::from_str(rt.alloc(), "guide")?);
+    let guide = EntryKind::Link(Some(String::from_str(rt.alloc(), "guide")?));
     same("a link", &tree.entries.get("s"), &Some(&guide))?;
     let directory = EntryKind::Directory;
     same("a directory", &tree.entries.get("guide"), &Some(&directory))
@@ -99,7 +106,7 @@ fn reads_where_links_lead(rt: HostRuntime) -> Result<(), Fail> {
 #[test]
 fn fails_if_a_call_fails(rt: HostRuntime) -> Result<(), Fail> {
     let disk = site(rt.alloc())?;
-    let machine = Machine(&disk);
+    let machine = DiskMachine(&disk);
     read_tree(&Root::new(&machine, "site"))?;
     for number in 1..=disk.calls() {
         disk.fail_at(number, relmove_disk::Way::Refused);
@@ -114,7 +121,7 @@ const PRINTED: &str =
     "site/guide/i.markdown:2:6: i.png: nothing is there\nsite/index.md:3:21: b.md: nothing is there\nsite/index.md:4:5: ../c: it leads above the root\nsite/index.md:4:26: ../site/a.md: it leads above the root\nsite/index.md:5:14: t/f: nothing is there\nsite/no-base.md:1:23: a.md/: nothing is there\nsite/no-base.md:1:48: a.md/.: nothing is there\nsite/no-base.md:1:60: z: nothing is there\n";
 
 const UNREAD: &str =
-    "relmove: no.md isn't UTF-8, and isn't read\nrelmove: base.md has a <base href>, and its links aren't read\nrelmove: a name in the directory site isn't UTF-8\nrelmove: a name in the directory guide isn't UTF-8\n";
+    "relmove: no.md isn't UTF-8, and isn't read\nrelmove: base.md has a <base href>, and its links aren't read\nrelmove: a name in the directory site can't be read, or isn't UTF-8\nrelmove: a name in the directory guide can't be read, or isn't UTF-8\n";
 
 /// Whether a call has this status and prints this.
 pub fn answers(
@@ -124,7 +131,7 @@ pub fn answers(
     expected: (Status, &str, &str),
 ) -> Result<(), Fail> {
     let (mut out, mut errors) = (Vec::new(alloc), Vec::new(alloc));
-    let status = answer(&Machine(disk), words, &mut out, &mut errors);
+    let status = answer(&DiskMachine(disk), words, &mut out, &mut errors);
     let (out, errors) = (String::from_utf8(out)?, String::from_utf8(errors)?);
     same(
         "a call",

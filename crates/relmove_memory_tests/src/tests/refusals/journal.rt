@@ -1,43 +1,55 @@
 //! The text of a journal, and its reading.
 use super::marks::{begin, end};
 use crate::tests::same;
-use relmove_lib::{Fault, Stage, Work, journal_of, journal_text};
 use relmove_plan::Rename;
+use relmove_run::{
+    Fault, Leftover, Origin, Stage, TextDigest, TextFile, Work, is_of_run, journal_of, journal_text,
+};
 use std::alloc::{AllocError, Global};
 use std::test::Fail;
 
+// The last line has the length and the SHA-256 of the lines before it, and the digests are those of `b` and `a`.
 const TEXT: &str =
-    "relmove journal 1\nstage\tparting\napart\ta.md\t.relmove-1\ntogether\t.relmove-1\tb.md\nend\n";
+    "relmove journal 2\nroot\t7\nfile\t8\nstage\tstaging\ntext\t.relmove-2\t1\t3e23e8160039594a33894f6564e1b1348bbd7a0088d42c4acb73eeaed59c009d\nstaged\ta.md\t.relmove-1\nstaged\t.relmove-2\t.relmove-2\nplaced\t.relmove-2\tb.md\nremoved\t.relmove-1\t1\tca978112ca1bbdcafac231b39a23dc4da786eff8147c4e72b9807785afee48bb\nend\t290\t81b902c1df0bd327382684a6a4ef014746d5e307e572ed6628c859ff43b18ff6\n";
 
-// The work of this journal.
-fn work(alloc: Global) -> Result<Work, AllocError> {
-    let text = |text: &str| String::from_str(alloc, text);
-    Ok(Work {
-        texts: Vec::new(alloc),
-        apart: vec![in alloc;
-            Rename {
-                from: text("a.md")?,
-                to: text(".relmove-1")?
-            },
-        ]?,
-        made: Vec::new(alloc),
-        together: vec![in alloc;
-            Rename {
-                from: text(".relmove-1")?,
-                to: text("b.md")?
-            },
-        ]?,
-        removed: Vec::new(alloc),
-        emptied: Vec::new(alloc),
+const ORIGIN: Origin = Origin { root: 7, file: 8 };
+
+// A rename.
+fn rename(alloc: Global, from: &str, to: &str) -> Result<Rename, AllocError> {
+    Ok(Rename {
+        from: String::from_str(alloc, from)?,
+        to: String::from_str(alloc, to)?,
     })
 }
 
-// Requests: 17 34 68 136 = 1
+// A text in a file.
+fn text_file(alloc: Global, path: &str, text: &[u8]) -> Result<TextFile, AllocError> {
+    Ok(TextFile {
+        path: String::from_str(alloc, path)?,
+        digest: TextDigest::of(text),
+    })
+}
+
+// The work of this journal.
+fn work(alloc: Global) -> Result<Work, AllocError> {
+    Ok(Work {
+        texts: vec![in alloc; text_file(alloc, ".relmove-2", b"b")?]?,
+        staged: vec![in alloc;
+            rename(alloc, "a.md", ".relmove-1")?,
+            rename(alloc, ".relmove-2", ".relmove-2")?,
+        ]?,
+        made: Vec::new(alloc),
+        placed: vec![in alloc; rename(alloc, ".relmove-2", "b.md")?]?,
+        cleaned: vec![in alloc; Leftover::Text(text_file(alloc, ".relmove-1", b"a")?)]?,
+    })
+}
+
+// Requests: 18 8 36 8 72 8 64 144 288 8 64 576 8 64 8 16 32 64 128 = 1
 #[test]
 fn the_text_of_a_journal(rt: HostRuntime) -> Result<(), Fail> {
     let work = work(rt.alloc())?;
     begin(rt.alloc());
-    let answer = journal_text(rt.alloc(), Stage::Parting, &work);
+    let answer = journal_text(rt.alloc(), ORIGIN, Stage::Staging, &work);
     end(rt.alloc(), answer.is_err())?;
     match answer {
         Ok(text) => same("a journal", &text.as_str(), &TEXT),
@@ -45,7 +57,8 @@ fn the_text_of_a_journal(rt: HostRuntime) -> Result<(), Fail> {
     }
 }
 
-// Requests: 8 8 16 192 8 16 8 192 = 6
+// Requests: 8 16 256 8 8 16 192 8 16 8 16 8 16 8 192 8 16 288 18 8 36 8 72 8 64 144 288 8 64 576 8 64 8 16 32 64 128
+// 16 64 32 16 64 64 32 16 = 12
 #[test]
 fn the_journal_of_a_text(rt: HostRuntime) -> Result<(), Fail> {
     let expected = work(rt.alloc())?;
@@ -58,4 +71,17 @@ fn the_journal_of_a_text(rt: HostRuntime) -> Result<(), Fail> {
         Err(_) => is_refused,
     };
     same("the work", &is_read, &true)
+}
+
+// Requests: 16 64 32 16 64 64 32 16 = 0
+#[test]
+fn whether_work_is_a_run_s(rt: HostRuntime) -> Result<(), Fail> {
+    let work = work(rt.alloc())?;
+    begin(rt.alloc());
+    let answer = is_of_run(rt.alloc(), &work);
+    end(rt.alloc(), answer.is_err())?;
+    match answer {
+        Ok(is_of_run) => same("the work", &is_of_run, &true),
+        Err(_) => Ok(()),
+    }
 }

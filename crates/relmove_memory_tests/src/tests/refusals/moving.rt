@@ -29,6 +29,9 @@ fn tree(alloc: Global) -> Result<Tree, AllocError> {
         not_text: Vec::new(alloc),
         with_base: Vec::new(alloc),
         unreadable_names: Vec::new(alloc),
+        unlisted: Vec::new(alloc),
+        directories: Vec::new(alloc),
+        unread: Vec::new(alloc),
     })
 }
 

@@ -18,6 +18,7 @@ fn entries<'a>() -> [Entry<'a>; 3] {
             path: RelativePath::new("d"),
             kind: Kind::Directory {
                 has_foreign_name: false,
+                is_read: true,
             },
         },
         Entry {
@@ -49,10 +50,10 @@ fn planned(alloc: Global, text: &str, new: &str) -> Result<Result<Plan, Refusal>
     Ok(answer)
 }
 
-// Requests: 1s 4 488 1s 1 2s 6 2s 6 2s 6 2s 6 488 1s 2s 6 2s 6 32 2s 6 488 1s 2s 6 2s 6 72 1s 4 1s 1 2s 6 7 1s 4 488
-// 1s 1 2s 6 2s 6 1s 1 72 1s 4 11 6 6 2s 6 7 7 1s 4 6 6 6 2s 6 7 7 64 1s 9 18 1s 10 1s 4 488 2s 6 2s 6 10 192 10 192
-// 2s 6 488 1s 4 9 18 1s 10 4 10 11 288 9 18 1s 10 10 10 96 9 18 1s 10 4 10 10 144 32 2s 6 488 1s 1s 10 2s 6 64 1s 1 1
-// 368 1s 1s 1 96 2s 6 64 1s 1 368 6 6 6 2s 6 7 1s = 26
+// Requests: 1s 4 488 1s 1 2s 6 2s 6 2s 6 2s 6 488 1s 2s 6 2s 6 32 2s 6 488 1s 2s 6 2s 6 72 1s 4 1s 1 2s 6 7 1s 4 488 1s
+// 1 2s 6 2s 6 1s 1 2s 6 1s 1 72 1s 4 11 6 6 2s 6 7 7 1s 4 6 6 6 2s 6 7 7 64 1s 9 18 1s 10 1s 4 488 2s 6 2s 6 10 192 10
+// 192 2s 6 488 1s 4 9 18 1s 10 4 10 11 288 9 18 1s 10 10 10 96 9 18 1s 10 4 10 10 144 32 2s 6 488 1s 1s 10 2s 6 64 1s 1
+// 1 368 1s 1s 1 96 2s 6 64 1s 1 368 6 6 6 2s 6 7 1s = 26
 #[test]
 fn a_plan_with_a_page_that_changes(rt: HostRuntime) -> Result<(), Fail> {
     match planned(rt.alloc(), "[b](d/b.md)", "e/b.md")? {

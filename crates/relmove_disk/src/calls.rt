@@ -1,0 +1,96 @@
+//! Which calls fail, and how.
+use std::cell::Cell;
+use std::io::{self, ErrorKind};
+
+/// How a call fails.
+#[derive(Clone, Copy, Debug, PartialEq, Eq)]
+pub enum Way {
+    /// It does nothing, and fails.
+    Refused,
+    /// It does what it is to do, and fails.
+    DoneAndFailed,
+    /// It does nothing and fails, and so does every call after it, as if the process were killed.
+    Killed,
+    /// It does what it is to do, and every call after it fails.
+    DoneAndKilled,
+}
+
+/// Whether a call that is done says so.
+#[derive(Clone, Copy, PartialEq, Eq)]
+pub(crate) enum Turn {
+    Succeeds,
+    Fails,
+}
+
+impl Turn {
+    /// Fails if the call that is done has to say that it failed.
+    pub fn end(self) -> io::Result<()> {
+        match self {
+            Turn::Succeeds => Ok(()),
+            Turn::Fails => Err(io::Error::from(ErrorKind::Other)),
+        }
+    }
+}
+
+/// The number of calls so far, and those that fail.
+#[derive(Drop)]
+pub(crate) struct Calls {
+    count: Cell<u32>,
+    fails_at: Cell<u32>,
+    way: Cell<Way>,
+    // A second call that fails: it is refused.
+    refused_at: Cell<u32>,
+}
+
+impl Calls {
+    /// No call, and none that fails.
+    pub fn new() -> Calls {
+        Calls {
+            count: Cell::new(0),
+            fails_at: Cell::new(0),
+            way: Cell::new(Way::Refused),
+            refused_at: Cell::new(0),
+        }
+    }
+
+    /// Counts anew. From now on the call of this number fails; none does if the number is 0.
+    pub fn fail_at(&self, number: u32, way: Way) {
+        self.count.set(0);
+        self.fails_at.set(number);
+        self.way.set(way);
+        self.refused_at.set(0);
+    }
+
+    /// Refuses the call of this number too.
+    pub fn refuse_at(&self, number: u32) {
+        self.refused_at.set(number);
+    }
+
+    /// How many calls were made.
+    pub fn count(&self) -> u32 {
+        self.count.get()
+    }
+
+    /// Counts a call. Fails if the call does nothing.
+    pub fn turn(&self) -> io::Result<Turn> {
+        let number = self.count.get().saturating_add(1);
+        self.count.set(number);
+        if number == self.refused_at.get() {
+            return Err(io::Error::from(ErrorKind::Other));
+        }
+        let fails_at = self.fails_at.get();
+        if fails_at == 0 || number < fails_at {
+            return Ok(Turn::Succeeds);
+        }
+        let is_first = number == fails_at;
+        match self.way.get() {
+            Way::Refused if is_first => Err(io::Error::from(ErrorKind::Other)),
+            Way::Refused => Ok(Turn::Succeeds),
+            Way::DoneAndFailed if is_first => Ok(Turn::Fails),
+            Way::DoneAndFailed => Ok(Turn::Succeeds),
+            Way::Killed => Err(io::Error::from(ErrorKind::Other)),
+            Way::DoneAndKilled if is_first => Ok(Turn::Fails),
+            Way::DoneAndKilled => Err(io::Error::from(ErrorKind::Other)),
+        }
+    }
+}

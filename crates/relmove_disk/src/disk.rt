@@ -1,0 +1,314 @@
+//! A disk, as a test makes and reads it.
+use crate::calls::{Calls, Turn, Way};
+use crate::node::{Content, Owner};
+use crate::nodes::Nodes;
+use std::alloc::{AllocError, Global};
+use std::cell::{Cell, RefCell};
+use std::io::{self, ErrorKind};
+
+// What another process puts somewhere, and before which call.
+#[derive(Drop)]
+struct Surprise {
+    number: u32,
+    path: String,
+    content: Content,
+}
+
+/// A disk, and the process that works on it: its user and group, 1000 at first, the number of its calls, and those that
+/// fail. Also the time, in milliseconds, and what was printed on standard error.
+#[derive(Drop)]
+pub struct Disk {
+    pub(crate) alloc: Global,
+    pub(crate) nodes: RefCell<Nodes>,
+    calls: Calls,
+    surprises: RefCell<Vec<Surprise>>,
+    // How many bytes all files may have.
+    size: Cell<u64>,
+    // Whether the process may give a file to another user.
+    pub(crate) gives_away: Cell<bool>,
+    // Whether a process has the lock of a directory.
+    pub(crate) is_locked: Cell<bool>,
+    pub(crate) time: Cell<u64>,
+    pub(crate) printed: RefCell<Vec<u8>>,
+}
+
+impl Disk {
+    /// A disk without files.
+    pub fn new(alloc: Global) -> io::Result<Disk> {
+        let mut nodes = Nodes::new(alloc);
+        nodes.put("", Content::Directory, 0o755)?;
+        Ok(Disk {
+            alloc,
+            nodes: RefCell::new(nodes),
+            calls: Calls::new(),
+            surprises: RefCell::new(Vec::new(alloc)),
+            size: Cell::new(u64::MAX),
+            gives_away: Cell::new(false),
+            is_locked: Cell::new(false),
+            time: Cell::new(0),
+            printed: RefCell::new(Vec::new(alloc)),
+        })
+    }
+
+    /// Puts something at a path, as another process that nothing refuses. A file that is there gets the other bytes, and
+    /// stays the same file. Anything else there is removed, with all below it. Everything is on the disk then.
+    pub fn add(&self, path: &str, content: Content) -> io::Result<()> {
+        let mut nodes = self.nodes.try_borrow_mut()?;
+        let path = nodes.resolve(path, false)?;
+        let path = path.as_str();
+        if let Some(number) = nodes.number_at(path) {
+            let node = nodes.node_mut(number)?;
+            if let (Content::File(_), Content::File(_)) = (&node.content, &content) {
+                node.content = content;
+                return Ok(());
+            }
+            nodes.clear(path);
+        }
+        let mode = match &content {
+            Content::Directory => 0o755,
+            _ => 0o644,
+        };
+        nodes.put(path, content, mode)?;
+        nodes.sync_all();
+        Ok(())
+    }
+
+    /// Puts something at a path, as [`Disk::add`] does, before the call of this number.
+    pub fn add_before(&self, number: u32, path: &str, content: Content) -> io::Result<()> {
+        let path = String::from_str(self.alloc, path)?;
+        let surprise = Surprise {
+            number,
+            path,
+            content,
+        };
+        match self.surprises.try_borrow_mut()?.push(surprise) {
+            Ok(()) => Ok(()),
+            Err(_) => Err(io::Error::from(AllocError)),
+        }
+    }
+
+    /// Gives a file a second name, as another process that nothing refuses.
+    pub fn add_link(&self, from: &str, to: &str) -> io::Result<()> {
+        let mut nodes = self.nodes.try_borrow_mut()?;
+        let (from, to) = (nodes.resolve(from, false)?, nodes.resolve(to, false)?);
+        nodes.link(from.as_str(), to.as_str())?;
+        nodes.sync_all();
+        Ok(())
+    }
+
+    /// Removes a path and all below it, as another process that nothing refuses.
+    pub fn remove(&self, path: &str) -> io::Result<()> {
+        let mut nodes = self.nodes.try_borrow_mut()?;
+        let path = nodes.resolve(path, false)?;
+        nodes.clear(path.as_str());
+        Ok(())
+    }
+
+    /// Gives what is at a path these permissions. The process can list a directory, change it and use its names only as
+    /// they say.
+    pub fn set_mode(&self, path: &str, mode: u32) -> io::Result<()> {
+        let mut nodes = self.nodes.try_borrow_mut()?;
+        let number = number_at(&nodes, path)?;
+        nodes.node_mut(number)?.mode = mode;
+        Ok(())
+    }
+
+    /// Gives what is at a path to a user and a group.
+    pub fn set_owner(&self, path: &str, user: u32, group: u32) -> io::Result<()> {
+        let mut nodes = self.nodes.try_borrow_mut()?;
+        let number = number_at(&nodes, path)?;
+        nodes.node_mut(number)?.owner = Owner { user, group };
+        Ok(())
+    }
+
+    /// Says which permissions, user and group what is at a path has.
+    pub fn rights(&self, path: &str) -> io::Result<(u32, u32, u32)> {
+        let nodes = self.nodes.try_borrow()?;
+        let node = nodes.node(number_at(&nodes, path)?)?;
+        Ok((node.mode, node.owner.user, node.owner.group))
+    }
+
+    /// Puts a directory on another device. What is made in it later is there too.
+    pub fn set_device(&self, path: &str, device: u64) -> io::Result<()> {
+        let mut nodes = self.nodes.try_borrow_mut()?;
+        let number = number_at(&nodes, path)?;
+        nodes.node_mut(number)?.device = device;
+        Ok(())
+    }
+
+    /// From now on the process works as this user and group. The user 0 may do everything but give files away.
+    pub fn work_as(&self, user: u32, group: u32) -> io::Result<()> {
+        self.nodes.try_borrow_mut()?.process = Owner { user, group };
+        Ok(())
+    }
+
+    /// Says whether the process may give files to other users.
+    pub fn allow_giving(&self, is_allowed: bool) {
+        self.gives_away.set(is_allowed);
+    }
+
+    /// Gives the lock of the directories to another process, or takes it away.
+    pub fn set_locked(&self, is_locked: bool) {
+        self.is_locked.set(is_locked);
+    }
+
+    /// From now on all files together may get longer only by so many bytes.
+    pub fn leave_room(&self, bytes: u64) -> io::Result<()> {
+        let length = self.nodes.try_borrow()?.length();
+        self.size.set(length.saturating_add(bytes));
+        Ok(())
+    }
+
+    /// Counts calls anew. From now on the call of this number fails; none does if the number is 0.
+    pub fn fail_at(&self, number: u32, way: Way) {
+        self.calls.fail_at(number, way);
+    }
+
+    /// Refuses the call of this number, beside the one that fails anyway.
+    pub fn refuse_at(&self, number: u32) {
+        self.calls.refuse_at(number);
+    }
+
+    /// How many calls were made.
+    pub fn calls(&self) -> u32 {
+        self.calls.count()
+    }
+
+    /// How many changes of names aren't on the disk yet.
+    pub fn unsynced(&self) -> io::Result<usize> {
+        Ok(self.nodes.try_borrow()?.unsynced())
+    }
+
+    /// Turns the power off and on. Of the changes of names that aren't on the disk yet only the oldest ones of this
+    /// number stay, and files whose bytes aren't there lose half of them. No process has the lock then.
+    pub fn lose_power(&self, kept: usize) -> io::Result<()> {
+        self.is_locked.set(false);
+        self.nodes.try_borrow_mut()?.lose_power(kept)
+    }
+
+    /// Whether exactly this was printed on standard error.
+    pub fn has_printed(&self, text: &str) -> io::Result<bool> {
+        Ok(self.printed.try_borrow()?.as_slice() == text.as_bytes())
+    }
+
+    /// All that is there, sorted, a line each.
+    pub fn listing(&self) -> io::Result<String> {
+        let mut lines = Vec::new(self.alloc);
+        let nodes = self.nodes.try_borrow()?;
+        for path in nodes.paths()? {
+            if let Some(number) = nodes.number_at(path) {
+                let content = &nodes.node(number)?.content;
+                let line = format!(in self.alloc; "{path} {content:?}\n")?;
+                if lines.push(line).is_err() {
+                    return Err(io::Error::from(AllocError));
+                }
+            }
+        }
+        lines.sort()?;
+        let mut listing = String::new(self.alloc);
+        for line in &lines {
+            listing.push_str(line.as_str())?;
+        }
+        Ok(listing)
+    }
+
+    /// Whether a file with this text is at one of two paths, or at a name that a run gives.
+    pub fn has_file(&self, old: &str, new: &str, text: &str) -> io::Result<bool> {
+        let nodes = self.nodes.try_borrow()?;
+        for path in nodes.paths()? {
+            let is_known = path == old || path == new || path.contains("/.relmove-");
+            if is_known
+                && let Some(number) = nodes.number_at(path)
+                && nodes.node(number)?.is_file_of(text)
+            {
+                return Ok(true);
+            }
+        }
+        Ok(false)
+    }
+
+    /// The bytes of the file at a path.
+    pub fn text_at(&self, path: &str) -> io::Result<Vec<u8>> {
+        let nodes = self.nodes.try_borrow()?;
+        match &nodes.node(number_at(&nodes, path)?)?.content {
+            Content::File(bytes) => Ok(Vec::from_slice(self.alloc, bytes.as_slice())?),
+            _ => Err(io::Error::from(ErrorKind::InvalidInput)),
+        }
+    }
+
+    /// Whether anything is at a path.
+    pub fn has(&self, path: &str) -> io::Result<bool> {
+        let nodes = self.nodes.try_borrow()?;
+        match nodes.resolve(path, false) {
+            Ok(path) => Ok(nodes.number_at(path.as_str()).is_some()),
+            Err(_) => Ok(false),
+        }
+    }
+
+    /// Whether a file with this text is at a path.
+    pub fn is_file(&self, path: &str, text: &str) -> io::Result<bool> {
+        let nodes = self.nodes.try_borrow()?;
+        let path = nodes.resolve(path, false)?;
+        match nodes.number_at(path.as_str()) {
+            Some(number) => Ok(nodes.node(number)?.is_file_of(text)),
+            None => Ok(false),
+        }
+    }
+
+    // Counts a call, after what another process does before it. Fails if the call does nothing.
+    pub(crate) fn turn(&self) -> io::Result<Turn> {
+        let turn = self.calls.turn();
+        let number = self.calls.count();
+        let surprise = {
+            let mut surprises = self.surprises.try_borrow_mut()?;
+            match surprises
+                .iter()
+                .position(|surprise| surprise.number == number)
+            {
+                Some(index) => Some(surprises.remove(index)),
+                None => None,
+            }
+        };
+        if let Some(surprise) = surprise {
+            let Surprise { path, content, .. } = surprise;
+            self.add(path.as_str(), content)?;
+        }
+        turn
+    }
+
+    // Fails unless so many more bytes have room.
+    pub(crate) fn need_room(&self, bytes: u64) -> io::Result<()> {
+        let length = self.nodes.try_borrow()?.length();
+        if length.saturating_add(bytes) > self.size.get() {
+            return Err(io::Error::from(ErrorKind::StorageFull));
+        }
+        Ok(())
+    }
+
+    // Makes an empty file where nothing is.
+    pub(crate) fn make_file(&self, path: &str, mode: u32) -> io::Result<usize> {
+        self.need_room(1)?;
+        let content = Content::File(Vec::new(self.alloc));
+        self.nodes.try_borrow_mut()?.make(path, content, mode)
+    }
+
+    // Adds bytes to a file.
+    pub(crate) fn append(&self, number: usize, more: &[u8]) -> io::Result<()> {
+        self.need_room(more.len() as u64)?;
+        let mut nodes = self.nodes.try_borrow_mut()?;
+        let node = nodes.node_mut(number)?;
+        node.is_synced = false;
+        match &mut node.content {
+            Content::File(bytes) => Ok(bytes.extend_from_slice(more)?),
+            _ => Err(io::Error::from(ErrorKind::InvalidInput)),
+        }
+    }
+}
+
+// The node at a path. Fails if nothing is there.
+fn number_at(nodes: &Nodes, path: &str) -> io::Result<usize> {
+    match nodes.number_at(nodes.resolve(path, false)?.as_str()) {
+        Some(number) => Ok(number),
+        None => Err(io::Error::from(ErrorKind::NotFound)),
+    }
+}

@@ -1,0 +1,273 @@
+//! A disk as the files of a run.
+use crate::disk::Disk;
+use crate::files::DiskMachine;
+use crate::node::{Content, Node, Owner, READ};
+use relmove_run::{Found, FoundKind, Machine, Store};
+use std::alloc::{AllocError, Global};
+use std::io::{self, ErrorKind};
+use std::time::{Duration, SystemTime};
+
+// The most bytes that one call writes.
+const MOST_WRITTEN: usize = 9;
+
+// When everything on a disk was written, in seconds since 1970.
+const WRITTEN: u64 = 1_000_000_000;
+
+/// The files below a root on a disk.
+pub struct DiskStore<'a> {
+    disk: &'a Disk,
+    root: String,
+    // Whether this store has the lock.
+    has_lock: bool,
+}
+
+impl Drop for DiskStore<'_> {
+    fn drop(self) {
+        let DiskStore {
+            disk,
+            root: _root,
+            has_lock,
+        } = self;
+        if has_lock {
+            disk.is_locked.set(false);
+        }
+    }
+}
+
+/// A file that a run made.
+#[derive(Clone, Copy)]
+pub struct NewDiskFile(usize);
+
+impl<'a> DiskStore<'a> {
+    /// The files below a root.
+    pub fn new(disk: &'a Disk, root: &str) -> Result<DiskStore<'a>, AllocError> {
+        Ok(DiskStore {
+            disk,
+            root: String::from_str(disk.alloc, root)?,
+            has_lock: false,
+        })
+    }
+
+    // The name at a path below the root. The root itself may be a symbolic link.
+    fn resolve(&self, path: &str) -> io::Result<String> {
+        let nodes = self.disk.nodes.try_borrow()?;
+        if path.is_empty() {
+            return nodes.resolve(self.root.as_str(), true);
+        }
+        let full = format!(in self.disk.alloc; "{}/{path}", self.root.as_str())?;
+        nodes.resolve(full.as_str(), false)
+    }
+
+    // What a node is.
+    fn found_of(&self, number: usize) -> io::Result<Found> {
+        let nodes = self.disk.nodes.try_borrow()?;
+        let node = nodes.node(number)?;
+        Ok(Found {
+            kind: kind_of(node),
+            device: node.device,
+            inode: (number as u64).saturating_add(1),
+            links: nodes.links(number),
+            length: node.length(),
+            mode: node.mode,
+            owner: node.owner.user,
+            group: node.owner.group,
+            modified: SystemTime::UNIX_EPOCH.checked_add(Duration::from_secs(WRITTEN)),
+        })
+    }
+}
+
+// What kind of thing a node is.
+fn kind_of(node: &Node) -> FoundKind {
+    match &node.content {
+        Content::File(_) => FoundKind::File,
+        Content::Directory => FoundKind::Directory,
+        Content::Symlink(_) => FoundKind::Symlink,
+        Content::Other => FoundKind::Other,
+    }
+}
+
+// Whether an error says that nothing is at a path.
+fn is_absence(kind: ErrorKind) -> bool {
+    matches!(kind, ErrorKind::NotFound | ErrorKind::NotADirectory)
+}
+
+impl Store for DiskStore<'_> {
+    type NewFile = NewDiskFile;
+
+    fn alloc(&self) -> Global {
+        self.disk.alloc
+    }
+
+    fn root(&self) -> &str {
+        self.root.as_str()
+    }
+
+    fn find(&mut self, path: &str) -> io::Result<Option<Found>> {
+        let turn = self.disk.turn()?;
+        turn.end()?;
+        let number = match self.resolve(path) {
+            Ok(path) => self.disk.nodes.try_borrow()?.number_at(path.as_str()),
+            Err(error) if is_absence(error.kind()) => None,
+            Err(error) => return Err(error),
+        };
+        match number {
+            Some(number) => Ok(Some(self.found_of(number)?)),
+            None => Ok(None),
+        }
+    }
+
+    fn read(&mut self, path: &str) -> io::Result<Vec<u8>> {
+        let turn = self.disk.turn()?;
+        turn.end()?;
+        let path = self.resolve(path)?;
+        let nodes = self.disk.nodes.try_borrow()?;
+        let Some(number) = nodes.number_at(path.as_str()) else {
+            return Err(io::Error::from(ErrorKind::NotFound));
+        };
+        let node = nodes.node(number)?;
+        match &node.content {
+            Content::File(bytes) => {
+                node.need_permission(nodes.process, READ)?;
+                Ok(Vec::from_slice(self.disk.alloc, bytes.as_slice())?)
+            }
+            _ => Err(io::Error::from(ErrorKind::InvalidInput)),
+        }
+    }
+
+    fn create(&mut self, path: &str, mode: u32) -> io::Result<NewDiskFile> {
+        let turn = self.disk.turn()?;
+        let path = self.resolve(path)?;
+        let number = self.disk.make_file(path.as_str(), mode)?;
+        turn.end()?;
+        Ok(NewDiskFile(number))
+    }
+
+    fn find_new(&mut self, file: &NewDiskFile) -> io::Result<Found> {
+        let turn = self.disk.turn()?;
+        turn.end()?;
+        self.found_of(file.0)
+    }
+
+    fn write(&mut self, file: &mut NewDiskFile, bytes: &[u8]) -> io::Result<()> {
+        for part in bytes.chunks(MOST_WRITTEN) {
+            let turn = self.disk.turn()?;
+            self.disk.append(file.0, part)?;
+            turn.end()?;
+        }
+        Ok(())
+    }
+
+    fn set_owner(&mut self, file: &NewDiskFile, owner: u32, group: u32) -> io::Result<()> {
+        let turn = self.disk.turn()?;
+        if !self.disk.gives_away.get() {
+            return Err(io::Error::from(ErrorKind::PermissionDenied));
+        }
+        let mut nodes = self.disk.nodes.try_borrow_mut()?;
+        let node = nodes.node_mut(file.0)?;
+        node.owner = Owner { user: owner, group };
+        node.mode &= 0o777;
+        turn.end()
+    }
+
+    fn set_mode(&mut self, file: &NewDiskFile, mode: u32) -> io::Result<()> {
+        let turn = self.disk.turn()?;
+        self.disk.nodes.try_borrow_mut()?.node_mut(file.0)?.mode = mode;
+        turn.end()
+    }
+
+    fn sync(&mut self, file: &NewDiskFile) -> io::Result<()> {
+        let turn = self.disk.turn()?;
+        self.disk
+            .nodes
+            .try_borrow_mut()?
+            .node_mut(file.0)?
+            .is_synced = true;
+        turn.end()
+    }
+
+    fn sync_directory(&mut self, path: &str) -> io::Result<()> {
+        let turn = self.disk.turn()?;
+        let path = self.resolve(path)?;
+        self.disk
+            .nodes
+            .try_borrow_mut()?
+            .sync_directory(path.as_str())?;
+        turn.end()
+    }
+
+    fn rename(&mut self, from: &str, to: &str) -> io::Result<()> {
+        let turn = self.disk.turn()?;
+        let (from, to) = (self.resolve(from)?, self.resolve(to)?);
+        self.disk
+            .nodes
+            .try_borrow_mut()?
+            .rename(from.as_str(), to.as_str())?;
+        turn.end()
+    }
+
+    fn link(&mut self, from: &str, to: &str) -> io::Result<()> {
+        let turn = self.disk.turn()?;
+        let (from, to) = (self.resolve(from)?, self.resolve(to)?);
+        self.disk
+            .nodes
+            .try_borrow_mut()?
+            .link(from.as_str(), to.as_str())?;
+        turn.end()
+    }
+
+    fn make_directory(&mut self, path: &str) -> io::Result<()> {
+        let turn = self.disk.turn()?;
+        let path = self.resolve(path)?;
+        let content = Content::Directory;
+        self.disk
+            .nodes
+            .try_borrow_mut()?
+            .make(path.as_str(), content, 0o755)?;
+        turn.end()
+    }
+
+    fn remove_file(&mut self, path: &str) -> io::Result<()> {
+        let turn = self.disk.turn()?;
+        let path = self.resolve(path)?;
+        self.disk
+            .nodes
+            .try_borrow_mut()?
+            .remove_file(path.as_str())?;
+        turn.end()
+    }
+
+    fn remove_directory(&mut self, path: &str) -> io::Result<()> {
+        let turn = self.disk.turn()?;
+        let path = self.resolve(path)?;
+        self.disk
+            .nodes
+            .try_borrow_mut()?
+            .remove_directory(path.as_str())?;
+        turn.end()
+    }
+
+    fn lock(&mut self) -> io::Result<bool> {
+        let turn = self.disk.turn()?;
+        let is_taken = !self.disk.is_locked.get();
+        if is_taken {
+            self.disk.is_locked.set(true);
+            self.has_lock = true;
+        }
+        turn.end()?;
+        Ok(is_taken)
+    }
+
+    fn is_locked(&mut self) -> io::Result<bool> {
+        let turn = self.disk.turn()?;
+        turn.end()?;
+        Ok(self.disk.is_locked.get())
+    }
+}
+
+impl<'a> Machine for DiskMachine<'a> {
+    type Store = DiskStore<'a>;
+
+    fn store_at(&self, root: &str) -> Result<DiskStore<'a>, AllocError> {
+        DiskStore::new(self.0, root)
+    }
+}

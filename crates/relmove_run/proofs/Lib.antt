@@ -1,0 +1,2 @@
+mod ShapeLemmas
+mod OnceLemmas

@@ -1,0 +1,232 @@
+//! Why a call fails.
+use crate::printable::Printable;
+use httpdate::{HttpDate, fmt_http_date};
+use std::alloc::{AllocError, AllocFailed, Global};
+use std::error::Error;
+use std::time::SystemTime;
+use std::{fmt, io};
+
+/// A call of the file system.
+#[derive(Clone, Copy, Debug, PartialEq, Eq)]
+pub enum Call {
+    /// Asks for what is at a path.
+    Ask,
+    /// Locks a directory.
+    Lock,
+    /// Lists a directory.
+    List,
+    /// Reads a file.
+    Read,
+    /// Reads where a symbolic link leads.
+    ReadLink,
+    /// Makes a file.
+    Create,
+    /// Writes a file.
+    Write,
+    /// Syncs a file or directory.
+    Sync,
+    /// Sets a file's permissions.
+    SetPermissions,
+    /// Renames a file or directory.
+    Rename,
+    /// Gives a file a second name.
+    Link,
+    /// Makes a directory.
+    MakeDirectory,
+    /// Removes a file.
+    RemoveFile,
+    /// Removes a directory.
+    RemoveDirectory,
+}
+
+impl Call {
+    // What the call does, in words.
+    fn words(self) -> &'static str {
+        match self {
+            Call::Ask => "look up",
+            Call::Lock => "lock",
+            Call::List => "list",
+            Call::Read | Call::ReadLink => "read",
+            Call::Create | Call::MakeDirectory => "make",
+            Call::Write => "write",
+            Call::Sync => "sync",
+            Call::SetPermissions => "set the permissions of",
+            Call::Rename => "rename",
+            Call::Link => "link",
+            Call::RemoveFile | Call::RemoveDirectory => "remove",
+        }
+    }
+}
+
+/// Why a call fails. Paths are relative to the root.
+#[derive(Debug, Drop)]
+pub enum Fault {
+    /// An allocation failed.
+    OutOfMemory,
+    /// A call of the file system failed.
+    System {
+        /// Which call.
+        call: Call,
+        /// The path.
+        path: String,
+        /// What the system says.
+        why: String,
+    },
+    /// Something is at a path that has to be free.
+    Taken(String),
+    /// Nothing is at a path that the run needs.
+    Missing(String),
+    /// A path on the way to another one is no directory, but a symbolic link or a file.
+    NotADirectory(String),
+    /// A path is too long, or has a name that is.
+    TooLong(String),
+    /// A path is on another file system than the root.
+    OtherDevice(String),
+    /// The text of a page changed after it was read.
+    Changed(String),
+    /// Another process works on the root.
+    AtWork,
+    /// The root has the journal of a run that didn't end.
+    HasJournal {
+        /// When the journal was written, if this is known.
+        written: Option<SystemTime>,
+    },
+    /// A directory below the root or above it has the journal of a run that didn't end.
+    JournalNear(String),
+    /// The root has no journal.
+    NoJournal,
+    /// What has the journal's name isn't a journal.
+    NotAJournal,
+    /// The journal is of the first version, which this program no longer reads.
+    OldJournal,
+    /// The journal wasn't written in this folder: it came with a copy, a clone or an archive.
+    ForeignJournal,
+    /// Something has a name of the run's own, and no run left it.
+    OwnName(String),
+    /// A run that was killed before it changed anything left a file of its own.
+    LeftOver(String),
+    /// The steps aren't those of a plan.
+    NotAPlan,
+    /// Everything is at its new path already, so the run can't be taken back.
+    TooLate,
+}
+
+impl fmt::Display for Fault {
+    fn fmt<W: fmt::Write>(&self, f: &mut fmt::Formatter<W>) -> fmt::Result {
+        match self {
+            Fault::System { call, path, why } => {
+                let words = call.words();
+                let path = Printable(path.as_str());
+                write!(f, "can't {words} {path}: {why}")
+            }
+            Fault::HasJournal { written } => write_has_journal(f, *written),
+            other => match words_with_path(other) {
+                Some((path, words)) => {
+                    let path = Printable(path);
+                    write!(f, "{path} {words}")
+                }
+                None => f.write_str(words_alone(other)),
+            },
+        }
+    }
+}
+
+// Writes that the root has a journal.
+fn write_has_journal<W: fmt::Write>(
+    f: &mut fmt::Formatter<W>,
+    written: Option<SystemTime>,
+) -> fmt::Result {
+    f.write_str("a run before this one didn't end")?;
+    if let Some(written) = written
+        && let Ok(date) = HttpDate::try_from(written)
+    {
+        write!(f, "; its journal .relmove was written on {date}")?;
+    }
+    f.write_str(
+        ". If it was your run, call relmove --resume ROOT or relmove --undo ROOT. If the folder came from elsewhere, the journal may have come with it: then remove it",
+    )
+}
+
+// The path of a fault, and the words that follow it.
+fn words_with_path(fault: &Fault) -> Option<(&str, &'static str)> {
+    match fault {
+        Fault::Taken(path) => Some((path.as_str(), "is there already")),
+        Fault::Missing(path) => Some((path.as_str(), "isn't there")),
+        Fault::NotADirectory(path) => Some((
+            path.as_str(),
+            "is no directory: a symbolic link or a file is there",
+        )),
+        Fault::TooLong(path) => Some((path.as_str(), "is too long, or a name in it is")),
+        Fault::OtherDevice(path) => Some((path.as_str(), "is on another file system than ROOT")),
+        Fault::Changed(path) => Some((
+            path.as_str(),
+            "was changed while the run worked, so the run was taken back",
+        )),
+        Fault::JournalNear(path) => Some((
+            path.as_str(),
+            "is the journal of a run that didn't end: end that run first",
+        )),
+        Fault::OwnName(path) => Some((
+            path.as_str(),
+            "has a name of relmove's own, and relmove didn't leave it: remove or rename it",
+        )),
+        Fault::LeftOver(path) => Some((
+            path.as_str(),
+            "was left by a run that was killed: call relmove --undo ROOT to remove it",
+        )),
+        _ => None,
+    }
+}
+
+// The words of a fault without a path.
+fn words_alone(fault: &Fault) -> &'static str {
+    match fault {
+        Fault::OutOfMemory => "memory ran out",
+        Fault::AtWork => "another call of relmove is at work here",
+        Fault::NoJournal => "there is no run that didn't end",
+        Fault::NotAJournal => {
+            ".relmove isn't a journal that relmove wrote: another program made or changed it"
+        }
+        Fault::OldJournal => {
+            "the journal .relmove is of an older relmove. Rename by hand what it lists: from the names that begin with .relmove- to the old paths (lines apart) or to the new ones (lines together)"
+        }
+        Fault::ForeignJournal => {
+            "the journal .relmove wasn't written in this folder: it came with a copy or from elsewhere. Remove it, or add --trust-journal to see what it asks for"
+        }
+        Fault::NotAPlan => "the steps aren't those of a plan",
+        Fault::TooLate => {
+            "everything is at its new path already: call relmove --resume ROOT to end the run"
+        }
+        _ => "",
+    }
+}
+
+impl Error for Fault {}
+
+impl From<AllocError> for Fault {
+    fn from(_: AllocError) -> Fault {
+        Fault::OutOfMemory
+    }
+}
+
+impl<T: Drop> From<AllocFailed<T>> for Fault {
+    fn from(_: AllocFailed<T>) -> Fault {
+        Fault::OutOfMemory
+    }
+}
+
+/// The outcome of a call of the file system, with the call and the path if it failed.
+pub fn at<T>(alloc: Global, call: Call, path: &str, outcome: io::Result<T>) -> Result<T, Fault> {
+    match outcome {
+        Ok(value) => Ok(value),
+        Err(error) => Err(fault_of(alloc, call, path, &error)),
+    }
+}
+
+/// The fault that a call failed.
+pub fn fault_of(alloc: Global, call: Call, path: &str, error: &io::Error) -> Fault {
+    match (String::from_str(alloc, path), error.to_string(alloc)) {
+        (Ok(path), Ok(why)) => Fault::System { call, path, why },
+        _ => Fault::OutOfMemory,
+    }
+}

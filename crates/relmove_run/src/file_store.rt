@@ -1,0 +1,211 @@
+//! The files of the system below a root.
+//!
+//! Nothing is proved of what they hold. This module is thin: each call is a call of the system or two.
+use crate::path::join;
+use crate::store::{Found, FoundKind, Machine, Store};
+use std::alloc::{AllocError, Global};
+use std::fs::{self, File, FileType, Metadata, OpenFile, OpenOptions, Permissions, TryLockError};
+use std::io::{self, ErrorKind, Read, Write};
+use std::os::fd::AsFd;
+use std::os::unix::fs::{MetadataExt, OpenOptionsExt, PermissionsExt, fchown};
+use std::rt::Files;
+
+// The bits of a mode that are permissions.
+const PERMISSIONS: u32 = 0o7777;
+
+/// The files of the system below a root.
+#[derive(Drop)]
+pub struct FileStore {
+    runtime: HostRuntime,
+    root: String,
+    lock: Option<File>,
+}
+
+impl FileStore {
+    /// The files below the directory at a path. Allocates the path.
+    pub fn new(runtime: HostRuntime, root: &str) -> Result<FileStore, AllocError> {
+        Ok(FileStore {
+            runtime,
+            root: String::from_str(runtime.alloc(), root)?,
+            lock: None,
+        })
+    }
+
+    // Opens the root for reading.
+    fn open_root(&self) -> io::Result<File> {
+        let path = self.full("")?;
+        if !fs::metadata(&self.runtime, path.as_str())?.is_dir() {
+            return Err(io::Error::from(ErrorKind::NotADirectory));
+        }
+        fs::open(&self.runtime, path.as_str())
+    }
+
+    // The path of a file below the root, as the system takes it.
+    fn full(&self, path: &str) -> Result<String, AllocError> {
+        join(self.runtime.alloc(), self.root.as_str(), path)
+    }
+}
+
+impl Store for FileStore {
+    type NewFile = File;
+
+    fn alloc(&self) -> Global {
+        self.runtime.alloc()
+    }
+
+    fn root(&self) -> &str {
+        self.root.as_str()
+    }
+
+    fn find(&mut self, path: &str) -> io::Result<Option<Found>> {
+        // The root itself may be a symbolic link.
+        let path = if path.is_empty() { "." } else { path };
+        match fs::symlink_metadata(&self.runtime, self.full(path)?.as_str()) {
+            Ok(metadata) => Ok(Some(found_of(&metadata))),
+            Err(error) if is_absence(error.kind()) => Ok(None),
+            Err(error) => Err(error),
+        }
+    }
+
+    fn read(&mut self, path: &str) -> io::Result<Vec<u8>> {
+        read_regular(&self.runtime, self.full(path)?.as_str())
+    }
+
+    fn create(&mut self, path: &str, mode: u32) -> io::Result<File> {
+        let mut options = OpenOptions::new();
+        options.write(true).create_new(true).mode(mode);
+        options.open(&self.runtime, self.full(path)?.as_str())
+    }
+
+    fn find_new(&mut self, file: &File) -> io::Result<Found> {
+        Ok(found_of(&file.metadata()?))
+    }
+
+    fn write(&mut self, file: &mut File, bytes: &[u8]) -> io::Result<()> {
+        file.write_all(bytes)
+    }
+
+    fn set_owner(&mut self, file: &File, owner: u32, group: u32) -> io::Result<()> {
+        fchown(file.as_fd(), Some(owner), Some(group))
+    }
+
+    fn set_mode(&mut self, file: &File, mode: u32) -> io::Result<()> {
+        file.set_permissions(Permissions::from_mode(mode))
+    }
+
+    fn sync(&mut self, file: &File) -> io::Result<()> {
+        file.sync_all()
+    }
+
+    fn sync_directory(&mut self, path: &str) -> io::Result<()> {
+        fs::open(&self.runtime, self.full(path)?.as_str())?.sync_all()
+    }
+
+    fn rename(&mut self, from: &str, to: &str) -> io::Result<()> {
+        let (from, to) = (self.full(from)?, self.full(to)?);
+        fs::rename(&self.runtime, from.as_str(), to.as_str())
+    }
+
+    fn link(&mut self, from: &str, to: &str) -> io::Result<()> {
+        let (from, to) = (self.full(from)?, self.full(to)?);
+        fs::hard_link(&self.runtime, from.as_str(), to.as_str())
+    }
+
+    fn make_directory(&mut self, path: &str) -> io::Result<()> {
+        fs::create_dir(&self.runtime, self.full(path)?.as_str())
+    }
+
+    fn remove_file(&mut self, path: &str) -> io::Result<()> {
+        fs::remove_file(&self.runtime, self.full(path)?.as_str())
+    }
+
+    fn remove_directory(&mut self, path: &str) -> io::Result<()> {
+        fs::remove_dir(&self.runtime, self.full(path)?.as_str())
+    }
+
+    fn lock(&mut self) -> io::Result<bool> {
+        let root = self.open_root()?;
+        match root.try_lock() {
+            Ok(()) => {
+                self.lock = Some(root);
+                Ok(true)
+            }
+            Err(TryLockError::WouldBlock) => Ok(false),
+            Err(TryLockError::Error(error)) => Err(error),
+        }
+    }
+
+    fn is_locked(&mut self) -> io::Result<bool> {
+        match self.open_root()?.try_lock_shared() {
+            Ok(()) => Ok(false),
+            Err(TryLockError::WouldBlock) => Ok(true),
+            Err(TryLockError::Error(error)) => Err(error),
+        }
+    }
+}
+
+impl Machine for HostRuntime {
+    type Store = FileStore;
+
+    fn store_at(&self, root: &str) -> Result<FileStore, AllocError> {
+        FileStore::new(*self, root)
+    }
+}
+
+/// Reads a regular file. Whatever else is there isn't opened. If something else comes there before the file is opened,
+/// the call fails after it opened that; the call may wait then, if that is a FIFO.
+///
+/// Allocates the bytes.
+pub fn read_regular<R: Files + AllocGlobal>(runtime: &R, path: &str) -> io::Result<Vec<u8>> {
+    need_file(fs::symlink_metadata(runtime, path)?.file_type())?;
+    let mut file = fs::open(runtime, path)?;
+    need_file(file.metadata()?.file_type())?;
+    let mut bytes = Vec::new(runtime.alloc());
+    file.read_to_end(&mut bytes)?;
+    Ok(bytes)
+}
+
+// Fails unless this is a regular file's kind.
+fn need_file(kind: FileType) -> io::Result<()> {
+    if kind.is_file() {
+        return Ok(());
+    }
+    Err(io::Error::new(ErrorKind::InvalidInput, "not a regular file"))
+}
+
+// What metadata say.
+fn found_of(metadata: &Metadata) -> Found {
+    Found {
+        kind: kind_of(metadata.file_type()),
+        device: metadata.dev(),
+        inode: metadata.ino(),
+        links: metadata.nlink(),
+        length: metadata.len(),
+        mode: metadata.mode() & PERMISSIONS,
+        owner: metadata.uid(),
+        group: metadata.gid(),
+        modified: metadata.modified().ok(),
+    }
+}
+
+// What kind of thing a type of file is.
+fn kind_of(kind: FileType) -> FoundKind {
+    if kind.is_file() {
+        FoundKind::File
+    } else if kind.is_dir() {
+        FoundKind::Directory
+    } else if kind.is_symlink() {
+        FoundKind::Symlink
+    } else {
+        FoundKind::Other
+    }
+}
+
+/// Whether an error says that nothing is at a path.
+pub fn is_absence(kind: ErrorKind) -> bool {
+    match kind {
+        ErrorKind::NotFound => true,
+        ErrorKind::NotADirectory => true,
+        _ => false,
+    }
+}

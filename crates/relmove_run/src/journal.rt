@@ -1,0 +1,325 @@
+//! The journal: what a run does, and how far it is, as a text.
+//!
+//! Each line is a word and fields, with tabs between them. In a path a backslash, a tab and a line feed are written
+//! `\\`, `\t` and `\n`. A digest is a length and a SHA-256 in hexadecimal. The last line has the digest of all lines
+//! before it. The tabs are wide here, and the digests short.
+//!
+//! ```text
+//! relmove journal 2
+//! root     1835021
+//! file     1835044
+//! stage    staging
+//! text     docs/.relmove-2  120  5c8e
+//! staged   docs/a.md        .relmove-1
+//! staged   docs/.relmove-2  .relmove-2
+//! made     new
+//! placed   .relmove-2       new/b.md
+//! removed  .relmove-1       118  9f03
+//! emptied  docs
+//! end      236  3a41
+//! ```
+ghost use Rattle.std.specs.Prelude.{IfOk};
+ghost use Rattle.relmove_run.specs.Shape.{IsOfRun};
+
+use crate::fault::Fault;
+use crate::shape::is_of_run;
+use crate::text_digest::TextDigest;
+use crate::work::{Leftover, Stage, TextFile, Work};
+use hex::FromHex;
+use relmove_plan::Rename;
+use std::alloc::{AllocError, Global};
+
+impl Stage {
+    // The stage's name.
+    fn name(self) -> &'static str {
+        match self {
+            Stage::Writing => "writing",
+            Stage::Staging => "staging",
+            Stage::Making => "making",
+            Stage::Placing => "placing",
+            Stage::Cleaning => "cleaning",
+            Stage::Unplacing => "unplacing",
+            Stage::Unmaking => "unmaking",
+            Stage::Unstaging => "unstaging",
+            Stage::Erasing => "erasing",
+        }
+    }
+
+    // The stage of this name.
+    fn of_name(name: &str) -> Option<Stage> {
+        match name {
+            "writing" => Some(Stage::Writing),
+            "staging" => Some(Stage::Staging),
+            "making" => Some(Stage::Making),
+            "placing" => Some(Stage::Placing),
+            "cleaning" => Some(Stage::Cleaning),
+            "unplacing" => Some(Stage::Unplacing),
+            "unmaking" => Some(Stage::Unmaking),
+            "unstaging" => Some(Stage::Unstaging),
+            "erasing" => Some(Stage::Erasing),
+            _ => None,
+        }
+    }
+}
+
+/// Where a journal was written. A copy of a folder has other numbers.
+#[derive(Clone, Copy, Debug, PartialEq, Eq)]
+pub struct Origin {
+    /// The inode of the root.
+    pub root: u64,
+    /// The inode of the journal's own file.
+    pub file: u64,
+}
+
+/// What a journal says.
+#[derive(Debug, PartialEq, Eq, Drop)]
+pub struct Journal {
+    /// Where it was written.
+    pub origin: Origin,
+    /// How far the run is.
+    pub stage: Stage,
+    /// What the run does.
+    pub work: Work,
+}
+
+const HEAD: &str = "relmove journal 2\n";
+
+const OLD_HEAD: &str = "relmove journal 1\n";
+
+const END: &str = "end";
+
+/// Whether a text may be the beginning of a journal.
+pub(crate) fn begins_as_journal(bytes: &[u8]) -> bool {
+    bytes.starts_with(HEAD.as_bytes()) || HEAD.as_bytes().starts_with(bytes)
+}
+
+/// Returns the text of a journal.
+///
+/// Allocates it, and each number and digest in it.
+pub fn journal_text(
+    alloc: Global,
+    origin: Origin,
+    stage: Stage,
+    work: &Work,
+) -> Result<String, AllocError> {
+    let mut text = String::from_str(alloc, HEAD)?;
+    push_number(alloc, &mut text, "root", origin.root)?;
+    push_number(alloc, &mut text, "file", origin.file)?;
+    push_line(&mut text, "stage", &[stage.name()])?;
+    for written in &work.texts {
+        push_text_file(alloc, &mut text, "text", written)?;
+    }
+    push_renames(&mut text, "staged", &work.staged)?;
+    for path in &work.made {
+        push_line(&mut text, "made", &[path.as_str()])?;
+    }
+    push_renames(&mut text, "placed", &work.placed)?;
+    for leftover in &work.cleaned {
+        push_leftover(alloc, &mut text, leftover)?;
+    }
+    let end = end_line(alloc, text.as_str())?;
+    text.push_str(end.as_str())?;
+    Ok(text)
+}
+
+// Adds a line with a number.
+fn push_number(
+    alloc: Global,
+    text: &mut String,
+    word: &str,
+    number: u64,
+) -> Result<(), AllocError> {
+    let digits = number.to_string(alloc)?;
+    push_line(text, word, &[digits.as_str()])
+}
+
+// Adds a line for each rename.
+fn push_renames(text: &mut String, word: &str, renames: &[Rename]) -> Result<(), AllocError> {
+    for rename in renames {
+        push_line(text, word, &[rename.from.as_str(), rename.to.as_str()])?;
+    }
+    Ok(())
+}
+
+// Adds a line for what is removed at the end.
+fn push_leftover(alloc: Global, text: &mut String, leftover: &Leftover) -> Result<(), AllocError> {
+    match leftover {
+        Leftover::Text(file) => push_text_file(alloc, text, "removed", file),
+        Leftover::Directory(path) => push_line(text, "emptied", &[path.as_str()]),
+    }
+}
+
+// Adds a line for a text in a file.
+fn push_text_file(
+    alloc: Global,
+    text: &mut String,
+    word: &str,
+    file: &TextFile,
+) -> Result<(), AllocError> {
+    let length = file.digest.length.to_string(alloc)?;
+    let sha256 = hex::encode(alloc, file.digest.sha256)?;
+    push_line(
+        text,
+        word,
+        &[file.path.as_str(), length.as_str(), sha256.as_str()],
+    )
+}
+
+// The last line: the digest of all lines before it.
+fn end_line(alloc: Global, lines: &str) -> Result<String, AllocError> {
+    let digest = TextDigest::of(lines.as_bytes());
+    let length = digest.length.to_string(alloc)?;
+    let sha256 = hex::encode(alloc, digest.sha256)?;
+    let mut line = String::new(alloc);
+    push_line(&mut line, END, &[length.as_str(), sha256.as_str()])?;
+    Ok(line)
+}
+
+// Adds a line.
+fn push_line(text: &mut String, word: &str, fields: &[&str]) -> Result<(), AllocError> {
+    text.push_str(word)?;
+    for field in fields {
+        text.push('\t')?;
+        push_escaped(text, field)?;
+    }
+    text.push('\n')
+}
+
+// Adds a field. Backslashes, tabs and line feeds are escaped.
+fn push_escaped(text: &mut String, field: &str) -> Result<(), AllocError> {
+    for character in field.chars() {
+        match character {
+            '\\' => text.push_str("\\\\")?,
+            '\t' => text.push_str("\\t")?,
+            '\n' => text.push_str("\\n")?,
+            other => text.push(other)?,
+        }
+    }
+    Ok(())
+}
+
+/// Reads a journal. Fails with [`Fault::NotAJournal`] if no run writes this text, and with [`Fault::OldJournal`] if the
+/// first version of the program wrote it.
+///
+/// Allocates the journal, and its text once more.
+pub fn journal_of(alloc: Global, text: &str) -> Result<Journal, Fault>
+    ensures of_run { IfOk result (λ journal. IsOfRun journal.work) }
+{
+    if text.starts_with(OLD_HEAD) {
+        return Err(Fault::OldJournal);
+    }
+    let journal = read_lines(alloc, text)?;
+    // Only this tells whether the lines are in order, and whether the last one has their digest.
+    let written = journal_text(alloc, journal.origin, journal.stage, &journal.work)?;
+    if written.as_str() != text || !is_of_run(alloc, &journal.work)? {
+        return Err(Fault::NotAJournal);
+    }
+    Ok(journal)
+}
+
+// What the lines of a text say, in whatever order they are.
+fn read_lines(alloc: Global, text: &str) -> Result<Journal, Fault> {
+    let mut journal = Journal {
+        origin: Origin { root: 0, file: 0 },
+        stage: Stage::Writing,
+        work: Work::new(alloc),
+    };
+    for line in text.split('\n') {
+        if let Some((word, fields)) = line.split_once('\t') {
+            read_line(alloc, &mut journal, word, fields)?;
+        }
+    }
+    Ok(journal)
+}
+
+// Adds what a line says to a journal.
+fn read_line(alloc: Global, journal: &mut Journal, word: &str, fields: &str) -> Result<(), Fault> {
+    match word {
+        "root" => journal.origin.root = number_of(fields)?,
+        "file" => journal.origin.file = number_of(fields)?,
+        "stage" => journal.stage = Stage::of_name(fields).ok_or(Fault::NotAJournal)?,
+        END => {}
+        _ => read_action(alloc, &mut journal.work, word, fields)?,
+    }
+    Ok(())
+}
+
+// Adds what a line says to the work of a run.
+fn read_action(alloc: Global, work: &mut Work, word: &str, fields: &str) -> Result<(), Fault> {
+    match word {
+        "text" => work.texts.push(text_file_of(alloc, fields)?)?,
+        "staged" => work.staged.push(rename_of(alloc, fields)?)?,
+        "made" => work.made.push(path_of(alloc, fields)?)?,
+        "placed" => work.placed.push(rename_of(alloc, fields)?)?,
+        "removed" => work
+            .cleaned
+            .push(Leftover::Text(text_file_of(alloc, fields)?))?,
+        "emptied" => work
+            .cleaned
+            .push(Leftover::Directory(path_of(alloc, fields)?))?,
+        _ => return Err(Fault::NotAJournal),
+    }
+    Ok(())
+}
+
+// The number of a field.
+fn number_of(field: &str) -> Result<u64, Fault> {
+    field.parse::<u64>().map_err(|_| Fault::NotAJournal)
+}
+
+// The two parts of fields at the first tab.
+fn cut_at_tab(fields: &str) -> Result<(&str, &str), Fault> {
+    fields.split_once('\t').ok_or(Fault::NotAJournal)
+}
+
+// The rename of two fields.
+fn rename_of(alloc: Global, fields: &str) -> Result<Rename, Fault> {
+    let (from, to) = cut_at_tab(fields)?;
+    Ok(Rename {
+        from: path_of(alloc, from)?,
+        to: path_of(alloc, to)?,
+    })
+}
+
+// The text in a file of three fields.
+fn text_file_of(alloc: Global, fields: &str) -> Result<TextFile, Fault> {
+    let (path, digest) = cut_at_tab(fields)?;
+    let (length, sha256) = cut_at_tab(digest)?;
+    Ok(TextFile {
+        path: path_of(alloc, path)?,
+        digest: TextDigest {
+            length: number_of(length)?,
+            sha256: <[u8; 32] as FromHex>::from_hex(sha256).map_err(|_| Fault::NotAJournal)?,
+        },
+    })
+}
+
+// The path of a field: it without its escapes.
+fn path_of(alloc: Global, field: &str) -> Result<String, Fault> {
+    let mut path = String::new(alloc);
+    let mut is_escaped = false;
+    for character in field.chars() {
+        if is_escaped {
+            path.push(unescape(character)?)?;
+            is_escaped = false;
+        } else if character == '\\' {
+            is_escaped = true;
+        } else {
+            path.push(character)?;
+        }
+    }
+    if is_escaped {
+        return Err(Fault::NotAJournal);
+    }
+    Ok(path)
+}
+
+// The character that a backslash and this one stand for.
+fn unescape(character: char) -> Result<char, Fault> {
+    match character {
+        '\\' => Ok('\\'),
+        't' => Ok('\t'),
+        'n' => Ok('\n'),
+        _ => Err(Fault::NotAJournal),
+    }
+}

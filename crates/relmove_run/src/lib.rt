@@ -1,0 +1,51 @@
+//! A run of `relmove`: it carries out the steps of a plan on the files below a root, so that no fault loses a byte, and it
+//! ends or takes back a run that stopped.
+//!
+//! A module uses modules of the layers below, and those to its left in its own layer.
+//!
+//! ```text
+//! a call              run
+//! the work            worker  ending
+//! parts of it         own_files  near  possible  synced  ways
+//! single calls        actions
+//! what a journal is   shape  journal
+//! what all share      path  printable  text_digest  fault  work  remark
+//! files               store  file_store
+//! ```
+#![tactic(auto)]
+
+pub use self::ending::{Change, Way};
+pub use self::fault::{Call, Fault, at, fault_of};
+pub use self::file_store::{FileStore, is_absence, read_regular};
+pub use self::journal::{Journal, Origin, journal_of, journal_text};
+pub use self::near::need_no_journal_near;
+pub use self::own_files::{JOURNAL, Trust, need_no_own_files};
+pub use self::path::{directory_of, join};
+pub use self::possible::need_possible;
+pub use self::printable::Printable;
+pub use self::remark::Remark;
+pub use self::run::{Ended, Locked, PageText, carry_out, changes_to_end, need_rest, resume, undo};
+pub use self::shape::is_of_run;
+pub use self::store::{Found, FoundKind, Machine, Store};
+pub use self::text_digest::TextDigest;
+pub use self::work::{Leftover, Stage, TextFile, Work};
+
+mod actions;
+mod ending;
+mod fault;
+mod file_store;
+mod journal;
+mod near;
+mod own_files;
+mod path;
+mod possible;
+mod printable;
+mod remark;
+mod run;
+mod shape;
+mod store;
+mod synced;
+mod text_digest;
+mod ways;
+mod work;
+mod worker;

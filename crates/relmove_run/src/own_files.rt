@@ -1,0 +1,382 @@
+//! The files that a run has of its own: its journal, the next journal, and a spare one.
+//!
+//! A journal is written whole to a new file and synced, and then put in its place. So it is never seen half written. The
+//! first one is put where nothing is, and each later one replaces the one before. The spare one is there for its room: on
+//! a disk that is full, it makes way for the next journal.
+use crate::actions::{
+    OwnFile, copy_of, create, find, remove_file, sync, sync_directory, write_whole,
+};
+use crate::fault::{Call, Fault, at};
+use crate::journal::{Journal, Origin, begins_as_journal, journal_of, journal_text};
+use crate::store::{Found, FoundKind, Store};
+use crate::work::{Stage, Work};
+use std::io::{self, ErrorKind};
+
+/// The journal's path from the root.
+pub const JOURNAL: &str = ".relmove";
+
+// A journal is written under this name.
+const NEW_JOURNAL: &str = ".relmove-journal";
+
+// A file that is removed if a journal finds no room.
+const SPARE: &str = ".relmove-spare";
+
+// The permissions of a run's own files.
+const PRIVATE: u32 = 0o600;
+
+/// Which journals a call believes.
+#[derive(Clone, Copy, Debug, PartialEq, Eq)]
+pub enum Trust {
+    /// Those that were written in this folder.
+    ThisFolder,
+    /// Also those that came with a copy of another folder.
+    AnyFolder,
+}
+
+// Which of its own files a run has, as far as it knows.
+#[derive(Clone, Copy)]
+pub(crate) struct OwnFiles {
+    // The inode of the root.
+    root: u64,
+    // The journal in its place is the first or the second of these, once one was put there.
+    journal: OwnFile,
+    next: OwnFile,
+    spare: OwnFile,
+    // Whether the journal may be in its place.
+    may_have_journal: bool,
+}
+
+impl OwnFiles {
+    // Whether the root may have the run's journal. If it hasn't, the run has changed nothing.
+    pub(crate) fn may_have_journal(&self) -> bool {
+        self.may_have_journal
+    }
+
+    // Whether what is found is the run's journal, or the next one.
+    fn has(&self, found: &Found) -> bool {
+        self.journal.is(found) || self.next.is(found)
+    }
+}
+
+// The own files of a run that begins: none.
+pub(crate) fn none_yet<S: Store>(store: &mut S) -> Result<OwnFiles, Fault> {
+    need_no_own_files(store)?;
+    Ok(OwnFiles {
+        root: inode_of_root(store)?,
+        journal: OwnFile::None,
+        next: OwnFile::None,
+        spare: OwnFile::None,
+        may_have_journal: false,
+    })
+}
+
+/// Fails if the root has a journal, or if something has another name of a run's own files.
+pub fn need_no_own_files<S: Store>(store: &mut S) -> Result<(), Fault> {
+    need_no_journal(store)?;
+    need_no_other(store, NEW_JOURNAL)?;
+    need_no_other(store, SPARE)
+}
+
+// Fails if the root has a journal.
+fn need_no_journal<S: Store>(store: &mut S) -> Result<(), Fault> {
+    match find(store, JOURNAL)? {
+        Some(found) if found.kind == FoundKind::File => Err(Fault::HasJournal {
+            written: found.modified,
+        }),
+        Some(_) => Err(Fault::OwnName(copy_of(store, JOURNAL)?)),
+        None => Ok(()),
+    }
+}
+
+// Fails if something is at a path of a run's other files.
+fn need_no_other<S: Store>(store: &mut S, path: &str) -> Result<(), Fault> {
+    let Some(found) = find(store, path)? else {
+        return Ok(());
+    };
+    let path = copy_of(store, path)?;
+    if is_beginning(store, path.as_str(), &found)? {
+        return Err(Fault::LeftOver(path));
+    }
+    Err(Fault::OwnName(path))
+}
+
+// The inode of the root.
+fn inode_of_root<S: Store>(store: &mut S) -> Result<u64, Fault> {
+    match find(store, "")? {
+        Some(found) => Ok(found.inode),
+        None => Err(Fault::Missing(copy_of(store, store.root())?)),
+    }
+}
+
+// Opens the journal of a run that didn't end. Removes what a kill left of the run's other files.
+pub(crate) fn open_journal<S: Store>(
+    store: &mut S,
+    trust: Trust,
+) -> Result<(OwnFiles, Journal), Fault> {
+    let Some(found) = find(store, JOURNAL)? else {
+        remove_leftover(store, NEW_JOURNAL, None)?;
+        remove_leftover(store, SPARE, None)?;
+        return Err(Fault::NoJournal);
+    };
+    let journal = read_journal(store, &found)?;
+    let root = inode_of_root(store)?;
+    let is_of_folder = journal.origin
+        == Origin {
+            root,
+            file: found.inode,
+        };
+    if trust == Trust::ThisFolder && !is_of_folder {
+        return Err(Fault::ForeignJournal);
+    }
+    remove_leftover(store, NEW_JOURNAL, Some(&found))?;
+    remove_leftover(store, SPARE, None)?;
+    let own = OwnFiles {
+        root,
+        journal: OwnFile::Inode(found.inode),
+        next: OwnFile::None,
+        spare: OwnFile::None,
+        may_have_journal: true,
+    };
+    Ok((own, journal))
+}
+
+// Fails unless a regular file with one name is at the journal's path. A run that is killed may leave it the name of the
+// next journal too.
+fn need_one_name<S: Store>(store: &mut S, found: &Found) -> Result<(), Fault> {
+    if found.kind == FoundKind::File && found.links == 1 {
+        return Ok(());
+    }
+    if found.kind == FoundKind::File
+        && found.links == 2
+        && let Some(next) = find(store, NEW_JOURNAL)?
+        && next.is_same(found)
+    {
+        return Ok(());
+    }
+    Err(Fault::NotAJournal)
+}
+
+// Finds the journal of a run that didn't end, wherever it was written, and reads it.
+pub(crate) fn find_journal<S: Store>(store: &mut S) -> Result<Journal, Fault> {
+    match find(store, JOURNAL)? {
+        Some(found) => read_journal(store, &found),
+        None => Err(Fault::NoJournal),
+    }
+}
+
+// Reads the journal that was found.
+fn read_journal<S: Store>(store: &mut S, found: &Found) -> Result<Journal, Fault> {
+    need_one_name(store, found)?;
+    let read = store.read(JOURNAL);
+    let bytes = at(store.alloc(), Call::Read, JOURNAL, read)?;
+    match std::str::from_utf8(bytes.as_slice()) {
+        Ok(text) => journal_of(store.alloc(), text),
+        Err(_) => Err(Fault::NotAJournal),
+    }
+}
+
+// Removes what a killed run left at a path of its own: a second name of the journal, or the beginning of one. Fails if
+// anything else is there.
+fn remove_leftover<S: Store>(
+    store: &mut S,
+    path: &str,
+    journal: Option<&Found>,
+) -> Result<(), Fault> {
+    let Some(found) = find(store, path)? else {
+        return Ok(());
+    };
+    let is_journal = match journal {
+        Some(journal) => found.is_same(journal),
+        None => false,
+    };
+    if is_journal || is_beginning(store, path, &found)? {
+        return remove_file(store, path);
+    }
+    Err(Fault::OwnName(copy_of(store, path)?))
+}
+
+// Whether a regular file with one name begins as a journal.
+fn is_beginning<S: Store>(store: &mut S, path: &str, found: &Found) -> Result<bool, Fault> {
+    if found.kind != FoundKind::File || found.links != 1 {
+        return Ok(false);
+    }
+    // It may not have its permissions yet.
+    if found.length == 0 {
+        return Ok(true);
+    }
+    let read = store.read(path);
+    let bytes = at(store.alloc(), Call::Read, path, read)?;
+    Ok(begins_as_journal(bytes.as_slice()))
+}
+
+// Puts the first journal where nothing is, and makes the spare one.
+pub(crate) fn put_first<S: Store>(
+    store: &mut S,
+    own: &mut OwnFiles,
+    work: &Work,
+) -> Result<(), Fault> {
+    write_next(store, own, Stage::Writing, work)?;
+    let linked = link_next(store);
+    if let Err(error) = &linked
+        && error.kind() == ErrorKind::AlreadyExists
+    {
+        need_no_journal(store)?;
+    }
+    own.may_have_journal = match &linked {
+        Ok(()) => true,
+        Err(error) => error.kind() != ErrorKind::OutOfMemory,
+    };
+    at(store.alloc(), Call::Link, JOURNAL, linked)?;
+    own.journal = own.next;
+    remove_own(store, NEW_JOURNAL, &mut own.next)?;
+    make_spare(store, own, work)?;
+    sync_directory(store, "")
+}
+
+// Gives the next journal the journal's name, where nothing is. A file system without second names gets a rename.
+fn link_next<S: Store>(store: &mut S) -> io::Result<()> {
+    match store.link(NEW_JOURNAL, JOURNAL) {
+        Err(error) if has_no_links(error.kind()) => match store.find(JOURNAL)? {
+            Some(_) => Err(io::Error::from(ErrorKind::AlreadyExists)),
+            None => store.rename(NEW_JOURNAL, JOURNAL),
+        },
+        linked => linked,
+    }
+}
+
+// Whether an error says that a file system has no second names.
+fn has_no_links(kind: ErrorKind) -> bool {
+    matches!(kind, ErrorKind::PermissionDenied | ErrorKind::Unsupported)
+}
+
+// Makes the spare journal: that of the stage with the longest name. Without room there is none.
+fn make_spare<S: Store>(store: &mut S, own: &mut OwnFiles, work: &Work) -> Result<(), Fault> {
+    let root = own.root;
+    match write_journal(store, root, SPARE, (Stage::Unstaging, work), &mut own.spare) {
+        Err(Fault::OutOfMemory) => Err(Fault::OutOfMemory),
+        Err(_) => remove_own(store, SPARE, &mut own.spare),
+        Ok(()) => Ok(()),
+    }
+}
+
+// Removes a file that the run made. Fails if something else is there.
+fn remove_own<S: Store>(store: &mut S, path: &str, own: &mut OwnFile) -> Result<(), Fault> {
+    if *own == OwnFile::None {
+        return Ok(());
+    }
+    if let Some(found) = find(store, path)? {
+        let is_own = match own {
+            OwnFile::Unknown => is_beginning(store, path, &found)?,
+            _ => own.is(&found),
+        };
+        if !is_own {
+            return Err(Fault::OwnName(copy_of(store, path)?));
+        }
+        remove_file(store, path)?;
+    }
+    *own = OwnFile::None;
+    Ok(())
+}
+
+// Puts a journal of a stage in the place of the one before.
+pub(crate) fn put_next<S: Store>(
+    store: &mut S,
+    own: &mut OwnFiles,
+    stage: Stage,
+    work: &Work,
+) -> Result<(), Fault> {
+    need_own_journal(store, own)?;
+    if let Err(fault) = write_next(store, own, stage, work) {
+        if own.spare == OwnFile::None {
+            return Err(fault);
+        }
+        remove_own(store, SPARE, &mut own.spare)?;
+        write_next(store, own, stage, work)?;
+    }
+    need_own_journal(store, own)?;
+    need_next(store, own)?;
+    let renamed = store.rename(NEW_JOURNAL, JOURNAL);
+    at(store.alloc(), Call::Rename, NEW_JOURNAL, renamed)?;
+    own.journal = own.next;
+    own.next = OwnFile::None;
+    sync_directory(store, "")
+}
+
+// Fails unless the run's journal is in its place, and notes which one that is.
+fn need_own_journal<S: Store>(store: &mut S, own: &mut OwnFiles) -> Result<(), Fault> {
+    match find(store, JOURNAL)? {
+        Some(found) if own.has(&found) => {
+            own.journal = OwnFile::Inode(found.inode);
+            Ok(())
+        }
+        _ => Err(Fault::NotAJournal),
+    }
+}
+
+// Fails unless the next journal is the one that the run wrote.
+fn need_next<S: Store>(store: &mut S, own: &OwnFiles) -> Result<(), Fault> {
+    match find(store, NEW_JOURNAL)? {
+        Some(found) if own.next.is(&found) => Ok(()),
+        Some(_) => Err(Fault::OwnName(copy_of(store, NEW_JOURNAL)?)),
+        None => Err(Fault::Missing(copy_of(store, NEW_JOURNAL)?)),
+    }
+}
+
+// Writes the next journal whole.
+fn write_next<S: Store>(
+    store: &mut S,
+    own: &mut OwnFiles,
+    stage: Stage,
+    work: &Work,
+) -> Result<(), Fault> {
+    remove_own(store, NEW_JOURNAL, &mut own.next)?;
+    let root = own.root;
+    write_journal(store, root, NEW_JOURNAL, (stage, work), &mut own.next)
+}
+
+// Writes a journal whole to a new file, and syncs it. Notes which file it is.
+fn write_journal<S: Store>(
+    store: &mut S,
+    root: u64,
+    path: &str,
+    (stage, work): (Stage, &Work),
+    own: &mut OwnFile,
+) -> Result<(), Fault> {
+    let mut file = create(store, path, PRIVATE, own)?;
+    let file_inode = match own {
+        OwnFile::Inode(inode) => *inode,
+        _ => 0,
+    };
+    let origin = Origin {
+        root,
+        file: file_inode,
+    };
+    let text = journal_text(store.alloc(), origin, stage, work)?;
+    let set = store.set_mode(&file, PRIVATE);
+    at(store.alloc(), Call::SetPermissions, path, set)?;
+    write_whole(store, &mut file, path, text.as_bytes())?;
+    sync(store, &file, path)
+}
+
+// Removes the run's own files. The journal is the last one.
+pub(crate) fn remove_all<S: Store>(store: &mut S, own: &mut OwnFiles) -> Result<(), Fault> {
+    remove_own(store, NEW_JOURNAL, &mut own.next)?;
+    remove_own(store, SPARE, &mut own.spare)?;
+    if !own.may_have_journal {
+        return Ok(());
+    }
+    match find(store, JOURNAL)? {
+        None => Ok(()),
+        Some(found) if own.has(&found) => remove_journal(store),
+        Some(_) => Err(Fault::NotAJournal),
+    }
+}
+
+// Removes the journal. A call that reports a failure after it removed the journal has done its work.
+fn remove_journal<S: Store>(store: &mut S) -> Result<(), Fault> {
+    let removed = store.remove_file(JOURNAL);
+    if removed.is_err() && find(store, JOURNAL)?.is_none() {
+        return Ok(());
+    }
+    at(store.alloc(), Call::RemoveFile, JOURNAL, removed)
+}

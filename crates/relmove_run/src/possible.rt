@@ -1,0 +1,83 @@
+//! Asks the system whether it can have the paths of a run, before the run begins.
+use crate::actions::copy_of;
+use crate::fault::{Call, Fault, at};
+use crate::path::join;
+use crate::store::{Found, FoundKind, Store};
+use relmove_plan::Steps;
+use std::io::ErrorKind;
+
+// How long a path may be. The system counts a NUL at its end.
+const LONGEST_PATH: usize = 4095;
+
+/// Fails if the system can't have a path of these steps: a path is too long, or has a name that is, or is on another
+/// file system than the root. Nothing is changed.
+///
+/// A name that isn't there is asked for by itself, in the nearest directory above it that is there.
+pub fn need_possible<S: Store>(store: &mut S, steps: &Steps) -> Result<(), Fault> {
+    let Some(root) = find_at(store, "")? else {
+        return Err(Fault::Missing(copy_of(store, store.root())?));
+    };
+    for text in &steps.texts {
+        need_fine_path(store, text.file.as_str(), &root)?;
+    }
+    for rename in &steps.apart {
+        need_on_device(store, rename.from.as_str(), &root)?;
+    }
+    for path in &steps.made {
+        need_short(store, path.as_str())?;
+    }
+    for rename in &steps.together {
+        need_fine_path(store, rename.to.as_str(), &root)?;
+    }
+    Ok(())
+}
+
+// What is at a path. A path that is too long is a fault.
+fn find_at<S: Store>(store: &mut S, path: &str) -> Result<Option<Found>, Fault> {
+    match store.find(path) {
+        Err(error) if error.kind() == ErrorKind::InvalidFilename => {
+            Err(Fault::TooLong(copy_of(store, path)?))
+        }
+        asked => at(store.alloc(), Call::Ask, path, asked),
+    }
+}
+
+// Fails if a path is too long for the system.
+fn need_short<S: Store>(store: &mut S, path: &str) -> Result<(), Fault> {
+    if join(store.alloc(), store.root(), path)?.len() > LONGEST_PATH {
+        return Err(Fault::TooLong(copy_of(store, path)?));
+    }
+    Ok(())
+}
+
+// Fails if what is at a path is on another file system than the root.
+fn need_on_device<S: Store>(store: &mut S, path: &str, root: &Found) -> Result<(), Fault> {
+    match find_at(store, path)? {
+        Some(found) if found.device != root.device => {
+            Err(Fault::OtherDevice(copy_of(store, path)?))
+        }
+        _ => Ok(()),
+    }
+}
+
+// Fails if the system can't have a path: the path or a name in it is too long, or the directory for it is on another
+// file system than the root.
+fn need_fine_path<S: Store>(store: &mut S, path: &str, root: &Found) -> Result<(), Fault> {
+    need_short(store, path)?;
+    let mut nearest = String::new(store.alloc());
+    for name in path.split('/') {
+        let asked = join(store.alloc(), nearest.as_str(), name)?;
+        match find_at(store, asked.as_str()) {
+            Ok(Some(found)) if found.kind == FoundKind::Directory => {
+                if found.device != root.device {
+                    return Err(Fault::OtherDevice(asked));
+                }
+                nearest = asked;
+            }
+            Ok(_) => {}
+            Err(Fault::TooLong(_)) => return Err(Fault::TooLong(copy_of(store, path)?)),
+            Err(fault) => return Err(fault),
+        }
+    }
+    Ok(())
+}

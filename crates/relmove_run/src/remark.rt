@@ -1,0 +1,39 @@
+//! What a run says at its end beside that it ended.
+use crate::fault::Fault;
+use crate::printable::Printable;
+use std::fmt;
+
+/// Something that is left when a run has ended. Paths are relative to the root.
+#[derive(Debug, Drop)]
+pub enum Remark {
+    /// A file with a text that isn't the run's own: somebody changed it during the run.
+    Kept(String),
+    /// What moved, or was to move, is at neither of two paths.
+    Gone {
+        /// The one path.
+        from: String,
+        /// The other path.
+        to: String,
+    },
+    /// A directory that the run emptied can't be removed.
+    Stays(Fault),
+}
+
+impl fmt::Display for Remark {
+    fn fmt<W: fmt::Write>(&self, f: &mut fmt::Formatter<W>) -> fmt::Result {
+        match self {
+            Remark::Kept(path) => {
+                let path = Printable(path.as_str());
+                write!(f, "{path} is kept: its text was changed during the run")
+            }
+            Remark::Gone { from, to } => {
+                let (from, to) = (Printable(from.as_str()), Printable(to.as_str()));
+                write!(
+                    f,
+                    "neither {from} nor {to} is there: another program removed it"
+                )
+            }
+            Remark::Stays(fault) => write!(f, "{fault}; this directory stays"),
+        }
+    }
+}

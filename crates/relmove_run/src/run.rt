@@ -1,0 +1,321 @@
+//! A run, its end after a fault, and its undoing.
+use crate::ending::{Change, Way, changes_from, stage_to_end};
+use crate::fault::{Call, Fault, at};
+use crate::journal::Journal;
+use crate::near::need_no_journal_near;
+use crate::own_files::{JOURNAL, Trust, find_journal, need_no_own_files, none_yet, open_journal};
+use crate::possible::need_possible;
+use crate::remark::Remark;
+use crate::shape::is_of_run;
+use crate::store::Store;
+use crate::text_digest::TextDigest;
+use crate::ways::need_ways;
+use crate::work::{Leftover, Stage, TextFile, Work};
+use crate::worker::Worker;
+use relmove_plan::{NewText, Rename, Steps};
+use std::alloc::{AllocError, Global};
+use std::collections::BTreeMap;
+
+/// How a call ended.
+#[derive(Debug, Drop)]
+pub enum Ended {
+    /// All is done: everything is at its new path.
+    Done(Vec<Remark>),
+    /// The run was taken back: everything is as before.
+    TakenBack(Vec<Remark>),
+    /// Nothing is changed, or everything was taken back.
+    Refused(Fault),
+    /// The call stopped in the middle. What it did stays.
+    Stopped {
+        /// How far the run is.
+        stage: Stage,
+        /// Why it stopped.
+        fault: Fault,
+        /// Whether the journal was seen afterwards.
+        has_journal: bool,
+    },
+}
+
+/// The files below a root that no other process works on: the lock of the root is taken.
+#[derive(Drop)]
+pub struct Locked<S: Drop>(S);
+
+impl<S: Store + Drop> Locked<S> {
+    /// Takes the lock of a root. Fails with [`Fault::AtWork`] if another process has it.
+    pub fn new(mut store: S) -> Result<Locked<S>, Fault> {
+        let locked = store.lock();
+        if at(store.alloc(), Call::Lock, store.root(), locked)? {
+            return Ok(Locked(store));
+        }
+        Err(Fault::AtWork)
+    }
+
+    /// The files.
+    pub fn store(&mut self) -> &mut S {
+        &mut self.0
+    }
+}
+
+/// Fails if another process works on a root, or if a run on it, or on a directory above it, didn't end, or if something
+/// else has a name of a run's own files.
+pub fn need_rest<S: Store>(store: &mut S) -> Result<(), Fault> {
+    let locked = store.is_locked();
+    if at(store.alloc(), Call::Lock, store.root(), locked)? {
+        return Err(Fault::AtWork);
+    }
+    need_no_own_files(store)?;
+    need_no_journal_near(store, &[])
+}
+
+/// The text of a page before a run, as it was read.
+#[derive(Clone, Copy, Debug)]
+pub struct PageText<'a> {
+    /// The page.
+    pub path: &'a str,
+    /// Its text.
+    pub text: &'a str,
+}
+
+/// Moves files and directories, and puts new texts in the place of pages. `pages` has the text of each page that gets a
+/// new one. `directories` are the directories below the root in which other runs may have journals.
+///
+/// A fault before anything moves takes back everything: the files below the root are as before. So does a page whose
+/// text isn't the one that was read. After a fault in the middle each file is whole, at its old path, its new path or
+/// its staging name, and so is each page with its old or its new text. Then [`resume`] does the rest, and until
+/// everything is at its new path [`undo`] takes back what was done.
+///
+/// The call refuses to work if the root has a journal, or one of the directories, or a directory above the root.
+pub fn carry_out<S: Store + Drop>(
+    locked: Locked<S>,
+    steps: Steps,
+    pages: &[PageText<'_>],
+    directories: &[&str],
+) -> Ended {
+    match begin(locked, steps, pages, directories) {
+        Ok(worker) => go_on_or_back(worker),
+        Err(ended) => ended,
+    }
+}
+
+/// Ends a run that stopped: goes on to the end, or, if the run was going back, to the beginning. If a page that changes
+/// was changed before it got its staging name, the run is taken back.
+pub fn resume<S: Store + Drop>(locked: Locked<S>, trust: Trust) -> Ended {
+    match open(locked, trust) {
+        Ok(worker) => end_from(worker),
+        Err(fault) => Ended::Refused(fault),
+    }
+}
+
+/// Takes back a run that stopped before everything was at its new path.
+pub fn undo<S: Store + Drop>(locked: Locked<S>, trust: Trust) -> Ended {
+    match open(locked, trust) {
+        Ok(worker) => turn_back(worker),
+        Err(fault) => Ended::Refused(fault),
+    }
+}
+
+/// Returns the changes that [`resume`] or [`undo`] would make, wherever the journal was written. Some of them may be made
+/// already. Changes nothing.
+///
+/// Allocates them.
+pub fn changes_to_end<S: Store + Drop>(
+    locked: &mut Locked<S>,
+    way: Way,
+) -> Result<Vec<Change>, Fault> {
+    let store = locked.store();
+    let journal = find_journal(store)?;
+    let stage = stage_to_end(way, journal.stage)?;
+    Ok(changes_from(store.alloc(), &journal.work, stage)?)
+}
+
+// Ends a run from its stage: goes on, or goes on back.
+fn end_from<S: Store + Drop>(worker: Worker<S>) -> Ended {
+    match worker.stage() {
+        Stage::Staging | Stage::Making | Stage::Placing | Stage::Cleaning => go_on_or_back(worker),
+        _ => go_back(worker),
+    }
+}
+
+// Takes a run back, unless it is too late.
+fn turn_back<S: Store + Drop>(mut worker: Worker<S>) -> Ended {
+    let stage = match stage_to_end(Way::Undo, worker.stage()) {
+        Ok(stage) => stage,
+        Err(fault) => return Ended::Refused(fault),
+    };
+    if stage != worker.stage()
+        && let Err(fault) = worker.enter(stage)
+    {
+        return stop(worker, fault);
+    }
+    go_back(worker)
+}
+
+// Does everything up to the first rename.
+fn begin<S: Store + Drop>(
+    locked: Locked<S>,
+    steps: Steps,
+    pages: &[PageText<'_>],
+    directories: &[&str],
+) -> Result<Worker<S>, Ended> {
+    let (texts, mut worker) = match prepare(locked, steps, pages, directories) {
+        Ok(prepared) => prepared,
+        Err(fault) => return Err(Ended::Refused(fault)),
+    };
+    if let Err(fault) = write_texts(&mut worker, &texts, directories) {
+        return Err(refuse(worker, fault));
+    }
+    if let Err(fault) = worker.enter(Stage::Staging) {
+        return Err(refuse_staging(worker, fault));
+    }
+    Ok(worker)
+}
+
+// The run, before it writes anything.
+fn prepare<S: Store + Drop>(
+    locked: Locked<S>,
+    steps: Steps,
+    pages: &[PageText<'_>],
+    directories: &[&str],
+) -> Result<(Vec<NewText>, Worker<S>), Fault> {
+    let Locked(mut store) = locked;
+    let own = none_yet(&mut store)?;
+    need_no_journal_near(&mut store, directories)?;
+    need_possible(&mut store, &steps)?;
+    let (texts, work) = work_of(store.alloc(), steps, pages)?;
+    if !is_of_run(store.alloc(), &work)? {
+        return Err(Fault::NotAPlan);
+    }
+    let mut worker = Worker::new(store, own, work);
+    worker.need_names()?;
+    Ok((texts, worker))
+}
+
+// The new texts, and the work of a run with them.
+fn work_of(
+    alloc: Global,
+    steps: Steps,
+    pages: &[PageText<'_>],
+) -> Result<(Vec<NewText>, Work), Fault> {
+    let cleaned = cleaned_of(alloc, &steps, pages)?;
+    let work = Work {
+        texts: text_files_of(alloc, &steps.texts)?,
+        staged: steps.apart,
+        made: steps.made,
+        placed: steps.together,
+        cleaned,
+    };
+    Ok((steps.texts, work))
+}
+
+// The files of new texts.
+fn text_files_of(alloc: Global, texts: &[NewText]) -> Result<Vec<TextFile>, AllocError> {
+    let mut files = Vec::with_capacity(alloc, texts.len())?;
+    for text in texts {
+        files.push(TextFile {
+            path: String::from_str(alloc, text.file.as_str())?,
+            digest: TextDigest::of(text.text.as_bytes()),
+        })?;
+    }
+    Ok(files)
+}
+
+// What is removed at the end of a run: the old texts, and then directories.
+fn cleaned_of(
+    alloc: Global,
+    steps: &Steps,
+    pages: &[PageText<'_>],
+) -> Result<Vec<Leftover>, Fault> {
+    let mut old_paths = BTreeMap::new(alloc);
+    for Rename { from, to } in &steps.apart {
+        old_paths.insert(to.as_str(), from.as_str())?;
+    }
+    let mut old_texts = BTreeMap::new(alloc);
+    for page in pages {
+        old_texts.insert(page.path, page.text)?;
+    }
+    let mut cleaned = Vec::new(alloc);
+    for name in &steps.removed {
+        let text = old_paths
+            .get(name.as_str())
+            .and_then(|page| old_texts.get(*page));
+        let Some(text) = text else {
+            return Err(Fault::NotAPlan);
+        };
+        cleaned.push(Leftover::Text(TextFile {
+            path: String::from_str(alloc, name.as_str())?,
+            digest: TextDigest::of(text.as_bytes()),
+        }))?;
+    }
+    for path in &steps.emptied {
+        cleaned.push(Leftover::Directory(String::from_str(alloc, path.as_str())?))?;
+    }
+    Ok(cleaned)
+}
+
+// Writes the journal and the new texts. Of two runs that begin at once, in a directory and in one above it, at least one
+// sees the other's journal.
+fn write_texts<S: Store + Drop>(
+    worker: &mut Worker<S>,
+    texts: &[NewText],
+    directories: &[&str],
+) -> Result<(), Fault> {
+    worker.begin()?;
+    need_no_journal_near(worker.store(), directories)?;
+    worker.write_texts(texts)
+}
+
+// Takes back what was done, if the journal may say that things get staging names.
+fn refuse_staging<S: Store + Drop>(mut worker: Worker<S>, fault: Fault) -> Ended {
+    if worker.enter(Stage::Erasing).is_err() {
+        return stop(worker, fault);
+    }
+    refuse(worker, fault)
+}
+
+// Takes back what was done.
+fn refuse<S: Store + Drop>(mut worker: Worker<S>, fault: Fault) -> Ended {
+    match worker.go_back() {
+        Err(_) if worker.may_have_journal() => stop(worker, fault),
+        _ => Ended::Refused(fault),
+    }
+}
+
+// The run stopped at its stage.
+fn stop<S: Store + Drop>(mut worker: Worker<S>, fault: Fault) -> Ended {
+    let stage = worker.stage();
+    let has_journal = matches!(worker.store().find(JOURNAL), Ok(Some(_)));
+    Ended::Stopped {
+        stage,
+        fault,
+        has_journal,
+    }
+}
+
+// The run that the journal is of.
+fn open<S: Store + Drop>(locked: Locked<S>, trust: Trust) -> Result<Worker<S>, Fault> {
+    let Locked(mut store) = locked;
+    let (own, journal) = open_journal(&mut store, trust)?;
+    let Journal { stage, work, .. } = journal;
+    need_ways(&mut store, &work)?;
+    Ok(Worker::at(store, own, work, stage)?)
+}
+
+// Goes on to the end. If a page was changed before it got its staging name, goes back.
+fn go_on_or_back<S: Store + Drop>(mut worker: Worker<S>) -> Ended {
+    match worker.go_on() {
+        Ok(()) => Ended::Done(worker.into_remarks()),
+        Err(Fault::Changed(page)) => match turn_back(worker) {
+            Ended::TakenBack(_) => Ended::Refused(Fault::Changed(page)),
+            ended => ended,
+        },
+        Err(fault) => stop(worker, fault),
+    }
+}
+
+// Goes back to the beginning.
+fn go_back<S: Store + Drop>(mut worker: Worker<S>) -> Ended {
+    match worker.go_back() {
+        Ok(()) => Ended::TakenBack(worker.into_remarks()),
+        Err(fault) => stop(worker, fault),
+    }
+}

@@ -1,0 +1,120 @@
+//! What a run needs of the files below a root, as a trait.
+use std::alloc::{AllocError, Global};
+use std::fs::Files;
+use std::io;
+use std::time::SystemTime;
+
+/// What kind of thing is at a path.
+#[derive(Clone, Copy, Debug, PartialEq, Eq)]
+pub enum FoundKind {
+    /// A regular file.
+    File,
+    /// A directory.
+    Directory,
+    /// A symbolic link.
+    Symlink,
+    /// A FIFO, a socket or a device.
+    Other,
+}
+
+/// What is at a path.
+#[derive(Clone, Copy)]
+pub struct Found {
+    /// What kind of thing it is.
+    pub kind: FoundKind,
+    /// The number of its device.
+    pub device: u64,
+    /// Its number on the device. A copy of the thing has another one.
+    pub inode: u64,
+    /// How many names it has.
+    pub links: u64,
+    /// How many bytes a file has.
+    pub length: u64,
+    /// Its permissions: the lowest twelve bits of its mode.
+    pub mode: u32,
+    /// The user who owns it.
+    pub owner: u32,
+    /// The group that owns it.
+    pub group: u32,
+    /// When it was written last, if this is known.
+    pub modified: Option<SystemTime>,
+}
+
+impl Found {
+    /// Whether this is the same thing as another one, maybe under another name.
+    pub fn is_same(&self, other: &Found) -> bool {
+        self.device == other.device && self.inode == other.inode
+    }
+}
+
+/// The files below a root. A path is relative to the root. The empty path is the root itself, and `..` is above it.
+///
+/// A call that fails may have done what it is to do.
+pub trait Store {
+    /// A file that the store made, and that is still being written.
+    type NewFile: Drop;
+
+    /// What allocates.
+    fn alloc(&self) -> Global;
+
+    /// The path of the root, as it was given.
+    fn root(&self) -> &str;
+
+    /// What is at a path, or `None` if nothing is there. No symbolic link at the end of the path is followed.
+    fn find(&mut self, path: &str) -> io::Result<Option<Found>>;
+
+    /// The bytes of a regular file. Fails without opening it if something else is there.
+    fn read(&mut self, path: &str) -> io::Result<Vec<u8>>;
+
+    /// Makes a file with at most these permissions where nothing is. Fails if something is there.
+    fn create(&mut self, path: &str, mode: u32) -> io::Result<Self::NewFile>;
+
+    /// What a new file is.
+    fn find_new(&mut self, file: &Self::NewFile) -> io::Result<Found>;
+
+    /// Adds bytes to a new file.
+    fn write(&mut self, file: &mut Self::NewFile, bytes: &[u8]) -> io::Result<()>;
+
+    /// Gives a new file to a user and a group.
+    fn set_owner(&mut self, file: &Self::NewFile, owner: u32, group: u32) -> io::Result<()>;
+
+    /// Gives a new file these permissions.
+    fn set_mode(&mut self, file: &Self::NewFile, mode: u32) -> io::Result<()>;
+
+    /// Waits until a new file is on the disk.
+    fn sync(&mut self, file: &Self::NewFile) -> io::Result<()>;
+
+    /// Waits until the names in a directory are on the disk.
+    fn sync_directory(&mut self, path: &str) -> io::Result<()>;
+
+    /// Renames a file or directory. A file at the new path is replaced.
+    fn rename(&mut self, from: &str, to: &str) -> io::Result<()>;
+
+    /// Gives a file a second name. Fails if something is there.
+    fn link(&mut self, from: &str, to: &str) -> io::Result<()>;
+
+    /// Makes a directory. Fails if something is there.
+    fn make_directory(&mut self, path: &str) -> io::Result<()>;
+
+    /// Removes a file.
+    fn remove_file(&mut self, path: &str) -> io::Result<()>;
+
+    /// Removes a directory. Fails if something is in it.
+    fn remove_directory(&mut self, path: &str) -> io::Result<()>;
+
+    /// Takes the lock of the root, and returns `true`, or returns `false` if another process has it. The store holds the
+    /// lock until the store is dropped.
+    fn lock(&mut self) -> io::Result<bool>;
+
+    /// Whether another process has the lock of the root.
+    fn is_locked(&mut self) -> io::Result<bool>;
+}
+
+/// A runtime whose files a run can reach.
+pub trait Machine: Files + AllocGlobal + Clone + Drop {
+    /// The files below a root.
+    type Store: Store + Drop;
+
+    /// The files below the directory at a path. Allocates the path.
+    fn store_at(&self, root: &str) -> Result<Self::Store, AllocError>;
+}

@@ -1,0 +1,82 @@
+"""What other people and other programs can do to a folder and to a run: `tools/relmove --hostile`.
+
+Each row is a function, and its first line says what has to be. It makes folders of its own, calls the program there,
+and gives what isn't so. `R` is the root, and what lies beside it in the folder of a case must never change.
+
+A run is held at each of its calls that change something, by tools/calls.c, while the script does what another program
+might do. Rows that need another user, a mount or a tool of the system are left out where that isn't to be had, and the
+script says so.
+"""
+
+from common import Tally
+from hostile import disks, foreign, odd_files, others, output, own_files, pages, paths, runs
+from hostile.bench import Bench, LeftOut
+
+ROWS = [
+    own_files.own_files_are_new,
+    own_files.own_names_are_new,
+    own_files.left_journal_is_removed,
+    foreign.own_journal_is_believed,
+    foreign.foreign_journals_are_refused,
+    foreign.links_are_not_followed,
+    foreign.changed_journals_are_refused,
+    foreign.copied_journals_are_refused,
+    foreign.trust_is_not_blind,
+    foreign.journal_has_its_time,
+    runs.runs_exclude_each_other,
+    runs.runs_exclude_ends,
+    runs.lock_is_before_reading,
+    runs.readers_are_told,
+    own_files.strangers_stay,
+    paths.names_are_asked_for,
+    paths.longest_paths_are_asked_for,
+    paths.directories_are_searched,
+    paths.undo_tolerates_what_was_not_made,
+    pages.owners_keep_their_bytes,
+    pages.private_pages_stay_private,
+    pages.modes_stay,
+    pages.edits_after_a_kill_stay,
+    pages.edits_while_it_works_stay,
+    disks.power_may_go,
+    disks.power_may_go_on_ext4,
+    odd_files.emptied_directories_may_stay,
+    own_files.own_names_do_not_move,
+    odd_files.odd_files_are_passed_over,
+    odd_files.devices_are_passed_over,
+    others.directories_stay_directories,
+    others.strangers_at_new_stay,
+    others.strangers_at_old_stay,
+    runs.nested_journals_refuse,
+    runs.nested_runs_exclude_each_other,
+    output.control_characters_are_escaped,
+    output.stopped_output_is_escaped,
+    paths.empty_root_is_wrong,
+    paths.unread_directories_keep_their_names,
+    output.words_are_true,
+    disks.undo_needs_no_room,
+    odd_files.masks_do_not_matter,
+    own_files.left_names_are_mentioned,
+    paths.climbing_links_are_not_asked_for,
+    disks.other_devices_are_found,
+]
+
+
+def try_row(row, at, show, tally):
+    """Tries a row, and prints its first faults."""
+    what = row.__doc__.split("\n")[0]
+    try:
+        faults = list(row(at))
+    except LeftOut as why:
+        print(f"relmove: left out, {why}: {what}", flush=True)
+        return
+    rest = [f"and {len(faults) - show} faults more"] * (len(faults) > show)
+    tally.add(what, [*faults[:show], *rest])
+
+
+def try_rows(options, program, folder):
+    """Tries the rows whose sentence begins with these words, and gives the script's status."""
+    tally, at = Tally("relmove"), Bench(program, folder)
+    for row in ROWS:
+        if row.__doc__.startswith(options.hostile):
+            try_row(row, at, options.show, tally)
+    return tally.end()
