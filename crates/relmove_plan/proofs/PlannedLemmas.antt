@@ -21,7 +21,7 @@ use Rattle.relative_path_moves.specs.TreeMoves.{AtTreePath}
 use Rattle.relative_path_moves.proofs.ForCallers.{IsTreeTarget-only}
 use Rattle.relmove_plan.specs.declared.entry.Entry.{Entry}
 use Rattle.relmove_plan.specs.declared.pages.ChangedPage.{ChangedPage}
-use Rattle.relmove_plan.specs.declared.steps.Steps.{Steps}
+use Rattle.relmove_actions.specs.declared.steps.Steps.{Steps}
 use Rattle.relmove_plan.specs.BetweenNames.{AreFreeNames}
 use Rattle.relmove_plan.specs.Moves.{EachMove}
 use Rattle.relmove_plan.specs.NewFiles.{HaveOwnFiles, LeaveOnce}

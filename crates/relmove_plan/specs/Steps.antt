@@ -13,9 +13,9 @@ use Rattle.relative_path_moves.specs.PlaceIndex.{IsNoneAt, path_at}
 use Rattle.relmove_plan.specs.Pages.{page_paths}
 use Rattle.relmove_plan.specs.declared.pages.ChangedPage.{ChangedPage}
 use Rattle.relmove_plan.specs.declared.renames.Renames.{Renames}
-use Rattle.relmove_plan.specs.declared.steps.NewText.{NewText}
-use Rattle.relmove_plan.specs.declared.steps.Rename.{Rename}
-use Rattle.relmove_plan.specs.declared.steps.Steps.{Steps}
+use Rattle.relmove_actions.specs.declared.steps.NewText.{NewText}
+use Rattle.relmove_actions.specs.declared.steps.Rename.{Rename}
+use Rattle.relmove_actions.specs.declared.steps.Steps.{Steps}
 
 -- the path is below the other
 abbrev pub IsBelow : List ℕ → List ℕ → Type 0

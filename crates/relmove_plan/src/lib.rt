@@ -8,7 +8,7 @@
 //! its parts             pages  symbolic  renames  directories  order
 //! what moves may not    allowed  refused  after
 //! what they need        between  foreign  above
-//! what all share        entry  refusal  steps
+//! what all share        entry  refusal
 //! ```
 #![tactic(auto)]
 
@@ -16,7 +16,6 @@ pub use self::entry::{Entry, Kind};
 pub use self::pages::{ChangedPage, have_targets};
 pub use self::plan::{Plan, Tree, make_plan};
 pub use self::refusal::Refusal;
-pub use self::steps::{NewText, Rename, Steps};
 pub use self::symbolic::LinkNotice;
 
 mod above;
@@ -32,5 +31,4 @@ mod plan;
 mod refusal;
 mod refused;
 mod renames;
-mod steps;
 mod symbolic;

@@ -3,7 +3,7 @@ ghost use Rattle.std.specs.Prelude.{◌≡◌, IfOk, IsPermutation, map, string_
 ghost use mathlib.Core.List.{reverse};
 ghost use Rattle.relmove_plan.specs.Steps.{AboveFirst, BelowFirst, from_name, rename_text, to_name};
 
-use crate::steps::Rename;
+use relmove_actions::Rename;
 use std::alloc::{AllocError, Global};
 
 // The renames of what leaves: what is below a directory before the directory.

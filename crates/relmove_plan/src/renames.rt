@@ -17,7 +17,7 @@ ghost use Rattle.relmove_plan.specs.Directories.{LeavesTo, LeaveToNames, moves_t
 use crate::between::FreeNames;
 use crate::pages::ChangedPage;
 use crate::refusal::Refusal;
-use crate::steps::{NewText, Rename};
+use relmove_actions::{NewText, Rename};
 use relative_path::RelativePath;
 use relative_path_links::{MovedSitePage, SitePage};
 use relative_path_moves::{NormalPath, PlaceIndex};

@@ -6,7 +6,7 @@ use Rattle.std.specs.Cmp.Lexicographic.{slice_cmp}
 use Rattle.std.specs.Ordering.{nat_cmp}
 use Rattle.std.specs.Str.{bytes_eq}
 use Rattle.std.specs.Char.{is_ascii_digit}
-use Rattle.relmove_plan.specs.declared.steps.Rename.{Rename}
+use Rattle.relmove_actions.specs.declared.steps.Rename.{Rename}
 use Rattle.relmove_run.specs.declared.work.Leftover.{Leftover}
 use Rattle.relmove_run.specs.declared.work.Leftover.TheVariants.{Text, Directory}
 use Rattle.relmove_run.specs.declared.work.TextFile.{TextFile}

@@ -3,7 +3,7 @@ use crate::fault::{Call, Fault, at};
 use crate::file_store::is_absence;
 use crate::store::{Found, FoundKind, Store};
 use crate::text_digest::TextDigest;
-use relmove_plan::NewText;
+use relmove_actions::NewText;
 use std::alloc::AllocError;
 use std::io::ErrorKind;
 

@@ -2,7 +2,7 @@
 use crate::fault::Fault;
 use crate::printable::Printable;
 use crate::work::{Leftover, Stage, TextFile, Work};
-use relmove_plan::Rename;
+use relmove_actions::Rename;
 use std::alloc::{AllocError, Global};
 use std::fmt;
 

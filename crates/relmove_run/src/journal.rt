@@ -26,7 +26,7 @@ use crate::shape::is_of_run;
 use crate::text_digest::TextDigest;
 use crate::work::{Leftover, Stage, TextFile, Work};
 use hex::FromHex;
-use relmove_plan::Rename;
+use relmove_actions::Rename;
 use std::alloc::{AllocError, Global};
 
 impl Stage {

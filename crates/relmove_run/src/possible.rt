@@ -3,7 +3,7 @@ use crate::actions::copy_of;
 use crate::fault::{Call, Fault, at};
 use crate::path::join;
 use crate::store::{Found, FoundKind, Store};
-use relmove_plan::Steps;
+use relmove_actions::Steps;
 use std::io::ErrorKind;
 
 // How long a path may be. The system counts a NUL at its end.

@@ -12,7 +12,7 @@ use crate::text_digest::TextDigest;
 use crate::ways::need_ways;
 use crate::work::{Leftover, Stage, TextFile, Work};
 use crate::worker::Worker;
-use relmove_plan::{NewText, Rename, Steps};
+use relmove_actions::{NewText, Rename, Steps};
 use std::alloc::{AllocError, Global};
 use std::collections::BTreeMap;
 

@@ -4,7 +4,7 @@ ghost use Rattle.std.specs.List.{list_all};
 ghost use Rattle.relmove_run.specs.Shape.{AreAscending, AreDifferent, GoesOnce, HaveSameOnce, IsOfRun, LosesNothing, StagesItsTexts, has_paths_of_run, is_directory_name, is_directory_path, is_leftover, is_made_path, is_name, is_nameless, is_path, is_placing, is_staging, is_staging_name, is_text_path, is_written, new_paths, old_paths, removed_paths, text_paths};
 
 use crate::work::{Leftover, TextFile, Work};
-use relmove_plan::Rename;
+use relmove_actions::Rename;
 use std::alloc::{AllocError, Global};
 
 // What the names of a run's own files begin with.

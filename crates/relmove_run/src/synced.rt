@@ -4,7 +4,7 @@ use crate::fault::Fault;
 use crate::path::directory_of;
 use crate::store::Store;
 use crate::work::{Leftover, Stage, TextFile, Work};
-use relmove_plan::Rename;
+use relmove_actions::Rename;
 use std::alloc::{AllocError, Global};
 use std::collections::{BTreeMap, BTreeSet};
 

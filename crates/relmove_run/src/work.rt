@@ -1,6 +1,6 @@
 //! What a run does, stage by stage.
 use crate::text_digest::TextDigest;
-use relmove_plan::Rename;
+use relmove_actions::Rename;
 use std::alloc::Global;
 
 /// How far a run is: what is to be done next.

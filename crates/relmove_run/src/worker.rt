@@ -9,7 +9,7 @@ use crate::remark::Remark;
 use crate::store::{Found, FoundKind, Store};
 use crate::synced::sync_stage;
 use crate::work::{Leftover, Stage, TextFile, Work};
-use relmove_plan::{NewText, Rename};
+use relmove_actions::{NewText, Rename};
 use std::alloc::AllocError;
 
 // A run under way.

@@ -1,19 +1,13 @@
-//! Tests of what no contract says: what the calls do to files, over a file system in memory.
+//! Tests of what no contract says: what the calls print, and what they do to files, over a file system in memory.
+use relmove_disk::{Disk, Place, disk_of};
+use std::alloc::Global;
 use std::fmt::Debug;
 use std::test::Fail;
 
 mod arguments;
-mod cases;
-mod faults;
-mod journal;
 mod moving;
-mod power;
 mod progress;
 mod reading;
-mod runs;
-mod shapes;
-mod strangers;
-mod surprises;
 
 // Fails in the words of this case where another value was found than is expected. A call of it costs
 // a proof a fourth of what `assert_eq!` with a message does.
@@ -23,4 +17,10 @@ fn same<T: PartialEq + Debug>(case: &str, found: &T, expected: &T) -> Result<(),
     } else {
         Err(Fail::new(format_args!("{case:?}: {found:?}, not {expected:?}")))
     }
+}
+
+// Fails where a disk doesn't have these places, or has others.
+fn holds(alloc: Global, case: &str, disk: &Disk, places: &[Place]) -> Result<(), Fail> {
+    let expected = disk_of(alloc, places)?;
+    same(case, &disk.listing()?, &expected.listing()?)
 }

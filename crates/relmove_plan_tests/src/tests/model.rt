@@ -1,6 +1,6 @@
 //! A tree of files in memory, which the steps of a plan change. As on a disk, a rename takes along all that is below,
 //! and needs a directory to come to; unlike there, it fails where something is at its new path.
-use relmove_plan::{Rename, Steps};
+use relmove_actions::{Rename, Steps};
 use std::alloc::Global;
 use std::test::Fail;
 

@@ -1,9 +1,7 @@
 //! What a call that moves files prints, its status, and the tree after it.
-use crate::tests::cases::{Place, disk_of};
 use crate::tests::reading::answers;
-use crate::tests::runs::holds;
-use crate::tests::same;
-use relmove_disk::{Content, Disk, DiskMachine, Way};
+use crate::tests::{holds, same};
+use relmove_disk::{Content, Disk, DiskMachine, Place, Way, disk_of};
 use relmove_lib::{Status, answer};
 use relmove_run::{Ended, Locked, Machine, Trust, resume};
 use std::alloc::Global;

@@ -1,9 +1,7 @@
 //! What a long call prints of its progress, and a run that stopped.
-use crate::tests::cases::disk_of;
 use crate::tests::moving::{MOVED_SITE, SITE, WRITE};
-use crate::tests::runs::holds;
-use crate::tests::same;
-use relmove_disk::DiskMachine;
+use crate::tests::{holds, same};
+use relmove_disk::{DiskMachine, disk_of};
 use relmove_lib::report::print_end;
 use relmove_lib::{Progress, Status, WithProgress, answer};
 use relmove_run::{Ended, Fault, Stage};

@@ -1,7 +1,7 @@
 //! The text of a journal, and its reading.
 use super::marks::{begin, end};
 use crate::tests::same;
-use relmove_plan::Rename;
+use relmove_actions::Rename;
 use relmove_run::{
     Fault, Leftover, Origin, Stage, TextDigest, TextFile, Work, is_of_run, journal_of, journal_text,
 };

@@ -4,7 +4,7 @@ use Rattle.std.proofs.lemmas.List.Elements.{All-weaker}
 use Rattle.std.proofs.lemmas.List.Sorted.{IsPermutation-map}
 use Rattle.relative_path_moves.specs.Moves.{moves_of, move_at}
 use Rattle.relmove_plan.specs.declared.renames.Renames.{Renames}
-use Rattle.relmove_plan.specs.declared.steps.Rename.{Rename}
+use Rattle.relmove_actions.specs.declared.steps.Rename.{Rename}
 use Rattle.relmove_plan.specs.Steps.{StepTexts, RemovesAt, changed_paths, names_left, new_text, rename_text, rename_texts, to_name}
 use Rattle.relmove_plan.proofs.StepsLemmas.{LosesNothing-reordered}
 use Rattle.relmove_plan.proofs.CarryLemmas.{AreAmong-reordered, DoesMove-among, RemovesAt-among, ReplacesPages-among}

@@ -1,11 +1,11 @@
 //! The power is lost before each call of a run, and each number of changes that weren't synced is on the disk. Then the
 //! run can be ended and taken back, and no byte is lost.
-use crate::tests::cases::{self, Case, disk_of};
+use crate::tests::cases::{self, Case};
 use crate::tests::runs::{
     can_be_resumed, can_be_undone, is_done, loses_nothing, run, run_and_fail,
 };
 use crate::tests::same;
-use relmove_disk::{Disk, Way};
+use relmove_disk::{Disk, Way, disk_of};
 use relmove_run::Ended;
 use std::alloc::Global;
 use std::test::Fail;

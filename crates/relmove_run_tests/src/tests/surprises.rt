@@ -1,8 +1,8 @@
 //! What another process does while a run works, before each of its calls: no byte that it wrote is lost.
-use crate::tests::cases::{self, Case, disk_of};
-use crate::tests::runs::{End, end_of, holds, is_done, resume_on, run, run_and_fail, undo_on};
-use crate::tests::same;
-use relmove_disk::{Content, Disk, Way};
+use crate::tests::cases::{self, Case};
+use crate::tests::runs::{End, end_of, is_done, resume_on, run, run_and_fail, undo_on};
+use crate::tests::{holds, same};
+use relmove_disk::{Content, Disk, Way, disk_of};
 use relmove_run::{Ended, Fault, Remark};
 use std::alloc::Global;
 use std::io;

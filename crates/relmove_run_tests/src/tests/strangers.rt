@@ -1,8 +1,8 @@
 //! What a folder from elsewhere, a second process and a limit of the system do to a run.
-use crate::tests::cases::{self, Case, disk_of};
-use crate::tests::runs::{End, end_of, holds, lock, resume_on, run, run_and_fail, undo_on};
-use crate::tests::same;
-use relmove_disk::{Content, Disk, Way};
+use crate::tests::cases::{self, Case};
+use crate::tests::runs::{End, end_of, lock, resume_on, run, run_and_fail, undo_on};
+use crate::tests::{holds, same};
+use relmove_disk::{Content, Disk, Way, disk_of};
 use relmove_run::{Ended, Fault, Trust, undo};
 use std::alloc::Global;
 use std::io;

@@ -1,6 +1,6 @@
 //! What is read from a journal is what was written, and what no run wrote is no journal.
 use crate::tests::same;
-use relmove_plan::Rename;
+use relmove_actions::Rename;
 use relmove_run::{
     Fault, Leftover, Origin, Stage, TextDigest, TextFile, Work, journal_of, journal_text,
 };

@@ -1,11 +1,7 @@
 //! Trees and the steps of moves in them, by hand.
-use relmove_disk::{Content, Disk};
-use relmove_plan::{NewText, Rename, Steps};
+use relmove_actions::{NewText, Rename, Steps};
+use relmove_disk::Place;
 use std::alloc::{AllocError, Global};
-use std::io;
-
-/// What is at a path below `site`: the text of a file, or a directory.
-pub type Place = (&'static str, Option<&'static str>);
 
 /// A tree, the steps of moves in it, and the tree after them. No two files have one text.
 #[derive(Clone, Copy)]
@@ -249,25 +245,4 @@ fn paths_of(alloc: Global, paths: &[&'static str]) -> Result<Vec<String>, AllocE
         list.push(String::from_str(alloc, path)?)?;
     }
     Ok(list)
-}
-
-/// A path below `site`.
-pub fn below_site(alloc: Global, path: &str) -> Result<String, AllocError> {
-    let mut full = String::from_str(alloc, "site/")?;
-    full.push_str(path)?;
-    Ok(full)
-}
-
-/// A disk with these places below `site`.
-pub fn disk_of(alloc: Global, places: &[Place]) -> io::Result<Disk> {
-    let disk = Disk::new(alloc)?;
-    disk.add("site", Content::Directory)?;
-    for (path, text) in places {
-        let content = match text {
-            Some(text) => Content::File(Vec::from_slice(alloc, text.as_bytes())?),
-            None => Content::Directory,
-        };
-        disk.add(below_site(alloc, path)?.as_str(), content)?;
-    }
-    Ok(disk)
 }

@@ -1,7 +1,7 @@
 //! Runs on a disk, and what they leave.
-use crate::tests::cases::{Case, Place, below_site, disk_of};
-use crate::tests::same;
-use relmove_disk::{Disk, DiskStore, Way};
+use crate::tests::cases::Case;
+use crate::tests::{holds, same};
+use relmove_disk::{Disk, DiskStore, Way, below_site, disk_of};
 use relmove_run::{Ended, Fault, Locked, PageText, Remark, Stage, Trust, carry_out, resume, undo};
 use std::alloc::Global;
 use std::test::Fail;
@@ -78,12 +78,6 @@ pub fn undo_on(disk: &Disk) -> Ended {
         Ok(locked) => undo(locked, Trust::ThisFolder),
         Err(fault) => Ended::Refused(fault),
     }
-}
-
-/// Whether a disk has these places, and nothing else.
-pub fn holds(alloc: Global, case: &str, disk: &Disk, places: &[Place]) -> Result<(), Fail> {
-    let expected = disk_of(alloc, places)?;
-    same(case, &disk.listing()?, &expected.listing()?)
 }
 
 // The new text of a page, or the text that stays.

@@ -1,0 +1,30 @@
+//! Tests of what no contract says: what a run does to files, over a file system in memory.
+use relmove_disk::{Disk, Place, disk_of};
+use std::alloc::Global;
+use std::fmt::Debug;
+use std::test::Fail;
+
+mod cases;
+mod faults;
+mod journal;
+mod power;
+mod runs;
+mod shapes;
+mod strangers;
+mod surprises;
+
+// Fails in the words of this case where another value was found than is expected. A call of it costs
+// a proof a fourth of what `assert_eq!` with a message does.
+fn same<T: PartialEq + Debug>(case: &str, found: &T, expected: &T) -> Result<(), Fail> {
+    if found == expected {
+        Ok(())
+    } else {
+        Err(Fail::new(format_args!("{case:?}: {found:?}, not {expected:?}")))
+    }
+}
+
+// Fails where a disk doesn't have these places, or has others.
+fn holds(alloc: Global, case: &str, disk: &Disk, places: &[Place]) -> Result<(), Fail> {
+    let expected = disk_of(alloc, places)?;
+    same(case, &disk.listing()?, &expected.listing()?)
+}
