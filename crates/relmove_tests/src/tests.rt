@@ -5,7 +5,11 @@ use std::fmt::Debug;
 use std::test::Fail;
 
 mod arguments;
+mod ends;
+mod json;
+mod left_alone;
 mod moving;
+mod outputs;
 mod progress;
 mod reading;
 

@@ -90,7 +90,43 @@ fn asks_for_the_end_of_a_run(rt: HostRuntime) -> Result<(), Fail> {
     )
 }
 
-const WRONG: [(&[&str], WrongCall<'static>); 17] = [
+// Each option with each command that lacks it.
+const OF_ANOTHER: [(&[&str], &str); 9] = [
+    (&["--check", "--write", "docs"], "--write"),
+    (&["--check", "--any-name", "docs"], "--any-name"),
+    (&["--check", "--trust-journal", "docs"], "--trust-journal"),
+    (&["--resume", "--json", "docs"], "--json"),
+    (&["--resume", "--any-name", "docs"], "--any-name"),
+    (&["--resume", "--write", "docs"], "--write"),
+    (&["--undo", "--json", "docs"], "--json"),
+    (&["--undo", "--any-name", "docs"], "--any-name"),
+    (&["--undo", "--write", "docs"], "--write"),
+];
+
+#[test]
+fn refuses_options_of_other_commands(rt: HostRuntime) -> Result<(), Fail> {
+    for (words, option) in &OF_ANOTHER {
+        let wrong = Err(WrongCall::OptionOfAnother(option));
+        same(option, &command_of(rt.alloc(), words), &wrong)?;
+    }
+    Ok(())
+}
+
+// Each two of the three commands.
+#[test]
+fn refuses_two_commands(rt: HostRuntime) -> Result<(), Fail> {
+    for words in [
+        ["--check", "--resume", "docs"],
+        ["--check", "--undo", "docs"],
+        ["--resume", "--undo", "docs"],
+    ] {
+        let wrong = Err(WrongCall::TwoCommands);
+        same("two commands", &command_of(rt.alloc(), &words), &wrong)?;
+    }
+    Ok(())
+}
+
+const WRONG: [(&[&str], WrongCall<'static>); 12] = [
     (&[], WrongCall::NoRoot),
     (&["--write"], WrongCall::NoRoot),
     (&["docs"], WrongCall::NoMove),
@@ -98,26 +134,9 @@ const WRONG: [(&[&str], WrongCall<'static>); 17] = [
     (&["docs", "a", "b", "c"], WrongCall::NoNew("c")),
     (&["docs", "-v"], WrongCall::UnknownOption("-v")),
     (&["--help", "--hlep"], WrongCall::UnknownOption("--hlep")),
-    (&["--check", "--undo", "docs"], WrongCall::TwoCommands),
     (&["--check", "docs", "b"], WrongCall::AfterRoot("b")),
     (
-        &["--undo", "--json", "docs"],
-        WrongCall::OptionOfAnother("--json"),
-    ),
-    (
-        &["--check", "--write", "docs"],
-        WrongCall::OptionOfAnother("--write"),
-    ),
-    (
-        &["--resume", "--write", "docs"],
-        WrongCall::OptionOfAnother("--write"),
-    ),
-    (
         &["--trust-journal", "docs", "a", "b"],
-        WrongCall::OptionOfAnother("--trust-journal"),
-    ),
-    (
-        &["--check", "--trust-journal", "docs"],
         WrongCall::OptionOfAnother("--trust-journal"),
     ),
     (&["--resume", ""], WrongCall::EmptyRoot),

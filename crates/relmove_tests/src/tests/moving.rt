@@ -7,18 +7,18 @@ use relmove_run::{Ended, Locked, Machine, Trust, resume};
 use std::alloc::Global;
 use std::test::Fail;
 
-// A call, and what it does.
+/// A call, and what it does.
 #[derive(Clone, Copy)]
-struct Row<'a> {
-    words: &'a [&'static str],
-    before: &'a [Place],
-    after: &'a [Place],
-    status: Status,
-    printed: &'a str,
+pub struct Row<'a> {
+    pub words: &'a [&'static str],
+    pub before: &'a [Place],
+    pub after: &'a [Place],
+    pub status: Status,
+    pub printed: &'a str,
 }
 
-// Whether a call does what its row says, and prints nothing on standard error.
-fn does(alloc: Global, row: &Row<'_>) -> Result<(), Fail> {
+/// Whether a call does what its row says, and prints nothing on standard error.
+pub fn does(alloc: Global, row: &Row<'_>) -> Result<(), Fail> {
     let disk = disk_of(alloc, row.before)?;
     answers(alloc, &disk, row.words, (row.status, row.printed, ""))?;
     holds(alloc, "the tree", &disk, row.after)
@@ -67,18 +67,6 @@ fn changes_nothing_without_write(rt: HostRuntime) -> Result<(), Fail> {
         after: SITE,
         status: Status::Kept,
         printed: "site/n.md, from site/guide/o.md: 1 link\nsite/index.md: 2 links\n2 pages would change, 1 file would move. Nothing is written: add --write.\n",
-    };
-    does(rt.alloc(), &row)
-}
-
-#[test]
-fn prints_json(rt: HostRuntime) -> Result<(), Fail> {
-    let row = Row {
-        words: &["--json", "site", "guide/o.md", "n.md"],
-        before: SITE,
-        after: SITE,
-        status: Status::Kept,
-        printed: "{\"column\":5,\"line\":1,\"new\":\"index.md\",\"page\":\"guide/o.md\",\"target\":\"../index.md\"}\n{\"column\":5,\"line\":1,\"new\":\"n.md#a\",\"page\":\"index.md\",\"target\":\"guide/o.md#a\"}\n{\"column\":23,\"line\":1,\"new\":\"n.md\",\"page\":\"index.md\",\"target\":\"guide/o.md\"}\n",
     };
     does(rt.alloc(), &row)
 }
@@ -193,23 +181,6 @@ fn escapes_what_a_terminal_obeys(rt: HostRuntime) -> Result<(), Fail> {
     let printed = "relmove: none\\u{a}.md to x.md: nothing is at the old path\n";
     let words = ["site", "none\n.md", "x.md"];
     answers(rt.alloc(), &disk, &words, (Status::Refused, "", printed))
-}
-
-#[test]
-fn names_symbolic_links(rt: HostRuntime) -> Result<(), Fail> {
-    let disk = disk_of(rt.alloc(), &[("d", None), ("d/f", Some("ff"))])?;
-    for (path, target) in [("site/d/l", "/x"), ("site/r", "o"), ("site/s", "d/f")] {
-        let target = String::from_str(rt.alloc(), target)?;
-        disk.add(path, Content::Symlink(target))?;
-    }
-    let printed =
-        "site/d/l: this symbolic link moves, left as it is\nsite/s: this symbolic link leads to what moves, left as it is\n0 pages would change, 1 directory would move. Nothing is written: add --write.\n";
-    let expected = (Status::LinksLeft, printed, "");
-    answers(rt.alloc(), &disk, &["site", "d", "e"], expected)?;
-    let printed =
-        "{\"link\":\"d/l\",\"why\":\"moves\"}\n{\"link\":\"s\",\"why\":\"leads to what moves\"}\n";
-    let expected = (Status::LinksLeft, printed, "");
-    answers(rt.alloc(), &disk, &["--json", "site", "d", "e"], expected)
 }
 
 const TREE: &[Place] = &[

@@ -1,0 +1,373 @@
+//! Calls that end a run: what they print, their status, and the tree after them.
+use crate::tests::reading::answers;
+use crate::tests::{holds, same};
+use relmove_disk::{Content, Disk, Place, disk_of};
+use relmove_lib::Status;
+use std::alloc::Global;
+use std::test::Fail;
+
+// A call in a folder with a journal.
+#[derive(Clone, Copy)]
+struct Row<'a> {
+    name: &'a str,
+    journal: &'a str,
+    words: &'a [&'static str],
+    before: &'a [Place],
+    after: &'a [Place],
+    // Whether the journal is there after the call too.
+    keeps_journal: bool,
+    status: Status,
+    printed: &'a str,
+    errors: &'a str,
+}
+
+// Puts a journal into the folder of a disk.
+fn add_journal(alloc: Global, disk: &Disk, journal: &str) -> Result<(), Fail> {
+    let text = Vec::from_slice(alloc, journal.as_bytes())?;
+    disk.add("site/.relmove", Content::File(text))?;
+    Ok(())
+}
+
+// Whether a call does what its row says.
+fn ends(alloc: Global, row: &Row<'_>) -> Result<(), Fail> {
+    let disk = disk_of(alloc, row.before)?;
+    add_journal(alloc, &disk, row.journal)?;
+    answers(
+        alloc,
+        &disk,
+        row.words,
+        (row.status, row.printed, row.errors),
+    )?;
+    let expected = disk_of(alloc, row.after)?;
+    if row.keeps_journal {
+        add_journal(alloc, &expected, row.journal)?;
+    }
+    same(row.name, &disk.listing()?, &expected.listing()?)
+}
+
+// The places before the run, and at its stages.
+
+const OLD: &[Place] = &[("a.md", Some("aa"))];
+
+const STAGED: &[Place] = &[(".relmove-1", Some("aa"))];
+
+const MADE: &[Place] = &[("b", None), (".relmove-1", Some("aa"))];
+
+const NEW: &[Place] = &[("b", None), ("b/a.md", Some("aa"))];
+
+const GONE: &[Place] = &[("x", Some("xx"))];
+
+// Journals of a run that moves `a.md` to `b/a.md`, at each stage. The last line has the digest that `sha256sum` prints.
+const STAGING: &str =
+    "relmove journal 2\nroot\t1\nfile\t1\nstage\tstaging\nstaged\ta.md\t.relmove-1\nmade\tb\nplaced\t.relmove-1\tb/a.md\nend\t101\tb677f14795fa3c5d706dfa4345162a0a055de9e33c6a3a7c7473a7f9a08004f4\n";
+
+const MAKING: &str =
+    "relmove journal 2\nroot\t1\nfile\t1\nstage\tmaking\nstaged\ta.md\t.relmove-1\nmade\tb\nplaced\t.relmove-1\tb/a.md\nend\t100\t4fd34fca184fd947fccc49e802471c057d6621957cceb014ee540b3e13ef9dac\n";
+
+const PLACING: &str =
+    "relmove journal 2\nroot\t1\nfile\t1\nstage\tplacing\nstaged\ta.md\t.relmove-1\nmade\tb\nplaced\t.relmove-1\tb/a.md\nend\t101\t79ddca55e3b3dfa0e69b34f0ee31e6c004ef4f406682463d4293f3c756f54096\n";
+
+const CLEANING: &str =
+    "relmove journal 2\nroot\t1\nfile\t1\nstage\tcleaning\nstaged\ta.md\t.relmove-1\nmade\tb\nplaced\t.relmove-1\tb/a.md\nend\t102\t08f00d191d958557a7e042bc9134284ad50a78e25d7dc05444876578b3421a59\n";
+
+const UNPLACING: &str =
+    "relmove journal 2\nroot\t1\nfile\t1\nstage\tunplacing\nstaged\ta.md\t.relmove-1\nmade\tb\nplaced\t.relmove-1\tb/a.md\nend\t103\t37d415d3352f70be2db35f996eb1eaa9cc9490f4f389d738089f276b604ca502\n";
+
+const UNMAKING: &str =
+    "relmove journal 2\nroot\t1\nfile\t1\nstage\tunmaking\nstaged\ta.md\t.relmove-1\nmade\tb\nplaced\t.relmove-1\tb/a.md\nend\t102\t0269ba6dcefd244cf50e7d92f97adb4f0cb72c0f982db96cbcf217079c177948\n";
+
+const UNSTAGING: &str =
+    "relmove journal 2\nroot\t1\nfile\t1\nstage\tunstaging\nstaged\ta.md\t.relmove-1\nmade\tb\nplaced\t.relmove-1\tb/a.md\nend\t103\t5b1efa68b970f351f9c39a8ec3115c1dfe417235c5894d6a1afdfe6f564e11ea\n";
+
+const ERASING: &str =
+    "relmove journal 2\nroot\t1\nfile\t1\nstage\terasing\nstaged\ta.md\t.relmove-1\nmade\tb\nplaced\t.relmove-1\tb/a.md\nend\t101\te82cefcdbee308c29216769995c38c7e87b8f3ed3236ea7732fd3d85061fd152\n";
+
+const PRINTS: [Row<'static>; 3] = [
+    Row {
+        name: "resume prints what is left of a run",
+        journal: STAGING,
+        words: &["--resume", "--trust-journal", "site"],
+        before: OLD,
+        after: OLD,
+        keeps_journal: true,
+        status: Status::Kept,
+        printed: "site: rename a.md to .relmove-1\nsite: make the directory b\nsite: rename .relmove-1 to b/a.md\n",
+        errors: "",
+    },
+    Row {
+        name: "resume prints less at a later stage",
+        journal: PLACING,
+        words: &["--resume", "--trust-journal", "site"],
+        before: MADE,
+        after: MADE,
+        keeps_journal: true,
+        status: Status::Kept,
+        printed: "site: rename .relmove-1 to b/a.md\n",
+        errors: "",
+    },
+    Row {
+        name: "undo prints the way back",
+        journal: MAKING,
+        words: &["--undo", "--trust-journal", "site"],
+        before: STAGED,
+        after: STAGED,
+        keeps_journal: true,
+        status: Status::Kept,
+        printed: "site: if it is empty, remove the directory b\nsite: rename .relmove-1 to a.md\n",
+        errors: "",
+    },
+];
+
+#[test]
+fn prints_what_the_end_of_a_run_changes(rt: HostRuntime) -> Result<(), Fail> {
+    for row in &PRINTS {
+        ends(rt.alloc(), row)?;
+    }
+    Ok(())
+}
+
+const RESUMES: [Row<'static>; 5] = [
+    Row {
+        name: "resume ends a run that was staging",
+        journal: STAGING,
+        words: &["--resume", "--trust-journal", "--write", "site"],
+        before: OLD,
+        after: NEW,
+        keeps_journal: false,
+        status: Status::Kept,
+        printed: "site: rename a.md to .relmove-1\nsite: make the directory b\nsite: rename .relmove-1 to b/a.md\nsite: everything is at its new path\n",
+        errors: "",
+    },
+    Row {
+        name: "resume ends a run that was making directories",
+        journal: MAKING,
+        words: &["--resume", "--trust-journal", "--write", "site"],
+        before: STAGED,
+        after: NEW,
+        keeps_journal: false,
+        status: Status::Kept,
+        printed: "site: make the directory b\nsite: rename .relmove-1 to b/a.md\nsite: everything is at its new path\n",
+        errors: "",
+    },
+    Row {
+        name: "resume ends a run that was placing",
+        journal: PLACING,
+        words: &["--resume", "--trust-journal", "--write", "site"],
+        before: MADE,
+        after: NEW,
+        keeps_journal: false,
+        status: Status::Kept,
+        printed: "site: rename .relmove-1 to b/a.md\nsite: everything is at its new path\n",
+        errors: "",
+    },
+    Row {
+        name: "resume ends a run that was cleaning",
+        journal: CLEANING,
+        words: &["--resume", "--trust-journal", "--write", "site"],
+        before: NEW,
+        after: NEW,
+        keeps_journal: false,
+        status: Status::Kept,
+        printed: "site: everything is at its new path\n",
+        errors: "",
+    },
+    Row {
+        name: "resume goes back where the run was going back",
+        journal: UNPLACING,
+        words: &["--resume", "--trust-journal", "--write", "site"],
+        before: NEW,
+        after: OLD,
+        keeps_journal: false,
+        status: Status::Kept,
+        printed: "site: rename b/a.md to .relmove-1\nsite: if it is empty, remove the directory b\nsite: rename .relmove-1 to a.md\nsite: the run was taken back, everything is as before\n",
+        errors: "",
+    },
+];
+
+#[test]
+fn resumes_from_each_stage(rt: HostRuntime) -> Result<(), Fail> {
+    for row in &RESUMES {
+        ends(rt.alloc(), row)?;
+    }
+    Ok(())
+}
+
+const UNDOES: [Row<'static>; 6] = [
+    Row {
+        name: "undo takes a run back that was staging",
+        journal: STAGING,
+        words: &["--undo", "--trust-journal", "--write", "site"],
+        before: STAGED,
+        after: OLD,
+        keeps_journal: false,
+        status: Status::Kept,
+        printed: "site: rename .relmove-1 to a.md\nsite: the run was taken back, everything is as before\n",
+        errors: "",
+    },
+    Row {
+        name: "undo takes a run back that was making directories",
+        journal: MAKING,
+        words: &["--undo", "--trust-journal", "--write", "site"],
+        before: MADE,
+        after: OLD,
+        keeps_journal: false,
+        status: Status::Kept,
+        printed: "site: if it is empty, remove the directory b\nsite: rename .relmove-1 to a.md\nsite: the run was taken back, everything is as before\n",
+        errors: "",
+    },
+    Row {
+        name: "undo takes a run back that was placing",
+        journal: PLACING,
+        words: &["--undo", "--trust-journal", "--write", "site"],
+        before: NEW,
+        after: OLD,
+        keeps_journal: false,
+        status: Status::Kept,
+        printed: "site: rename b/a.md to .relmove-1\nsite: if it is empty, remove the directory b\nsite: rename .relmove-1 to a.md\nsite: the run was taken back, everything is as before\n",
+        errors: "",
+    },
+    Row {
+        name: "undo goes on where a run was removing directories",
+        journal: UNMAKING,
+        words: &["--undo", "--trust-journal", "--write", "site"],
+        before: MADE,
+        after: OLD,
+        keeps_journal: false,
+        status: Status::Kept,
+        printed: "site: if it is empty, remove the directory b\nsite: rename .relmove-1 to a.md\nsite: the run was taken back, everything is as before\n",
+        errors: "",
+    },
+    Row {
+        name: "undo goes on where a run was renaming back",
+        journal: UNSTAGING,
+        words: &["--undo", "--trust-journal", "--write", "site"],
+        before: STAGED,
+        after: OLD,
+        keeps_journal: false,
+        status: Status::Kept,
+        printed: "site: rename .relmove-1 to a.md\nsite: the run was taken back, everything is as before\n",
+        errors: "",
+    },
+    Row {
+        name: "undo goes on where a run had renamed all back",
+        journal: ERASING,
+        words: &["--undo", "--trust-journal", "--write", "site"],
+        before: OLD,
+        after: OLD,
+        keeps_journal: false,
+        status: Status::Kept,
+        printed: "site: the run was taken back, everything is as before\n",
+        errors: "",
+    },
+];
+
+#[test]
+fn undoes_from_each_stage(rt: HostRuntime) -> Result<(), Fail> {
+    for row in &UNDOES {
+        ends(rt.alloc(), row)?;
+    }
+    Ok(())
+}
+
+const SPECIAL: [Row<'static>; 4] = [
+    Row {
+        name: "resume stops where a file is gone",
+        journal: STAGING,
+        words: &["--resume", "--trust-journal", "--write", "site"],
+        before: GONE,
+        after: GONE,
+        keeps_journal: true,
+        status: Status::Stopped,
+        printed: "site: rename a.md to .relmove-1\nsite: make the directory b\nsite: rename .relmove-1 to b/a.md\n",
+        errors: "relmove: site: a.md isn't there\nrelmove: stopped in the middle: some files have names that begin with .relmove-. Call relmove with --resume to go on, or with --undo to go back, and site.\nrelmove: the journal .relmove in site has the old paths, the names that begin with .relmove- and the new paths.\n",
+    },
+    Row {
+        name: "undo names a file that is gone",
+        journal: STAGING,
+        words: &["--undo", "--trust-journal", "--write", "site"],
+        before: GONE,
+        after: GONE,
+        keeps_journal: false,
+        status: Status::LinksLeft,
+        printed: "site: rename .relmove-1 to a.md\nsite: neither a.md nor .relmove-1 is there: another program removed it\nsite: the run was taken back, and all else is as before\n",
+        errors: "",
+    },
+    Row {
+        name: "undo comes too late",
+        journal: CLEANING,
+        words: &["--undo", "--trust-journal", "--write", "site"],
+        before: NEW,
+        after: NEW,
+        keeps_journal: true,
+        status: Status::Refused,
+        printed: "",
+        errors: "relmove: site: everything is at its new path already: call relmove --resume ROOT to end the run\n",
+    },
+    Row {
+        name: "the journal of another folder isn't believed",
+        journal: STAGING,
+        words: &["--resume", "site"],
+        before: OLD,
+        after: OLD,
+        keeps_journal: true,
+        status: Status::Refused,
+        printed: "",
+        errors: "relmove: site: the journal .relmove wasn't written in this folder: it came with a copy or from elsewhere. Remove it, or add --trust-journal to see what it asks for\n",
+    },
+];
+
+#[test]
+fn names_what_is_gone_and_refuses(rt: HostRuntime) -> Result<(), Fail> {
+    for row in &SPECIAL {
+        ends(rt.alloc(), row)?;
+    }
+    Ok(())
+}
+
+const NO_JOURNALS: [(&str, &str); 3] = [
+    (
+        "no journal\n",
+        "relmove: site: .relmove isn't a journal that relmove wrote: another program made or changed it\n",
+    ),
+    (
+        "",
+        "relmove: site: .relmove isn't a journal that relmove wrote: another program made or changed it\n",
+    ),
+    (
+        "relmove journal 1\nstage\tparting\nend\n",
+        "relmove: site: the journal .relmove is of an older relmove. Rename by hand what it lists: from the names that begin with .relmove- to the old paths (lines apart) or to the new ones (lines together)\n",
+    ),
+];
+
+// Refuses to end a run by a text that is no journal.
+fn refuses(alloc: Global, text: &str, command: &'static str, errors: &str) -> Result<(), Fail> {
+    let disk = disk_of(alloc, OLD)?;
+    add_journal(alloc, &disk, text)?;
+    let before = disk.listing()?;
+    answers(
+        alloc,
+        &disk,
+        &[command, "site"],
+        (Status::Refused, "", errors),
+    )?;
+    same(text, &disk.listing()?, &before)
+}
+
+#[test]
+fn refuses_what_is_no_journal(rt: HostRuntime) -> Result<(), Fail> {
+    for (text, errors) in &NO_JOURNALS {
+        refuses(rt.alloc(), text, "--resume", errors)?;
+        refuses(rt.alloc(), text, "--undo", errors)?;
+    }
+    Ok(())
+}
+
+#[test]
+fn refuses_without_a_journal(rt: HostRuntime) -> Result<(), Fail> {
+    let disk = disk_of(rt.alloc(), OLD)?;
+    let errors = "relmove: site: there is no run that didn't end\n";
+    let expected = (Status::Refused, "", errors);
+    answers(rt.alloc(), &disk, &["--resume", "site"], expected)?;
+    answers(rt.alloc(), &disk, &["--undo", "site"], expected)?;
+    holds(rt.alloc(), "no journal", &disk, OLD)
+}

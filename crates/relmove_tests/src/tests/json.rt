@@ -1,0 +1,71 @@
+//! Objects of JSON in place of words.
+use crate::tests::moving::{MOVED_SITE, Row, SITE, does};
+use relmove_disk::Place;
+use relmove_lib::Status;
+use std::test::Fail;
+
+const CHANGED: &str =
+    "{\"column\":5,\"line\":1,\"new\":\"index.md\",\"page\":\"guide/o.md\",\"target\":\"../index.md\"}\n{\"column\":5,\"line\":1,\"new\":\"n.md#a\",\"page\":\"index.md\",\"target\":\"guide/o.md#a\"}\n{\"column\":23,\"line\":1,\"new\":\"n.md\",\"page\":\"index.md\",\"target\":\"guide/o.md\"}\n";
+
+#[test]
+fn prints_links_that_change(rt: HostRuntime) -> Result<(), Fail> {
+    let row = Row {
+        words: &["--json", "site", "guide/o.md", "n.md"],
+        before: SITE,
+        after: SITE,
+        status: Status::Kept,
+        printed: CHANGED,
+    };
+    does(rt.alloc(), &row)
+}
+
+#[test]
+fn prints_no_words_with_write(rt: HostRuntime) -> Result<(), Fail> {
+    let row = Row {
+        words: &["--write", "--json", "site", "guide/o.md", "n.md"],
+        before: SITE,
+        after: MOVED_SITE,
+        status: Status::Kept,
+        printed: CHANGED,
+    };
+    does(rt.alloc(), &row)
+}
+
+const LEFT: &[Place] = &[
+    ("d", None),
+    (
+        "d/a.md",
+        Some("\u{e9} [x](b%2Fc) [b](b.md)\n\n\u{e9} [l](../../L) [b](b.md)"),
+    ),
+    ("d/b.md", Some("")),
+];
+
+#[test]
+fn prints_links_that_stay(rt: HostRuntime) -> Result<(), Fail> {
+    let row = Row {
+        words: &["site", "--json", "d/a.md", "a.md"],
+        before: LEFT,
+        after: LEFT,
+        status: Status::LinksLeft,
+        printed: "{\"column\":18,\"line\":1,\"new\":\"d/b.md\",\"page\":\"d/a.md\",\"target\":\"b.md\"}\n{\"column\":20,\"line\":3,\"new\":\"d/b.md\",\"page\":\"d/a.md\",\"target\":\"b.md\"}\n{\"column\":7,\"line\":1,\"page\":\"d/a.md\",\"target\":\"b%2Fc\",\"why\":\"has %2F, a slash that separates no directories\"}\n{\"column\":7,\"line\":3,\"page\":\"d/a.md\",\"target\":\"../../L\",\"why\":\"leads above the root\"}\n",
+    };
+    does(rt.alloc(), &row)
+}
+
+const DEAD: &[Place] = &[
+    ("a.md", Some("\n\n[x](none.md) [y](../z)")),
+    ("d", None),
+    ("d/b.md", Some("[a](../a.md) ![i](<i \\\" j>)")),
+];
+
+#[test]
+fn prints_dead_links(rt: HostRuntime) -> Result<(), Fail> {
+    let row = Row {
+        words: &["--check", "--json", "site"],
+        before: DEAD,
+        after: DEAD,
+        status: Status::LinksLeft,
+        printed: "{\"column\":5,\"line\":3,\"page\":\"a.md\",\"target\":\"none.md\",\"why\":\"nothing is there\"}\n{\"column\":18,\"line\":3,\"page\":\"a.md\",\"target\":\"../z\",\"why\":\"it leads above the root\"}\n{\"column\":20,\"line\":1,\"page\":\"d/b.md\",\"target\":\"i \\\\\\\" j\",\"why\":\"nothing is there\"}\n",
+    };
+    does(rt.alloc(), &row)
+}

@@ -1,0 +1,132 @@
+//! What a call names or passes over: symbolic links, names with dots, names that aren't UTF-8.
+use crate::tests::moving::{Row, does};
+use crate::tests::reading::answers;
+use crate::tests::same;
+use relmove_disk::{Content, Disk, Place, disk_of};
+use relmove_lib::Status;
+use std::alloc::Global;
+use std::test::Fail;
+
+// Puts a symbolic link at a path.
+fn add_symlink(alloc: Global, disk: &Disk, path: &str, target: &str) -> Result<(), Fail> {
+    let target = String::from_str(alloc, target)?;
+    disk.add(path, Content::Symlink(target))?;
+    Ok(())
+}
+
+#[test]
+fn names_symbolic_links(rt: HostRuntime) -> Result<(), Fail> {
+    let disk = disk_of(rt.alloc(), &[("d", None), ("d/f", Some("ff"))])?;
+    for (path, target) in [("site/d/l", "/x"), ("site/r", "o"), ("site/s", "d/f")] {
+        let target = String::from_str(rt.alloc(), target)?;
+        disk.add(path, Content::Symlink(target))?;
+    }
+    let printed =
+        "site/d/l: this symbolic link moves, left as it is\nsite/s: this symbolic link leads to what moves, left as it is\n0 pages would change, 1 directory would move. Nothing is written: add --write.\n";
+    let expected = (Status::LinksLeft, printed, "");
+    answers(rt.alloc(), &disk, &["site", "d", "e"], expected)?;
+    let printed =
+        "{\"link\":\"d/l\",\"why\":\"moves\"}\n{\"link\":\"s\",\"why\":\"leads to what moves\"}\n";
+    let expected = (Status::LinksLeft, printed, "");
+    answers(rt.alloc(), &disk, &["--json", "site", "d", "e"], expected)
+}
+
+// Moves with `--write`, and asks for the tree after it: a symbolic link moves as it is, wherever it leads.
+fn moves_symlink(
+    alloc: Global,
+    from: &'static str,
+    to: &'static str,
+    printed: &str,
+) -> Result<(), Fail> {
+    let places: &[Place] = &[("d", None), ("x.md", Some("xx"))];
+    let disk = disk_of(alloc, places)?;
+    let expected = disk_of(alloc, places)?;
+    add_symlink(alloc, &disk, "site/d/l", "../nowhere")?;
+    if from == "d" {
+        expected.remove("site/d")?;
+        expected.add("site/e", Content::Directory)?;
+        add_symlink(alloc, &expected, "site/e/l", "../nowhere")?;
+    } else {
+        expected.remove("site/d")?;
+        add_symlink(alloc, &expected, "site/m", "../nowhere")?;
+    }
+    let words = ["--write", "site", from, to];
+    answers(alloc, &disk, &words, (Status::LinksLeft, printed, ""))?;
+    same(printed, &disk.listing()?, &expected.listing()?)
+}
+
+#[test]
+fn moves_a_symbolic_link_that_leads_nowhere(rt: HostRuntime) -> Result<(), Fail> {
+    let printed =
+        "site/d/l: this symbolic link moves, left as it is\n0 pages changed, 1 directory moved.\n";
+    moves_symlink(rt.alloc(), "d", "e", printed)?;
+    let printed =
+        "site/d/l: this symbolic link moves, left as it is\n0 pages changed, 1 file moved.\n";
+    moves_symlink(rt.alloc(), "d/l", "m", printed)
+}
+
+#[test]
+fn reads_no_page_whose_path_has_a_dot_name(rt: HostRuntime) -> Result<(), Fail> {
+    let row = Row {
+        words: &["--write", "site", "a.md", "b.md"],
+        before: &[
+            (".d", None),
+            (".d/p.md", Some("[a](../a.md)")),
+            (".h.md", Some("[a](a.md)")),
+            ("a.md", Some("aa")),
+        ],
+        after: &[
+            (".d", None),
+            (".d/p.md", Some("[a](../a.md)")),
+            (".h.md", Some("[a](a.md)")),
+            ("b.md", Some("aa")),
+        ],
+        status: Status::Kept,
+        printed: "0 pages changed, 1 file moved.\n",
+    };
+    does(rt.alloc(), &row)
+}
+
+#[test]
+fn moves_a_file_whose_name_begins_with_a_dot(rt: HostRuntime) -> Result<(), Fail> {
+    let row = Row {
+        words: &["--write", "site", ".h.md", "d/.h.md"],
+        before: &[(".h.md", Some("[a](a.md)")), ("a.md", Some("[h](.h.md)"))],
+        after: &[
+            ("d", None),
+            ("d/.h.md", Some("[a](a.md)")),
+            ("a.md", Some("[h](d/.h.md)")),
+        ],
+        status: Status::Kept,
+        printed: "site/a.md: 1 link\n1 page changed, 1 file moved.\n",
+    };
+    does(rt.alloc(), &row)
+}
+
+// What isn't read, below the root.
+const UNREAD: &str =
+    "relmove: g/k/f.md isn't read: permission denied\nrelmove: a name in the directory g can't be read, or isn't UTF-8\n";
+
+#[test]
+fn moves_beside_what_it_cannot_read(rt: HostRuntime) -> Result<(), Fail> {
+    let alloc = rt.alloc();
+    let disk = disk_of(
+        alloc,
+        &[
+            ("a.md", Some("aa")),
+            ("g", None),
+            ("g/NOT-UTF-8", Some("nn")),
+            ("g/k", None),
+            ("g/k/f.md", Some("[a](../../a.md)")),
+        ],
+    )?;
+    disk.set_mode("site/g/k/f.md", 0o200)?;
+    let printed = "0 pages changed, 1 file moved.\n";
+    let words = ["--write", "site", "a.md", "b.md"];
+    answers(alloc, &disk, &words, (Status::Kept, printed, UNREAD))?;
+    let refused = format!(in alloc;
+        "{UNREAD}relmove: g to h: what moves holds a name that isn't UTF-8, or a directory that can't be read\n"
+    )?;
+    let expected = (Status::Refused, "", refused.as_str());
+    answers(alloc, &disk, &["site", "g", "h"], expected)
+}
