@@ -23,6 +23,7 @@ use Rattle.relative_path.proofs.NamingExtensionLemmas as extensions
 use Rattle.relative_path.proofs.NamingEditsLemmas as edits
 use Rattle.relative_path.proofs.NormalStepsLemmas as normal_steps
 use Rattle.relative_path.proofs.NormalStepsLemmas.{normal_unique}
+use Rattle.relative_path.proofs.NormalizingLemmas as normalizing
 use Rattle.relative_path.proofs.ClimbingLemmas.{climb_after, IsSome-walk}
 use Rattle.relative_path.proofs.RelatingLemmas as relating
 use Rattle.relative_path.proofs.OnLiterals.{relative_path_on_literals}
@@ -148,45 +149,9 @@ IsNormal-push_name = normal_steps.IsNormal-push_name
 pub IsNormal-append_left : (cs ds : List Step) → IsNormal (cs ++ ds) → IsNormal cs
 IsNormal-append_left = normal_steps.IsNormal-append_left
 
--- a normal list with one more step at its end has a normal form
-normal_push : (ds : List Step) (c : Step) → IsNormal ds
-    → (es : List Step) × IsNormal es × ((rest : List Step) → IsSame (ds ++ c ∷ rest) (es ++ rest))
-normal_push ds cur normal = (ds, normal, walks.IsSame-cur ds)
-normal_push ds (name n) normal = (
-  ds ++ name n ∷ [],
-  IsNormal-push_name ds n normal,
-  λ rest. rw (append_assoc ds (name n ∷ []) rest) (IsSame-refl (ds ++ name n ∷ rest)),
-)
-normal_push ds up normal = elim (lists.last_view ds) [
-  | inl none ↦ rw none (up ∷ [], tt, λ rest. IsSame-refl (up ∷ rest))
-  | inr (fs, c, joined) ↦ rw joined (last fs c (subst IsNormal joined normal))
-]
-  where
-    last : (fs : List Step) (c : Step) → IsNormal (fs ++ c ∷ [])
-        → (es : List Step) × IsNormal es × ((rest : List Step) → IsSame ((fs ++ c ∷ []) ++ up ∷ rest) (es ++ rest))
-    last fs cur normal = absurd (normal_steps.IsNormal-not_cur fs normal)
-    last fs up normal = (
-      (fs ++ up ∷ []) ++ up ∷ [],
-      normal_steps.IsNormal-push_up_after_up fs normal,
-      λ rest. rw (append_assoc (fs ++ up ∷ []) (up ∷ []) rest) (IsSame-refl ((fs ++ up ∷ []) ++ up ∷ rest)),
-    )
-    last fs (name n) normal = (
-      fs,
-      normal_steps.IsNormal-front fs (name n) normal,
-      λ rest. rw (append_assoc fs (name n ∷ []) (up ∷ rest)) (walks.IsSame-name_up fs rest n),
-    )
-
-normal_after : (ds cs : List Step) → IsNormal ds → (es : List Step) × IsNormal es × IsSame (ds ++ cs) es
-normal_after ds [] normal = (ds, normal, rw (append-nil ds) (IsSame-refl ds))
-normal_after ds (c ∷ cs) normal =
-    let (es, is, same) = normal_push ds c normal in
-    let (fs, is_last, same_last) = normal_after es cs is in
-    (fs, is_last, IsSame-trans (same cs) same_last)
-
 -- each list has a normal form
 pub IsNormalForm-some : (cs : List Step) → (ds : List Step) × IsNormalForm cs ds
-IsNormalForm-some cs =
-    let (ds, normal, same) = normal_after [] cs tt in (ds, record { normal = normal; same = same })
+IsNormalForm-some = normalizing.IsNormalForm-some
 
 -- ---- what the components of a text are
 

@@ -45,6 +45,8 @@ pub fn normalize(alloc: Global, path: RelativePath<'_>, out: &mut [u8]) -> Resul
     ensures no_longer { IfOk result (λ len. len ≤ length (path_text path.entry)) }
     ensures normal_stays { IfOk result (λ len. IsNormal (path_components path.entry)
         → components (take len out.new) ≡ path_components path.entry) }
+    ensures file_name { IfOk result (λ len. IsSome (file_name_of (path_text path.entry))
+        → file_name_of (take len out.new) ≡ file_name_of (path_text path.entry)) }
     ensures within { IfOk result (λ len. len ≤ length out.new) }
     ensures utf8 { IfOk result (λ len. IsUtf8 (take len out.new)) }
     ensures fits { length (path_text path.entry) ≤ length out.old → IsOk result }
