@@ -1,6 +1,6 @@
 -- What a caller's proof may cite, next to `OnLiterals`: where lists of components lead, and what the components of a
 -- text are. Other crates can name no other lemma module of this crate.
-use Rattle.std.proofs.Common.{◌≡◌, ◌≢◌, ◌↔◌, ℕ, ◌<◌, ◌≤◌, false, All, List, [], ◌∷◌, ◌++◌, length, map, replicate, take, ◌-◌, get_or, codes, Some, IsSome, option_and_then, inl, inr, refl, sym, ap, ◌∙◌, subst, arith, append_assoc, append-nil, take_at, length-append}
+use Rattle.std.proofs.Common.{◌≡◌, ◌≢◌, ◌↔◌, ℕ, ◌<◌, ◌≤◌, false, All, List, [], ◌∷◌, ◌++◌, length, map, replicate, take, ◌-◌, get_or, codes, Some, IsSome, IsTrue, option_and_then, inl, inr, refl, sym, ap, ◌∙◌, subst, arith, append_assoc, append-nil, take_at, length-append}
 use Rattle.std.specs.Prelude.{slice_get}
 use Rattle.std.proofs.lemmas.Bool.{cond-false}
 use Rattle.std.proofs.lemmas.List.{length-replicate}
@@ -10,7 +10,7 @@ use Rattle.relative_path.specs.Walk.{walk, IsSame, LeadsInTurn, StaysBelow}
 use Rattle.relative_path.specs.Normalizing.{AreNames, IsNormal, IsNormalForm, IsNormalTextOf, climb}
 use Rattle.relative_path.specs.Slices.{IsShortestPrefix, IsFront}
 use Rattle.relative_path.specs.Editing.{kept, pushed, unslashed}
-use Rattle.relative_path.specs.Naming.{last_name}
+use Rattle.relative_path.specs.Naming.{last_name, file_name_of, is_extension, is_plain_extension}
 use Rattle.relative_path.specs.Relating.{Leads, IsReachable, IsShortest, IsShortestText}
 use Rattle.relative_path.specs.Unix.{has_root}
 use Rattle.relative_path.proofs.ListsLemmas as lists
@@ -279,3 +279,23 @@ kept-name = extensions.kept-name
 -- the file name of components that spell themselves spells itself
 pub SpellsItself-last_name : (cs : List Step) (n : List ℕ) → SpellThemselves cs → last_name cs ≡ Some n → SpellsItself (name n)
 SpellsItself-last_name = edits.SpellsItself-last_name
+
+-- the file name of the normal text of a list with a file name is that file name
+pub last_name-IsNormalTextOf : {cs : List Step} {text : List ℕ} → IsNormalTextOf cs text → IsSome (last_name cs)
+    → file_name_of text ≡ last_name cs
+last_name-IsNormalTextOf normal found = normalizing.last_name-IsNormalTextOf _ _ normal found
+
+-- a plain extension can come after a dot
+pub is_extension-plain : (e : List ℕ) → IsTrue (is_plain_extension e) → IsTrue (is_extension e)
+is_extension-plain = extensions.is_extension-plain
+
+-- ---- sets of theorems that `#[tactic(auto, using(..))]` can name
+
+-- which components a text or a push has
+pub ruleset components_of_texts = (components-up, components-trailing_slash, components-pushed, unslashed-spell)
+
+-- where lists of components lead
+pub ruleset places = (walk-append, walk-names, IsSome-walk_normal, IsSame-refl, IsReachable-from_top)
+
+-- file names, and the components before them
+pub ruleset file_names = (last_name-name, kept-name, last_name-IsNormalTextOf, is_extension-plain)

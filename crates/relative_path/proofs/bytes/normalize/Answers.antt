@@ -1,5 +1,5 @@
 -- What is written is the normal text of the path. A path that is normal is its own normal form.
-use Rattle.std.proofs.Common.{◌≡◌, ℕ, List, subst, take}
+use Rattle.std.proofs.Common.{◌≡◌, ℕ, List, subst}
 use Rattle.relative_path.specs.Normalizing.{IsNormalTextOf}
 use Rattle.relative_path.specs.Steps.{components}
 use Rattle.relative_path.proofs.NormalizingLemmas.{components-IsNormalTextOf, last_name-IsNormalTextOf}
