@@ -1,7 +1,7 @@
 //! What a call names or passes over: symbolic links, names with dots, names that aren't UTF-8.
 use crate::tests::moving::{Row, does};
 use crate::tests::reading::answers;
-use crate::tests::same;
+use crate::tests::{holds, same};
 use relmove_disk::{Content, Disk, Place, disk_of};
 use relmove_lib::Status;
 use std::alloc::Global;
@@ -103,30 +103,73 @@ fn moves_a_file_whose_name_begins_with_a_dot(rt: HostRuntime) -> Result<(), Fail
     does(rt.alloc(), &row)
 }
 
-// What isn't read, below the root.
+// Whether a call is refused, after it named what isn't read.
+fn refuses(
+    alloc: Global,
+    disk: &Disk,
+    words: &[&str],
+    unread: &str,
+    why: &str,
+) -> Result<(), Fail> {
+    let mut errors = String::from_str(alloc, unread)?;
+    errors.push_str(why)?;
+    answers(alloc, disk, words, (Status::Refused, "", errors.as_str()))
+}
+
+#[test]
+fn refuses_a_name_that_is_not_utf_8(rt: HostRuntime) -> Result<(), Fail> {
+    let places: &[Place] = &[("d", None), ("d/NOT-UTF-8", Some("nn"))];
+    let disk = disk_of(rt.alloc(), places)?;
+    let printed =
+        "relmove: a name in the directory d can't be read, or isn't UTF-8\nrelmove: d to e: what moves holds a name that isn't UTF-8, or a directory that can't be read\n";
+    let expected = (Status::Refused, "", printed);
+    answers(rt.alloc(), &disk, &["--write", "site", "d", "e"], expected)?;
+    holds(rt.alloc(), "the tree", &disk, places)
+}
+
+// What isn't read, in the root.
 const UNREAD: &str =
+    "relmove: l isn't read: permission denied\nrelmove: f.md isn't read: permission denied\nrelmove: a name in the directory l can't be read, or isn't UTF-8\n";
+
+#[test]
+fn passes_over_what_it_cannot_read(rt: HostRuntime) -> Result<(), Fail> {
+    let alloc = rt.alloc();
+    let disk = disk_of(alloc, &[("a.md", Some("aa")), ("l", None)])?;
+    disk.add("site/f.md", Content::File(Vec::new(alloc)))?;
+    disk.set_mode("site/f.md", 0o200)?;
+    disk.set_mode("site/l", 0o300)?;
+    let expected = (Status::Kept, "", UNREAD);
+    answers(alloc, &disk, &["--check", "site"], expected)?;
+    let words = ["--write", "site", "a.md", "l/a.md"];
+    let why =
+        "relmove: a.md to l/a.md: after the moves the new path is in a directory that isn't read\n";
+    refuses(alloc, &disk, &words, UNREAD, why)?;
+    let why =
+        "relmove: l to m: what moves holds a name that isn't UTF-8, or a directory that can't be read\n";
+    refuses(alloc, &disk, &["site", "l", "m"], UNREAD, why)
+}
+
+// What isn't read, below the root.
+const UNREAD_BELOW: &str =
     "relmove: g/k/f.md isn't read: permission denied\nrelmove: a name in the directory g can't be read, or isn't UTF-8\n";
+
+const BELOW: &[Place] = &[
+    ("a.md", Some("aa")),
+    ("g", None),
+    ("g/NOT-UTF-8", Some("nn")),
+    ("g/k", None),
+    ("g/k/f.md", Some("[a](../../a.md)")),
+];
 
 #[test]
 fn moves_beside_what_it_cannot_read(rt: HostRuntime) -> Result<(), Fail> {
     let alloc = rt.alloc();
-    let disk = disk_of(
-        alloc,
-        &[
-            ("a.md", Some("aa")),
-            ("g", None),
-            ("g/NOT-UTF-8", Some("nn")),
-            ("g/k", None),
-            ("g/k/f.md", Some("[a](../../a.md)")),
-        ],
-    )?;
+    let disk = disk_of(alloc, BELOW)?;
     disk.set_mode("site/g/k/f.md", 0o200)?;
     let printed = "0 pages changed, 1 file moved.\n";
     let words = ["--write", "site", "a.md", "b.md"];
-    answers(alloc, &disk, &words, (Status::Kept, printed, UNREAD))?;
-    let refused = format!(in alloc;
-        "{UNREAD}relmove: g to h: what moves holds a name that isn't UTF-8, or a directory that can't be read\n"
-    )?;
-    let expected = (Status::Refused, "", refused.as_str());
-    answers(alloc, &disk, &["site", "g", "h"], expected)
+    answers(alloc, &disk, &words, (Status::Kept, printed, UNREAD_BELOW))?;
+    let why =
+        "relmove: g to h: what moves holds a name that isn't UTF-8, or a directory that can't be read\n";
+    refuses(alloc, &disk, &["site", "g", "h"], UNREAD_BELOW, why)
 }

@@ -1,7 +1,7 @@
 //! What a call that moves files prints, its status, and the tree after it.
 use crate::tests::reading::answers;
 use crate::tests::{holds, same};
-use relmove_disk::{Content, Disk, DiskMachine, Place, Way, disk_of};
+use relmove_disk::{Disk, DiskMachine, Place, Way, disk_of};
 use relmove_lib::{Status, answer};
 use relmove_run::{Ended, Locked, Machine, Trust, resume};
 use std::alloc::Global;
@@ -283,51 +283,6 @@ fn refuses_moves(rt: HostRuntime) -> Result<(), Fail> {
         refuses(rt.alloc(), moves, printed)?;
     }
     Ok(())
-}
-
-#[test]
-fn refuses_a_name_that_is_not_utf_8(rt: HostRuntime) -> Result<(), Fail> {
-    let places: &[Place] = &[("d", None), ("d/NOT-UTF-8", Some("nn"))];
-    let disk = disk_of(rt.alloc(), places)?;
-    let printed =
-        "relmove: a name in the directory d can't be read, or isn't UTF-8\nrelmove: d to e: what moves holds a name that isn't UTF-8, or a directory that can't be read\n";
-    let expected = (Status::Refused, "", printed);
-    answers(rt.alloc(), &disk, &["--write", "site", "d", "e"], expected)?;
-    holds(rt.alloc(), "the tree", &disk, places)
-}
-
-#[test]
-fn passes_over_what_it_cannot_read(rt: HostRuntime) -> Result<(), Fail> {
-    let disk = disk_of(rt.alloc(), &[("a.md", Some("aa")), ("l", None)])?;
-    disk.add("site/f.md", Content::File(Vec::new(rt.alloc())))?;
-    disk.set_mode("site/f.md", 0o200)?;
-    disk.set_mode("site/l", 0o300)?;
-    let unread =
-        "relmove: l isn't read: permission denied\nrelmove: f.md isn't read: permission denied\nrelmove: a name in the directory l can't be read, or isn't UTF-8\n";
-    answers(
-        rt.alloc(),
-        &disk,
-        &["--check", "site"],
-        (Status::Kept, "", unread),
-    )?;
-    let printed = format!(in rt.alloc();
-        "{unread}relmove: a.md to l/a.md: after the moves the new path is in a directory that isn't read\n"
-    )?;
-    answers(
-        rt.alloc(),
-        &disk,
-        &["--write", "site", "a.md", "l/a.md"],
-        (Status::Refused, "", printed.as_str()),
-    )?;
-    let printed = format!(in rt.alloc();
-        "{unread}relmove: l to m: what moves holds a name that isn't UTF-8, or a directory that can't be read\n"
-    )?;
-    answers(
-        rt.alloc(),
-        &disk,
-        &["site", "l", "m"],
-        (Status::Refused, "", printed.as_str()),
-    )
 }
 
 #[test]
