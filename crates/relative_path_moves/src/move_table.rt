@@ -160,8 +160,8 @@ impl<'a> MoveTable<'a> {
     /// target is the place where the reference led before the moves; if that is the old path of a move,
     /// the target is its new path.
     ///
-    /// The call allocates what `join_normalized`, `leads_apart` and `try_relative` do. It fails with
-    /// `OutOfMemory` only if one of these allocations fails.
+    /// The call allocates what `join_normalized` and `try_relative` do. It fails with `OutOfMemory` only if
+    /// one of these allocations fails.
     ///
     /// ```
     /// let moves = [("a.md", "x/a.md"), ("b.md", "y/b.md")]
@@ -488,7 +488,7 @@ fn way_or_refusal(
     ensures { IsWay (path_components directory.entry) (path_components target.entry)
         (IsShortestBuffer (path_components directory.entry) (path_components target.entry)) result }
 {
-    if !has_place(alloc, target)? {
+    if !has_place(target) {
         return Err(ReferenceError::AboveRoot);
     }
     directory

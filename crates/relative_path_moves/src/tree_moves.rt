@@ -288,8 +288,8 @@ impl<'a> TreeMoves<'a> {
         ensures first { (j k : ℕ) → IfOk result (λ found. (found ≡ Some (j, k))
             ↔ IsLeastPair (CollideAfter self.now (map path_components files.now)) j k) }
     {
-        // Opens the table, so that its proof knows that no two moves have the same old path.
-        let _ = &self.news;
+        // The table has one new path for each move. By the same invariant no two moves have the same old path.
+        prove_eq!(self.news.len(), self.len());
         let after = self.paths_after(alloc, files)?;
         first_collision(alloc, &after)
     }

@@ -6,7 +6,7 @@
 //! the whole run       run  report
 //! bytes in and out    input  output
 //! a line's answer     command
-//! what that needs     bytes  lines  mover
+//! what that needs     lines  mover
 //! what all share      fault  meter
 //! ```
 #![tactic(auto)]
@@ -14,13 +14,12 @@
 pub use self::fault::Fault;
 pub use self::meter::Meter;
 
-mod bytes;
 mod command;
 mod fault;
 mod input;
 mod lines;
 mod meter;
-mod mover;
+pub mod mover;
 mod output;
 pub mod report;
 pub mod run;

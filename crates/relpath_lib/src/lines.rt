@@ -3,7 +3,7 @@ ghost use Rattle.std.specs.Prelude.{◌≡◌, ◌<◌, ◌==◌, [], ◌∷◌,
 ghost use Rattle.std.specs.List.{slice_split};
 ghost use Rattle.relpath_lib.specs.Lines.{lines_of, fields_of, fields_left};
 
-use crate::bytes::find_byte;
+use byte_classes::{OneByte, len_before};
 
 /// How many fields of a line are read at most: one more than a command with its arguments has.
 pub const MAX_FIELDS: usize = 5;
@@ -58,7 +58,7 @@ fn cut_at(text: &str, byte: u8) -> Option<(&str, &str)>
         ≡ parts.0.now ∷ slice_split (λ b. b == byte) parts.1.now) }
     ensures shorter { IfSome result (λ parts. length parts.1.now < length text.now) }
 {
-    let at = find_byte(text.as_bytes(), byte);
+    let at = len_before(&OneByte { byte }, text.as_bytes());
     if at == text.len() {
         return None;
     }
