@@ -1,7 +1,5 @@
 //! What the program `relpath` does: it reads commands on relative paths, one a line, and writes one line for each.
 //!
-//! A module uses modules of the layers below, and those to its left in its own layer.
-//!
 //! ```text
 //! the whole run       run  report
 //! bytes in and out    input  output
