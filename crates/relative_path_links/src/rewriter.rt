@@ -241,7 +241,6 @@ fn with_slash(path: &str, mut way: String) -> Result<String, AllocError>
     Ok(way)
 }
 
-// Whether a path has a NUL.
 fn has_nul(path: &str) -> bool
     ensures { result ≡ list_any is_nul path.now }
 {

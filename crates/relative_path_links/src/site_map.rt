@@ -233,7 +233,7 @@ impl<'a> SiteMap<'a> {
         Ok(Some(href))
     }
 
-    // The path of a page.
+    // Returns the path of page number `k`.
     fn page(&self, k: usize) -> RelativePath<'a>
         requires { k < length self.now }
         ensures page { page_of result ≡ page_at self.now k }

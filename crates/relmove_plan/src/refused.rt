@@ -92,7 +92,6 @@ fn check_placed(number: usize, old: RelativePath<'_>, new: RelativePath<'_>) -> 
     Ok(())
 }
 
-// Whether a path has no file name.
 fn lacks_file_name(path: RelativePath<'_>) -> bool
     ensures { MatchBool result (last_name (path_components path.entry) ≡ None)
         (last_name (path_components path.entry) ≢ None) }

@@ -143,7 +143,7 @@ fn add_removed(
     Ok(())
 }
 
-// Adds the moves.
+// Adds what each move does. Move number `k` goes by name number `k` of `between`.
 pub(crate) fn add_moves(
     alloc: Global,
     renames: &mut Renames,
