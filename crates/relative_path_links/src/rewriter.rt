@@ -79,9 +79,10 @@ impl From<AllocError> for RewriteError {
 ///
 /// Each target is read as a browser reads it, by [`path_of_target`]. A target that isn't a relative path stays.
 /// So does a target whose path, as it is written, still leads to its file. The path of another becomes the
-/// shortest path to the file, written by [`target_of_path`](target_paths::target_of_path); a slash at its end, the query and the fragment
-/// stay. If there is no such path, the target stays as it is and is reported in `unchanged`. A target whose
-/// meaning isn't known stays too. It is reported if the table has a move, since it may lead to what moved.
+/// shortest path to the file, written by [`target_of_path`](target_paths::target_of_path); a slash at its
+/// end, the query and the fragment stay. If there is no such path, the target stays as it is and is reported
+/// in `unchanged`. A target whose meaning isn't known stays too. It is reported if the table has a move,
+/// since it may lead to what moved.
 ///
 /// Allocates the text, at first as many bytes as the page has, and the list of unchanged targets. For each
 /// target it allocates at most six times: what [`path_of_target`] and [`TreeMoves::moved_in`] do. The only

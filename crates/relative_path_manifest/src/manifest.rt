@@ -173,8 +173,9 @@ pub fn manifest_base(manifest: &Value) -> Option<RelativePath<'_>>
 /// begins with `..`. So a caller that doesn't trust the manifest refuses that: see [`manifest_base`]. Leading
 /// slashes mean nothing: `/etc` is `etc`.
 ///
-/// Two entries may name the same file: see [`manifest_clash`](crate::manifest_clash). A file may be a directory on the disk. If a
-/// member occurs twice in the JSON text, `serde_json` keeps the last. The call ignores other members.
+/// Two entries may name the same file: see [`manifest_clash`](crate::manifest_clash). A file may be a
+/// directory on the disk. If a member occurs twice in the JSON text, `serde_json` keeps the last. The call
+/// ignores other members.
 ///
 /// Allocates at most three times for each entry, and the list as it grows. For an entry that climbs it
 /// doesn't allocate.
