@@ -178,7 +178,7 @@ fn push_target(
     }
 }
 
-// What to write in place of a target. `None` if the target stays and isn't reported.
+// Returns what to write in place of a target. `None` if the target stays and isn't reported.
 fn new_target<'t>(
     alloc: Global,
     syntax: TargetSyntax,
@@ -207,7 +207,7 @@ fn new_target<'t>(
     }
 }
 
-// The path to write in place of a path. `None` if the path still leads to its file.
+// Returns the path to write in place of a path. `None` if the path still leads to its file.
 fn new_path(
     alloc: Global,
     path: &str,
@@ -232,7 +232,7 @@ fn new_path(
     Ok(Some(new))
 }
 
-// The way, with a slash at its end if the path has one.
+// Returns the way, with a slash at its end if the path has one.
 fn with_slash(path: &str, mut way: String) -> Result<String, AllocError>
     ensures { IfOk result (λ new. string_bytes new ≡ with_slash path.now (string_bytes way)) }
 {

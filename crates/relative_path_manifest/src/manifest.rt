@@ -133,7 +133,7 @@ enum NameRule {
 }
 
 impl NameRule {
-    // Whether the reader accepts each name among a path's components.
+    // Returns whether the reader accepts each name among a path's components.
     fn accepts(self, path: RelativePath<'_>) -> bool
         ensures { IsTrue result ↔ All (IfName (accepted self)) (path_components path.entry) }
     {
@@ -229,7 +229,7 @@ pub fn manifest_files_on_unix(
     read_files(alloc, manifest, NameRule::Any)
 }
 
-// The files of a manifest whose names this rule accepts.
+// Returns the files of a manifest whose names this rule accepts.
 fn read_files(
     alloc: Global,
     manifest: &Value,
@@ -253,7 +253,7 @@ fn read_files(
     files_below(alloc, base, files, rule)
 }
 
-// Each of the files as the normal path of the directory and the file.
+// Returns each of the files as the normal path of the directory and the file.
 fn files_below(
     alloc: Global,
     base: RelativePath<'_>,
@@ -272,7 +272,7 @@ fn files_below(
     Ok(paths)
 }
 
-// File number `k` as the normal path of the directory and the file.
+// Returns file number `k` as the normal path of the directory and the file.
 fn file_of_entry(
     alloc: Global,
     base: RelativePath<'_>,

@@ -94,7 +94,8 @@ impl NormalPath {
         NormalPath::of_joined(alloc, self.as_relative_path(), path)
     }
 
-    // The normal path that leads where this one and then these names lead. Allocates once, the result.
+    // Returns the normal path that leads where this one and then these names lead. Allocates once, the
+    // result.
     pub(crate) fn followed_by(
         &self,
         alloc: Global,

@@ -53,7 +53,7 @@ impl Command {
         }
     }
 
-    // How many arguments the command takes.
+    // Returns how many arguments the command takes.
     fn arity(self) -> usize
         ensures { result ≡ arity_of self }
     {

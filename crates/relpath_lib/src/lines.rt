@@ -39,7 +39,7 @@ pub fn split_fields<'a, 'b>(line: &'a str, room: &'b mut [&'a str; MAX_FIELDS]) 
     &room[..count]
 }
 
-// The first field of a text, and the text after its tab.
+// Returns the first field of a text, and the text after its tab.
 fn first_field(text: &str) -> (&str, Option<&str>)
     ensures { fields_of text.now ≡ result.0.now ∷ fields_left result.1 }
 {
@@ -49,7 +49,7 @@ fn first_field(text: &str) -> (&str, Option<&str>)
     }
 }
 
-// The text before the first `byte`, which is ASCII, and the text after it.
+// Returns the text before the first `byte`, which is ASCII, and the text after it.
 #[inline(always)]
 fn cut_at(text: &str, byte: u8) -> Option<(&str, &str)>
     requires { byte < 128 }
