@@ -12,7 +12,7 @@ ghost use Rattle.relmove_plan.specs.Steps.{BelowFirst};
 use crate::above::directories_above;
 use relative_path::RelativePath;
 use relative_path_links::{SitePage, Target};
-use relative_path_moves::{NormalPath, PlaceIndex, TreeMoves};
+use relative_path_moves::{NormalPath, PlaceIndex, TreeMoves, directory};
 use std::alloc::{AllocError, Global};
 use std::collections::BTreeSet;
 use target_paths::{TargetReading, path_of_target};
@@ -155,7 +155,6 @@ fn place_after(
     let TargetReading::Path { path, .. } = path_of_target(alloc, target.syntax, written)? else {
         return Ok(None);
     };
-    let directory = page.path.parent().unwrap_or(RelativePath::new(""));
-    let place = directory.join(alloc, RelativePath::new(path.as_str()))?;
+    let place = directory(page.path).join(alloc, RelativePath::new(path.as_str()))?;
     Ok(Some(tree.path_after(alloc, place.as_relative_path())?))
 }
