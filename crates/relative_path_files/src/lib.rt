@@ -1,7 +1,6 @@
 //! Which file a path from outside names: requests to a router of static files, and names that every platform
-//! reads alike. Proved from the public contracts of `relative_path`.
-//!
-//! A module uses those to its left in the layer below.
+//! reads alike. Proved from the public contracts of `relative_path`, and from the theorems
+//! that it shows to callers.
 //!
 //! ```text
 //! what callers see      router

@@ -96,7 +96,7 @@ pub fn may_be_short_name(name: &str) -> bool
     ends_in_number(stem) && stem.len() <= 8 && name.len() <= stem.len() + 4
 }
 
-// Whether a text ends in `~` and at least one digit.
+// Returns whether a text ends in `~` and at least one digit.
 fn ends_in_number(text: &str) -> bool
     ensures { result ≡ ends_in_number text.now }
 {
@@ -104,7 +104,7 @@ fn ends_in_number(text: &str) -> bool
     front < text.len() && front > 0 && text.as_bytes()[front - 1] == b'~'
 }
 
-// How many bytes come before the digits at the end of a text.
+// Returns how many bytes come before the digits at the end of a text.
 fn without_digits(text: &[u8]) -> usize
     ensures { result + suffix_len is_ascii_digit text.now ≡ length text.now }
 {
@@ -115,21 +115,21 @@ fn without_digits(text: &[u8]) -> usize
     count
 }
 
-// Whether a text is one of these names, in any case.
+// Returns whether a text is one of these names, in any case.
 fn is_one_of(names: &[&str], text: &str) -> bool
     ensures { result ≡ list_any (λ name. str_eq_ignore_ascii_case name.now text.now) names.now }
 {
     names.iter().any(|name| name.eq_ignore_ascii_case(text))
 }
 
-// Whether a text is the name of a device or a port of Windows, in any case.
+// Returns whether a text is the name of a device or a port of Windows, in any case.
 fn is_device(text: &str) -> bool
     ensures { result ≡ is_device text.now }
 {
     is_one_of(&DEVICES, text) || is_one_of(&SERIAL_PORTS, text) || is_one_of(&PARALLEL_PORTS, text)
 }
 
-// Whether a name is that of a device, alone or before a dot, perhaps with spaces between.
+// Returns whether a name is that of a device, alone or before a dot, perhaps with spaces between.
 fn names_device(name: &str) -> bool
     ensures { result ≡ names_device name.now }
 {
@@ -141,7 +141,7 @@ fn names_device(name: &str) -> bool
     is_device(word) && is_blank_after(stem, word.len())
 }
 
-// Whether a name begins with the letter of a device, in any case.
+// Returns whether a name begins with the letter of a device, in any case.
 fn begins_as_device(name: &str) -> bool
     ensures { result ≡ begins_as_device name.now }
 {
@@ -151,49 +151,49 @@ fn begins_as_device(name: &str) -> bool
     }
 }
 
-// Whether the name of a device begins with a byte, in lower case.
+// Returns whether the name of a device begins with a byte, in lower case.
 fn is_device_letter(byte: u8) -> bool
     ensures { result ≡ is_device_letter byte }
 {
     matches!(byte, b'a' | b'c' | b'l' | b'n' | b'p')
 }
 
-// Whether a byte is one that no name of Windows has.
+// Returns whether a byte is one that no name of Windows has.
 fn is_reserved(b: u8) -> bool
     ensures { result ≡ is_reserved b }
 {
     b < 32 || b == b'<' || b == b'>' || b == b'"' || b == b'|' || b == b'?' || b == b'*'
 }
 
-// Whether Windows or Unix cuts at a byte.
+// Returns whether Windows or Unix cuts at a byte.
 fn is_cut(b: u8) -> bool
     ensures { result ≡ is_cut b }
 {
     b == b'\\' || b == b'/' || b == b':'
 }
 
-// Whether a name has a byte that no plain name has.
+// Returns whether a name has a byte that no plain name has.
 fn holds_foreign(name: &str) -> bool
     ensures { result ≡ holds_foreign name.now }
 {
     name.bytes().any(is_foreign)
 }
 
-// Whether no plain name has a byte. Letters and digits, the most frequent bytes, are told first.
+// Returns whether no plain name has a byte. Letters and digits, the most frequent bytes, are told first.
 fn is_foreign(b: u8) -> bool
     ensures { result ≡ is_foreign b }
 {
     !b.is_ascii_alphanumeric() && (is_reserved(b) || is_cut(b) || b == 127)
 }
 
-// Whether a name ends in a dot or a space, which Windows drops.
+// Returns whether a name ends in a dot or a space, which Windows drops.
 fn ends_in_dot_or_space(name: &str) -> bool
     ensures { result ≡ ends_in_dot_or_space name.now }
 {
     name.bytes().last().is_some_and(|b| b == b'.' || b == b' ')
 }
 
-// The text before the first `mark`, or all of it.
+// Returns the text before the first `mark`, or all of it.
 fn before(text: &str, mark: char) -> &str
     requires { mark < 128 }
     ensures { result.now ≡ before_first (λ b. b == mark) text.now }
@@ -201,14 +201,14 @@ fn before(text: &str, mark: char) -> &str
     text.split_once(mark).map_or(text, |(before, _)| before)
 }
 
-// Whether a text has only spaces after its first `count` bytes.
+// Returns whether a text has only spaces after its first `count` bytes.
 fn is_blank_after(text: &str, count: usize) -> bool
     ensures { result ≡ list_all is_space (drop count text.now) }
 {
     text.bytes().skip(count).all(|b| b == b' ')
 }
 
-// Whether a name isn't plain.
+// Returns whether a name isn't plain.
 fn is_unportable(name: &str) -> bool
     ensures { result ≡ is_unportable name.now }
 {
@@ -219,7 +219,7 @@ fn is_unportable(name: &str) -> bool
         || is_one_of(&FORKS, name)
 }
 
-// Whether a component is a name that isn't plain.
+// Returns whether a component is a name that isn't plain.
 fn is_unportable_step(component: Component<'_>) -> bool
     ensures { result ≡ is_unportable_step (step_of component.entry) }
 {
@@ -229,7 +229,7 @@ fn is_unportable_step(component: Component<'_>) -> bool
     }
 }
 
-// Whether one of a path's components is a name that isn't plain.
+// Returns whether one of a path's components is a name that isn't plain.
 fn has_unportable_name(path: RelativePath<'_>) -> bool
     ensures { result ≡ list_any is_unportable_step (path_components path.entry) }
 {

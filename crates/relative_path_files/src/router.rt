@@ -157,7 +157,7 @@ pub fn resolve_request_on_unix(
     Ok(ResolvedRequest { path, is_directory })
 }
 
-// The root, and after it the path, unless the path is empty.
+// Returns the root, and after it the path, unless the path is empty.
 fn path_in_root(alloc: Global, root: &str, path: RelativePath<'_>) -> Result<String, AllocError>
     ensures { IfOk result (λ text. string_bytes text ≡ added root.now (path_text path.entry)) }
 {
@@ -167,14 +167,14 @@ fn path_in_root(alloc: Global, root: &str, path: RelativePath<'_>) -> Result<Str
     Ok(RelativePath::new(root).join(alloc, path)?.into_string())
 }
 
-// Whether a request ends in a slash, or its last component isn't a name, or it has no component.
+// Returns whether a request ends in a slash, or its last component isn't a name, or it has no component.
 fn means_directory(request: RelativePath<'_>) -> bool
     ensures { result ≡ means_directory (path_text request.entry) }
 {
     request.as_str().ends_with('/') || !ends_in_name(request)
 }
 
-// Whether the last component of a path is a name.
+// Returns whether the last component of a path is a name.
 fn ends_in_name(path: RelativePath<'_>) -> bool
     ensures { result ≡ ends_in_name (path_components path.entry) }
 {

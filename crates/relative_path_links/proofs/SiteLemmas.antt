@@ -28,7 +28,7 @@ use Rattle.relative_path_links.specs.declared.site.MovedSitePage.{MovedSitePage}
 use Rattle.relative_path_links.specs.declared.site.SitePage.{SitePage}
 use Rattle.relative_path_links.specs.Targets.{target_text, HasTargets}
 use Rattle.relative_path_links.specs.Rewriter.{Moving, moving, AtFile, StillLeads, AtLostFile, with_slash, IsNewPath, StaysUnchanged, Part, IsMovedTarget, unknown_report, BecomesBy, Becomes, with_parts, IsRewritten}
-use Rattle.relative_path_links.specs.Site.{LeadsOn, KeepsLinkBy, KeepsLink, StaysInPlace, StayInPlace, KeepsLinks, moved_to, ForMovedPage, AreRewritten, KeepTheirLinks, HaveTargets}
+use Rattle.relative_path_links.specs.Site.{LeadsOn, KeepsLinkBy, KeepsLink, StaysInPlace, StayInPlace, KeepsLinks, moved_to, AreRewritten, KeepTheirLinks, HaveTargets}
 
 MatchOption-map : {T A C : Type 0} {B D : T → Type 0} (found : Option T) → (A → C) → ((x : T) → B x → D x)
     → MatchOption found A B → MatchOption found C D
@@ -309,19 +309,6 @@ pub record SiteSoFar (moves : List Move) (pages : List SitePage) (left : List Si
     : Type 0 where
   pub have : HaveTargets left
   pub rewritten : (more : List MovedSitePage) → AreRewritten moves left more → AreRewritten moves pages (news ++ more)
-
-pub SiteSoFar-start : (moves : List Move) (pages : List SitePage) (news : List MovedSitePage) → news ≡ [] → HaveTargets pages
-    → SiteSoFar moves pages pages news
-SiteSoFar-start moves pages news none have = record { have = have; rewritten = λ more are. rw none are }
-
-pub SiteSoFar-next : (moves : List Move) (pages : List SitePage) (page : SitePage) (left : List SitePage)
-    (news : List MovedSitePage) (new : MovedSitePage) → SiteSoFar moves pages (page ∷ left) news
-    → ForMovedPage IsRewritten moves page new → SiteSoFar moves pages left (news ++ new ∷ [])
-SiteSoFar-next moves pages page left news new so_far is = record {
-  have = so_far.have.1;
-  rewritten = λ more are.
-      subst (AreRewritten moves pages) (sym (append_assoc news (new ∷ []) more)) (so_far.rewritten (new ∷ more) (is, are));
-}
 
 pub SiteSoFar-end : (moves : List Move) (pages left : List SitePage) (news : List MovedSitePage) → left ≡ []
     → SiteSoFar moves pages left news → AreRewritten moves pages news

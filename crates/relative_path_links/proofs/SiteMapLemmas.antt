@@ -1,5 +1,5 @@
 -- References between pages, however the pages are spelled, and pages without file names.
-use Rattle.std.proofs.Common.{◌≡◌, ◌≢◌, inl, inr, ℕ, ◌<◌, ◌+◌, List, [], ◌∷◌, ◌++◌, length, take, map, append_assoc, length-append, get_or, Bool, true, false, not, ◌↔◌, Option, Some, None, is_some, IsSome, IsNone, IfSome, Bor, below_more, true≢false, codes, if◌then◌else◌, refl, sym, ap, ap₂, ◌∙◌, subst, arith}
+use Rattle.std.proofs.Common.{◌≡◌, ◌≢◌, inl, inr, ℕ, ◌<◌, ◌+◌, List, [], ◌∷◌, ◌++◌, length, take, map, append_assoc, length-append, get_or, Bool, true, false, not, ◌↔◌, Option, Some, None, is_some, IsNone, IfSome, Bor, below_more, true≢false, codes, if◌then◌else◌, refl, sym, ap, ap₂, ◌∙◌, subst, arith}
 use Rattle.std.proofs.lemmas.Bool.{cases_lt}
 use Rattle.std.proofs.lemmas.List.{append_cancel_left, append_cancel_right, get_or-map, length-map, take_more, length-take-le}
 use Rattle.std.proofs.lemmas.Option.{none-some, same_Some}
@@ -12,7 +12,7 @@ use Rattle.relative_path.specs.Relating.{Leads, IsReachable, IsShortestText}
 use Rattle.relative_path.specs.RelativePathBuf.{Buffer}
 use Rattle.relative_path.specs.Editing.{pushed, with_separator, unslashed}
 use Rattle.relative_path.specs.Naming.{last_name}
-use Rattle.relative_path.proofs.ForCallers.{walk-append, walk-append_some, walk-some, IsSame-sym, IsSame-trans, IsSame-append_right, IsSame-name_up, IsSame-last_name, Leads-same, IsReachable-same, SpellsItself-last_name, last_name-name, kept-name, spell-pushed}
+use Rattle.relative_path.proofs.ForCallers.{walk-append, walk-append_some, walk-some, IsSame-sym, IsSame-trans, IsSame-append_right, IsSame-name_up, IsSame-last_name, Leads-same, IsReachable-same, SpellsItself-last_name, last_name-name, spell-pushed}
 use Rattle.relative_path.proofs.OnLiterals.{relative_path_on_literals}
 use Rattle.relative_path_moves.specs.Places.{directory}
 use Rattle.relative_path.specs.RelativePath.{path_components}
@@ -81,33 +81,11 @@ some_segment page named = of page.is_directory where
   of true = ([], last_name-name page.path [])
   of false = some_name page.path named
 
--- where the references on a page start, by whether it is a directory's page
-pub directory-slash : (path : List Step) (t : Bool) → t ≡ true
-    → path ≡ directory (if t then path ++ name [] ∷ [] else path)
-directory-slash path true is = sym (kept-name path [])
-directory-slash path false is = absurd (true≢false (sym is))
-
-pub directory-plain : (path : List Step) (t : Bool) → t ≡ false
-    → directory path ≡ directory (if t then path ++ name [] ∷ [] else path)
-directory-plain path true is = absurd (true≢false is)
-directory-plain path false is = refl
-
 -- the last segment, by the same
 pub last_name-slash : (path : List Step) (t : Bool) → t ≡ true
     → last_name (if t then path ++ name [] ∷ [] else path) ≡ Some []
 last_name-slash path true is = last_name-name path []
 last_name-slash path false is = absurd (true≢false (sym is))
-
-pub last_name-plain : (path : List Step) (t : Bool) (n : List ℕ) → t ≡ false → last_name path ≡ Some n
-    → last_name (if t then path ++ name [] ∷ [] else path) ≡ Some n
-last_name-plain path true n is named = absurd (true≢false is)
-last_name-plain path false n is named = named
-
--- `file_name` of a page with a file name is some name
-pub IsSome-answered : (found : Option (Bor (List ℕ))) (cs : List Step) → option_copied found ≡ last_name cs
-    → last_name cs ≢ None → IsSome found
-IsSome-answered None cs is named = absurd (named (sym is))
-IsSome-answered (Some n) cs is named = refl
 
 -- the last segment of a page whose path spells itself is a segment
 pub IsSegment-last_name : (page : Page) (n : List ℕ) → SpellThemselves page.path → last_name (url_steps page) ≡ Some n

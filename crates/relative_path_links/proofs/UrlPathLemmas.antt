@@ -1,8 +1,8 @@
 -- How a target that is written for components resolves: as a walk from the directory of the base.
-use Rattle.std.proofs.Common.{◌≡◌, ◌≢◌, ℕ, zero, suc, ◌-◌, Bool, true, false, ◌||◌, if◌then◌else◌, List, [], ◌∷◌, ◌++◌, map, length, take, drop, Some, Ok, Err, codes, refl, sym, ap, ap₂, ◌∙◌, subst, arith, append_assoc, append-nil}
+use Rattle.std.proofs.Common.{◌≡◌, ◌≢◌, ℕ, zero, suc, ◌-◌, Bool, true, false, if◌then◌else◌, List, [], ◌∷◌, ◌++◌, map, length, take, drop, Some, Ok, Err, codes, refl, sym, ap, ap₂, ◌∙◌, subst, arith, append_assoc, append-nil}
 use Rattle.std.specs.List.{slice_split, list_any, AllByRecursion, AllZip, onto_first}
 use Rattle.std.specs.Str.{bytes_eq}
-use Rattle.std.proofs.lemmas.Bool.{cond_both}
+use Rattle.std.proofs.lemmas.Bool.{cond_both, or_parts}
 use Rattle.std.proofs.lemmas.List.{map-append}
 use Rattle.std.proofs.lemmas.List.Elements.{All-from_recursion, recursion_from_All, AllZip-push, length_all_zip}
 use Rattle.std.proofs.lemmas.List.Splits.{slice_split_none, slice_split_at}
@@ -165,17 +165,13 @@ classed-raw [] (n ∷ ns) are = absurd are
 classed-raw (raw ∷ raws) [] are = absurd are
 classed-raw (raw ∷ raws) (n ∷ ns) (first, rest) = ap₂ (λ c cs. c ∷ cs) first.classes (classed-raw raws ns rest)
 
-or_false : (a b : Bool) → (a || b) ≡ false → (a ≡ false) × (b ≡ false)
-or_false false b is = (refl, is)
-or_false true b is = absurd (cc)
-
 decoded-raw : (raws ns : List (List ℕ)) → AllZip IsRaw raws ns → list_any (list_any is_nul) ns ≡ false
     → map decoded raws ≡ map Ok ns
 decoded-raw [] [] are none = refl
 decoded-raw [] (n ∷ ns) are none = absurd are
 decoded-raw (raw ∷ raws) [] are none = absurd are
 decoded-raw (raw ∷ raws) (n ∷ ns) (first, rest) none =
-    let (here, after) = or_false (list_any is_nul n) (list_any (list_any is_nul) ns) none in
+    let (here, after) = or_parts (list_any is_nul n) (list_any (list_any is_nul) ns) none in
     ap₂ (λ r rs. r ∷ rs) (first.decodes here) (decoded-raw raws ns rest after)
 
 -- ---- components and how they are written

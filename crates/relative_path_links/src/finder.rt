@@ -32,7 +32,7 @@ pub fn targets(alloc: Global, page: &str) -> Result<Vec<Target>, AllocError>
     with_syntax(alloc, &found.targets)
 }
 
-// The targets, each with the syntax of its text.
+// Returns the targets, each with the syntax of its text.
 fn with_syntax(alloc: Global, links: &[LinkTarget]) -> Result<Vec<Target>, AllocError>
     ensures { IfOk result (λ targets. map span_of targets.items ≡ map (λ link. link.span) links.now) }
 {
@@ -45,7 +45,7 @@ fn with_syntax(alloc: Global, links: &[LinkTarget]) -> Result<Vec<Target>, Alloc
     Ok(targets)
 }
 
-// The syntax of a target's text.
+// Returns the syntax of a target's text.
 fn syntax_of(kind: TargetKind) -> TargetSyntax {
     match kind {
         TargetKind::Inline | TargetKind::Definition => TargetSyntax::Markdown,

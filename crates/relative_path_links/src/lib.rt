@@ -1,7 +1,5 @@
 //! The links of a site's pages: what they become when files move, and the links from page to page. Proved from
-//! the public contracts of the crates that it uses.
-//!
-//! A module uses modules of the layer below, and those to its left in its own layer.
+//! the public contracts of the crates that it uses, and from the theorems that these crates show to callers.
 //!
 //! ```text
 //! pages of a site       site

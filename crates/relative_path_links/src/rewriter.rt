@@ -79,9 +79,10 @@ impl From<AllocError> for RewriteError {
 ///
 /// Each target is read as a browser reads it, by [`path_of_target`]. A target that isn't a relative path stays.
 /// So does a target whose path, as it is written, still leads to its file. The path of another becomes the
-/// shortest path to the file, written by [`target_of_path`]; a slash at its end, the query and the fragment
-/// stay. If there is no such path, the target stays as it is and is reported in `unchanged`. A target whose
-/// meaning isn't known stays too. It is reported if the table has a move, since it may lead to what moved.
+/// shortest path to the file, written by [`target_of_path`](target_paths::target_of_path); a slash at its
+/// end, the query and the fragment stay. If there is no such path, the target stays as it is and is reported
+/// in `unchanged`. A target whose meaning isn't known stays too. It is reported if the table has a move,
+/// since it may lead to what moved.
 ///
 /// Allocates the text, at first as many bytes as the page has, and the list of unchanged targets. For each
 /// target it allocates at most six times: what [`path_of_target`] and [`TreeMoves::moved_in`] do. The only
@@ -177,7 +178,7 @@ fn push_target(
     }
 }
 
-// What to write in place of a target. `None` if the target stays and isn't reported.
+// Returns what to write in place of a target. `None` if the target stays and isn't reported.
 fn new_target<'t>(
     alloc: Global,
     syntax: TargetSyntax,
@@ -206,7 +207,7 @@ fn new_target<'t>(
     }
 }
 
-// The path to write in place of a path. `None` if the path still leads to its file.
+// Returns the path to write in place of a path. `None` if the path still leads to its file.
 fn new_path(
     alloc: Global,
     path: &str,
@@ -231,7 +232,7 @@ fn new_path(
     Ok(Some(new))
 }
 
-// The way, with a slash at its end if the path has one.
+// Returns the way, with a slash at its end if the path has one.
 fn with_slash(path: &str, mut way: String) -> Result<String, AllocError>
     ensures { IfOk result (λ new. string_bytes new ≡ with_slash path.now (string_bytes way)) }
 {
@@ -241,7 +242,6 @@ fn with_slash(path: &str, mut way: String) -> Result<String, AllocError>
     Ok(way)
 }
 
-// Whether a path has a NUL.
 fn has_nul(path: &str) -> bool
     ensures { result ≡ list_any is_nul path.now }
 {

@@ -69,7 +69,7 @@ pub fn rewrite_site(
     Ok(moved)
 }
 
-// A page of the site after the moves.
+// Returns a page of the site after the moves.
 fn moved_page(
     alloc: Global,
     page: SitePage<'_>,

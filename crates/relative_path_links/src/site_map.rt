@@ -233,7 +233,7 @@ impl<'a> SiteMap<'a> {
         Ok(Some(href))
     }
 
-    // The path of a page.
+    // Returns the path of page number `k`.
     fn page(&self, k: usize) -> RelativePath<'a>
         requires { k < length self.now }
         ensures page { page_of result ≡ page_at self.now k }
@@ -244,7 +244,7 @@ impl<'a> SiteMap<'a> {
     }
 }
 
-// The path where references on a page start.
+// Returns the path where references on a page start.
 fn start_of<'a>(page: RelativePath<'a>) -> RelativePath<'a>
     ensures { path_components result ≡ directory (url_steps (page_of page.entry)) }
 {
@@ -255,7 +255,8 @@ fn start_of<'a>(page: RelativePath<'a>) -> RelativePath<'a>
     }
 }
 
-// The last segment of a page's URL path: its file name, or the empty text if its path ends in a slash.
+// Returns the last segment of a page's URL path: its file name, or the empty text if its path ends in a
+// slash.
 fn last_segment<'a>(page: RelativePath<'a>) -> &'a str
     requires { last_name (path_components page) ≢ None }
     ensures { last_name (url_steps (page_of page.entry)) ≡ Some result.now }
@@ -267,7 +268,7 @@ fn last_segment<'a>(page: RelativePath<'a>) -> &'a str
     }
 }
 
-// The number of the first page without a file name.
+// Returns the number of the first page without a file name.
 fn first_nameless(pages: &[RelativePath<'_>]) -> Option<usize>
     ensures { MatchOption result (AreNamedPages (map page_of pages.now))
         (IsFirstNamelessPage (map page_of pages.now)) }
@@ -280,7 +281,7 @@ fn first_nameless(pages: &[RelativePath<'_>]) -> Option<usize>
     None
 }
 
-// The number of the first page with a name that isn't plain.
+// Returns the number of the first page with a name that isn't plain.
 fn first_not_plain(pages: &[RelativePath<'_>]) -> Option<usize>
     ensures { MatchOption result (ArePlainPages (map page_of pages.now))
         (IsFirstOtherPage (map page_of pages.now)) }

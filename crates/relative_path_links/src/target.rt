@@ -39,7 +39,7 @@ impl Target {
             && page.is_char_boundary(self.end)
     }
 
-    // The target's text, in a page that has the target.
+    // Returns the target's text, in a page that has the target.
     pub(crate) fn text(self, page: &str) -> &str
         requires { HasTarget page.now self }
         ensures { result.now ≡ target_text page.now self }

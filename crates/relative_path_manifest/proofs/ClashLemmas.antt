@@ -16,15 +16,6 @@ pub record Indexes (texts : List (List ℕ)) (n : ℕ) (get : List ℕ → Optio
   pub all : (k : ℕ) → k < n → get (str_to_ascii_lowercase (text_at texts k)) ≢ None
   pub apart : IsApartBefore texts n
 
--- the index without texts
-pub Indexes-none : (texts : List (List ℕ)) (get : List ℕ → Option ℕ) → ((text : List ℕ) → get text ≡ None)
-    → Indexes texts 0 get
-Indexes-none texts get none = record {
-  found = λ text k is. absurd (none-some k (sym (none text) ∙ is));
-  all = λ k within. absurd (omega (arith, within));
-  apart = λ i j before within. absurd (omega (arith, within));
-}
-
 -- the text of a file
 pub text_at-file : (files : List Buffer) (none : Buffer) (k : ℕ) → k < length files
     → text_at (map file_text files) k ≡ file_text (get_or files k none)

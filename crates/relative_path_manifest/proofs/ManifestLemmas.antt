@@ -1,13 +1,12 @@
 -- The files of a manifest's entries, one after another, and the first entry that isn't accepted.
 use Rattle.std.proofs.Common.{◌≡◌, ◌≢◌, ◌<◌, ◌+◌, ℕ, List, [], ◌∷◌, ◌++◌, map, length, take, get_or, Some, codes, option_map, option_and_then, refl, ap, ◌∙◌}
 use Rattle.std.proofs.lemmas.List.{get_or-map, length-map, take_more, map_push}
-use Rattle.std.proofs.lemmas.List.Elements.{All-nil, All-cons}
 use Rattle.std.proofs.lemmas.Slice.Zip.{all_zipped_more}
 use Rattle.serde_json.specs.Data.{Data, null}
 use Rattle.serde_json.specs.Find.{get, as_str, as_array}
 use Rattle.serde_json.specs.View.{view, items_of, items_view}
 use Rattle.serde_json.specs.declared.value.Value.{Value}
-use Rattle.relative_path.specs.Steps.{Step, cur, up, name, components}
+use Rattle.relative_path.specs.Steps.{Step, components}
 use Rattle.relative_path.specs.Walk.{LeadsBelow, place_of}
 use Rattle.relative_path.specs.Normalizing.{IsNormalTextOf}
 use Rattle.relative_path.specs.RelativePathBuf.{Buffer}
@@ -17,7 +16,7 @@ use Rattle.relative_path_files.specs.FromTop.{SpellsPlace}
 use Rattle.std.specs.List.{All}
 use Rattle.relative_path_files.specs.Names.{IfName}
 use Rattle.relative_path_files.proofs.ForCallers.{SpellsPlace-some, place-All}
-use Rattle.relative_path_manifest.specs.Manifest.{base_member, item_list, entries_of, OfManifest, IsRefusedManifest, IsFileOf, AreFiles, IsRefusedFor, IsAnyName, file_text}
+use Rattle.relative_path_manifest.specs.Manifest.{base_member, item_list, entries_of, OfManifest, IsRefusedManifest, IsFileOf, AreFiles, IsRefusedFor, file_text}
 
 -- the file of an entry whose path has a place with a name
 pub IsFileOf-place : (Accepted : List ℕ → Type 0) (base : List Step) (entry : Data) (path place file : List ℕ)
@@ -76,12 +75,3 @@ pub entries_of-values : (manifest : Data) (values : List Value)
     → option_and_then as_array (get (codes "files") manifest) ≡ Some (items_view values)
     → entries_of manifest ≡ Some (map view values)
 entries_of-values manifest values is = ap (option_map item_list) is ∙ ap Some (item_list-items_of (map view values))
-
--- every name is accepted
-pub All-any : (cs : List Step) → All (IfName IsAnyName) cs
-All-any [] = All-nil (IfName IsAnyName)
-All-any (c ∷ cs) = All-cons (IfName IsAnyName) c cs (any c) (All-any cs) where
-  any : (c : Step) → IfName IsAnyName c
-  any cur = tt
-  any up = tt
-  any (name n) = tt

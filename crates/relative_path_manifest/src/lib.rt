@@ -1,4 +1,5 @@
-//! Reads the files that a manifest in JSON lists. Proved from the public contracts of the crates that it uses.
+//! Reads the files that a manifest in JSON lists. Proved from the public contracts of the crates that it
+//! uses, and from the theorems that these crates show to callers.
 #![tactic(auto)]
 
 pub use self::clash::manifest_clash;

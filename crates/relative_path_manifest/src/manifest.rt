@@ -133,7 +133,7 @@ enum NameRule {
 }
 
 impl NameRule {
-    // Whether the reader accepts each name among a path's components.
+    // Returns whether the reader accepts each name among a path's components.
     fn accepts(self, path: RelativePath<'_>) -> bool
         ensures { IsTrue result ↔ All (IfName (accepted self)) (path_components path.entry) }
     {
@@ -173,8 +173,9 @@ pub fn manifest_base(manifest: &Value) -> Option<RelativePath<'_>>
 /// begins with `..`. So a caller that doesn't trust the manifest refuses that: see [`manifest_base`]. Leading
 /// slashes mean nothing: `/etc` is `etc`.
 ///
-/// Two entries may name the same file: see [`manifest_clash`]. A file may be a directory on the disk. If a
-/// member occurs twice in the JSON text, `serde_json` keeps the last. The call ignores other members.
+/// Two entries may name the same file: see [`manifest_clash`](crate::manifest_clash). A file may be a
+/// directory on the disk. If a member occurs twice in the JSON text, `serde_json` keeps the last. The call
+/// ignores other members.
 ///
 /// Allocates at most three times for each entry, and the list as it grows. For an entry that climbs it
 /// doesn't allocate.
@@ -228,7 +229,7 @@ pub fn manifest_files_on_unix(
     read_files(alloc, manifest, NameRule::Any)
 }
 
-// The files of a manifest whose names this rule accepts.
+// Returns the files of a manifest whose names this rule accepts.
 fn read_files(
     alloc: Global,
     manifest: &Value,
@@ -252,7 +253,7 @@ fn read_files(
     files_below(alloc, base, files, rule)
 }
 
-// Each of the files as the normal path of the directory and the file.
+// Returns each of the files as the normal path of the directory and the file.
 fn files_below(
     alloc: Global,
     base: RelativePath<'_>,
@@ -271,7 +272,7 @@ fn files_below(
     Ok(paths)
 }
 
-// File number `k` as the normal path of the directory and the file.
+// Returns file number `k` as the normal path of the directory and the file.
 fn file_of_entry(
     alloc: Global,
     base: RelativePath<'_>,

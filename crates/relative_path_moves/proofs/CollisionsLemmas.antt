@@ -144,9 +144,6 @@ pub record IsOverNames (cs : List Step) (text : List ℕ) : Type 0 where
   pub under : List (List ℕ)
   pub split : components text ++ map name under ≡ cs
 
-pub IsOverNames-start : (text : List ℕ) → IsNormalText text → IsOverNames (components text) text
-IsOverNames-start text normal = record { normal = normal; under = []; split = append-nil (components text) }
-
 pub IsOverNames-next : (cs : List Step) (text front : List ℕ) (n : List ℕ) → IsOverNames cs text → IsNormalText front
     → components text ≡ components front ++ name n ∷ [] → IsOverNames cs front
 IsOverNames-next cs text front n over normal last = record {
@@ -202,21 +199,6 @@ IsOtherAt-here paths passed cs text k n over is count = record {
       (same_front is.front (components text) (map name is.under) (map name over.under) (is.split ∙ sym over.split) count)
       is.first;
 }
-
--- at the start only the whole list is as long as the list
-pub IsOtherFrom-start : (paths : List (List Step)) (passed : ℕ) (text : List ℕ) (found : Option ℕ) → IsNormalText text
-    → IsLeast (IsOtherAt paths passed (components text)) found
-    → IsLeast (IsOtherFrom paths passed (components text) (length (components text))) found
-IsOtherFrom-start paths passed text found normal least =
-    let over = IsOverNames-start text normal in
-    IsLeast-iff (IsOtherAt paths passed (components text))
-    (IsOtherFrom paths passed (components text) (length (components text))) found
-    (λ k is. IsOtherFrom-here paths passed (components text) text k over is)
-    (λ k is.
-    let count = ap length is.split in
-    let all = length-append is.front (map name is.under) in
-    IsOtherAt-here paths passed (components text) text k _ over is (omega (arith, is.long, count, all)))
-    least
 
 -- one name is taken off
 pub IsOtherFrom-next : (paths : List (List Step)) (passed : ℕ) (cs : List Step) (text front : List ℕ) (n : List ℕ)
@@ -362,9 +344,6 @@ pub record IsOfPair (paths : List (List Step)) (n a : ℕ) : Type 0 where
   pub other : ℕ
   pub above : IsOtherAbove paths number (path_at paths number) other
   pub either : (a ≡ other) ⊎ (a ≡ number)
-
-pub IsOfPair-start : (paths : List (List Step)) → IsLeast (IsOfPair paths 0) None
-IsOfPair-start paths a is = omega (arith, is.before)
 
 IsOfPair-more : (paths : List (List Step)) (n a : ℕ) → IsOfPair paths n a → IsOfPair paths (n + 1) a
 IsOfPair-more paths n a is = record {
@@ -707,10 +686,6 @@ pub record HavePathsUpTo (moves : List Move) (files : List (List Step)) (n : ℕ
   pub each : (k : ℕ) → k < n
       → AtTreePath moves (path_at files k) (λ target. IsNormalTextOf target (get_or texts k []))
 
-pub HavePathsUpTo-start : (moves : List Move) (files : List (List Step)) (texts : List (List ℕ)) → texts ≡ []
-    → HavePathsUpTo moves files 0 texts
-HavePathsUpTo-start moves files texts none = record { count = ap length none; each = λ k less. absurd (omega arith) }
-
 pub HavePathsUpTo-next : (moves : List Move) (files : List RelativePath) (none : RelativePath) (n : ℕ)
     (texts : List (List ℕ)) (text : List ℕ) → n < length files → HavePathsUpTo moves (map path_components files) n texts
     → AtTreePath moves (path_components (get_or files n none)) (λ target. IsNormalTextOf target text)
@@ -730,13 +705,6 @@ HavePathsUpTo-next moves files none n texts text within have next = record {
 } where
   P : ℕ → List ℕ → Type 0
   P k text = AtTreePath moves (path_at (map path_components files) k) (λ target. IsNormalTextOf target text)
-
-pub HavePathsAfter-all : (moves : List Move) (files : List (List Step)) (n : ℕ) (texts : List (List ℕ)) → n ≡ length files
-    → HavePathsUpTo moves files n texts → HavePathsAfter moves files texts
-HavePathsAfter-all moves files n texts all have = record {
-  count = have.count ∙ all;
-  each = λ k less. have.each k (omega (arith, all, less));
-}
 
 -- ---- the least number of a path that collides with one of others
 
@@ -804,9 +772,6 @@ pub record IsOverUpTo (paths others : List (List Step)) (n k : ℕ) : Type 0 whe
   pub other : ℕ
   pub before : other < n
   pub below : StaysBelow (path_at paths k) (path_at others other)
-
-pub IsOverUpTo-start : (paths others : List (List Step)) → IsLeast (IsOverUpTo paths others 0) None
-IsOverUpTo-start paths others k is = omega (arith, is.before)
 
 pub IsOverUpTo-next : (texts others : List (List ℕ)) (n passed : ℕ) (other none : List ℕ) (least new result : Option ℕ)
     → n < length others → passed ≡ length texts → other ≡ get_or others n none
@@ -989,13 +954,6 @@ pub record HaveStayingUpTo (moves : List Move) (files : List (List Step)) (n : �
   pub all : (f : ℕ) → f < n → IsUnmoved moves (path_at files f)
       → (s : ℕ) × (s < length texts) × IsStaying moves files (get_or texts s []) f
 
-pub HaveStayingUpTo-start : (moves : List Move) (files : List (List Step)) (texts : List (List ℕ)) → texts ≡ []
-    → HaveStayingUpTo moves files 0 texts
-HaveStayingUpTo-start moves files texts none = record {
-  only = λ s less. absurd (omega (arith, less, ap length none));
-  all = λ f less. absurd (omega arith);
-}
-
 -- the next file moves
 pub HaveStayingUpTo-kept : (moves : List Move) (files : List RelativePath) (none : RelativePath) (n : ℕ)
     (texts : List (List ℕ)) → n < length files → HaveStayingUpTo moves (map path_components files) n texts
@@ -1051,10 +1009,3 @@ HaveStayingUpTo-next moves files none n texts text within have unmoved normal = 
         stays = rw is unmoved;
         normal = rw is normal;
       }
-
-pub HaveStaying-all : (moves : List Move) (files : List (List Step)) (n : ℕ) (texts : List (List ℕ)) → n ≡ length files
-    → HaveStayingUpTo moves files n texts → HaveStaying moves files texts
-HaveStaying-all moves files n texts all have = record {
-  only = have.only;
-  all = λ f less unmoved. have.all f (omega (arith, all, less)) unmoved;
-}

@@ -1,10 +1,10 @@
 -- A text onto which components are pushed, one after another.
-use Rattle.std.proofs.Common.{◌≡◌, ℕ, List, [], ◌∷◌, ◌++◌, refl, sym, ap, ◌∙◌, subst, append_assoc, append-nil}
+use Rattle.std.proofs.Common.{◌≡◌, ℕ, List, [], ◌∷◌, ◌++◌, sym, ap, ◌∙◌, subst, append_assoc}
 use Rattle.relative_path.specs.Steps.{Step, cur, up, name, components, spell, step_text, SpellsItself, SpellThemselves}
 use Rattle.relative_path.specs.Editing.{pushed}
 use Rattle.relative_path.specs.Normalizing.{AreNames, IsNormal, IsNormalText, IsNormalTextOf}
 use Rattle.relative_path.proofs.ForCallers.{IsSame-refl, SpellThemselves-components, components-pushed, spell-pushed, unslashed-spell}
-use Rattle.relative_path_moves.proofs.NormalPathLemmas.{IsNormalTextOf-same}
+use Rattle.relative_path_moves.proofs.NormalPathLemmas.{AreNames-normal, IsNormalTextOf-same}
 
 -- the text spells the first components of the list, and the others are left
 pub record IsFrontText (cs : List Step) (text : List ℕ) (left : List Step) : Type 0 where
@@ -17,11 +17,6 @@ pushed-empty empty front text normal none pushes =
     pushes ∙ ap (λ text. pushed text front) none
     ∙ subst (λ text. pushed [] text ≡ text) (sym normal.spelled)
     (unslashed-spell (components front) (SpellThemselves-components front))
-
--- nothing is pushed yet
-pub IsFrontText-start : (text : List ℕ) (left : List Step) → text ≡ spell (components text)
-    → IsFrontText (components text ++ left) text left
-IsFrontText-start text left spelled = record { spelled = spelled; split = refl }
 
 -- the components after a push
 components-next : (text : List ℕ) (c : Step) → SpellsItself c
@@ -46,23 +41,11 @@ IsFrontText-next cs text next left rest c front is =
     IsFrontText-push cs text next c (components left) (components rest) front is
     (subst SpellThemselves is (SpellThemselves-components left)).0
 
--- all components are pushed
-pub IsFrontText-all : (cs : List Step) (text : List ℕ) (left : List Step) → IsFrontText cs text left → left ≡ []
-    → components text ≡ cs
-IsFrontText-all cs text left front none =
-    sym (append-nil (components text)) ∙ ap (λ ds. components text ++ ds) (sym none) ∙ front.split
-
 AreNames-append : (cs ds : List Step) → AreNames cs → AreNames ds → AreNames (cs ++ ds)
 AreNames-append [] ds names more = more
 AreNames-append (cur ∷ cs) ds names more = absurd names
 AreNames-append (up ∷ cs) ds names more = absurd names
 AreNames-append (name n ∷ cs) ds names more = AreNames-append cs ds names more
-
-AreNames-normal : (cs : List Step) → AreNames cs → IsNormal cs
-AreNames-normal [] names = tt
-AreNames-normal (cur ∷ cs) names = absurd names
-AreNames-normal (up ∷ cs) names = absurd names
-AreNames-normal (name n ∷ cs) names = names
 
 -- a normal list stays normal with names at its end
 pub IsNormal-append_names : (cs ds : List Step) → IsNormal cs → AreNames ds → IsNormal (cs ++ ds)

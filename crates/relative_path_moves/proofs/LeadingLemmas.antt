@@ -8,7 +8,7 @@ use Rattle.std.proofs.lemmas.Option.{none-some}
 use Rattle.relative_path.specs.declared.component.Component.{Component}
 use Rattle.relative_path.specs.Steps.{Step, cur, up, name, components}
 use Rattle.relative_path.specs.Walk.{IsSame}
-use Rattle.relative_path.specs.Normalizing.{AreNames, IsNormal, IsNormalForm, climb}
+use Rattle.relative_path.specs.Normalizing.{IsNormal, IsNormalForm, climb}
 use Rattle.relative_path.specs.Naming.{last_name}
 use Rattle.relative_path.specs.Editing.{kept_len, kept}
 use Rattle.relative_path.specs.Components.{step_of, TakesLast}
@@ -16,7 +16,7 @@ use Rattle.relative_path.specs.Comparing.{step_eq}
 use Rattle.relative_path.specs.ComparingLaws.{step_eq-Decides}
 use Rattle.relative_path.specs.Relating.{Leads}
 use Rattle.relative_path.proofs.ForCallers.{IsSame-refl, IsSame-sym, IsSame-trans, IsSame-append_left, IsSame-append_right, IsSame-name_up, IsNormal-append_left, IsNormal-push_name, IsNormalForm-some, IsSame-last_name, last_name-name, last_name-split}
-use Rattle.relative_path_moves.proofs.NormalPathLemmas.{AreNames-names, normal_unique}
+use Rattle.relative_path_moves.proofs.NormalPathLemmas.{AreNames-names, AreNames-normal, AreNames-end, normal_unique}
 
 -- ---- lists that lead to the same
 
@@ -79,13 +79,6 @@ pub record IsBack (reference target left : List Step) (ups : ℕ) (rest : List S
   pub normal : IsNormal rest
   pub alike : LeadAlike reference target (left ++ replicate ups up) rest
 
-pub IsBack-start : (reference target : List Step) → IsNormal target → IsBack reference target reference 0 target
-IsBack-start reference target normal = record {
-  normal = normal;
-  alike = LeadAlike-same reference (reference ++ []) target
-      (subst (IsSame reference) (sym (append-nil reference)) (IsSame-refl reference));
-}
-
 IsBack-same : (reference target left front : List Step) (ups now : ℕ) (rest : List Step)
     → IsBack reference target left ups rest → IsSame (left ++ replicate ups up) (front ++ replicate now up)
     → IsBack reference target front now rest
@@ -143,11 +136,6 @@ IsBack-other reference target left front n ups rest back last none other from le
     (subst (λ list. IsSame list rest) (sym (append_assoc from front (name n ∷ []))) there) in
     other less is
 
--- nothing is left of the reference
-pub IsBack-end : (reference target left : List Step) (ups : ℕ) (rest : List Step) → IsBack reference target left ups rest
-    → left ≡ [] → LeadAlike reference target (replicate ups up) rest
-IsBack-end reference target left ups rest back none = rw none at back.alike
-
 -- ---- the last component of the target, compared with that of the reference
 
 -- the component that was taken isn't c, or none was taken
@@ -179,9 +167,6 @@ last-other (Some d) c text front takes other less is =
 pub record IsUp (directory above : List Step) (all ups : ℕ) : Type 0 where
   pub normal : IsNormal above
   pub same : IsSame (directory ++ replicate all up) (above ++ replicate ups up)
-
-pub IsUp-start : (directory : List Step) (all : ℕ) → IsNormal directory → IsUp directory directory all all
-IsUp-start directory all normal = record { normal = normal; same = IsSame-refl (directory ++ replicate all up) }
 
 -- a `..` takes the last name off
 pub IsUp-next : (directory above next : List Step) (all ups now : ℕ) (n : List ℕ) → IsUp directory above all ups
@@ -250,18 +235,6 @@ last_name-ups k = tell (last_name (replicate k up)) refl where
   tell (Some n) is =
       let (count, split) = last_name-split (replicate k up) n is in
       absurd (ups-no_name k (kept (replicate k up)) (replicate count cur) n split)
-
-AreNames-normal : (cs : List Step) → AreNames cs → IsNormal cs
-AreNames-normal [] names = tt
-AreNames-normal (cur ∷ cs) names = names
-AreNames-normal (up ∷ cs) names = absurd names
-AreNames-normal (name n ∷ cs) names = names
-
-AreNames-end : (cs ds : List Step) → AreNames (cs ++ ds) → AreNames ds
-AreNames-end [] ds names = names
-AreNames-end (cur ∷ cs) ds names = absurd names
-AreNames-end (up ∷ cs) ds names = absurd names
-AreNames-end (name n ∷ cs) ds names = AreNames-end cs ds names
 
 -- the end of a normal list is normal
 pub IsNormal-end : (cs ds : List Step) → IsNormal (cs ++ ds) → IsNormal ds

@@ -1,8 +1,7 @@
 -- The one target of a place, moves as pairs of paths, and the first move without a file name.
 use Rattle.std.proofs.Common.{◌≡◌, ◌≢◌, ℕ, ◌<◌, ◌+◌, ◌⊎◌, List, [], ◌∷◌, ◌++◌, length, take, get_or, not, is_some, Bool, true, false, Bor, true≢false, Option, Some, None, inl, inr, refl, sym, ap, subst, zero, suc, ◌∙◌, arith}
 use Rattle.std.proofs.lemmas.Bool.{cases_lt, cases_order}
-use Rattle.std.proofs.Math.Seq.{get_or-append_seam}
-use Rattle.std.proofs.lemmas.List.{get_or-map, get_or_append_left, length-append, length-map, take_more}
+use Rattle.std.proofs.lemmas.List.{get_or-map, length-map, take_more}
 use Rattle.std.proofs.lemmas.Option.{none-some}
 use Rattle.std.specs.Option.{option_copied}
 use Rattle.relative_path.specs.Steps.{Step}
@@ -120,33 +119,6 @@ IsFirstNameless-here paths none k within before lacks = record {
 pub record HaveFirstTexts (moves : List Move) (k : ℕ) (texts : List (List ℕ)) : Type 0 where
   pub count : length texts ≡ k
   pub each : (j : ℕ) → j < k → IsNormalTextOf (move_at moves j).new (get_or texts j [])
-
-pub HaveFirstTexts-start : (moves : List Move) (texts : List (List ℕ)) → texts ≡ [] → HaveFirstTexts moves 0 texts
-HaveFirstTexts-start moves texts none = record { count = ap length none; each = λ j less. absurd (omega arith) }
-
-pub HaveFirstTexts-next : (paths : List (RelativePath × RelativePath)) (none : RelativePath × RelativePath) (k : ℕ)
-    (texts : List (List ℕ)) (text : List ℕ) → k < length paths → HaveFirstTexts (moves_of paths) k texts
-    → IsNormalTextOf (path_components (get_or paths k none).1) text
-    → HaveFirstTexts (moves_of paths) (k + 1) (texts ++ text ∷ [])
-HaveFirstTexts-next paths none k texts text within before is = record {
-  count = length-append texts (text ∷ []) ∙ ap (λ n. n + 1) before.count;
-  each = λ j less. elim (cases_lt j k) [
-    | inl earlier ↦
-        subst (IsNormalTextOf (move_at (moves_of paths) j).new)
-        (sym (get_or_append_left texts (text ∷ []) [] j (omega (arith, before.count, earlier)))) (before.each j earlier)
-    | inr no_less ↦
-        let here : j ≡ k = omega arith in
-        let last : get_or (texts ++ text ∷ []) k [] ≡ text =
-        ap (λ i. get_or (texts ++ text ∷ []) i []) (sym before.count) ∙ get_or-append_seam texts text [] [] in
-        rw (here, last, move_at-moves_of paths k none within) is
-  ];
-}
-
-pub HaveNewTexts-all : (paths : List (RelativePath × RelativePath)) (k : ℕ) (texts : List (List ℕ))
-    → HaveFirstTexts (moves_of paths) k texts → k ≡ length paths → HaveNewTexts (moves_of paths) texts
-HaveNewTexts-all paths k texts first all =
-    let count : k ≡ length (moves_of paths) = all ∙ sym (length-moves_of paths) in
-    record { count = first.count ∙ count; each = λ j less. first.each j (omega (arith, count, less)) }
 
 -- a text within the list, whatever is read past the end
 pub get_or-within : (texts : List (List ℕ)) (j : ℕ) (one other : List ℕ) → j < length texts

@@ -1,5 +1,5 @@
 -- A place or a list of components has one normal list, and so one normal text.
-use Rattle.std.proofs.Common.{◌≡◌, ◌↔◌, ℕ, List, [], ◌∷◌, map, Some, unwrap_or, refl, sym, ap, ◌∙◌}
+use Rattle.std.proofs.Common.{◌≡◌, ◌↔◌, ℕ, List, [], ◌∷◌, ◌++◌, map, Some, unwrap_or, refl, sym, ap, ◌∙◌}
 use Rattle.std.proofs.lemmas.Option.{none-some}
 use Rattle.relative_path.specs.Steps.{Step, cur, up, name, components, spell}
 use Rattle.relative_path.specs.Walk.{IsSame, place_of}
@@ -7,6 +7,20 @@ use Rattle.relative_path.specs.Normalizing.{AreNames, IsNormal, IsNormalText, Is
 use Rattle.relative_path.proofs.ForCallers.{walk-names, IsSame-refl, IsSame-sym, IsSame-trans, IsSame-append_left, IsSame-append_right, IsSame-name_up}
 
 -- ---- lists
+
+-- a list of names is normal
+pub AreNames-normal : (cs : List Step) → AreNames cs → IsNormal cs
+AreNames-normal [] names = tt
+AreNames-normal (cur ∷ cs) names = absurd names
+AreNames-normal (up ∷ cs) names = absurd names
+AreNames-normal (name n ∷ cs) names = names
+
+-- the end of a list of names is one too
+pub AreNames-end : (cs ds : List Step) → AreNames (cs ++ ds) → AreNames ds
+AreNames-end [] ds names = names
+AreNames-end (cur ∷ cs) ds names = absurd names
+AreNames-end (up ∷ cs) ds names = absurd names
+AreNames-end (name n ∷ cs) ds names = AreNames-end cs ds names
 
 -- a list of names is made from the names
 pub AreNames-names : (cs : List Step) → AreNames cs → (ns : List (List ℕ)) × (cs ≡ map name ns)

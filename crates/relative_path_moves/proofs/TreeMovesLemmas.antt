@@ -28,14 +28,6 @@ pub record IsAbove (olds : List (List Step)) (cs : List Step) (text : List ℕ) 
   pub split : components text ++ under ≡ cs
   pub none : (m : ℕ) → length (components text) < m → m ≤ length cs → IsNoneAt olds (take m cs)
 
-pub IsAbove-start : (olds : List (List Step)) (text : List ℕ) → IsNormalText text → IsAbove olds (components text) text
-IsAbove-start olds text normal = record {
-  normal = normal;
-  under = [];
-  split = append-nil (components text);
-  none = λ m less le. absurd (omega arith);
-}
-
 -- the front that the text has
 front_of : (olds : List (List Step)) (cs : List Step) (text : List ℕ) (above : IsAbove olds cs text) (m : ℕ)
     → length (components text) ≡ m → take m cs ≡ components text
@@ -69,16 +61,6 @@ pub IsAbove-taken : (olds : List (List Step)) (cs : List Step) (text front : Lis
 IsAbove-taken olds cs text front None none above absent takes is some = absurd (true≢false (sym (is ∙ ap not some)))
 IsAbove-taken olds cs text front (Some c) none above absent takes is some =
     IsAbove-next olds cs text front (step_of c) above absent takes.0 takes.1
-
--- no old path leads to a front of the list
-pub NearestUpTo-none : (olds : List (List Step)) (cs : List Step) (text : List ℕ) → IsAbove olds cs text
-    → IsNoneAt olds (components text) → components text ≡ [] → NearestUpTo olds cs (length cs) None
-NearestUpTo-none olds cs text above none empty m le =
-    let count : length (components text) ≡ 0 = ap length empty in
-    elim (cases_lt 0 m) [
-      | inl longer ↦ above.none m (omega (arith, count, longer)) le
-      | inr no_longer ↦ subst (IsNoneAt olds) (sym (front_of olds cs text above m (omega (arith, count, no_longer)))) none
-    ]
 
 -- the first old path that is found is the nearest
 pub NearestUpTo-found : (olds : List (List Step)) (cs : List Step) (text : List ℕ) (j : ℕ) → IsAbove olds cs text
@@ -156,12 +138,6 @@ IsNearest-found moves place j (m, within, first, longer) =
       ]
 
 -- ---- the target of a file
-
--- the file has no place from the top
-pub IsLeftInPlace-above : (moves : List Move) (file : List Step) (text : List ℕ) → IsNormalTextOf file text
-    → ¬ IsSome (place_of (components text)) → IsLeftInPlace moves file
-IsLeftInPlace-above moves file text normal none place j below leads takes =
-    none (subst IsSome (sym (sym (normal.same.everywhere []) ∙ leads)) refl)
 
 -- no move takes the file along
 pub IsLeftInPlace-kept : (moves : List Move) (file : List Step) (text : List ℕ) → IsNormalTextOf file text
@@ -316,11 +292,6 @@ IsTreeTarget-only moves file one other apart (inl is) (inr (left, e)) =
 IsTreeTarget-only moves file one other apart (inr (left, e)) (inl is) =
     absurd (left is.place is.move is.below is.leads is.nearest.takes)
 IsTreeTarget-only moves file one other apart (inr (left, e)) (inr (left_other, f)) = f ∙ sym e
-
--- where no move takes a file along
-pub AtTreePath-left : (moves : List Move) (file : List Step) {P : List Step → Type 0} → IsLeftInPlace moves file → P file
-    → AtTreePath moves file P
-AtTreePath-left moves file left holds = (file, inr (left, refl), holds)
 
 -- what holds of the target of a list, and of each list that leads to the same, holds of the target of such a list
 pub AtTreePath-same : (moves : List Move) (f g : List Step) (P Q : List Step → Type 0) → IsSame f g

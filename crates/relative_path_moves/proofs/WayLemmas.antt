@@ -1,5 +1,5 @@
 -- The shortest path between two places, by what is left of their names past those that both begin with.
-use Rattle.std.proofs.Common.{◌≡◌, ◌≢◌, ℕ, zero, suc, ◌<◌, ◌-◌, List, [], ◌∷◌, ◌++◌, length, map, replicate, None, IsSome, true≢false, refl, sym, ap, ◌∙◌, subst, get_or, append_assoc, option_and_then, arith}
+use Rattle.std.proofs.Common.{◌≡◌, ◌≢◌, ℕ, zero, suc, ◌<◌, ◌-◌, List, [], ◌∷◌, ◌++◌, length, map, replicate, None, IsSome, true≢false, refl, sym, ap, ◌∙◌, subst, append_assoc, option_and_then, arith}
 use Rattle.std.proofs.lemmas.List.{length-map, map-append}
 use Rattle.relative_path.specs.Steps.{Step, cur, up, name, step_text, components, spell, SpellsItself}
 use Rattle.relative_path.specs.Walk.{walk, place_of}
@@ -7,8 +7,8 @@ use Rattle.relative_path.specs.Normalizing.{AreNames, IsNormal}
 use Rattle.relative_path.specs.Relating.{IsReachable, IsShortestText}
 use Rattle.relative_path.proofs.ForCallers.{walk-append, components-up, IsShortest-apart}
 use Rattle.relative_path.proofs.OnLiterals.{relative_path_on_literals}
-use Rattle.relative_path_moves.specs.Ways.{PartAtOnce, EndApart}
-use Rattle.relative_path_moves.proofs.NormalPathLemmas.{AreNames-names}
+use Rattle.relative_path_moves.specs.Ways.{EndApart}
+use Rattle.relative_path_moves.proofs.NormalPathLemmas.{AreNames-names, AreNames-end}
 
 -- ---- what is pushed
 
@@ -37,19 +37,6 @@ replicate-less (suc n) c some = let less : n ≡ suc n - 1 = omega arith in ap (
 
 -- ---- no component begins both lists
 
-pub PartAtOnce-none : (cs ds : List Step) → cs ≡ [] → PartAtOnce cs ds
-PartAtOnce-none cs ds none c (rest, is) other = absurd (let nothing : [] ≡ c ∷ rest = sym none ∙ is in cc)
-
-pub PartAtOnce-none_other : (cs ds : List Step) → ds ≡ [] → PartAtOnce cs ds
-PartAtOnce-none_other cs ds none c first (rest, is) = absurd (let nothing : [] ≡ c ∷ rest = sym none ∙ is in cc)
-
-pub PartAtOnce-other : (cs ds cs_rest ds_rest : List Step) (c d : Step) → cs ≡ c ∷ cs_rest → ds ≡ d ∷ ds_rest → c ≢ d
-    → PartAtOnce cs ds
-PartAtOnce-other cs ds cs_rest ds_rest c d cs_is ds_is other e (rest, is) (other_rest, other_is) =
-    let one : c ≡ e = ap (λ list. get_or list 0 c) (sym cs_is ∙ is) in
-    let two : d ≡ e = ap (λ list. get_or list 0 d) (sym ds_is ∙ other_is) in
-    other (one ∙ sym two)
-
 -- ---- the components that both lists begin with
 
 -- both lists begin with the same front, and these two lists come after it
@@ -58,24 +45,12 @@ pub record HaveFront (cs ds cs_end ds_end : List Step) : Type 0 where
   pub first : cs ≡ front ++ cs_end
   pub second : ds ≡ front ++ ds_end
 
-pub HaveFront-start : (cs ds : List Step) → HaveFront cs ds cs ds
-HaveFront-start cs ds = record { front = []; first = refl; second = refl }
-
 pub HaveFront-next : (cs ds cs_end ds_end cs_rest ds_rest : List Step) (c : Step) → HaveFront cs ds cs_end ds_end
     → cs_end ≡ c ∷ cs_rest → ds_end ≡ c ∷ ds_rest → HaveFront cs ds cs_rest ds_rest
 HaveFront-next cs ds cs_end ds_end cs_rest ds_rest c have cs_is ds_is = record {
   front = have.front ++ c ∷ [];
   first = have.first ∙ ap (λ list. have.front ++ list) cs_is ∙ sym (append_assoc have.front (c ∷ []) cs_rest);
   second = have.second ∙ ap (λ list. have.front ++ list) ds_is ∙ sym (append_assoc have.front (c ∷ []) ds_rest);
-}
-
-pub HaveFront-apart : (cs ds cs_end ds_end : List Step) → HaveFront cs ds cs_end ds_end → PartAtOnce cs_end ds_end
-    → EndApart cs ds cs_end ds_end
-HaveFront-apart cs ds cs_end ds_end have apart = record {
-  front = have.front;
-  first = have.first;
-  second = have.second;
-  apart = apart;
 }
 
 -- ---- names
@@ -92,12 +67,6 @@ AreNames-front [] ds names = tt
 AreNames-front (cur ∷ cs) ds names = absurd names
 AreNames-front (up ∷ cs) ds names = absurd names
 AreNames-front (name n ∷ cs) ds names = AreNames-front cs ds names
-
-AreNames-end : (cs ds : List Step) → AreNames (cs ++ ds) → AreNames ds
-AreNames-end [] ds names = names
-AreNames-end (cur ∷ cs) ds names = absurd names
-AreNames-end (up ∷ cs) ds names = absurd names
-AreNames-end (name n ∷ cs) ds names = AreNames-end cs ds names
 
 -- ---- the shortest path
 

@@ -25,7 +25,7 @@ use crate::place_index::PlaceIndex;
 use relative_path::{Component, RelativePath};
 use std::alloc::{AllocError, Global};
 
-// The lexicographically first two of the paths that collide.
+// Returns the lexicographically first two of the paths that collide.
 pub(crate) fn first_collision(
     alloc: Global,
     paths: &[NormalPath],
@@ -39,7 +39,7 @@ pub(crate) fn first_collision(
     }
 }
 
-// The least number of a path that collides with one of the others.
+// Returns the least number of a path that collides with one of the others.
 pub(crate) fn first_meeting(
     alloc: Global,
     paths: &[NormalPath],
@@ -54,8 +54,8 @@ pub(crate) fn first_meeting(
     Ok(lesser(over, first_below(&by_other, others, paths)))
 }
 
-// The least number of a path that leads to where one of the others leads, or to a place above. The index is
-// that of the paths.
+// Returns the least number of a path that leads to where one of the others leads, or to a place above. The
+// index is that of the paths.
 fn first_over(index: &PlaceIndex, paths: &[NormalPath], others: &[NormalPath]) -> Option<usize>
     requires { Indexes (map components paths.now) index.now }
     ensures { IsLeast (IsOverOne (map components paths.now) (map components others.now)) result }
@@ -67,8 +67,8 @@ fn first_over(index: &PlaceIndex, paths: &[NormalPath], others: &[NormalPath]) -
     least
 }
 
-// The number of the first path that leads to where one of the others leads, or to a place below. The index is
-// that of the others.
+// Returns the number of the first path that leads to where one of the others leads, or to a place below. The
+// index is that of the others.
 fn first_below(index: &PlaceIndex, others: &[NormalPath], paths: &[NormalPath]) -> Option<usize>
     requires indexes { Indexes (map components others.now) index.now }
     requires normal { AreNormal others.now }
@@ -82,7 +82,7 @@ fn first_below(index: &PlaceIndex, others: &[NormalPath], paths: &[NormalPath]) 
     None
 }
 
-// The index of the paths.
+// Returns the index of the paths.
 fn index_of(alloc: Global, paths: &[NormalPath]) -> Result<PlaceIndex, AllocError>
     ensures indexes { IfOk result (Indexes (map components paths.now)) }
     ensures normal { OnOk result (AreNormal paths.now) }
@@ -94,7 +94,8 @@ fn index_of(alloc: Global, paths: &[NormalPath]) -> Result<PlaceIndex, AllocErro
     Ok(index)
 }
 
-// The least number of a path that collides with another of the paths. The index is that of the paths.
+// Returns the least number of a path that collides with another of the paths. The index is that of the
+// paths.
 fn first_colliding(index: &PlaceIndex, paths: &[NormalPath]) -> Option<usize>
     requires indexes { Indexes (map components paths.now) index.now }
     requires normal { AreNormal paths.now }
@@ -109,7 +110,7 @@ fn first_colliding(index: &PlaceIndex, paths: &[NormalPath]) -> Option<usize>
     least
 }
 
-// The number of the first path after path `j` that collides with it.
+// Returns the number of the first path after path `j` that collides with it.
 fn next_colliding(paths: &[NormalPath], j: usize) -> Option<usize>
     requires { j < length paths.now }
     ensures { IsLeast (CollideAt (map components paths.now) j) result }
@@ -122,8 +123,8 @@ fn next_colliding(paths: &[NormalPath], j: usize) -> Option<usize>
     None
 }
 
-// The least of the numbers that the index has for the path and for each directory above it, but for the
-// number that is passed over.
+// Returns the least of the numbers that the index has for the path and for each directory above it, but
+// for the number that is passed over.
 fn least_above(index: &PlaceIndex, path: &NormalPath, passed: usize) -> Option<usize>
     ensures { (paths : List (List Step)) → Indexes paths index.now
         → IsLeast (IsOtherAbove paths passed (components path.now)) result }
@@ -137,7 +138,7 @@ fn least_above(index: &PlaceIndex, path: &NormalPath, passed: usize) -> Option<u
     least
 }
 
-// The number that the index has for a path, unless that is the number that is passed over.
+// Returns the number that the index has for a path, unless that is the number that is passed over.
 fn other_at(index: &PlaceIndex, path: RelativePath<'_>, passed: usize) -> Option<usize>
     requires { IsNormalText (path_text path) }
     ensures { (paths : List (List Step)) → Indexes paths index.now
@@ -150,7 +151,7 @@ fn other_at(index: &PlaceIndex, path: RelativePath<'_>, passed: usize) -> Option
     Some(found)
 }
 
-// The path without the name at its end. `None` if a path in normal form has no name at its end.
+// Returns the path without the name at its end. `None` if a path in normal form has no name at its end.
 fn directory_above<'p>(path: RelativePath<'p>) -> Option<RelativePath<'p>>
     requires { IsNormalText (path_text path) }
     ensures { MatchOption result
@@ -166,7 +167,7 @@ fn directory_above<'p>(path: RelativePath<'p>) -> Option<RelativePath<'p>>
     }
 }
 
-// The lesser of two numbers, or the one that there is.
+// Returns the lesser of two numbers, or the one that there is.
 fn lesser(one: Option<usize>, other: Option<usize>) -> Option<usize>
     ensures { IsLesser one other result }
 {
@@ -180,14 +181,14 @@ fn lesser(one: Option<usize>, other: Option<usize>) -> Option<usize>
     }
 }
 
-// Whether two paths lead to one place, or one below the other.
+// Returns whether two paths lead to one place, or one below the other.
 pub(crate) fn collide(one: &NormalPath, other: &NormalPath) -> bool
     ensures { IsTrue result ↔ Collide (components one.now) (components other.now) }
 {
     stays_below(one, other) || stays_below(other, one)
 }
 
-// Whether a path leads to where another leads, or to a place below.
+// Returns whether a path leads to where another leads, or to a place below.
 fn stays_below(top: &NormalPath, path: &NormalPath) -> bool
     ensures { IsTrue result ↔ StaysBelow (components top.now) (components path.now) }
 {

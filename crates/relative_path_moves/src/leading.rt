@@ -10,7 +10,7 @@ use crate::normal_path::NormalPath;
 use crate::places::directory as parent_directory;
 use relative_path::{Component, RelativePath};
 
-// Whether a reference leads from a directory to a target. Allocates nothing.
+// Returns whether a reference leads from a directory to a target. Allocates nothing.
 pub(crate) fn leads_to(
     directory: &NormalPath,
     reference: RelativePath<'_>,
@@ -57,7 +57,7 @@ fn before_reference<'t>(
     Some((climb, left.as_relative_path()))
 }
 
-// Whether that many `..` lead from a directory to a target.
+// Returns whether that many `..` lead from a directory to a target.
 fn climbs_to(directory: RelativePath<'_>, climb: usize, target: RelativePath<'_>) -> bool
     requires directory { IsNormal (path_components directory) }
     requires target { IsNormal (path_components target) }
@@ -75,7 +75,7 @@ fn climbs_to(directory: RelativePath<'_>, climb: usize, target: RelativePath<'_>
     above == target
 }
 
-// Whether the target has the components of a front, and then that many `..`.
+// Returns whether the target has the components of a front, and then that many `..`.
 fn has_then(target: RelativePath<'_>, front: RelativePath<'_>, climb: usize) -> bool
     requires { IsNormal (path_components target) }
     ensures { IsTrue result

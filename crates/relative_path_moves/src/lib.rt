@@ -1,7 +1,5 @@
 //! What references become when files move.
 //!
-//! A module uses modules of the layers below its own.
-//!
 //! ```text
 //! one reference, moves of directories     reference  tree_moves
 //! moves of files                          move_table

@@ -160,8 +160,8 @@ impl<'a> MoveTable<'a> {
     /// target is the place where the reference led before the moves; if that is the old path of a move,
     /// the target is its new path.
     ///
-    /// The call allocates what `join_normalized`, `leads_apart` and `try_relative` do. It fails with
-    /// `OutOfMemory` only if one of these allocations fails.
+    /// The call allocates what `join_normalized` and `try_relative` do. It fails with `OutOfMemory` only if
+    /// one of these allocations fails.
     ///
     /// ```
     /// let moves = [("a.md", "x/a.md"), ("b.md", "y/b.md")]
@@ -315,7 +315,7 @@ impl<'a> MoveTable<'a> {
         }
     }
 
-    // The normal paths of the files that don't move.
+    // Returns the normal paths of the files that don't move.
     fn staying(
         &self,
         alloc: Global,
@@ -334,7 +334,7 @@ impl<'a> MoveTable<'a> {
         Ok(staying)
     }
 
-    // The number of the first file that doesn't move and collides with the path.
+    // Returns the number of the first file that doesn't move and collides with the path.
     fn first_met(
         &self,
         alloc: Global,
@@ -353,7 +353,7 @@ impl<'a> MoveTable<'a> {
         Ok(None)
     }
 
-    // Whether the file at a place doesn't move.
+    // Returns whether the file at a place doesn't move.
     fn stays(&self, place: &NormalPath) -> bool
         ensures { (cs : List Step) → IsSame cs (components place.now)
             → IsTrue result ↔ IsUnmoved self.now cs }
@@ -390,7 +390,7 @@ impl<'a> MoveTable<'a> {
         }
     }
 
-    // The number of the move whose old path has this normal text.
+    // Returns the number of the move whose old path has this normal text.
     pub(crate) fn move_from(&self, place: RelativePath<'_>) -> Option<usize>
         requires { IsNormalText (path_text place) }
         ensures { IsFoundAt (olds_of self.now) (path_components place.entry) result }
@@ -398,7 +398,7 @@ impl<'a> MoveTable<'a> {
         self.by_old.get_text(place.as_str())
     }
 
-    // The old and the new path of a move.
+    // Returns the old and the new path of a move.
     pub(crate) fn paths(&self, i: usize) -> (RelativePath<'a>, RelativePath<'a>)
         requires { i < length self.now }
         ensures old { path_components result.0 ≡ (move_at self.now i).old }
@@ -408,7 +408,7 @@ impl<'a> MoveTable<'a> {
         moves[i]
     }
 
-    // The path, after the moves, of the file at a place.
+    // Returns the path, after the moves, of the file at a place.
     fn target<'b>(&'b self, place: &'b NormalPath) -> RelativePath<'b>
         ensures { (cs : List Step) → IsSame cs (components place.now)
             → LeadToTarget self.now cs (path_components result) }
@@ -420,7 +420,7 @@ impl<'a> MoveTable<'a> {
     }
 }
 
-// The normal forms of the new paths of the moves.
+// Returns the normal forms of the new paths of the moves.
 pub(crate) fn new_paths(
     alloc: Global,
     moves: &[(RelativePath<'_>, RelativePath<'_>)],
@@ -434,7 +434,7 @@ pub(crate) fn new_paths(
     Ok(news)
 }
 
-// The number of the first move whose old or new path has no file name.
+// Returns the number of the first move whose old or new path has no file name.
 fn first_nameless(moves: &[(RelativePath<'_>, RelativePath<'_>)]) -> Option<usize>
     ensures { MatchOption result (AreNamed (moves_of moves.now)) (IsFirstNameless (moves_of moves.now)) }
 {
@@ -446,7 +446,7 @@ fn first_nameless(moves: &[(RelativePath<'_>, RelativePath<'_>)]) -> Option<usiz
     None
 }
 
-// The index of the old paths, and the first two moves whose old paths lead to the same place.
+// Returns the index of the old paths, and the first two moves whose old paths lead to the same place.
 fn by_old_path(
     alloc: Global,
     moves: &[(RelativePath<'_>, RelativePath<'_>)],
@@ -464,8 +464,8 @@ fn by_old_path(
     Ok((by_old, pair))
 }
 
-// The lexicographically first of two pairs of moves: `pair`, and `first` with `k` if they differ. `k` is
-// greater than both numbers of `pair`.
+// Returns the lexicographically first of two pairs of moves: `pair`, and `first` with `k` if they
+// differ. `k` is greater than both numbers of `pair`.
 fn first_pair(pair: Option<(usize, usize)>, first: usize, k: usize) -> Option<(usize, usize)>
     ensures one { k ≤ first → result ≡ pair }
     ensures earlier { IfSome pair (λ earlier. earlier.0 ≤ first → result ≡ pair) }
@@ -479,7 +479,7 @@ fn first_pair(pair: Option<(usize, usize)>, first: usize, k: usize) -> Option<(u
     }
 }
 
-// The shortest path from a directory to a target. Fails if the target climbs above the root.
+// Returns the shortest path from a directory to a target. Fails if the target climbs above the root.
 fn way_or_refusal(
     alloc: Global,
     directory: RelativePath<'_>,
@@ -488,7 +488,7 @@ fn way_or_refusal(
     ensures { IsWay (path_components directory.entry) (path_components target.entry)
         (IsShortestBuffer (path_components directory.entry) (path_components target.entry)) result }
 {
-    if !has_place(alloc, target)? {
+    if !has_place(target) {
         return Err(ReferenceError::AboveRoot);
     }
     directory
@@ -496,8 +496,8 @@ fn way_or_refusal(
         .ok_or(ReferenceError::NoPath)
 }
 
-// The shortest path from a directory to a target, or `None` if the reference leads there. Fails if the
-// target climbs above the root.
+// Returns the shortest path from a directory to a target, or `None` if the reference leads there. Fails
+// if the target climbs above the root.
 fn link_to(
     alloc: Global,
     directory: RelativePath<'_>,

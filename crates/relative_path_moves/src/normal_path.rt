@@ -11,7 +11,7 @@ ghost use Rattle.relative_path.specs.Normalizing.{AreNames, IsNormalText, IsNorm
 ghost use Rattle.relative_path.specs.RelativePath.{path_text, path_components};
 ghost use Rattle.relative_path_moves.specs.Places.{directory};
 
-use crate::places::directory;
+use crate::places::{directory, has_place};
 use crate::way::push_components;
 use relative_path::{RelativePath, RelativePathBuf};
 use std::alloc::{AllocError, Global};
@@ -94,7 +94,8 @@ impl NormalPath {
         NormalPath::of_joined(alloc, self.as_relative_path(), path)
     }
 
-    // The normal path that leads where this one and then these names lead. Allocates once, the result.
+    // Returns the normal path that leads where this one and then these names lead. Allocates once, the
+    // result.
     pub(crate) fn followed_by(
         &self,
         alloc: Global,
@@ -136,7 +137,7 @@ impl NormalPath {
     pub fn has_place(&self) -> bool
         ensures { IsTrue result ↔ IsSome (place_of (components self.now)) }
     {
-        self.as_relative_path().climb() == 0
+        has_place(self.as_relative_path())
     }
 
     /// Views the normal path as a path. Allocates nothing.

@@ -94,7 +94,7 @@ impl PlaceIndex {
         self.get_text(path.as_relative_path().as_str())
     }
 
-    // What `get` returns for the path with this normal text.
+    // Returns what `get` returns for the path with this normal text.
     pub(crate) fn get_text(&self, text: &str) -> Option<usize>
         requires { IsNormalText text.now }
         ensures found { (paths : List (List Step)) (cs : List Step) → Indexes paths self.now

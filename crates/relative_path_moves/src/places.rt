@@ -1,27 +1,25 @@
 //! Whether a path leads to a place from the top, and the directory of a file.
-ghost use Rattle.std.specs.Prelude.{◌≡◌, ◌↔◌, IfOk, IsSome, IsTrue};
+ghost use Rattle.std.specs.Prelude.{◌≡◌, ◌↔◌, IsSome, IsTrue};
 ghost use Rattle.relative_path.specs.Editing.{IsPopped};
 ghost use Rattle.relative_path.specs.RelativePath.{path_text, path_components};
 ghost use Rattle.relative_path.specs.Walk.{place_of};
 ghost use Rattle.relative_path_moves.specs.Places.{directory};
 
 use relative_path::RelativePath;
-use std::alloc::{AllocError, Global};
 
 /// Returns whether a path leads to a place from the top. A path that climbs above its start doesn't.
 ///
 /// A path with a place from the top stays below every base: it leads to that place below the base.
-/// Allocates at most twice, a table each time, and fails only if an allocation fails.
+/// Allocates nothing.
 ///
 /// ```
-/// assert!(rt; has_place(alloc, RelativePath::new("a/../b"))?);
-/// assert!(rt; !has_place(alloc, RelativePath::new("a/../../b"))?);
+/// assert!(rt; has_place(RelativePath::new("a/../b")));
+/// assert!(rt; !has_place(RelativePath::new("a/../../b")));
 /// ```
-pub fn has_place(alloc: Global, path: RelativePath<'_>) -> Result<bool, AllocError>
-    ensures { IfOk result (λ has. IsTrue has ↔ IsSome (place_of (path_components path.entry))) }
+pub fn has_place(path: RelativePath<'_>) -> bool
+    ensures { IsTrue result ↔ IsSome (place_of (path_components path.entry)) }
 {
-    let apart = path.leads_apart(alloc, RelativePath::new(".."))?;
-    Ok(apart == Some(0))
+    path.climb() == 0
 }
 
 /// Returns the directory of a file, which is where the file's references start. It is the parent of the

@@ -288,13 +288,13 @@ impl<'a> TreeMoves<'a> {
         ensures first { (j k : ℕ) → IfOk result (λ found. (found ≡ Some (j, k))
             ↔ IsLeastPair (CollideAfter self.now (map path_components files.now)) j k) }
     {
-        // Opens the table, so that its proof knows that no two moves have the same old path.
-        let _ = &self.news;
+        // The table has one new path for each move. By the same invariant no two moves have the same old path.
+        prove_eq!(self.news.len(), self.len());
         let after = self.paths_after(alloc, files)?;
         first_collision(alloc, &after)
     }
 
-    // The normal paths of the files after the moves.
+    // Returns the normal paths of the files after the moves.
     fn paths_after(
         &self,
         alloc: Global,
@@ -310,7 +310,7 @@ impl<'a> TreeMoves<'a> {
         Ok(after)
     }
 
-    // The normal path, after the moves, of where a reference led from a directory.
+    // Returns the normal path, after the moves, of where a reference led from a directory.
     fn target(
         &self,
         alloc: Global,
@@ -327,8 +327,8 @@ impl<'a> TreeMoves<'a> {
         }
     }
 
-    // The normal path to which the nearest move takes the file with this normal path. `None` if no move
-    // takes it along. Allocates at most once.
+    // Returns the normal path to which the nearest move takes the file with this normal path. `None` if
+    // no move takes it along. Allocates at most once.
     fn taken_to(&self, alloc: Global, place: &NormalPath) -> Result<Option<NormalPath>, AllocError>
         ensures target { IfOk result (λ now. (file : List Step) → IsNormalTextOf file place.now
             → MatchOption now (IsLeftInPlace self.now file)
@@ -346,8 +346,8 @@ impl<'a> TreeMoves<'a> {
         Ok(Some(now))
     }
 
-    // The number of the nearest move whose old path leads to the place or to a directory above it, and the
-    // normal form of that old path. Allocates nothing.
+    // Returns the number of the nearest move whose old path leads to the place or to a directory above it,
+    // and the normal form of that old path. Allocates nothing.
     fn nearest<'p>(&self, place: &'p NormalPath) -> Option<(usize, RelativePath<'p>)>
         ensures none { IfNone result (NearestUpTo (olds_of self.now) (components place.now)
             (length (components place.now)) None) }
@@ -369,8 +369,8 @@ impl<'a> TreeMoves<'a> {
     }
 }
 
-// The shortest path from a directory to a target, or `None` if the reference leads there. Fails if the
-// reference doesn't lead there, and the target climbs above the root or no path leads there.
+// Returns the shortest path from a directory to a target, or `None` if the reference leads there. Fails
+// if the reference doesn't lead there, and the target climbs above the root or no path leads there.
 fn link_from(
     alloc: Global,
     directory: &NormalPath,

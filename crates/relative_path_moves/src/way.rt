@@ -10,8 +10,8 @@ ghost use Rattle.relative_path_moves.specs.Ways.{EndApart, PartAtOnce};
 use relative_path::{RelativePath, RelativePathBuf};
 use std::alloc::{AllocError, Global};
 
-// The shortest path from a place to another, each given by its names. Allocates once: the path, with room for one byte
-// more, so that the caller can add a slash.
+// Returns the shortest path from a place to another, each given by its names. Allocates once: the path, with room for
+// one byte more, so that the caller can add a slash.
 pub(crate) fn way_between(
     alloc: Global,
     from: RelativePath<'_>,
@@ -30,14 +30,14 @@ pub(crate) fn way_between(
     Ok(way)
 }
 
-// How many components a path has.
+// Returns how many components a path has.
 fn component_count(path: RelativePath<'_>) -> usize
     ensures { result ≡ length (path_components path.entry) }
 {
     path.components().count()
 }
 
-// How many bytes `climb` times `..` and then a path have at most, and one more.
+// Returns how many bytes `climb` times `..` and then a path have at most, and one more.
 fn room_for(climb: usize, path: RelativePath<'_>) -> usize {
     let climb_len = climb.saturating_mul(3);
     climb_len
@@ -45,7 +45,7 @@ fn room_for(climb: usize, path: RelativePath<'_>) -> usize {
         .saturating_add(1)
 }
 
-// What is left of two paths without the components that both begin with.
+// Returns what is left of two paths without the components that both begin with.
 fn past_common<'f, 't>(
     from: RelativePath<'f>,
     to: RelativePath<'t>,
@@ -61,7 +61,8 @@ fn past_common<'f, 't>(
     (from, to)
 }
 
-// What is left of two paths after their first component. `None` if they don't begin with the same one.
+// Returns what is left of two paths after their first component. `None` if they don't begin with the
+// same one.
 fn past_first<'f, 't>(
     from: RelativePath<'f>,
     to: RelativePath<'t>,

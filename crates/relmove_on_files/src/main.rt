@@ -78,6 +78,7 @@ fn paths_below(rt: &HostRuntime) -> io::Result<Vec<String>> {
     let mut paths = Vec::new(rt.alloc());
     let mut waiting = Vec::new(rt.alloc());
     waiting.push(format!(in rt.alloc(); "{SITE}/")?)?;
+    // The loop ends when no directory is left. A `while` would need a bound, and nothing says how many there are.
     for _ in 0..u64::MAX {
         let Some(directory) = waiting.pop() else {
             break;

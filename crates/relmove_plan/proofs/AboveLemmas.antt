@@ -1,5 +1,5 @@
 -- Entries of a kind above a path, after the moves: found from the path upwards.
-use Rattle.std.proofs.Common.{◌≡◌, ◌≢◌, ℕ, zero, suc, ◌<◌, ◌≤◌, Bool, true, false, true≢false, List, [], ◌∷◌, ◌++◌, map, length, take, get_or, MatchBool, inl, inr, refl, sym, ap, subst, ◌∙◌, append_assoc, append-nil, take_at, arith}
+use Rattle.std.proofs.Common.{◌≡◌, ◌≢◌, ℕ, zero, suc, ◌<◌, ◌≤◌, Bool, true, false, true≢false, List, [], ◌∷◌, ◌++◌, map, length, take, get_or, MatchBool, inl, inr, refl, sym, ap, subst, ◌∙◌, append_assoc, take_at, arith}
 use Rattle.std.proofs.lemmas.Bool.{cases_lt, cases_order}
 use Rattle.std.proofs.lemmas.List.{get_or-map, get_or_default, length-append, length-map, nil_from_length}
 use Rattle.std.proofs.lemmas.Option.{slice_get_cases}
@@ -66,14 +66,6 @@ pub record IsClearFrom (is_kind : Kind → Bool) (moves : List Move) (entries : 
   pub split : cs ≡ front ++ under
   pub clear : (longer rest : List Step) → cs ≡ longer ++ rest → rest ≢ [] → length front ≤ length longer
       → ¬ HasAt is_kind moves entries longer
-
-pub IsClearFrom-start : (is_kind : Kind → Bool) (moves : List Move) (entries : List Entry) (cs : List Step) → IsClearFrom is_kind moves entries cs cs
-IsClearFrom-start is_kind moves entries cs = record {
-  under = [];
-  split = sym (append-nil cs);
-  clear = λ longer rest is some long file.
-      some (nil_from_length rest (omega (arith, ap length is, length-append longer rest, long)));
-}
 
 module _ (is_kind : Kind → Bool) (moves : List Move) (entries : List Entry) (cs front directory : List Step) (last : Step)
     (above : IsClearFrom is_kind moves entries cs front) (is : front ≡ directory ++ last ∷ [])

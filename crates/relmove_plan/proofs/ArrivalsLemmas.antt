@@ -1,5 +1,6 @@
 -- Each entry comes to where the moves take it, and each new text to the new path of its page.
-use Rattle.std.proofs.Common.{All, Bool, true, false, true≢false, ◌≡◌, ◌≢◌, ℕ, ◌<◌, ◌≤◌, List, [], ◌∷◌, ◌++◌, Contains, Option, Some, None, IsSome, length, map, take, get_or, inl, inr, refl, sym, ap, subst, ◌∙◌, arith, ◌||◌}
+use Rattle.std.proofs.Common.{All, Bool, false, true≢false, ◌≡◌, ◌≢◌, ℕ, ◌<◌, ◌≤◌, List, [], ◌∷◌, ◌++◌, Contains, Option, Some, None, IsSome, length, map, take, get_or, inl, inr, refl, sym, ap, subst, ◌∙◌, arith}
+use Rattle.std.proofs.lemmas.Bool.{or_parts}
 use Rattle.std.specs.Prelude.{string_bytes}
 use Rattle.std.specs.Option.{option_and_then}
 use Rattle.std.specs.List.{Any, AllZip, list_any}
@@ -45,10 +46,6 @@ All-zip {X} {Y} R (x ∷ xs) (y ∷ ys) each =
 abbrev pub NotOwn : List (List ℕ) → Type 0
 NotOwn place = All (λ n. is_own n ≡ false) place
 
-or-parts : (a b : Bool) → (a || b) ≡ false → (a ≡ false) × (b ≡ false)
-or-parts true b none = absurd (true≢false none)
-or-parts false b none = (refl, none)
-
 -- names that aren't a run's own lead to none that is
 walk-own : (cs : List Step) (base place : List (List ℕ)) → list_any is_own_step cs ≡ false → NotOwn base
     → walk base cs ≡ Some place → NotOwn place
@@ -58,7 +55,7 @@ walk-own (up ∷ cs) [] place none fine leads = absurd (let e = leads in cc)
 walk-own (up ∷ cs) (n ∷ base) place none fine leads =
     walk-own cs (take (length base) (n ∷ base)) place none (All-take (λ n. is_own n ≡ false) (length base) (n ∷ base) fine) leads
 walk-own (name n ∷ cs) base place none fine leads =
-    let parts = or-parts (is_own n) (list_any is_own_step cs) none in
+    let parts = or_parts (is_own n) (list_any is_own_step cs) none in
     walk-own cs (base ++ n ∷ []) place parts.1 (All-push (λ n. is_own n ≡ false) base n fine parts.0) leads
 
 module _ {entries : List Entry} {pages changed : List (List Step)} {moves : List Move} {any_name : Bool} {steps : StepTexts}

@@ -25,14 +25,6 @@ use Rattle.relmove_plan.specs.Steps.{StepTexts, with_text, with_carried, with_re
 
 -- ---- more renames
 
-pub AreAmong-refl : (steps : StepTexts) → AreAmong steps steps
-AreAmong-refl steps = record {
-  texts = λ new has. has;
-  apart = λ step has. has;
-  together = λ step has. has;
-  removed = λ name has. has;
-}
-
 pub AreAmong-trans : (steps more all : StepTexts) → AreAmong steps more → AreAmong more all → AreAmong steps all
 AreAmong-trans steps more all first second = record {
   texts = λ new has. second.texts new (first.texts new has);

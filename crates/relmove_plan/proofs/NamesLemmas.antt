@@ -7,7 +7,7 @@ use Rattle.std.specs.List.{IsDistinct}
 use Rattle.std.proofs.lemmas.Bool.Decides.{same_from_decides}
 use Rattle.std.proofs.lemmas.Fmt.{decimal_injective}
 use Rattle.std.proofs.lemmas.List.{append_cancel_left, map_more, take_all}
-use Rattle.std.proofs.lemmas.List.Elements.{All-nil, All-push, All-weaker}
+use Rattle.std.proofs.lemmas.List.Elements.{All-push, All-weaker}
 use Rattle.std.proofs.lemmas.List.Quantifiers.{all_pairs_push}
 use Rattle.std.proofs.lemmas.List.Sorted.{All-permutation}
 use Rattle.std.proofs.lemmas.Map.Keys.{IsDistinct-IsPermutation, IsDistinct-from_apart, apart_from_distinct}
@@ -47,17 +47,6 @@ AreFreeNames-IsPermutation paths names others moved free =
     }
 
 -- ---- drawing names
-
-pub AreDrawn-none : (index : PlaceIndex) (free : FreeNames) → free.entries.now ≡ index → AreDrawn index free []
-AreDrawn-none index free is = record {
-  entries = is;
-  numbered = All-nil (IsNumbered free.next);
-  fresh = λ paths has. record {
-    numbered = All-nil (λ name. (n : ℕ) × (n < 2 ^ 64) × (name ≡ numbered_name n));
-    different = λ i j d l within. absurd (let w : j < 0 = within in omega (arith, w));
-    unused = All-nil (λ name. IsNoneAt paths (components name));
-  };
-}
 
 -- the same names, perhaps after some more were drawn
 pub AreDrawn-later : (index : PlaceIndex) (before after : FreeNames) (names : List (List ℕ))

@@ -32,17 +32,6 @@ use Rattle.relmove_plan.proofs.NewFilesLemmas.{EndsBelow-other}
 
 -- ---- nothing leaves yet
 
-pub OnlyTheseLeave-none : (moves : List Move) (paths : List (List Step)) (steps : StepTexts) → steps.apart ≡ []
-    → OnlyTheseLeave moves paths steps
-OnlyTheseLeave-none moves paths steps none =
-    subst (All (λ (step : List ℕ × List ℕ). LeavesFrom moves paths steps.texts step.0)) (sym none)
-    (All-nil (λ (step : List ℕ × List ℕ). LeavesFrom moves paths steps.texts step.0))
-
-pub LeaveOnce-none : (steps : StepTexts) → steps.apart ≡ [] → LeaveOnce steps
-LeaveOnce-none steps none =
-    subst (AllPairs (λ (one other : List ℕ × List ℕ). one.0 ≢ other.0)) (sym none)
-    (λ i j d l within. absurd (let w : j < 0 = within in omega (arith, w)))
-
 -- ---- one thing more leaves
 
 LeaveOnce-push : (steps : StepTexts) (from between : List ℕ) → All (λ step. step.0 ≢ from) steps.apart → LeaveOnce steps

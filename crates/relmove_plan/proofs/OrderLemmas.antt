@@ -1,5 +1,5 @@
 -- Sorted paths: what is below a path comes after it, and before it if they are turned round.
-use Rattle.std.proofs.Common.{◌≡◌, ℕ, ◌<◌, ◌≤◌, ◌-◌, false, true≢false, List, [], ◌∷◌, ◌++◌, map, length, get_or, refl, sym, ap, subst, ◌∙◌, append_assoc, append-nil, arith}
+use Rattle.std.proofs.Common.{◌≡◌, ℕ, ◌<◌, ◌≤◌, ◌-◌, false, true≢false, List, [], ◌∷◌, ◌++◌, map, length, get_or, refl, sym, ap, subst, ◌∙◌, append_assoc, arith}
 use Rattle.std.proofs.lemmas.Bool.Decides.{nat_tests}
 use Rattle.std.proofs.lemmas.Cmp.{nat_cmp_total, lists_total}
 use Rattle.std.proofs.lemmas.List.{get_or-map, get_or-reverse, length-map, length-reverse, map_push, reverse-append, reverse-reverse}
@@ -90,11 +90,6 @@ reverse-next f key taken left rest y x same is =
     ∙ ap (λ path. (map f taken ++ path ∷ []) ++ reverse (map key rest)) same
     ∙ sym (reverse-push (map f taken) (map key rest) (key x))
     ∙ ap (λ paths. map f taken ++ reverse paths) (sym (map_push key rest x) ∙ ap (map key) (sym is))
-
--- after the last
-pub reverse-end : {X Y K : Type 0} (f : Y → K) (key : X → K) (taken : List Y) (left : List X) (all : List K)
-    → left ≡ [] → map f taken ++ reverse (map key left) ≡ all → map f taken ≡ all
-reverse-end f key taken left all none so_far = sym (append-nil (map f taken)) ∙ (rw none at so_far)
 
 -- one part of each, turned round
 pub map_part-reverse : {X Y K L : Type 0} (part : K → L) (f : Y → K) (key : X → K) (taken : List Y) (all : List X)

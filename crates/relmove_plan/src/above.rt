@@ -9,7 +9,7 @@ ghost use Rattle.relmove_plan.specs.Directories.{HasDirectory};
 use relative_path::RelativePath;
 use std::alloc::{AllocError, Global};
 
-// The paths of the directories above a path, without the root: the nearest first.
+// Returns the paths of the directories above a path, without the root: the nearest first.
 pub(crate) fn directories_above<'a>(
     alloc: Global,
     path: RelativePath<'a>,
@@ -30,7 +30,7 @@ pub(crate) fn directories_above<'a>(
     Ok(directories)
 }
 
-// The path of the directory above a path. `None` if the path has no more than one component.
+// Returns the path of the directory above a path. `None` if the path has no more than one component.
 pub(crate) fn directory_above<'a>(path: RelativePath<'a>) -> Option<RelativePath<'a>>
     ensures front { MatchOption result (length (path_components path.entry) ≤ 1)
         (λ directory. (path_components directory ≢ [])

@@ -11,7 +11,7 @@ use relative_path::RelativePath;
 use relative_path_moves::{NormalPath, PlaceIndex, TreeMoves};
 use std::alloc::{AllocError, Global};
 
-// The paths of the entries, by number.
+// Returns the paths of the entries, by number.
 pub(crate) fn entry_index(alloc: Global, entries: &[Entry<'_>]) -> Result<PlaceIndex, AllocError>
     ensures { IfOk result (Indexes (entry_paths entries.now)) }
 {
@@ -22,7 +22,7 @@ pub(crate) fn entry_index(alloc: Global, entries: &[Entry<'_>]) -> Result<PlaceI
     Ok(index)
 }
 
-// The paths of the entries after the moves.
+// Returns the paths of the entries after the moves.
 pub(crate) fn paths_after(
     alloc: Global,
     entries: &[Entry<'_>],
@@ -37,7 +37,7 @@ pub(crate) fn paths_after(
     Ok(paths)
 }
 
-// These paths, by number. Fails if two of them are equal.
+// Returns the index of these paths, by number. Fails if two of them are equal.
 pub(crate) fn index_after(alloc: Global, paths: &[NormalPath]) -> Result<PlaceIndex, Refusal>
     ensures indexes { IfOk result (Indexes (map components paths.now)) }
     ensures distinct { OnOk result (AreDistinct (map components paths.now)) }

@@ -16,7 +16,7 @@ use relative_path::RelativePath;
 use relative_path_moves::{MoveTableError, PlaceIndex, TreeMoves};
 use std::alloc::{AllocError, Global};
 
-// The table of the moves. Fails if their paths, or what is at their old paths, are refused.
+// Returns the table of the moves. Fails if their paths, or what is at their old paths, are refused.
 pub(crate) fn leaving_table<'a>(
     alloc: Global,
     entries: &[Entry<'_>],
@@ -36,7 +36,7 @@ pub(crate) fn leaving_table<'a>(
     Ok(table)
 }
 
-// The table of moves whose paths have file names. Fails if two old paths are equal.
+// Returns the table of moves whose paths have file names. Fails if two old paths are equal.
 fn table_of<'a>(
     alloc: Global,
     moves: &'a [(RelativePath<'a>, RelativePath<'a>)],
@@ -54,7 +54,8 @@ fn table_of<'a>(
     }
 }
 
-// The paths of the entries after the moves, by number. Fails if what is at the new paths is refused.
+// Returns the paths of the entries after the moves, by number. Fails if what is at the new paths is
+// refused.
 pub(crate) fn coming_index(
     alloc: Global,
     entries: &[Entry<'_>],
@@ -94,7 +95,7 @@ fn check_turned(
     Ok(())
 }
 
-// The table of moves that were turned. Fails if two of the paths from which they lead are equal.
+// Returns the table of moves that were turned. Fails if two of the paths from which they lead are equal.
 fn turned_table<'a>(
     alloc: Global,
     turned: &'a [(RelativePath<'a>, RelativePath<'a>)],
@@ -111,7 +112,7 @@ fn turned_table<'a>(
     }
 }
 
-// Each move, from its new path to its old one.
+// Returns each move, from its new path to its old one.
 fn turned_moves<'a>(
     alloc: Global,
     moves: &[(RelativePath<'a>, RelativePath<'a>)],

@@ -19,14 +19,14 @@ pub(crate) struct FreeNames<'a> {
 }
 
 impl<'a> FreeNames<'a> {
-    // Free names beside these entries.
+    // Returns the free names beside these entries. The first is `.relmove-1`, if it is free.
     pub(crate) fn new(entries: &'a PlaceIndex) -> FreeNames<'a>
         ensures { AreDrawn entries.now result [] }
     {
         FreeNames { entries, next: 1 }
     }
 
-    // The next name that is free in the root.
+    // Returns the next name that is free in the root.
     pub(crate) fn in_root(&mut self, alloc: Global) -> Result<String, Refusal>
         ensures drawn { IfOk result (λ name. IsDrawn self.old self.new (string_bytes name)) }
         ensures refused { IfErr result IsStepsRefusal }
@@ -42,7 +42,7 @@ impl<'a> FreeNames<'a> {
         Err(Refusal::NoFreeName)
     }
 
-    // The next name that is free in a directory, as a path.
+    // Returns the next name that is free in a directory, as a path.
     pub(crate) fn in_directory(
         &mut self,
         alloc: Global,

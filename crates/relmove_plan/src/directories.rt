@@ -12,12 +12,12 @@ ghost use Rattle.relmove_plan.specs.Steps.{BelowFirst};
 use crate::above::directories_above;
 use relative_path::RelativePath;
 use relative_path_links::{SitePage, Target};
-use relative_path_moves::{NormalPath, PlaceIndex, TreeMoves};
+use relative_path_moves::{NormalPath, PlaceIndex, TreeMoves, directory};
 use std::alloc::{AllocError, Global};
 use std::collections::BTreeSet;
 use target_paths::{TargetReading, path_of_target};
 
-// The directories to make: those above new paths that aren't there after the moves.
+// Returns the directories to make: those above new paths that aren't there after the moves.
 pub(crate) fn directories_to_make(
     alloc: Global,
     moves: &[(RelativePath<'_>, RelativePath<'_>)],
@@ -67,7 +67,8 @@ fn add_missing(
     Ok(())
 }
 
-// The directories that old paths leave and to which no link leads, where they are after the moves: the deepest first.
+// Returns the directories that old paths leave and to which no link leads, where they are after the moves: the
+// deepest first.
 pub(crate) fn directories_emptied(
     alloc: Global,
     pages: &[SitePage<'_>],
@@ -91,7 +92,7 @@ pub(crate) fn directories_emptied(
     from_last(alloc, left)
 }
 
-// The texts of a set, from the last to the first.
+// Returns the texts of a set, from the last to the first.
 fn from_last(alloc: Global, mut set: BTreeSet<String>) -> Result<Vec<String>, AllocError>
     ensures reversed { IfOk result (λ texts. texts.items ≡ reverse set.keys) }
     ensures order { IfOk result (λ texts. BelowFirst (map string_bytes texts.items)) }
@@ -141,7 +142,7 @@ fn remove_linked(
     Ok(())
 }
 
-// Where that is after the moves to which a link of a page leads, if the link's path is known.
+// Returns where that is after the moves to which a link of a page leads, if the link's path is known.
 fn place_after(
     alloc: Global,
     page: SitePage<'_>,
@@ -154,7 +155,6 @@ fn place_after(
     let TargetReading::Path { path, .. } = path_of_target(alloc, target.syntax, written)? else {
         return Ok(None);
     };
-    let directory = page.path.parent().unwrap_or(RelativePath::new(""));
-    let place = directory.join(alloc, RelativePath::new(path.as_str()))?;
+    let place = directory(page.path).join(alloc, RelativePath::new(path.as_str()))?;
     Ok(Some(tree.path_after(alloc, place.as_relative_path())?))
 }

@@ -1,12 +1,11 @@
 //! The plan of a run of `relmove`: which files and directories move, what becomes of the pages, and the steps that
-//! take the files of a tree there. It touches no file. Proved from the public contracts of the crates that it uses.
-//!
-//! A module uses modules of the layers below, and those to its left in its own layer.
+//! take the files of a tree there. It touches no file. Proved from the public contracts of the crates that it uses, and
+//! from the theorems that these crates show to callers.
 //!
 //! ```text
 //! the plan              plan
 //! its parts             pages  symbolic  renames  directories  order
-//! what moves may not    allowed  refused  after
+//! what moves may not    after  refused  allowed
 //! what they need        between  foreign  above
 //! what all share        entry  refusal
 //! ```

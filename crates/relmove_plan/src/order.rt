@@ -6,7 +6,7 @@ ghost use Rattle.relmove_plan.specs.Steps.{AboveFirst, BelowFirst, from_name, re
 use relmove_actions::Rename;
 use std::alloc::{AllocError, Global};
 
-// The renames of what leaves: what is below a directory before the directory.
+// Returns the renames of what leaves: what is below a directory before the directory.
 pub(crate) fn below_first(
     alloc: Global,
     mut leaving: Vec<(String, String)>,
@@ -20,7 +20,7 @@ pub(crate) fn below_first(
     leaving_from_last(alloc, leaving)
 }
 
-// The renames of what leaves, from the last to the first.
+// Returns the renames of what leaves, from the last to the first.
 fn leaving_from_last(
     alloc: Global,
     mut leaving: Vec<(String, String)>,
@@ -35,7 +35,7 @@ fn leaving_from_last(
     Ok(apart)
 }
 
-// The renames of what comes: a directory before what is below it.
+// Returns the renames of what comes: a directory before what is below it.
 pub(crate) fn above_first(
     alloc: Global,
     mut arrivals: Vec<(String, String)>,
@@ -50,7 +50,7 @@ pub(crate) fn above_first(
     arrivals_from_last(alloc, arrivals)
 }
 
-// The renames of what comes, from the last to the first.
+// Returns the renames of what comes, from the last to the first.
 fn arrivals_from_last(
     alloc: Global,
     mut arrivals: Vec<(String, String)>,

@@ -38,7 +38,7 @@ pub fn have_targets(pages: &[SitePage<'_>]) -> bool
     true
 }
 
-// The pages whose text changes.
+// Returns the pages whose text changes.
 pub(crate) fn changed_pages(
     alloc: Global,
     pages: &[SitePage<'_>],
@@ -60,7 +60,7 @@ pub(crate) fn changed_pages(
     Ok(changed)
 }
 
-// How many links of a page change.
+// Returns how many links of a page change.
 fn changed_links(
     alloc: Global,
     page: SitePage<'_>,
@@ -76,7 +76,7 @@ fn changed_links(
     Ok(count)
 }
 
-// Whether a target of a page changes.
+// Returns whether a target of a page changes.
 fn changes(
     alloc: Global,
     page: &str,
@@ -100,7 +100,7 @@ fn changes(
     Ok(new.text.as_str() != text)
 }
 
-// The paths of the pages that change, by number.
+// Returns the paths of the pages that change, by number.
 pub(crate) fn changed_index(
     alloc: Global,
     pages: &[SitePage<'_>],

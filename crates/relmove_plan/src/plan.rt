@@ -134,7 +134,7 @@ pub fn make_plan(
     })
 }
 
-// The pages after the moves, and which of them change.
+// Returns the pages after the moves, and which of them change.
 fn rewritten_pages(
     alloc: Global,
     pages: &[SitePage<'_>],
@@ -165,7 +165,7 @@ struct After<'a, 'b> {
     changed: &'a [ChangedPage],
 }
 
-// The steps that move the files and change the pages.
+// Returns the steps that move the files and change the pages.
 fn steps_of(
     alloc: Global,
     pages: &[SitePage<'_>],
@@ -216,7 +216,7 @@ fn steps_of(
     })
 }
 
-// What leaves, and what comes.
+// Returns what leaves, and what comes.
 fn renames_of(
     alloc: Global,
     names: &mut FreeNames<'_>,
@@ -269,7 +269,7 @@ fn renames_of(
     Ok(renames)
 }
 
-// The directories to make, each where it can be made.
+// Returns the directories to make, each where it can be made.
 fn directories_made(
     alloc: Global,
     moves: &[(RelativePath<'_>, RelativePath<'_>)],

@@ -92,7 +92,6 @@ fn check_placed(number: usize, old: RelativePath<'_>, new: RelativePath<'_>) -> 
     Ok(())
 }
 
-// Whether a path has no file name.
 fn lacks_file_name(path: RelativePath<'_>) -> bool
     ensures { MatchBool result (last_name (path_components path.entry) ≡ None)
         (last_name (path_components path.entry) ≢ None) }
@@ -100,7 +99,7 @@ fn lacks_file_name(path: RelativePath<'_>) -> bool
     path.file_name().is_none()
 }
 
-// Whether a path leads above the root.
+// Returns whether a path leads above the root.
 fn leaves_root(path: RelativePath<'_>) -> bool
     ensures { MatchBool result (place_of (path_components path.entry) ≡ None)
         (IsSome (place_of (path_components path.entry))) }
@@ -166,7 +165,7 @@ fn may_be_named(path: RelativePath<'_>, any_name: bool) -> bool
     any_name || has_plain_names(path)
 }
 
-// Whether a path has a name that begins as those of a run's own files.
+// Returns whether a path has a name that begins as those of a run's own files.
 fn has_own_name(path: RelativePath<'_>) -> bool
     ensures { result ≡ list_any is_own_step (path_components path.entry) }
 {
@@ -178,7 +177,7 @@ fn has_own_name(path: RelativePath<'_>) -> bool
     false
 }
 
-// Whether a component is a name that begins as those of a run's own files.
+// Returns whether a component is a name that begins as those of a run's own files.
 fn is_own_step(component: Component<'_>) -> bool
     ensures { result ≡ is_own_step (step_of component.entry) }
 {

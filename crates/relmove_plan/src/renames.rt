@@ -23,7 +23,7 @@ use relative_path_moves::{NormalPath, PlaceIndex};
 use relmove_actions::{NewText, Rename};
 use std::alloc::{AllocError, Global};
 
-// A name in between for each move.
+// Returns a name in between for each move.
 pub(crate) fn names_between(
     alloc: Global,
     names: &mut FreeNames<'_>,
@@ -41,7 +41,7 @@ pub(crate) fn names_between(
     Ok(between)
 }
 
-// The new path of each move, with its name in between.
+// Returns the new path of each move, with its name in between.
 pub(crate) fn news_between<'a>(
     alloc: Global,
     moves: &[(RelativePath<'a>, RelativePath<'a>)],
@@ -72,7 +72,7 @@ pub(crate) struct Renames {
 }
 
 impl Renames {
-    // No renames.
+    // Returns a list without renames.
     pub(crate) fn new(alloc: Global) -> Renames
         ensures kept { LosesNothing (rename_texts result) }
         ensures left { names_left (rename_texts result) ≡ [] }
@@ -143,7 +143,7 @@ fn add_removed(
     Ok(())
 }
 
-// Adds the moves.
+// Adds what each move does. Move number `k` goes by name number `k` of `between`.
 pub(crate) fn add_moves(
     alloc: Global,
     renames: &mut Renames,
@@ -216,7 +216,7 @@ fn add_move(
     )
 }
 
-// The old paths of the moves, by number.
+// Returns the old paths of the moves, by number.
 pub(crate) fn old_index(
     alloc: Global,
     moves: &[(RelativePath<'_>, RelativePath<'_>)],

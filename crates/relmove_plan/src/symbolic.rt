@@ -15,7 +15,7 @@ pub struct LinkNotice {
     pub leads_to_moved: bool,
 }
 
-// The symbolic links that move, or lead to what moves.
+// Returns the symbolic links that move, or lead to what moves.
 pub(crate) fn link_notices(
     alloc: Global,
     entries: &[Entry<'_>],
@@ -33,7 +33,7 @@ pub(crate) fn link_notices(
     Ok(notices)
 }
 
-// What moves do with the symbolic link that this entry is.
+// Returns what moves do with the symbolic link that this entry is.
 fn notice_of(
     alloc: Global,
     entry: usize,
@@ -57,7 +57,7 @@ fn notice_of(
     })
 }
 
-// Whether what is at a path gets another one.
+// Returns whether what is at a path gets another one.
 fn gets_elsewhere(
     alloc: Global,
     path: &NormalPath,

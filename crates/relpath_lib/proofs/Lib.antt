@@ -1,4 +1,3 @@
-pub mod BytesLemmas
 pub mod CommandLemmas
 pub mod InputLemmas
 pub mod LinesLemmas

@@ -1,53 +1,44 @@
 -- The first piece of a text that is cut at a byte: its first line, or its first field.
-use Rattle.std.proofs.Common.{◌≡◌, ◌≢◌, ℕ, ◌<◌, ◌==◌, false, List, [], ◌∷◌, ◌++◌, length, map, take, drop, set, get_or, Bor, Option, None, refl, ap, ◌∙◌, ◌+◌, append_assoc, arith, suc}
+use Rattle.std.proofs.Common.{◌≡◌, ◌≢◌, ℕ, ◌<◌, ◌==◌, not, false, List, [], ◌∷◌, ◌++◌, length, map, take, drop, set, get_or, Bor, Option, None, refl, sym, ap, ◌∙◌, ◌+◌, append_assoc, arith, inl, inr, eqb-true}
+use Rattle.std.proofs.lemmas.Bool.{cases_lt}
+use Rattle.std.proofs.lemmas.List.{length-append, length-map, map-append, take_more_set}
 use Rattle.std.proofs.lemmas.List.Elements.{All-from_get_or}
-use Rattle.std.proofs.lemmas.List.Splits.{slice_split_none, slice_split_at, length-slice_split}
-use Rattle.std.proofs.lemmas.List.{length-append, length-map, length-take, get_or-take, map-append, take_more_set}
-use Rattle.std.proofs.Math.Seq.{split_at}
-use Rattle.std.specs.List.{All, slice_split, position_or_len}
-use Rattle.std.proofs.lemmas.Bool.{eq-eqb, ne_eqb}
-use Rattle.relpath_lib.proofs.BytesLemmas.{position-lacks, position-holds}
+use Rattle.std.proofs.lemmas.List.Splits.{slice_split_none, slice_split_first, length-slice_split}
+use Rattle.std.proofs.lemmas.List.Sums.{fails_before_first, passes_at_first, prefix_len-le-length}
+use Rattle.std.specs.List.{slice_split, position_or_len}
 use Rattle.relpath_lib.specs.Lines.{is_line_feed, is_tab, without_empty_last, last_line, lines_of, fields_of, fields_left}
 
--- no byte of the text is this one
-pub record Lacks (byte : ℕ) (text : List ℕ) : Type 0 where
-  pub lacks : (i : ℕ) → i < length text → get_or text i 0 ≢ byte
+-- an index that isn't the length is within the text
+pub position-inside : (text : List ℕ) (byte at : ℕ) → at ≡ position_or_len (λ b. b == byte) text
+    → at ≢ length text → at < length text
+position-inside text byte at is short =
+    let bound = prefix_len-le-length (λ b. not (b == byte)) text in
+    elim (cases_lt at (length text)) [
+      | inl inside ↦ inside
+      | inr end ↦ absurd (short (omega (arith, bound, is, end)))
+    ]
 
-all_differ : (byte : ℕ) (text : List ℕ) → Lacks byte text → All (λ b. (b == byte) ≡ false) text
-all_differ byte text none =
-    All-from_get_or (λ b. (b == byte) ≡ false) text 0 (λ i l. ne_eqb _ _ (none.lacks i l))
-
--- a text without the byte is its only piece
-pub slice_split-last : (byte : ℕ) (text : List ℕ) → Lacks byte text
-    → slice_split (λ b. b == byte) text ≡ text ∷ []
-slice_split-last byte text none = slice_split_none (λ b. b == byte) text (all_differ byte text none)
-
--- the text before the first such byte is the first piece
-pub slice_split-next : (byte : ℕ) (text piece rest : List ℕ) → text ≡ piece ++ byte ∷ rest → Lacks byte piece
-    → slice_split (λ b. b == byte) text ≡ piece ∷ slice_split (λ b. b == byte) rest
-slice_split-next byte text piece rest e none =
-    ap (slice_split (λ b. b == byte)) e
-    ∙ slice_split_at (λ b. b == byte) piece byte rest (all_differ byte piece none) (eq-eqb byte byte refl)
+-- the byte is at its first index
+pub position-holds : (text : List ℕ) (byte at : ℕ) → at ≡ position_or_len (λ b. b == byte) text → at < length text
+    → get_or text at 0 ≡ byte
+position-holds text byte at is inside =
+    eqb-true _ byte (ap (λ n. get_or text n 0 == byte) is
+    ∙ passes_at_first (λ b. b == byte) text 0 (omega (arith, is, inside)))
 
 -- a text that doesn't have the byte is its only piece
 pub slice_split-none : (byte : ℕ) (text : List ℕ) (at : ℕ) → at ≡ position_or_len (λ b. b == byte) text
     → at ≡ length text → slice_split (λ b. b == byte) text ≡ text ∷ []
 slice_split-none byte text at is end =
-    slice_split-last byte text (record { lacks = λ i l. position-lacks text byte i (omega (arith, is, end, l)) })
+    slice_split_none (λ b. b == byte) text (All-from_get_or (λ b. (b == byte) ≡ false) text 0
+    (λ i l. fails_before_first (λ b. b == byte) text i 0 (omega (arith, is, end, l))))
 
 -- the text before the first index of the byte is the first piece
 pub slice_split-first : (byte : ℕ) (text : List ℕ) (at : ℕ) → at ≡ position_or_len (λ b. b == byte) text
     → at < length text
     → slice_split (λ b. b == byte) text ≡ take at text ∷ slice_split (λ b. b == byte) (drop (at + 1) text)
 slice_split-first byte text at is inside =
-    let next : suc at ≡ at + 1 = omega arith in
-    slice_split-next byte text (take at text) (drop (at + 1) text)
-    (rw (position-holds text byte at is inside, next) at (split_at text at 0 inside))
-    (record {
-      lacks = λ i l.
-          let before : i < at = omega (arith, length-take at text, l) in
-          rw (get_or-take at text i 0 before) (position-lacks text byte i (omega (arith, is, before)));
-    })
+    slice_split_first (λ b. b == byte) text 0 (omega (arith, is, inside))
+    ∙ ap (λ n. take n text ∷ slice_split (λ b. b == byte) (drop (n + 1) text)) (sym is)
 
 without_empty_last-cons : (piece : List ℕ) (pieces : List (List ℕ)) → 0 < length pieces
     → without_empty_last (piece ∷ pieces) ≡ piece ∷ without_empty_last pieces

@@ -26,7 +26,7 @@ use relative_path::{RelativePath, RelativePathBuf, RelativeToError, RelativeToEr
 use std::alloc::{AllocError, Global};
 use std::fmt::{self, Write};
 
-// A command.
+// What the first field of a line asks for.
 #[derive(Clone, Copy)]
 enum Command {
     Normalize,
@@ -38,7 +38,7 @@ enum Command {
 }
 
 impl Command {
-    // The command of this name.
+    // Returns the command that a first field names.
     fn named(name: &str) -> Option<Command>
         ensures { result ≡ command_named name.now }
     {
@@ -53,7 +53,7 @@ impl Command {
         }
     }
 
-    // How many arguments the command takes.
+    // Returns how many arguments the command takes.
     fn arity(self) -> usize
         ensures { result ≡ arity_of self }
     {
@@ -120,7 +120,6 @@ fn answer_arguments(
     }
 }
 
-// Adds the answer of `normalize`.
 fn answer_normalize(alloc: Global, path: &str, output: &mut String) -> Result<(), AllocError>
     ensures { OnOk result
         (Adds (AnswersNormalize path.now) (string_bytes output.old) (string_bytes output.new)) }
@@ -128,7 +127,6 @@ fn answer_normalize(alloc: Global, path: &str, output: &mut String) -> Result<()
     add_path(output, &RelativePath::new(path).normalize(alloc)?)
 }
 
-// Adds the answer of `join`.
 fn answer_join(alloc: Global, path: &str, more: &str, output: &mut String) -> Result<(), AllocError>
     ensures { OnOk result
         (Adds (AnswersJoin path.now more.now) (string_bytes output.old) (string_bytes output.new)) }
@@ -137,7 +135,6 @@ fn answer_join(alloc: Global, path: &str, more: &str, output: &mut String) -> Re
     add_path(output, &joined)
 }
 
-// Adds the answer of `relative`.
 fn answer_relative(
     alloc: Global,
     from: &str,
@@ -151,7 +148,6 @@ fn answer_relative(
     add_path(output, &way)
 }
 
-// Adds the answer of `try_relative`.
 fn answer_try_relative(
     alloc: Global,
     from: &str,
@@ -167,7 +163,6 @@ fn answer_try_relative(
     }
 }
 
-// Adds the answer of `relative_to`.
 fn answer_relative_to(
     alloc: Global,
     path: &str,
@@ -183,7 +178,6 @@ fn answer_relative_to(
     }
 }
 
-// Adds the answer of `move`.
 fn answer_move(
     alloc: Global,
     old: &str,

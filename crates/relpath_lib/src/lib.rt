@@ -1,12 +1,10 @@
 //! What the program `relpath` does: it reads commands on relative paths, one a line, and writes one line for each.
 //!
-//! A module uses modules of the layers below, and those to its left in its own layer.
-//!
 //! ```text
 //! the whole run       run  report
 //! bytes in and out    input  output
 //! a line's answer     command
-//! what that needs     bytes  lines  mover
+//! what that needs     lines  mover
 //! what all share      fault  meter
 //! ```
 #![tactic(auto)]
@@ -14,13 +12,12 @@
 pub use self::fault::Fault;
 pub use self::meter::Meter;
 
-mod bytes;
 mod command;
 mod fault;
 mod input;
 mod lines;
 mod meter;
-mod mover;
+pub mod mover;
 mod output;
 pub mod report;
 pub mod run;

@@ -3,7 +3,7 @@ ghost use Rattle.std.specs.Prelude.{◌≡◌, ◌<◌, ◌==◌, [], ◌∷◌,
 ghost use Rattle.std.specs.List.{slice_split};
 ghost use Rattle.relpath_lib.specs.Lines.{lines_of, fields_of, fields_left};
 
-use crate::bytes::find_byte;
+use byte_classes::{OneByte, len_before};
 
 /// How many fields of a line are read at most: one more than a command with its arguments has.
 pub const MAX_FIELDS: usize = 5;
@@ -39,7 +39,7 @@ pub fn split_fields<'a, 'b>(line: &'a str, room: &'b mut [&'a str; MAX_FIELDS]) 
     &room[..count]
 }
 
-// The first field of a text, and the text after its tab.
+// Returns the first field of a text, and the text after its tab.
 fn first_field(text: &str) -> (&str, Option<&str>)
     ensures { fields_of text.now ≡ result.0.now ∷ fields_left result.1 }
 {
@@ -49,7 +49,7 @@ fn first_field(text: &str) -> (&str, Option<&str>)
     }
 }
 
-// The text before the first `byte`, which is ASCII, and the text after it.
+// Returns the text before the first `byte`, which is ASCII, and the text after it.
 #[inline(always)]
 fn cut_at(text: &str, byte: u8) -> Option<(&str, &str)>
     requires { byte < 128 }
@@ -58,7 +58,7 @@ fn cut_at(text: &str, byte: u8) -> Option<(&str, &str)>
         ≡ parts.0.now ∷ slice_split (λ b. b == byte) parts.1.now) }
     ensures shorter { IfSome result (λ parts. length parts.1.now < length text.now) }
 {
-    let at = find_byte(text.as_bytes(), byte);
+    let at = len_before(&OneByte { byte }, text.as_bytes());
     if at == text.len() {
         return None;
     }

@@ -49,14 +49,6 @@ joined-next old new piece whole rest is read =
     ∙ followed-assoc (Ok old) piece.read (joined rest)
     ∙ ap (λ ps. followed (Ok old) (joined ps)) (sym is)
 
--- if a piece is unknown, the whole text is unknown
-pub joined-unknown : (old : List ℕ) (piece : Piece) (whole rest : List Piece) (why : WhyUnknown) (all : Result (List ℕ) WhyUnknown)
-    → whole ≡ piece ∷ rest → piece.read ≡ Err why → followed (Ok old) (joined whole) ≡ all → all ≡ Err why
-joined-unknown old piece whole rest why all is unknown so_far =
-    sym so_far
-    ∙ ap (λ ps. followed (Ok old) (joined ps)) is
-    ∙ ap (λ read. followed (Ok old) (followed read (joined rest))) unknown
-
 pub length-from_byte : (k : ℕ) (text : List ℕ) → length (from_byte k text) ≡ length text - k
 length-from_byte k text = ap length (from_byte-drop k text) ∙ length-drop k text
 

@@ -1,17 +1,15 @@
 -- Targets read up to their tail, and what they mean.
-use Rattle.std.proofs.Common.{◌≡◌, ℕ, ◌<◌, ◌≤◌, Bool, true, false, if◌then◌else◌, nat_lt, List, [], ◌∷◌, length, get_or, Result, Ok, Err, refl, sym, ap, ap₂, ◌∙◌, arith}
+use Rattle.std.proofs.Common.{◌≡◌, ℕ, ◌<◌, ◌≤◌, Bool, true, false, if◌then◌else◌, nat_lt, List, [], ◌∷◌, length, get_or, Result, Ok, refl, sym, ap, ap₂, ◌∙◌, arith}
 use Rattle.std.proofs.lemmas.Bool.Decides.{nat_tests}
 use Rattle.std.proofs.lemmas.Str.{encode_ascii, length-encode, IsUtf8-from_is_utf8, is_utf8-from_IsUtf8}
 use Rattle.std.specs.Char.{encode_utf8, len_utf8}
 use Rattle.std.specs.Str.{is_utf8, IsUtf8}
-use Rattle.target_paths.specs.declared.piece.ReadError.{ReadError}
 use Rattle.target_paths.specs.declared.piece.ReadError.TheVariants as error
 use Rattle.target_paths.specs.declared.target.TargetSyntax.{TargetSyntax}
 use Rattle.target_paths.specs.declared.target.WhyUnknown.{WhyUnknown}
 use Rattle.target_paths.specs.declared.target.WhyUnknown.TheVariants.{NotUtf8}
 use Rattle.target_paths.specs.Pieces.{Piece, pieces, joined, total_size}
 use Rattle.target_paths.specs.Reading.{is_tail_byte, begins_tail, before_tail, path_pieces, not_relative, path_before, unknown, meaning_decoded, meaning_of_url, meaning_read, has_tail, meaning}
-use Rattle.target_paths.specs.Shown.{SaysWhy, SaysWhyOfTarget}
 use Rattle.target_paths.specs.Source.{source_piece}
 use Rattle.target_paths.specs.Url.{is_not_relative, url_piece}
 use Rattle.target_paths.proofs.PiecesLemmas.{from_byte, pieces-left}
@@ -23,7 +21,7 @@ no_tail-long [] long = absurd (omega (arith, long))
 no_tail-long (x ∷ []) long = absurd (omega (arith, long))
 no_tail-long (x ∷ y ∷ xs) long = refl
 
-tail-past_ascii : (c : ℕ) → 128 ≤ c → is_tail_byte c ≡ false
+pub tail-past_ascii : (c : ℕ) → 128 ≤ c → is_tail_byte c ≡ false
 tail-past_ascii c past = grind (arith, nat_tests)
 
 len_utf8-past_ascii : (c : ℕ) → 128 ≤ c → 2 ≤ len_utf8 c
@@ -48,14 +46,6 @@ path_pieces-next syntax left piece some is size none =
     ap before_tail (pieces-left (source_piece syntax) left piece some is size)
     ∙ ap (λ t. if t then [] else piece ∷ path_pieces syntax (from_byte piece.size left)) none
 
--- a target whose first piece begins the tail
-pub path_pieces-tail : (syntax : TargetSyntax) (left : List ℕ) (piece : Piece) → 1 ≤ length left
-    → piece ≡ source_piece syntax (get_or left 0 0) (from_byte 1 left) → 0 < piece.size → begins_tail piece.read ≡ true
-    → path_pieces syntax left ≡ []
-path_pieces-tail syntax left piece some is size tail =
-    ap before_tail (pieces-left (source_piece syntax) left piece some is size)
-    ∙ ap (λ t. if t then [] else piece ∷ path_pieces syntax (from_byte piece.size left)) tail
-
 -- ---- what a target means
 
 -- the meaning of a target, by what its path is read as
@@ -64,11 +54,6 @@ pub meaning-read : (syntax : TargetSyntax) (target : List ℕ) (read : Result (L
     → meaning syntax target ≡ meaning_read syntax (nat_lt tail_at (length target)) read tail_at
 meaning-read syntax target read tail_at is at =
     ap₂ (λ r n. meaning_read syntax (has_tail target n) r n) is (sym at)
-
--- the meaning of a target, by its text as a URL
-pub meaning-not_relative : (text : List ℕ) (tail_at : ℕ) → is_not_relative text ≡ true → meaning_of_url text tail_at ≡ not_relative
-meaning-not_relative text tail_at is =
-    ap (λ t. if t then not_relative else meaning_decoded (joined (pieces url_piece 0 text)) tail_at) is
 
 pub meaning-decoded : (text : List ℕ) (read : Result (List ℕ) WhyUnknown) (tail_at : ℕ) → is_not_relative text ≡ false
     → joined (pieces url_piece 0 text) ≡ read → meaning_of_url text tail_at ≡ meaning_decoded read tail_at
@@ -88,15 +73,3 @@ meaning-not_utf8 bytes tail_at not = of (is_utf8 bytes) refl where
   of false is = refl
 
 -- ---- the same facts, as the code has them
-
-pub url-refused : (text : List ℕ) (tail_at : ℕ) (error : ReadError) → false ≡ is_not_relative text
-    → SaysWhy (joined (pieces url_piece 0 text)) error → SaysWhyOfTarget (meaning_of_url text tail_at) error
-url-refused text tail_at (error.Unknown why) relative refuses =
-    meaning-decoded text (Err why) tail_at (sym relative) refuses
-url-refused text tail_at error.OutOfMemory relative refuses = tt
-
-pub target-refused : (syntax : TargetSyntax) (target : List ℕ) (error : ReadError)
-    → SaysWhy (joined (path_pieces syntax target)) error → SaysWhyOfTarget (meaning syntax target) error
-target-refused syntax target (error.Unknown why) refuses =
-    meaning-read syntax target (Err why) (total_size (path_pieces syntax target)) refuses refl
-target-refused syntax target error.OutOfMemory refuses = tt

@@ -17,7 +17,7 @@ use Rattle.target_paths.specs.Reading.{is_tail_byte, before_tail, path_pieces, t
 use Rattle.target_paths.specs.Source.{source_piece, is_escape, reference_piece, reference_character, byte_piece, byte_read, character_read, is_tab_or_line_end}
 use Rattle.target_paths.specs.Url.{is_blank, before_text, without_leading, without_trailing, is_slash, is_colon, is_scheme_byte, has_scheme, is_not_relative, decoded_byte, has_digits, digits_byte, url_piece}
 use Rattle.target_paths.specs.Writing.{is_reserved, is_template_byte, is_block_byte, is_line_byte, is_digit_byte, last_byte, is_mark, begins_mark, is_escaped_at_start, is_escaped, start_of, place_after, hexadecimal, percent_text, written_byte, written, without_slashes, some_path, path_written, spelled, target_of, is_nul, IsTakenAs, ends_target, begins_template, begins_block}
-use Rattle.target_paths.proofs.ReadingLemmas.{meaning-read, meaning-decoded, meaning-utf8}
+use Rattle.target_paths.proofs.ReadingLemmas.{tail-past_ascii, meaning-read, meaning-decoded, meaning-utf8}
 
 -- ---- what is written is calm: it has no reserved byte but percent signs
 
@@ -596,9 +596,6 @@ IsTail-byte syntax b bs is =
 past_ascii-literal : (b : ℕ) → 128 ≤ b → is_literal b ≡ true
 past_ascii-literal b past = grind (arith, nat_tests)
 
-past_ascii-no_tail : (b : ℕ) → 128 ≤ b → is_tail_byte b ≡ false
-past_ascii-no_tail b past = grind (arith, nat_tests)
-
 ltb-past : (b : ℕ) → nat_lt b 128 ≡ false → 128 ≤ b
 ltb-past b is = grind (arith, nat_tests)
 
@@ -607,7 +604,7 @@ not_tail : (syntax : TargetSyntax) (b : ℕ) (bs : List ℕ) → 128 ≤ b → p
 not_tail syntax b bs past =
     let first = source_piece syntax in
     ap (λ p. before_tail (p ∷ pieces first (p.size - 1) bs)) (literal-piece syntax b bs (past_ascii-literal b past))
-    ∙ ap (λ t. if t then [] else plain b ∷ path_pieces syntax bs) (past_ascii-no_tail b past)
+    ∙ ap (λ t. if t then [] else plain b ∷ path_pieces syntax bs) (tail-past_ascii b past)
 
 IsTail-ascii : (syntax : TargetSyntax) (b : ℕ) (bs : List ℕ) → IsTail syntax (b ∷ bs) → b < 128
 IsTail-ascii syntax b bs is =

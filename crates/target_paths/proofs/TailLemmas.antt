@@ -1,5 +1,6 @@
 -- What a reading says of its tail and of its path.
-use Rattle.std.proofs.Common.{◌≡◌, ℕ, ◌-◌, ◌+◌, ◌≤◌, Bool, true, false, ◌||◌, ◌&&◌, ◌==◌, if◌then◌else◌, List, [], ◌∷◌, length, drop, Result, Ok, Err, IfOk, refl, sym, ap, subst, arith, string_bytes}
+use Rattle.std.proofs.Common.{◌≡◌, ℕ, ◌-◌, Bool, true, false, ◌||◌, ◌&&◌, ◌==◌, if◌then◌else◌, List, [], ◌∷◌, length, Result, Ok, Err, refl, sym, subst, string_bytes}
+use Rattle.std.proofs.lemmas.Bool.{or_parts}
 use Rattle.std.specs.Str.{is_utf8}
 use Rattle.target_paths.specs.declared.target.TargetReading.{TargetReading}
 use Rattle.target_paths.specs.declared.target.TargetReading.TheVariants.{NotRelative, Path, Unknown}
@@ -7,26 +8,10 @@ use Rattle.target_paths.specs.declared.target.TargetSyntax.{TargetSyntax}
 use Rattle.target_paths.specs.declared.target.WhyUnknown.{WhyUnknown}
 use Rattle.target_paths.specs.declared.target.WhyUnknown.TheVariants.{EncodedNul, EncodedSlash, NotUtf8}
 use Rattle.target_paths.specs.Pieces.{plain, pieces, followed, joined, total_size}
-use Rattle.target_paths.specs.Reading.{path_pieces, trimmed, not_relative, path_before, unknown, meaning_decoded, meaning_of_url, meaning_read, has_tail, meaning, Says, IsTail, IsTailAt, BeginsRelative, IfPath}
+use Rattle.target_paths.specs.Reading.{path_pieces, trimmed, not_relative, path_before, unknown, meaning_decoded, meaning_of_url, meaning_read, has_tail, meaning, Says, IsTailAt, BeginsRelative, IfPath}
 use Rattle.target_paths.specs.Shown.{HasTail}
 use Rattle.target_paths.specs.Url.{is_slash, has_scheme, is_not_relative, decoded_byte, has_digits, digits_byte, url_piece}
 use Rattle.target_paths.proofs.RoundTripLemmas.{by_escape, IsTail-boundary}
-
--- if the rest begins a tail, it is the rest after the path
-pub HasTail-here : (syntax : TargetSyntax) (target left : List ℕ) → left ≡ drop (length target - length left) target
-    → length left ≤ length target
-    → (length target - length left) + total_size (path_pieces syntax left) ≡ total_size (path_pieces syntax target)
-    → path_pieces syntax left ≡ [] → HasTail syntax target
-HasTail-here syntax target left at within sizes tail =
-    let none : total_size (path_pieces syntax left) ≡ 0 = ap total_size tail in
-    let whole : length target - length left ≡ total_size (path_pieces syntax target) = omega arith in (
-      omega (arith, whole),
-      subst (λ k. IsTail syntax (drop k target)) whole (subst (IsTail syntax) at tail),
-    )
-
-pub IfOk-fact : {T E F : Type 0} (r : Result T E) → F → IfOk r (λ _. F)
-IfOk-fact (Ok x) fact = fact
-IfOk-fact (Err e) fact = tt
 
 -- ---- a path isn't empty, and doesn't begin with a slash
 
@@ -54,16 +39,12 @@ url_piece-relative b rest other =
     (b == 37 && has_digits rest)
     (λ escape. decoded_byte-relative (digits_byte rest)) (λ none. other)
 
-or_false : (a b : Bool) → (a || b) ≡ false → (a ≡ false) × (b ≡ false)
-or_false false b is = (refl, is)
-or_false true b is = absurd (cc)
-
 decoded-relative : (text : List ℕ) → is_not_relative text ≡ false → ReadsRelative (joined (pieces url_piece 0 text))
 decoded-relative [] relative = absurd (cc)
 decoded-relative (b ∷ rest) relative =
-    let (some, scheme) = or_false (length (b ∷ rest) == 0 || is_slash b) (has_scheme (b ∷ rest)) relative in
+    let (some, scheme) = or_parts (length (b ∷ rest) == 0 || is_slash b) (has_scheme (b ∷ rest)) relative in
     followed-relative (url_piece b rest).read (joined (pieces url_piece ((url_piece b rest).size - 1) rest))
-    (url_piece-relative b rest (or_false (length (b ∷ rest) == 0) (is_slash b) some).1)
+    (url_piece-relative b rest (or_parts (length (b ∷ rest) == 0) (is_slash b) some).1)
 
 -- ---- what a reading says
 

@@ -55,7 +55,6 @@ pub(crate) fn push_read(bytes: &mut Vec<u8>, read: Read) -> Result<(), ReadError
     }
 }
 
-// Adds bytes.
 fn push_bytes(bytes: &mut Vec<u8>, more: &[u8]) -> Result<(), ReadError>
     ensures ok { IfOk result (λ _. bytes.new.items ≡ bytes.old.items ++ more.now) }
     ensures err { IfErr result (λ error. error ≡ ReadError.OutOfMemory) }

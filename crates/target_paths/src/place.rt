@@ -24,7 +24,7 @@ pub(crate) enum Place {
 }
 
 impl Place {
-    // The place at the start of a path.
+    // Returns where the first character of a path is written: as a mark, if the path may begin a block of Markdown.
     pub(crate) fn start_of(path: &str) -> Place
         ensures { result ≡ start_of path.now }
     {
@@ -47,7 +47,7 @@ impl Place {
         }
     }
 
-    // The place after a character.
+    // Returns where the next character is written: a slash ends a segment.
     pub(crate) fn after(self, character: char) -> Place
         ensures { result ≡ place_after self character }
     {

@@ -46,7 +46,6 @@ pub(crate) fn is_name(body: &[u8]) -> bool
     begins_with_letter(body) && are_alphanumeric(body)
 }
 
-// Whether a text begins with a letter.
 pub(crate) fn begins_with_letter(text: &[u8]) -> bool
     ensures { result ≡ is_ascii_alphabetic (slice_index text.now 0) }
 {
@@ -113,7 +112,7 @@ fn number_of(digits: &[u8], radix: u32, most: usize) -> Option<u32>
     Some(number)
 }
 
-// The character of a number.
+// Returns the character that a number means. U+FFFD stands for 0 and for a number that is no character.
 pub(crate) fn character_of(number: u32) -> char
     ensures { result ≡ character_of number }
 {

@@ -70,14 +70,13 @@ fn has_scheme(text: &[u8]) -> bool
     }
 }
 
-// The index of the first colon of a text.
 fn first_colon(text: &[u8]) -> Option<usize>
     ensures { result ≡ position is_colon text.now }
 {
     text.iter().position(|&byte| byte == b':')
 }
 
-// Whether a text is a scheme.
+// Whether a text is a scheme: a letter, and then letters, digits, `+`, `-` and `.`.
 fn is_scheme(text: &[u8]) -> bool
     ensures { result ≡ is_scheme text.now }
 {

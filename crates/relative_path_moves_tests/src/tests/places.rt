@@ -121,16 +121,16 @@ const PLACES: [(&str, bool, &str); 5] = [
 ];
 
 // Fails where a path has a place or a directory other than is expected.
-fn is_placed(alloc: Global, text: &str, has: bool, above: &str) -> Result<(), Fail> {
+fn is_placed(text: &str, has: bool, above: &str) -> Result<(), Fail> {
     let path = RelativePath::new(text);
-    let found = (has_place(alloc, path)?, directory(path).as_str());
+    let found = (has_place(path), directory(path).as_str());
     same(text, found, (has, above))
 }
 
 #[test]
-fn tells_places_and_directories(rt: HostRuntime) -> Result<(), Fail> {
+fn tells_places_and_directories(_rt: HostRuntime) -> Result<(), Fail> {
     for (text, has, above) in &PLACES {
-        is_placed(rt.alloc(), text, *has, above)?;
+        is_placed(text, *has, above)?;
     }
     Ok(())
 }

@@ -3,7 +3,7 @@ use super::marks::{begin, end};
 use super::{end_with, end_with_normal, long_text};
 use crate::tests::{finds, same};
 use relative_path::RelativePath;
-use relative_path_moves::{NormalPath, PlaceIndex, has_place};
+use relative_path_moves::{NormalPath, PlaceIndex};
 use std::alloc::{AllocError, Global};
 use std::test::Fail;
 
@@ -82,19 +82,4 @@ fn joined_of(alloc: Global, text: &str, expected: &str) -> Result<(), Fail> {
 fn a_joined_path(rt: HostRuntime) -> Result<(), Fail> {
     joined_of(rt.alloc(), "../c", "a/c")?;
     joined_of(rt.alloc(), "../..", "")
-}
-
-fn place_of(alloc: Global, text: &str) -> Result<(), Fail> {
-    begin(alloc);
-    let has = has_place(alloc, RelativePath::new(text));
-    end(alloc, has.is_err())?;
-    same("has_place", has.unwrap_or(true), true)
-}
-
-// Requests: 3s 1s = 0, 1s = 0, 524288s 1s = 0
-#[test]
-fn place(rt: HostRuntime) -> Result<(), Fail> {
-    place_of(rt.alloc(), "a/../b")?;
-    place_of(rt.alloc(), "")?;
-    place_of(rt.alloc(), long_text(rt.alloc())?.as_str())
 }
