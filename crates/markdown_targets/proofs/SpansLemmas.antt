@@ -1,7 +1,7 @@
 -- Spans in order, one after another.
-use Rattle.std.proofs.Common.{ℕ, ◌≤◌, List, [], ◌∷◌, ◌++◌, sym, subst, append_assoc, append-nil}
+use Rattle.std.proofs.Common.{ℕ, List, [], ◌++◌, subst, append-nil}
 use Rattle.markdown_targets.specs.declared.span.Span.{Span}
-use Rattle.markdown_targets.specs.Spans.{IsSpanOf, AreInOrder}
+use Rattle.markdown_targets.specs.Spans.{AreInOrder}
 
 -- the page has the spans so far, and after them those that it has from byte `at` on
 pub record AreSoFar (page : List ℕ) (spans : List Span) (at : ℕ) : Type 0 where
@@ -11,11 +11,3 @@ pub record AreSoFar (page : List ℕ) (spans : List Span) (at : ℕ) : Type 0 wh
 pub AreInOrder-whole : (page : List ℕ) (spans : List Span) (at : ℕ) → AreSoFar page spans at
     → AreInOrder page 0 spans
 AreInOrder-whole page spans at so_far = subst (AreInOrder page 0) (append-nil spans) (so_far.with [] tt)
-
--- the same with one more span
-pub AreSoFar-next : (page : List ℕ) (spans : List Span) (at : ℕ) (span : Span) → AreSoFar page spans at
-    → at ≤ span.start → IsSpanOf page span → AreSoFar page (spans ++ span ∷ []) span.end
-AreSoFar-next page spans at span so_far after is = record {
-  with = λ more rest. subst (AreInOrder page 0) (sym (append_assoc spans (span ∷ []) more))
-      (so_far.with (span ∷ more) (after, is, rest));
-}

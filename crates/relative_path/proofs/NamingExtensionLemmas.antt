@@ -106,13 +106,6 @@ parts_at_dot n stem =
 
 -- ---- a new extension
 
--- a plain extension has no slash
-HasNoSlash-plain : (e : List ℕ) → list_all is_plain_byte e ≡ true → HasNoSlash e
-HasNoSlash-plain [] plain = tt
-HasNoSlash-plain (b ∷ bs) plain =
-    let both = and_parts _ _ plain in
-    (not-true _ (and_parts _ _ both.0).1, HasNoSlash-plain bs both.1)
-
 no_dot-plain : (e : List ℕ) → list_all is_plain_byte e ≡ true → All (λ b. b ≢ dot) e
 no_dot-plain e plain = All-from_recursion (λ b. b ≢ dot) e (each e plain)
   where
