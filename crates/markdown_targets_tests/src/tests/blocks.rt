@@ -27,6 +27,8 @@ a␍¶    [b](c.md) ⇒ c.md
 [a](→b.md→"t"→) ⇒ b.md
 *→*→*→¶    [a](b.md) ⇒ none
 -   a¶¶  →[b](c.md) ⇒ c.md
+§ 2.2 Tabs, after a marker and a space
+ - →a¶¶        [b](c.md) ⇒ none
 § 4.9 Blank lines
 ¶  ¶[a](b.md)¶  ¶¶# [c](d.md)¶   ⇒ b.md d.md
 [a¶ → ¶b](c.md) ⇒ none

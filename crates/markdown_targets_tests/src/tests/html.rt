@@ -15,6 +15,9 @@ const BLOCKS: &str = r##"
 <prex>¶[a](b.md)¶¶[c](d.md) ⇒ d.md
 </pre>¶[a](b.md)¶¶[c](d.md) ⇒ d.md
 <pre/>¶[a](b.md) ⇒ b.md
+<script/>¶[a](b.md) ⇒ b.md
+<style/>¶[a](b.md) ⇒ b.md
+<textarea/>¶[a](b.md) ⇒ b.md
 <pre>a</pre>¶[b](c.md) ⇒ c.md
 § 4.6 HTML blocks, start conditions 2 to 5
 <!-- a > b¶[c](d.md) -->¶¶[e](f.md) ⇒ f.md
@@ -61,6 +64,8 @@ a¶<source>¶[b](c.md) ⇒ c.md
 - <div>¶[a](b.md) ⇒ b.md
 > <b>¶[a](b.md) ⇒ b.md
     <div>¶[a](b.md) ⇒ b.md
+§ 4.6 HTML blocks, a tab after a name
+a¶<div→x>¶[b](c.md) ⇒ none
 "##;
 
 const INLINE: &str = r##"
@@ -109,6 +114,8 @@ a <![CDATA[ [b](c.md) > ]]> [d](e.md) ⇒ e.md
 a <![CDATA[]> [b](c.md) ]]> ⇒ none
 [a <![CDATA[b]]>](c.md) ⇒ c.md
 a <![cdata[ [b](c.md) ]]> ⇒ c.md
+§ 6.6 Raw HTML, a value with a backtick
+<a href=`b.md`> [c](d.md) ⇒ d.md
 "##;
 
 const ATTRIBUTES: &str = r##"
@@ -166,6 +173,8 @@ a </img src="b.png"> ⇒ none
 <a data-href="b.md" hrefs="c.md" xhref="d.md"> ⇒ none
 <a b-src="c.md" src-b="d.md" srcset="e.md"> ⇒ none
 <a href="b.md" href="c.md"> ⇒ b.md
+<a href href="b.md"> ⇒ none
+<img src src="b.png"> ⇒ none
 <img src="b.png" src="c.png"> ⇒ b.png
 <a HREF="b.md" href="c.md" src="d.md"> ⇒ b.md d.md
 <a src="b.md" href="c.md"> ⇒ b.md c.md
@@ -186,6 +195,10 @@ a <a¶href =¶"b.md" > ⇒ b.md
 <1 href="b.md"> ⇒ none
 < a href="b.md"> ⇒ none
 <a:b href="c.md"> ⇒ none
+§ Attributes after a closing tag of a longer name
+<script>¶</scripts> <img src="b.png">¶</script> <img src="c.png"> ⇒ c.png
+§ Attributes of a base without an `href`
+<base src=b.md> ⇒ b.md
 "##;
 
 // The names of tags that begin a block which goes on to a blank line, by start condition 6.

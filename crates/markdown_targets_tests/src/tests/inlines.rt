@@ -58,6 +58,15 @@ a \<b c="[d](e.md)"> ⇒ e.md
 <`@> [d](e.md)` ⇒ none
 <a`!#$%&'*+/=?^_{|}~-.0@b-1.c> [d](e.md)` ⇒ e.md
 <a,`@b.c> [d](e.md)` ⇒ none
+<a(`@b.c> [d](e.md)` ⇒ none
+<a)`@b.c> [d](e.md)` ⇒ none
+<a"`@b.c> [d](e.md)` ⇒ none
+<a:`@b.c> [d](e.md)` ⇒ none
+<a;`@b.c> [d](e.md)` ⇒ none
+§ 6.5 Autolinks, a scheme with an underscore
+<a_b:[c](d.md)> ⇒ d.md
+§ 6.5 Autolinks, a domain with an underscore
+<a`@b_c> [d](e.md)` ⇒ none
 "##;
 
 const LINKS: &str = r##"
@@ -132,6 +141,15 @@ const LINKS: &str = r##"
 [![a]](b.md)¶¶[a]: c.png ⇒ b.md c.png
 [a [b](c.md) d][b]¶¶[b]: e.md ⇒ c.md e.md
 [a](b c.md)¶¶[a]: d.md ⇒ d.md
+§ 6.3 Links, a name that another label follows
+[[a][b]](c.md)¶¶[a]: d.md ⇒ c.md d.md
+§ 6.3 Links, a name with a tab
+[x][a→b](c.md)¶¶[a b]: d.md ⇒ d.md
+§ 6.3 Links, a name that is defined second
+[a]: b.md¶[c]: d.md¶¶[x][c](e.md) ⇒ b.md d.md
+§ 6.3 Links, a name that only a heading or HTML has
+# [b]: c.md¶[a][b](d.md) ⇒ d.md
+<div>¶[b]: c.md¶¶[a][b](d.md) ⇒ d.md
 § 6.4 Images
 ![a](b.png) ![](c.png) ⇒ b.png c.png
 ! [a](b.md) !\[c](d.md) ⇒ b.md
@@ -141,6 +159,8 @@ const LINKS: &str = r##"
 ![a ![b](c.png)](d.png) ⇒ c.png d.png
 ![[[a](b.md)](c.md)](d.md) ⇒ b.md d.md
 [a [b](c.md) ![d](e.png)](f.md) ⇒ c.md e.png
+§ 6.4 Images, by name
+![a][](b.md)¶¶[a]: c.md ⇒ c.md
 § 6.7 Hard line breaks
 [a  ¶b](c.md)  ¶[d\¶e](f.md) ⇒ c.md f.md
 "##;

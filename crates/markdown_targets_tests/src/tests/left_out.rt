@@ -12,6 +12,8 @@ const FOOTNOTES: &str = r##"
 a[^1] [b](c.md)¶¶[^1]: d.md ⇒ c.md
 [a][^b](c.md)¶¶[^b]: d.md ⇒ c.md
 [a^]: b.md ⇒ b.md
+§ Footnotes, a label of the mark alone
+[^]: b.md ⇒ none
 "##;
 
 const TEMPLATES: &str = r##"
@@ -24,6 +26,7 @@ const TEMPLATES: &str = r##"
 [a](b/{{c}}.md) ⇒ b/{{c}}.md
 [a]({b}.md) [c]($d.md) [e]({) [f]($) ⇒ {b}.md $d.md { $
 [a [b]({{c}})](d.md) ⇒ none
+[a]({{) [b]({%) [c](${) ⇒ none
 "##;
 
 // Templates, and names without a definition.
@@ -49,6 +52,7 @@ a <BASE HREF=b> ⇒ base
 `<base href="b/">` ⇒ none
 </base href="b/"> ⇒ none
 <basefont href="b/"> ⇒ none
+<base src=b.md> ⇒ none
 "##;
 
 #[test]

@@ -9,6 +9,8 @@ const ODD: &str = "\u{feff}    [a](b.md) ⇒ none\n\
     [a](b\u{7f}c.md) ⇒ none\n\
     [a](b\u{b}c.md) ⇒ none\n\
     [a](b\0.md) ⇒ b\0.md\n\
+    <ab:\u{1}[c](d.md)> ⇒ d.md\n\
+    <ab:\u{7f}[c](d.md)> ⇒ d.md\n\
     [a](b\u{a0}\"t\") ⇒ b\u{a0}\"t\"\n\
     [a](b\u{2028}c.md) ⇒ b\u{2028}c.md\n\
     [\u{a0}]: b.md ⇒ b.md\n\
