@@ -7,6 +7,10 @@ use Rattle.markdown_targets.specs.declared.finder.links.TheConstants.{DEEPEST}
 abbrev pub is_space_or_control : ℕ → Bool
 is_space_or_control b = (not (b == 0) && nat_le b 32) || b == 127
 
+-- a URI in angles may have the byte: no space, no control byte, no `<` or `>`
+abbrev pub is_of_uri : ℕ → Bool
+is_of_uri b = not (is_space_or_control b) && not (b == 60) && not (b == 62)
+
 -- a destination with so many open parentheses ends before the byte, or isn't one if a parenthesis is open
 abbrev pub stops : ℕ → ℕ → Bool
 stops depth b = (b == 40 && depth == DEEPEST) || (b == 41 && depth == 0) || is_space_or_control b

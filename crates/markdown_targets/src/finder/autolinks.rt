@@ -1,5 +1,7 @@
 //! Autolinks: URIs and e-mail addresses in angles.
-ghost use Rattle.std.specs.Prelude.{◌≤◌, length, IfSome};
+ghost use Rattle.std.specs.Prelude.{◌≡◌, ◌≤◌, length, IfSome};
+ghost use Rattle.markdown_targets.specs.Classes.{is_of_scheme, is_of_domain};
+ghost use Rattle.markdown_targets.specs.Destinations.{is_of_uri};
 ghost use Rattle.markdown_targets.specs.Steps.{Advances};
 
 use crate::finder::bytes::{is_space_or_control, run_end, skip_byte};
@@ -67,12 +69,16 @@ fn is_domain_name(name: &[u8]) -> bool {
 }
 
 // Whether a scheme may have a byte.
-fn is_of_scheme(byte: u8) -> bool {
+fn is_of_scheme(byte: u8) -> bool
+    ensures { result ≡ is_of_scheme byte }
+{
     byte.is_ascii_alphanumeric() || byte == b'+' || byte == b'.' || byte == b'-'
 }
 
 // Whether a URI may have a byte.
-fn is_of_uri(byte: u8) -> bool {
+fn is_of_uri(byte: u8) -> bool
+    ensures { result ≡ is_of_uri byte }
+{
     !is_space_or_control(byte) && byte != b'<' && byte != b'>'
 }
 
@@ -82,6 +88,8 @@ fn is_of_local_part(byte: u8) -> bool {
 }
 
 // Whether a domain may have a byte.
-fn is_of_domain(byte: u8) -> bool {
+fn is_of_domain(byte: u8) -> bool
+    ensures { result ≡ is_of_domain byte }
+{
     byte.is_ascii_alphanumeric() || byte == b'.' || byte == b'-'
 }

@@ -1,6 +1,7 @@
 //! Classes of bytes, and steps over the bytes of a text.
 ghost use Rattle.std.specs.Prelude.{◌≡◌, ◌≤◌, ◌<◌, ◌==◌, ◌+◌, length, drop, IfSome};
-ghost use Rattle.markdown_targets.specs.Classes.{is_line_end, is_special, is_destination_mark};
+ghost use Rattle.std.specs.List.{list_all};
+ghost use Rattle.markdown_targets.specs.Classes.{is_blank, is_line_end, is_space, is_special, is_destination_mark};
 ghost use Rattle.markdown_targets.specs.Destinations.{is_space_or_control};
 ghost use Rattle.markdown_targets.specs.Steps.{Skips, Advances, first_from, step_len};
 ghost use Rattle.markdown_targets.specs.Words.{word_end};
@@ -16,12 +17,16 @@ pub(crate) fn is_line_end(byte: u8) -> bool
 }
 
 // Whether a byte is a space or a tab.
-pub(crate) fn is_blank(byte: u8) -> bool {
+pub(crate) fn is_blank(byte: u8) -> bool
+    ensures { result ≡ is_blank byte }
+{
     byte == b' ' || byte == b'\t'
 }
 
 // Whether a byte is a space or a tab, or ends a line.
-pub(crate) fn is_space(byte: u8) -> bool {
+pub(crate) fn is_space(byte: u8) -> bool
+    ensures { result ≡ is_space byte }
+{
     is_blank(byte) || is_line_end(byte)
 }
 
@@ -33,7 +38,9 @@ pub(crate) fn is_space_or_control(byte: u8) -> bool
 }
 
 // Whether a text has only spaces and tabs.
-pub(crate) fn is_blank_text(text: &[u8]) -> bool {
+pub(crate) fn is_blank_text(text: &[u8]) -> bool
+    ensures { result ≡ list_all is_blank text.now }
+{
     text.iter().all(|&byte| is_blank(byte))
 }
 

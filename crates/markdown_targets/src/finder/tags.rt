@@ -1,5 +1,6 @@
 //! Tags in HTML, with the attributes that link.
-ghost use Rattle.std.specs.Prelude.{◌≤◌, ◌<◌, length, IfSome};
+ghost use Rattle.std.specs.Prelude.{◌≡◌, ◌≤◌, ◌<◌, length, IfSome};
+ghost use Rattle.markdown_targets.specs.Classes.{is_of_tag, begins_attribute, is_of_attribute, is_of_value};
 ghost use Rattle.markdown_targets.specs.Steps.{Skips, Advances};
 
 use crate::finder::bytes::{is_space, run_end, skip_byte, skip_spaces};
@@ -215,21 +216,29 @@ fn tag_name_end(text: &[u8], start: usize) -> Option<usize>
 }
 
 // Whether the name of a tag may have a byte.
-fn is_of_tag(byte: u8) -> bool {
+fn is_of_tag(byte: u8) -> bool
+    ensures { result ≡ is_of_tag byte }
+{
     byte.is_ascii_alphanumeric() || byte == b'-'
 }
 
 // Whether a byte may begin the name of an attribute.
-fn begins_attribute(byte: u8) -> bool {
+fn begins_attribute(byte: u8) -> bool
+    ensures { result ≡ begins_attribute byte }
+{
     byte.is_ascii_alphabetic() || byte == b'_' || byte == b':'
 }
 
 // Whether the name of an attribute may have a byte.
-fn is_of_attribute(byte: u8) -> bool {
+fn is_of_attribute(byte: u8) -> bool
+    ensures { result ≡ is_of_attribute byte }
+{
     begins_attribute(byte) || byte.is_ascii_digit() || byte == b'.' || byte == b'-'
 }
 
 // Whether a value without quotes may have a byte.
-fn is_of_value(byte: u8) -> bool {
-    !is_space(byte) && !b"\"'=<>`".contains(&byte)
+fn is_of_value(byte: u8) -> bool
+    ensures { result ≡ is_of_value byte }
+{
+    !is_space(byte) && !matches!(byte, b'"' | b'\'' | b'=' | b'<' | b'>' | b'`')
 }
