@@ -12,7 +12,7 @@ use relative_path_links::{
 };
 use relative_path_moves::{MovedPage, TreeMoves};
 use relmove_plan::{Entry, Kind, Plan, Refusal, make_plan};
-use relmove_run::Fault;
+use relmove_run::{Fault, LONGEST_PATH, need_short};
 use std::alloc::{AllocError, AllocFailed, Global};
 use std::rt::Files;
 use target_paths::{TargetReading, path_of_target};
@@ -93,7 +93,8 @@ pub struct Moving<'a> {
     found: Vec<Vec<Target>>,
 }
 
-/// Plans the moves of a tree: each OLD with its NEW. Nothing is changed.
+/// Plans the moves of a tree: each OLD with its NEW. Nothing is changed. Fails with [`Fault::TooLong`] if something in the
+/// tree gets a path that is too long for the system.
 ///
 /// Asks the system only whether what the links that stay lead to is there. What is above the root isn't asked for.
 pub fn moving_of<'a, R: Files + AllocGlobal + Clone + Drop>(
@@ -108,6 +109,7 @@ pub fn moving_of<'a, R: Files + AllocGlobal + Clone + Drop>(
     let found = found_targets(alloc, &tree.pages)?;
     let plan = plan_of(alloc, tree, &found, &pairs, any_name)?;
     need_directories(alloc, tree, moves)?;
+    need_short_paths(root, tree, &pairs)?;
     let left = left_links(root, &tree.pages, &found, &plan.pages)?;
     Ok(Moving { plan, left, found })
 }
@@ -181,6 +183,36 @@ fn need_directories(alloc: Global, tree: &Tree, moves: &[(&str, &str)]) -> Resul
         }
     }
     Ok(())
+}
+
+// Fails if something in the tree gets a path that is too long, since a directory above it moves.
+fn need_short_paths<R: Files + AllocGlobal>(
+    root: &Root<'_, R>,
+    tree: &Tree,
+    moves: &[(RelativePath<'_>, RelativePath<'_>)],
+) -> Result<(), WhyRefused> {
+    let alloc = root.runtime().alloc();
+    // The plan has accepted the moves.
+    let Ok(table) = TreeMoves::new(alloc, moves) else {
+        return Err(WhyRefused::Fault(Fault::OutOfMemory));
+    };
+    let most = most_added(root.path(), moves);
+    for path in tree.entries.keys() {
+        if path.len().saturating_add(most) > LONGEST_PATH {
+            let after = table.path_after(alloc, RelativePath::new(path.as_str()))?;
+            need_short(alloc, root.path(), after.as_relative_path().as_str())?;
+        }
+    }
+    Ok(())
+}
+
+// How many bytes a path below a root gets at most, with the root's path before it and after moves.
+fn most_added(root: &str, moves: &[(RelativePath<'_>, RelativePath<'_>)]) -> usize {
+    let mut longest = 0usize;
+    for (_, new) in moves {
+        longest = longest.max(new.as_str().len());
+    }
+    root.len().saturating_add(1).saturating_add(longest)
 }
 
 /// Whether a directory is at a path of a tree.

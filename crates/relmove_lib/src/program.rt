@@ -157,8 +157,7 @@ fn move_and_print<R: Machine, O: Write, E: Write>(
 ) -> Result<Status, CallEnd> {
     let mut store = root.runtime().store_at(root.path())?;
     need_rest(&mut store)?;
-    let tree = read_whole(root, errors)?;
-    need_no_journal_near(&mut store, &directories_of(root.runtime().alloc(), &tree)?)?;
+    let tree = read_whole(root, &mut store, errors)?;
     let (moving, counts, status) = plan(root, &tree, moves, options, out, errors)?;
     need_possible(&mut store, &moving.plan.steps)?;
     let outcome = if options.json {
@@ -180,7 +179,7 @@ fn move_and_write<R: Machine, O: Write, E: Write>(
     let mut locked = Locked::new(root.runtime().store_at(root.path())?)?;
     need_no_own_files(locked.store())?;
     need_no_journal_near(locked.store(), &[])?;
-    let tree = read_whole(root, errors)?;
+    let tree = read_whole(root, locked.store(), errors)?;
     let (moving, counts, status) = plan(root, &tree, moves, options, out, errors)?;
     let alloc = root.runtime().alloc();
     let directories = directories_of(alloc, &tree)?;
@@ -303,9 +302,14 @@ fn is_done_whole(ended: &Ended) -> bool {
     }
 }
 
-// The tree below a root.
-fn read_whole<R: Machine, E: Write>(root: &Root<'_, R>, errors: &mut E) -> Result<Tree, Fault> {
+// The tree below a root. Fails if a directory in it has a journal: names that begin with `.relmove-` belong to its run.
+fn read_whole<R: Machine, E: Write>(
+    root: &Root<'_, R>,
+    store: &mut R::Store,
+    errors: &mut E,
+) -> Result<Tree, Fault> {
     let tree = read_tree(root)?;
+    need_no_journal_near(store, &directories_of(root.runtime().alloc(), &tree)?)?;
     print_unread(root.path(), &tree, errors);
     Ok(tree)
 }
@@ -350,8 +354,7 @@ fn find_dead_links<R: Machine, E: Write>(
 ) -> Result<Vec<DeadLink>, Fault> {
     let mut store = root.runtime().store_at(root.path())?;
     need_rest(&mut store)?;
-    let tree = read_whole(root, errors)?;
-    need_no_journal_near(&mut store, &directories_of(root.runtime().alloc(), &tree)?)?;
+    let tree = read_whole(root, &mut store, errors)?;
     dead_links_of(root, &tree)
 }
 

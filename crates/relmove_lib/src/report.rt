@@ -128,21 +128,30 @@ pub fn print_end<W: Write>(out: &mut W, root: &str, ended: &Ended) -> io::Result
             has_journal,
         } => {
             let root = Printable(root);
-            let (state, commands) = (state_at(*stage), commands_at(*stage));
-            writeln!(
-                out,
-                "relmove: {root}: {fault}\nrelmove: stopped in the middle: {state}. Call relmove with {commands} and {root}."
-            )?;
+            writeln!(out, "relmove: {root}: {fault}")?;
             if *has_journal {
+                print_stopped(out, root, *stage)
+            } else {
                 writeln!(
                     out,
-                    "relmove: the journal .relmove in {root} has the old paths, the names that begin with .relmove- and the new paths."
+                    "relmove: stopped in the middle, and the journal .relmove in {root} can't be read: it isn't known where everything is. Call relmove with --resume and {root} to end the run."
                 )
-            } else {
-                writeln!(out, "relmove: no journal .relmove was found in {root}.")
             }
         }
     }
+}
+
+// Prints what is known of a run that stopped, whose journal says this stage.
+fn print_stopped<W: Write>(out: &mut W, root: Printable<'_>, stage: Stage) -> io::Result<()> {
+    let (state, commands) = (state_at(stage), commands_at(stage));
+    writeln!(
+        out,
+        "relmove: stopped in the middle: {state}. Call relmove with {commands} and {root}."
+    )?;
+    writeln!(
+        out,
+        "relmove: the journal .relmove in {root} has the old paths, the names that begin with .relmove- and the new paths."
+    )
 }
 
 // Prints what a run left.

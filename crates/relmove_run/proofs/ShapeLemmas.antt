@@ -114,6 +114,14 @@ leads_to-rsplit test text (Some parts) (i, j, found, front, back, _, _, _) =
     ∙ leads_to-append test (names (take i text)) (drop j text)
     ∙ ap₂ ◌&&◌ (list_all-names (take i text) ∙ ap (λ x. leads_to is_directory_name (names x)) (sym front)) (ap test (sym back))
 
+-- where a way leads is tested at its last name, if its directories were tested
+pub leads_to-tested : (whole first last r : Bool) → whole ≡ (first && last) → r ≡ first → r ≡ true → last ≡ whole
+leads_to-tested whole first last r parts is passed = sym (parts ∙ ap (λ b. b && last) (sym is ∙ passed))
+
+-- and isn't, if they failed
+pub leads_to-refused : (whole first last r : Bool) → whole ≡ (first && last) → r ≡ first → r ≡ false → r ≡ whole
+leads_to-refused whole first last r parts is failed = failed ∙ sym (parts ∙ ap (λ b. b && last) (sym is ∙ failed))
+
 -- what `split_once` returns at a slash: the first name, and the path after it
 pub names-split : (text : List ℕ) (r : Option (Bor (List ℕ) × Bor (List ℕ))) → IsSplitOnceResult 47 text r
     → MatchOption r (names text ≡ text ∷ []) (λ x. names text ≡ x.0.now ∷ names x.1.now)

@@ -21,7 +21,7 @@ pub use self::journal::{Journal, Origin, journal_of, journal_text};
 pub use self::near::need_no_journal_near;
 pub use self::own_files::{JOURNAL, Trust, need_no_own_files};
 pub use self::path::{directory_of, join};
-pub use self::possible::need_possible;
+pub use self::possible::{LONGEST_PATH, need_possible, need_short};
 pub use self::printable::Printable;
 pub use self::remark::Remark;
 pub use self::run::{Ended, Locked, PageText, carry_out, changes_to_end, need_rest, resume, undo};

@@ -4,10 +4,11 @@ use crate::fault::{Call, Fault, at};
 use crate::path::join;
 use crate::store::{Found, FoundKind, Store};
 use relmove_actions::Steps;
+use std::alloc::Global;
 use std::io::ErrorKind;
 
-// How long a path may be. The system counts a NUL at its end.
-const LONGEST_PATH: usize = 4095;
+/// How many bytes a path may have. The system counts a NUL at its end.
+pub const LONGEST_PATH: usize = 4095;
 
 /// Fails if the system can't have a path of these steps: a path is too long, or has a name that is, or is on another
 /// file system than the root. Nothing is changed.
@@ -24,7 +25,7 @@ pub fn need_possible<S: Store>(store: &mut S, steps: &Steps) -> Result<(), Fault
         need_on_device(store, rename.from.as_str(), &root)?;
     }
     for path in &steps.made {
-        need_short(store, path.as_str())?;
+        need_short(store.alloc(), store.root(), path.as_str())?;
     }
     for rename in &steps.together {
         need_fine_path(store, rename.to.as_str(), &root)?;
@@ -42,10 +43,12 @@ fn find_at<S: Store>(store: &mut S, path: &str) -> Result<Option<Found>, Fault> 
     }
 }
 
-// Fails if a path is too long for the system.
-fn need_short<S: Store>(store: &mut S, path: &str) -> Result<(), Fault> {
-    if join(store.alloc(), store.root(), path)?.len() > LONGEST_PATH {
-        return Err(Fault::TooLong(copy_of(store, path)?));
+/// Fails if a path below a root is too long for the system.
+///
+/// Allocates the path with the root's path before it.
+pub fn need_short(alloc: Global, root: &str, path: &str) -> Result<(), Fault> {
+    if join(alloc, root, path)?.len() > LONGEST_PATH {
+        return Err(Fault::TooLong(String::from_str(alloc, path)?));
     }
     Ok(())
 }
@@ -63,7 +66,7 @@ fn need_on_device<S: Store>(store: &mut S, path: &str, root: &Found) -> Result<(
 // Fails if the system can't have a path: the path or a name in it is too long, or the directory for it is on another
 // file system than the root.
 fn need_fine_path<S: Store>(store: &mut S, path: &str, root: &Found) -> Result<(), Fault> {
-    need_short(store, path)?;
+    need_short(store.alloc(), store.root(), path)?;
     let mut nearest = String::new(store.alloc());
     for name in path.split('/') {
         let asked = join(store.alloc(), nearest.as_str(), name)?;

@@ -3,7 +3,7 @@ use crate::ending::{Change, Way, changes_from, stage_to_end};
 use crate::fault::{Call, Fault, at};
 use crate::journal::Journal;
 use crate::near::need_no_journal_near;
-use crate::own_files::{JOURNAL, Trust, find_journal, need_no_own_files, none_yet, open_journal};
+use crate::own_files::{Trust, find_journal, need_no_own_files, none_yet, open_journal};
 use crate::possible::need_possible;
 use crate::remark::Remark;
 use crate::shape::is_of_run;
@@ -27,11 +27,12 @@ pub enum Ended {
     Refused(Fault),
     /// The call stopped in the middle. What it did stays.
     Stopped {
-        /// How far the run is.
+        /// How far the run is, as its journal says. If the journal can't be read, this is the last stage that the run
+        /// knows of, and the journal may say a later one.
         stage: Stage,
         /// Why it stopped.
         fault: Fault,
-        /// Whether the journal was seen afterwards.
+        /// Whether the journal was read afterwards.
         has_journal: bool,
     },
 }
@@ -280,10 +281,13 @@ fn refuse<S: Store + Drop>(mut worker: Worker<S>, fault: Fault) -> Ended {
     }
 }
 
-// The run stopped at its stage.
+// The run stopped. A call that put a journal in its place may have been reported as failed, so the journal is read again.
 fn stop<S: Store + Drop>(mut worker: Worker<S>, fault: Fault) -> Ended {
-    let stage = worker.stage();
-    let has_journal = matches!(worker.store().find(JOURNAL), Ok(Some(_)));
+    let known = worker.stage();
+    let (stage, has_journal) = match &find_journal(worker.store()) {
+        Ok(journal) => (journal.stage, true),
+        Err(_) => (known, false),
+    };
     Ended::Stopped {
         stage,
         fault,

@@ -1,5 +1,5 @@
 //! Whether work can be a run's: which paths it has, and how its lists fit together.
-ghost use Rattle.std.specs.Prelude.{◌≡◌, IfOk, IsTrue, filter, map, string_bytes};
+ghost use Rattle.std.specs.Prelude.{◌≡◌, ◌↔◌, IfOk, IsTrue, filter, map, string_bytes};
 ghost use Rattle.std.specs.List.{list_all};
 ghost use Rattle.relmove_run.specs.Shape.{AreAscending, AreDifferent, GoesOnce, HaveSameOnce, IsOfRun, LosesNothing, StagesItsTexts, has_paths_of_run, is_directory_name, is_directory_path, is_leftover, is_made_path, is_name, is_nameless, is_path, is_placing, is_staging, is_staging_name, is_text_path, is_written, new_paths, old_paths, removed_paths, text_paths};
 
@@ -17,7 +17,7 @@ const STAGING: &str = ".relmove-";
 ///
 /// Allocates lists of its paths.
 pub fn is_of_run(alloc: Global, work: &Work) -> Result<bool, AllocError>
-    ensures { IfOk result (λ yes. IsTrue yes → IsOfRun work.now) }
+    ensures of_run { IfOk result (λ yes. IsTrue yes ↔ IsOfRun work.now) }
 {
     Ok(
         have_paths_of_run(work)
@@ -29,7 +29,7 @@ pub fn is_of_run(alloc: Global, work: &Work) -> Result<bool, AllocError>
 
 // Whether each new text gets a staging name, once, and nothing else that has the path of one.
 fn stages_its_texts(alloc: Global, work: &Work) -> Result<bool, AllocError>
-    ensures { IfOk result (λ yes. IsTrue yes → StagesItsTexts work.now) }
+    ensures { IfOk result (λ yes. IsTrue yes ↔ StagesItsTexts work.now) }
 {
     let written = text_paths(alloc, &work.texts)?;
     let staged = staged_text_paths(alloc, &work.staged)?;
@@ -38,7 +38,7 @@ fn stages_its_texts(alloc: Global, work: &Work) -> Result<bool, AllocError>
 
 // Whether each staging name is given once, and whatever gets one is placed or removed, once.
 fn loses_nothing(alloc: Global, work: &Work) -> Result<bool, AllocError>
-    ensures { IfOk result (λ yes. IsTrue yes → LosesNothing work.now) }
+    ensures { IfOk result (λ yes. IsTrue yes ↔ LosesNothing work.now) }
 {
     let given = new_paths(alloc, &work.staged)?;
     let mut taken = old_paths(alloc, &work.placed)?;
@@ -49,7 +49,7 @@ fn loses_nothing(alloc: Global, work: &Work) -> Result<bool, AllocError>
 
 // Whether nothing gets two staging names, and no two things get one new path.
 fn goes_once(alloc: Global, work: &Work) -> Result<bool, AllocError>
-    ensures { IfOk result (λ yes. IsTrue yes → GoesOnce work.now) }
+    ensures { IfOk result (λ yes. IsTrue yes ↔ GoesOnce work.now) }
 {
     Ok(
         are_different(old_paths(alloc, &work.staged)?)?
@@ -260,7 +260,7 @@ fn removed_paths<'a>(alloc: Global, leftovers: &'a [Leftover]) -> Result<Vec<&'a
 // Whether two lists have the same paths, each once.
 fn have_same_once(mut paths: Vec<&str>, mut others: Vec<&str>) -> Result<bool, AllocError>
     ensures { IfOk result (λ same. IsTrue same
-        → HaveSameOnce (map (λ path. path.now) paths.entry.items) (map (λ path. path.now) others.entry.items)) }
+        ↔ HaveSameOnce (map (λ path. path.now) paths.entry.items) (map (λ path. path.now) others.entry.items)) }
 {
     paths.sort()?;
     others.sort()?;
@@ -269,7 +269,7 @@ fn have_same_once(mut paths: Vec<&str>, mut others: Vec<&str>) -> Result<bool, A
 
 // Whether no two paths are equal.
 fn are_different(mut paths: Vec<&str>) -> Result<bool, AllocError>
-    ensures { IfOk result (λ yes. IsTrue yes → AreDifferent (map (λ path. path.now) paths.entry.items)) }
+    ensures { IfOk result (λ yes. IsTrue yes ↔ AreDifferent (map (λ path. path.now) paths.entry.items)) }
 {
     paths.sort()?;
     Ok(are_ascending(&paths))
@@ -277,7 +277,7 @@ fn are_different(mut paths: Vec<&str>) -> Result<bool, AllocError>
 
 // Whether each path comes before the next one.
 fn are_ascending(paths: &[&str]) -> bool
-    ensures { IsTrue result → AreAscending (map (λ path. path.now) paths.now) }
+    ensures { IsTrue result ↔ AreAscending (map (λ path. path.now) paths.now) }
 {
     paths.is_sorted_by(|one, next| *one < *next)
 }

@@ -10,6 +10,7 @@ mod journal;
 mod power;
 mod runs;
 mod shapes;
+mod stages;
 mod strangers;
 mod surprises;
 

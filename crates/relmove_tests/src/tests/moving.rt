@@ -299,6 +299,85 @@ fn refuses_all_else_beside_a_journal(rt: HostRuntime) -> Result<(), Fail> {
     holds(rt.alloc(), "the tree", &disk, places)
 }
 
+// A tree in which another run stopped.
+const STOPPED_BELOW: &[Place] = &[
+    ("a.md", Some("aa")),
+    ("d", None),
+    ("d/.relmove", Some("jj")),
+    ("d/.relmove-1", Some("xx")),
+    ("d/e", None),
+    ("d/e/.relmove-2", Some("yy")),
+];
+
+#[test]
+fn names_no_file_of_a_run_below(rt: HostRuntime) -> Result<(), Fail> {
+    let disk = disk_of(rt.alloc(), STOPPED_BELOW)?;
+    let printed =
+        "relmove: site: d/.relmove is the journal of a run that didn't end: end that run first\n";
+    let expected = (Status::Refused, "", printed);
+    let words = ["--write", "site", "a.md", "b.md"];
+    answers(rt.alloc(), &disk, &words, expected)?;
+    answers(rt.alloc(), &disk, &words[1..], expected)?;
+    answers(rt.alloc(), &disk, &["--check", "site"], expected)?;
+    holds(rt.alloc(), "the tree", &disk, STOPPED_BELOW)?;
+    disk.remove("site/d/.relmove")?;
+    let printed =
+        "relmove: d/.relmove-1 has a name of relmove's own, and there is no run to which it belongs\nrelmove: d/e/.relmove-2 has a name of relmove's own, and there is no run to which it belongs\n";
+    let expected = (Status::Kept, "", printed);
+    answers(rt.alloc(), &disk, &["--check", "site"], expected)
+}
+
+// This letter so many times.
+fn letters(alloc: Global, letter: char, number: usize) -> Result<String, Fail> {
+    let mut name = String::new(alloc);
+    for _ in 0..number {
+        name.push(letter)?;
+    }
+    Ok(name)
+}
+
+// A path below a directory, through nineteen directories. It is as long as the directory and 3995 bytes.
+fn deep_path(alloc: Global, directory: &str) -> Result<String, Fail> {
+    let name = letters(alloc, 'm', 209)?;
+    let mut path = String::from_str(alloc, directory)?;
+    for _ in 0..19 {
+        path.push('/')?;
+        path.push_str(name.as_str())?;
+    }
+    path.push_str("/x.md")?;
+    Ok(path)
+}
+
+// A site with a directory `d` and a file deep below it.
+fn deep_site(alloc: Global) -> Result<Disk, Fail> {
+    let disk = Disk::new(alloc)?;
+    let path = deep_path(alloc, "site/d")?;
+    for (slash, _) in path.match_indices('/') {
+        disk.add(&path[..slash], Content::Directory)?;
+    }
+    disk.add(path.as_str(), Content::File(Vec::new(alloc)))?;
+    Ok(disk)
+}
+
+// A path of 4095 bytes is the longest.
+#[test]
+fn gives_no_path_that_is_too_long(rt: HostRuntime) -> Result<(), Fail> {
+    let alloc = rt.alloc();
+    let disk = deep_site(alloc)?;
+    let before = disk.listing()?;
+    let long = letters(alloc, 'n', 96)?;
+    let path = deep_path(alloc, long.as_str())?;
+    let printed = format!(in alloc; "relmove: site: {path} is too long, or a name in it is\n")?;
+    let words = ["--write", "site", "d", long.as_str()];
+    let expected = (Status::Refused, "", printed.as_str());
+    answers(alloc, &disk, &words, expected)?;
+    answers(alloc, &disk, &words[1..], expected)?;
+    same("nothing changes", &disk.listing()?, &before)?;
+    let words = ["--write", "site", "d", &long[1..]];
+    let printed = "0 pages changed, 1 directory moved.\n";
+    answers(alloc, &disk, &words, (Status::Kept, printed, ""))
+}
+
 // The status of the call that writes.
 fn written(alloc: Global, disk: &Disk) -> Status {
     let (mut out, mut errors) = (Vec::new(alloc), Vec::new(alloc));

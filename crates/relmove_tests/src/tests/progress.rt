@@ -105,10 +105,10 @@ fn says_how_to_go_on(rt: HostRuntime) -> Result<(), Fail> {
 }
 
 #[test]
-fn claims_no_journal_that_is_not_there(rt: HostRuntime) -> Result<(), Fail> {
+fn claims_nothing_without_a_journal(rt: HostRuntime) -> Result<(), Fail> {
     let expected = String::from_str(
         rt.alloc(),
-        "relmove: d/: a.md isn't there\nrelmove: stopped in the middle: everything is at its old path. Call relmove with --undo and d/.\nrelmove: no journal .relmove was found in d/.\n",
+        "relmove: d/: a.md isn't there\nrelmove: stopped in the middle, and the journal .relmove in d/ can't be read: it isn't known where everything is. Call relmove with --resume and d/ to end the run.\n",
     )?;
     is_told(rt.alloc(), Stage::Writing, false, expected)
 }

@@ -1,8 +1,14 @@
-use Rattle.std.proofs.Common.{sym, ◌∙◌}
-use Rattle.relmove_run.proofs.OnceLemmas.{AreDifferent-sorted}
+use Rattle.relmove_run.proofs.OnceLemmas.{AreAscending-sorted, AreDifferent-sorted}
 use Rattle.relmove_run.proofs.shape.are_different.Goals as goal
 
 pub returns : goal.returns
-returns c = λ is.
-    AreDifferent-sorted c.args.paths.items c.sort.new.self.items c.in_ok-sort.ensures.permutation
-    (rw c.deref.ensures.value at (c.are_ascending.ensures is))
+returns c =
+    let moved = c.in_ok-sort.ensures.permutation in
+    let sorted = c.in_ok-sort.ensures.sorted in (
+      λ is.
+          AreDifferent-sorted c.args.paths.items c.sort.new.self.items moved
+          (rw c.deref.ensures.value at (c.are_ascending.ensures.0 is)),
+      λ different.
+          c.are_ascending.ensures.1
+          (rw c.deref.ensures.value (AreAscending-sorted c.args.paths.items c.sort.new.self.items moved sorted different)),
+    )

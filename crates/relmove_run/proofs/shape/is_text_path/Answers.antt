@@ -1,18 +1,17 @@
-use Rattle.std.proofs.Common.{sym, ap, ◌∙◌, ◌&&◌}
+use Rattle.std.proofs.Common.{sym, ◌∙◌}
 use Rattle.relmove_run.specs.Shape.{is_staging_name}
-use Rattle.relmove_run.proofs.ShapeLemmas.{leads_to-rsplit}
+use Rattle.relmove_run.proofs.ShapeLemmas.{leads_to-refused, leads_to-rsplit, leads_to-tested}
 use Rattle.relmove_run.proofs.shape.is_text_path.Goals as goal
 
 pub returns-then-is_directory_path : goal.returns-then-is_directory_path
 returns-then-is_directory_path c =
     let parts = rw c.in-Some.is at (leads_to-rsplit is_staging_name c.args.path.now _ c.rsplit_once.ensures.cases) in
-    c.is_staging_name.ensures ∙ sym (parts ∙ ap (λ b. b && is_staging_name c.in-Some.name.now) (sym c.is_directory_path.ensures ∙ c.if-is_directory_path.true))
+    c.is_staging_name.ensures ∙ leads_to-tested _ _ _ _ parts c.is_directory_path.ensures c.if-is_directory_path.true
 
 pub returns-else-is_directory_path : goal.returns-else-is_directory_path
 returns-else-is_directory_path c =
     let parts = rw c.in-Some.is at (leads_to-rsplit is_staging_name c.args.path.now _ c.rsplit_once.ensures.cases) in
-    c.if-is_directory_path.false
-    ∙ sym (parts ∙ ap (λ b. b && is_staging_name c.in-Some.name.now) (sym c.is_directory_path.ensures ∙ c.if-is_directory_path.false))
+    leads_to-refused _ _ _ _ parts c.is_directory_path.ensures c.if-is_directory_path.false
 
 pub returns-in-None : goal.returns-in-None
 returns-in-None c =
