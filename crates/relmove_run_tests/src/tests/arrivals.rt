@@ -50,7 +50,12 @@ fn keeps_what_comes_to_a_staging_name(rt: HostRuntime) -> Result<(), Fail> {
 
 #[test]
 fn keeps_what_comes_to_the_names_of_its_own_files(rt: HostRuntime) -> Result<(), Fail> {
-    for path in [".relmove", ".relmove-journal", ".relmove-spare", ".relmove-9"] {
+    for path in [
+        ".relmove",
+        ".relmove-journal",
+        ".relmove-spare",
+        ".relmove-9",
+    ] {
         stay(rt.alloc(), &cases::PAGE_CHANGES, path, 0)?;
     }
     Ok(())

@@ -9,14 +9,23 @@ use relmove_run::{
 use std::alloc::{AllocError, Global};
 use std::test::Fail;
 
-const STAGED: &str = "rename a to .relmove-1\nrename d/.relmove-9 to .relmove-2\nrename d/p to .relmove-3\n";
+const STAGED: &str =
+    "rename a to .relmove-1\nrename d/.relmove-9 to .relmove-2\nrename d/p to .relmove-3\n";
+
 const MADE: &str = "make the directory e\nmake the directory e/f\n";
+
 const PLACED: &str = "rename .relmove-1 to e/f/a\nrename .relmove-2 to d/p\n";
+
 const CLEANED: &str = "remove .relmove-3\nif it is empty, remove the directory g\n";
+
 const UNPLACED: &str = "rename d/p to .relmove-2\nrename e/f/a to .relmove-1\n";
+
 const UNMADE: &str =
     "if it is empty, remove the directory e/f\nif it is empty, remove the directory e\n";
-const UNSTAGED: &str = "rename .relmove-3 to d/p\nrename .relmove-2 to d/.relmove-9\nrename .relmove-1 to a\n";
+
+const UNSTAGED: &str =
+    "rename .relmove-3 to d/p\nrename .relmove-2 to d/.relmove-9\nrename .relmove-1 to a\n";
+
 const ERASED: &str = "remove d/.relmove-9\n";
 
 // A rename.
@@ -95,7 +104,12 @@ fn says_what_resume_changes(rt: HostRuntime) -> Result<(), Fail> {
     changes(alloc, Stage::Making, way, &[MADE, PLACED, CLEANED])?;
     changes(alloc, Stage::Placing, way, &[PLACED, CLEANED])?;
     changes(alloc, Stage::Cleaning, way, &[CLEANED])?;
-    changes(alloc, Stage::Unplacing, way, &[UNPLACED, UNMADE, UNSTAGED, ERASED])?;
+    changes(
+        alloc,
+        Stage::Unplacing,
+        way,
+        &[UNPLACED, UNMADE, UNSTAGED, ERASED],
+    )?;
     changes(alloc, Stage::Unmaking, way, &[UNMADE, UNSTAGED, ERASED])?;
     changes(alloc, Stage::Unstaging, way, &[UNSTAGED, ERASED])?;
     changes(alloc, Stage::Erasing, way, &[ERASED])
@@ -108,8 +122,18 @@ fn says_what_undo_changes(rt: HostRuntime) -> Result<(), Fail> {
     changes(alloc, Stage::Writing, way, &[ERASED])?;
     changes(alloc, Stage::Staging, way, &[UNSTAGED, ERASED])?;
     changes(alloc, Stage::Making, way, &[UNMADE, UNSTAGED, ERASED])?;
-    changes(alloc, Stage::Placing, way, &[UNPLACED, UNMADE, UNSTAGED, ERASED])?;
+    changes(
+        alloc,
+        Stage::Placing,
+        way,
+        &[UNPLACED, UNMADE, UNSTAGED, ERASED],
+    )?;
     changes(alloc, Stage::Cleaning, way, &["too late"])?;
-    changes(alloc, Stage::Unplacing, way, &[UNPLACED, UNMADE, UNSTAGED, ERASED])?;
+    changes(
+        alloc,
+        Stage::Unplacing,
+        way,
+        &[UNPLACED, UNMADE, UNSTAGED, ERASED],
+    )?;
     changes(alloc, Stage::Erasing, way, &[ERASED])
 }

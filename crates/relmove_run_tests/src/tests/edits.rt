@@ -1,7 +1,8 @@
 //! What another process does to the files of a run: no byte that it wrote is lost.
-use crate::tests::cases;
-use crate::tests::runs::{End, calls_of, end_of, resume_on, run, run_and_fail, stopped_at, undo_on};
-use crate::tests::{holds, same};
+use crate::tests::runs::{
+    End, calls_of, end_of, resume_on, run, run_and_fail, stopped_at, undo_on,
+};
+use crate::tests::{cases, holds, same};
 use relmove_disk::{Disk, Way, disk_of, file_of};
 use relmove_run::{Ended, Fault, Remark, Stage};
 use std::alloc::Global;
@@ -99,7 +100,11 @@ fn tells_what_is_gone(rt: HostRuntime) -> Result<(), Fail> {
     let Ended::TakenBack(remarks) = undo_on(&disk) else {
         return Err(Fail::new("not taken back"));
     };
-    let is_gone = matches!(remarks.as_slice(), [Remark::Gone { .. }]);
+    // It was to come back from its new path, and then from its staging name.
+    let is_gone = matches!(
+        remarks.as_slice(),
+        [Remark::Gone { .. }, Remark::Gone { .. }]
+    );
     same("said", &is_gone, &true)?;
     holds(alloc, "taken back", &disk, &[("b", Some("bb"))])
 }

@@ -1,7 +1,6 @@
 //! A directory that a run emptied, and that can't be removed, stays.
-use crate::tests::cases;
 use crate::tests::runs::{calls_of, run_and_fail};
-use crate::tests::same;
+use crate::tests::{cases, same};
 use relmove_disk::Way;
 use relmove_run::{Ended, Remark};
 use std::test::Fail;

@@ -1,7 +1,8 @@
 //! Each call of a run fails in turn. After each fault no byte is lost, and the run can be ended and taken back.
 use crate::tests::cases::{self, Case};
 use crate::tests::runs::{
-    End, can_be_resumed, can_be_undone, end_of, is_done, loses_nothing, resume_on, run, run_and_fail,
+    End, can_be_resumed, can_be_undone, end_of, is_done, loses_nothing, resume_on, run,
+    run_and_fail,
 };
 use crate::tests::{holds, same};
 use relmove_disk::{Disk, Way, disk_of};

@@ -1,8 +1,7 @@
 //! A journal is believed only in the folder in which it was written.
-use crate::tests::cases;
 use crate::tests::refusals::gives_reason;
 use crate::tests::runs::{End, end_of, lock, resume_on, stopped_at, undo_on};
-use crate::tests::{holds, same};
+use crate::tests::{cases, holds, same};
 use relmove_disk::{Content, Disk};
 use relmove_run::{Stage, Trust, undo};
 use std::alloc::Global;

@@ -1,7 +1,6 @@
 //! Paths that the system can't have: a run is refused before it changes anything, and a run that stopped goes back.
-use crate::tests::cases;
 use crate::tests::runs::{End, end_of, lock, run};
-use crate::tests::{holds, same};
+use crate::tests::{cases, holds, same};
 use relmove_actions::{NewText, Rename, Steps};
 use relmove_disk::{Disk, DiskStore, disk_of, file_of};
 use relmove_run::{
@@ -108,8 +107,15 @@ fn asks_for_paths_that_are_too_long(rt: HostRuntime) -> Result<(), Fail> {
     let longest = path_of(alloc, 4090)?;
     let longest = longest.as_str();
     let disk = disk_of(alloc, cases::SWAP.before)?;
-    for steps in [steps_to(alloc, longest)?, steps_with_directory(alloc, longest)?] {
-        same("a path that fits", &words_of(alloc, &disk, &steps)?.as_str(), &"")?;
+    for steps in [
+        steps_to(alloc, longest)?,
+        steps_with_directory(alloc, longest)?,
+    ] {
+        same(
+            "a path that fits",
+            &words_of(alloc, &disk, &steps)?.as_str(),
+            &"",
+        )?;
     }
     let long = path_of(alloc, 4091)?;
     let long = long.as_str();
@@ -176,7 +182,9 @@ fn goes_back_from(alloc: Global, directory: &str) -> Result<(), Fail> {
     let disk = disk_of(alloc, &[(".relmove-1", Some("aa"))])?;
     let mut work = Work::new(alloc);
     let Steps {
-        apart, together, ..
+        apart,
+        together,
+        ..
     } = steps_to(alloc, format!(in alloc; "{directory}/x")?.as_str())?;
     work.staged = apart;
     work.made.push(String::from_str(alloc, directory)?)?;

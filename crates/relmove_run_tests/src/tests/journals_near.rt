@@ -1,8 +1,7 @@
 //! A journal in a directory below the root, or above it, refuses a run.
-use crate::tests::cases;
 use crate::tests::refusals::is_refused;
 use crate::tests::runs::{End, calls_of, end_of, run, run_and_fail};
-use crate::tests::{holds, same};
+use crate::tests::{cases, holds, same};
 use relmove_disk::{Content, Way, disk_of, file_of};
 use std::alloc::Global;
 use std::test::Fail;

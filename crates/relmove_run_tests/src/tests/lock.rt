@@ -1,8 +1,7 @@
 //! One process works on a root at a time.
-use crate::tests::cases;
 use crate::tests::refusals::{gives_reason, is_refused};
 use crate::tests::runs::{End, end_of, lock, resume_on, run, undo_on};
-use crate::tests::same;
+use crate::tests::{cases, same};
 use relmove_disk::disk_of;
 use std::test::Fail;
 

@@ -78,7 +78,13 @@ fn refuses(
 fn opens_no_next_journal_that_is_there(rt: HostRuntime) -> Result<(), Fail> {
     for stranger in &STRANGERS {
         let reason = "OwnName(\".relmove-journal\")";
-        refuses(rt.alloc(), "site/.relmove-journal", *stranger, reason, reason)?;
+        refuses(
+            rt.alloc(),
+            "site/.relmove-journal",
+            *stranger,
+            reason,
+            reason,
+        )?;
     }
     Ok(())
 }
@@ -97,7 +103,13 @@ fn opens_no_journal_that_is_there(rt: HostRuntime) -> Result<(), Fail> {
     let alloc = rt.alloc();
     for stranger in &STRANGERS {
         let reason = reason_of(alloc, *stranger)?;
-        refuses(alloc, "site/.relmove", *stranger, reason.as_str(), "NotAJournal")?;
+        refuses(
+            alloc,
+            "site/.relmove",
+            *stranger,
+            reason.as_str(),
+            "NotAJournal",
+        )?;
     }
     Ok(())
 }

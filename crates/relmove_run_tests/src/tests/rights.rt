@@ -1,7 +1,6 @@
 //! Owners and permissions of the files that a run makes.
-use crate::tests::cases;
 use crate::tests::runs::{End, calls_of, end_of, resume_on, run};
-use crate::tests::same;
+use crate::tests::{cases, same};
 use relmove_disk::{Disk, Way, disk_of};
 use relmove_run::{Ended, Stage};
 use std::alloc::Global;
@@ -42,7 +41,11 @@ fn is_private(disk: &Disk, group: u32) -> Result<(), Fail> {
         let (mode, _, found) = disk.rights("site/.relmove-9")?;
         same("a new text", &(found == group || mode & 0o077 == 0), &true)?;
     }
-    for path in ["site/.relmove", "site/.relmove-journal", "site/.relmove-spare"] {
+    for path in [
+        "site/.relmove",
+        "site/.relmove-journal",
+        "site/.relmove-spare",
+    ] {
         if disk.has(path)? {
             let (mode, _, _) = disk.rights(path)?;
             same(path, &mode, &0o600)?;

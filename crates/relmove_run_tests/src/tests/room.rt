@@ -1,7 +1,6 @@
 //! A run on a disk that gets full.
-use crate::tests::cases;
 use crate::tests::runs::{End, end_of, is_done, run, undo_on};
-use crate::tests::{holds, same};
+use crate::tests::{cases, holds, same};
 use relmove_disk::disk_of;
 use relmove_run::Ended;
 use std::alloc::Global;

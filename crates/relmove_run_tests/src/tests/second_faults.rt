@@ -2,9 +2,10 @@
 //! run can be ended and taken back.
 use crate::tests::cases::{self, Case};
 use crate::tests::runs::{
-    Ending, can_be_resumed, can_be_undone, loses_nothing, moments_of, run_and_fail,
+    Ending, can_be_resumed, can_be_undone, is_done, loses_nothing, moments_of, run_and_fail,
 };
 use relmove_disk::{Disk, Way};
+use relmove_run::Ended;
 use std::alloc::Global;
 use std::test::Fail;
 
@@ -17,28 +18,39 @@ struct Faults {
     way: Way,
 }
 
-// The tree after two faults, and whether the second one came before the end.
-fn disk_after(alloc: Global, case: &Case, faults: Faults) -> Result<(Disk, bool), Fail> {
+// What ended at the second of two faults, or went on after it, and the tree then.
+fn fail_twice(alloc: Global, case: &Case, faults: Faults) -> Result<(Ended, Disk), Fail> {
     let (_, disk) = run_and_fail(alloc, case, faults.first, Way::Killed)?;
     disk.fail_at(faults.second, faults.way);
-    faults.ending.on(&disk);
-    let is_within = disk.calls() >= faults.second;
-    disk.fail_at(0, Way::Refused);
-    Ok((disk, is_within))
+    let ended = faults.ending.on(&disk);
+    Ok((ended, disk))
 }
 
 // Whether a run survives two faults. Returns whether the second one came before the end.
 fn survives(alloc: Global, case: &Case, faults: Faults) -> Result<bool, Fail> {
-    let (disk, _) = disk_after(alloc, case, faults)?;
+    let (ended, disk) = fail_twice(alloc, case, faults)?;
+    let is_within = disk.calls() >= faults.second;
+    disk.fail_at(0, Way::Refused);
     loses_nothing(alloc, case, &disk)?;
+    if let Ended::Done(remarks) = &ended {
+        is_done(alloc, case, &disk, remarks)?;
+        return Ok(is_within);
+    }
     can_be_resumed(alloc, case, &disk)?;
-    let (disk, is_within) = disk_after(alloc, case, faults)?;
+    let (_, disk) = fail_twice(alloc, case, faults)?;
+    disk.fail_at(0, Way::Refused);
     can_be_undone(alloc, case, &disk)?;
     Ok(is_within)
 }
 
 // Makes each call of what ends a run fail, in this way, after a kill before a call of the run.
-fn survives_from(alloc: Global, case: &Case, first: u32, ending: Ending, way: Way) -> Result<(), Fail> {
+fn survives_from(
+    alloc: Global,
+    case: &Case,
+    first: u32,
+    ending: Ending,
+    way: Way,
+) -> Result<(), Fail> {
     for second in 1..10_000 {
         let faults = Faults {
             first,
@@ -56,7 +68,7 @@ fn survives_from(alloc: Global, case: &Case, first: u32, ending: Ending, way: Wa
 // Makes each call of what ends a run fail, after a kill at each moment.
 fn survives_second_faults(alloc: Global, case: &Case, ending: Ending) -> Result<(), Fail> {
     for first in moments_of(alloc, case)? {
-        for way in &[Way::Refused, Way::DoneAndFailed, Way::Killed] {
+        for way in &[Way::Refused, Way::DoneAndFailed] {
             survives_from(alloc, case, first, ending, *way)?;
         }
     }

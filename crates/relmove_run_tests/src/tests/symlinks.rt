@@ -1,10 +1,12 @@
 //! A run goes through no symbolic link, whenever one comes.
 use crate::tests::cases::{self, Case};
 use crate::tests::refusals::gives_reason;
-use crate::tests::runs::{End, calls_of, end_of, lock, resume_on, run, run_and_fail};
+use crate::tests::runs::{
+    End, calls_of, end_of, lock, resume_on, run, run_and_fail, stopped_at, undo_on,
+};
 use crate::tests::same;
 use relmove_actions::Rename;
-use relmove_disk::{Content, Disk, Way, disk_of, file_of};
+use relmove_disk::{Content, Disk, Place, Way, disk_of, file_of};
 use relmove_run::{Ended, Leftover, Origin, Stage, Trust, Work, journal_text, resume};
 use std::alloc::{AllocError, Global};
 use std::test::Fail;
@@ -33,51 +35,128 @@ fn goes_through_no_symlink(rt: HostRuntime) -> Result<(), Fail> {
     Ok(())
 }
 
-// A disk with a directory beside the root that has the names of a case.
-fn disk_beside(alloc: Global, case: &Case) -> Result<Disk, Fail> {
-    let disk = disk_of(alloc, case.before)?;
+// A directory in the root becomes a link to a directory outside, which has these places. That happens while a run works, or
+// while a run is taken back that was killed at this stage. Something outside changes only if it happens before one of so many
+// calls: between the last question for the directory and a change below it stand the questions for what is below the
+// directory, and the change itself.
+#[derive(Clone, Copy)]
+struct Exchange {
+    what: &'static str,
+    case: Case,
+    undone_from: Option<Stage>,
+    directory: &'static str,
+    outside: &'static [Place],
+    calls: u32,
+}
+
+const EXCHANGES: [Exchange; 6] = [
+    Exchange {
+        what: "a new text is written, and an old page is staged",
+        case: cases::PAGE_IN_A_DIRECTORY,
+        undone_from: None,
+        directory: "site/docs",
+        outside: &[("a.md", Some("outside"))],
+        calls: 3,
+    },
+    Exchange {
+        what: "a file is staged",
+        case: cases::FILE_MOVES,
+        undone_from: None,
+        directory: "site/a",
+        outside: &[("x.md", Some("outside"))],
+        calls: 2,
+    },
+    Exchange {
+        what: "a file is placed",
+        case: cases::FILE_MOVES,
+        undone_from: None,
+        directory: "site/b",
+        outside: &[("c", None)],
+        calls: 3,
+    },
+    Exchange {
+        what: "a directory is made",
+        case: cases::FILE_MOVES,
+        undone_from: None,
+        directory: "site/b",
+        outside: &[],
+        calls: 1,
+    },
+    Exchange {
+        what: "a directory is unmade",
+        case: cases::FILE_MOVES,
+        undone_from: Some(Stage::Placing),
+        directory: "site/b",
+        outside: &[("c", None)],
+        calls: 1,
+    },
+    Exchange {
+        what: "a new text is erased",
+        case: cases::PAGE_IN_A_DIRECTORY,
+        undone_from: Some(Stage::Staging),
+        directory: "site/docs",
+        outside: &[(".relmove-9", Some("[x](../../x)"))],
+        calls: 1,
+    },
+];
+
+// A disk before the exchange.
+fn disk_before(alloc: Global, exchange: Exchange) -> Result<Disk, Fail> {
+    let disk = match exchange.undone_from {
+        Some(stage) => stopped_at(alloc, &exchange.case, stage)?,
+        None => disk_of(alloc, exchange.case.before)?,
+    };
     disk.add("out", Content::Directory)?;
-    disk.add("out/c", Content::Directory)?;
-    for path in ["out/a.md", "out/b", "out/x.md"] {
-        disk.add(path, file_of(alloc, "outside")?)?;
+    for (path, text) in exchange.outside {
+        let content = match text {
+            Some(text) => file_of(alloc, text)?,
+            None => Content::Directory,
+        };
+        disk.add(format!(in alloc; "out/{path}")?.as_str(), content)?;
     }
+    disk.fail_at(0, Way::Refused);
     Ok(disk)
 }
 
-// What is in the directory beside the root, after a directory in the root became a link to it before a call of a run.
-fn exchange_before(alloc: Global, case: &Case, directory: &str, number: u32) -> Result<String, Fail> {
-    let disk = disk_beside(alloc, case)?;
-    disk.add_before(number, directory, symlink(alloc, "../out")?)?;
-    run(alloc, case, &disk)?;
-    disk.remove("site")?;
-    Ok(disk.listing()?)
+// Does what is done on a disk.
+fn work_on(alloc: Global, exchange: Exchange, disk: &Disk) -> Result<Ended, Fail> {
+    match exchange.undone_from {
+        Some(_) => Ok(undo_on(disk)),
+        None => run(alloc, &exchange.case, disk),
+    }
 }
 
-// At how many calls something changes where a link leads to which a directory is exchanged.
-fn count_windows(alloc: Global, case: &Case, directory: &str) -> Result<u32, Fail> {
-    let disk = disk_beside(alloc, case)?;
+// Whether something outside changes if the exchange comes before a call.
+fn changes_outside(alloc: Global, exchange: Exchange, number: u32) -> Result<bool, Fail> {
+    let disk = disk_before(alloc, exchange)?;
+    disk.add_before(number, exchange.directory, symlink(alloc, "../out")?)?;
+    work_on(alloc, exchange, &disk)?;
     disk.remove("site")?;
-    let before = disk.listing()?;
+    let after = disk.listing()?;
+    let disk = disk_before(alloc, exchange)?;
+    disk.remove("site")?;
+    Ok(after != disk.listing()?)
+}
+
+// Whether something outside changes only if the exchange comes before one of so many calls.
+fn changes(alloc: Global, exchange: Exchange) -> Result<(), Fail> {
+    let disk = disk_before(alloc, exchange)?;
+    work_on(alloc, exchange, &disk)?;
     let mut count = 0u32;
-    for number in 1..=calls_of(alloc, case)? {
-        if exchange_before(alloc, case, directory, number)? != before {
+    for number in 1..=disk.calls() {
+        if changes_outside(alloc, exchange, number)? {
             count = count.saturating_add(1);
         }
     }
-    Ok(count)
+    same(exchange.what, &count, &exchange.calls)
 }
 
-// Between the last question for a directory and the change there are these calls: the questions for what is below the
-// directory, and the change itself.
 #[test]
 fn asks_for_the_way_before_each_change(rt: HostRuntime) -> Result<(), Fail> {
-    let alloc = rt.alloc();
-    let in_directory = count_windows(alloc, &cases::PAGE_IN_A_DIRECTORY, "site/docs")?;
-    same("a page in the directory", &in_directory, &5)?;
-    let below = count_windows(alloc, &cases::FILE_MOVES, "site/b")?;
-    same("a new directory", &below, &4)?;
-    let above = count_windows(alloc, &cases::FILE_MOVES, "site/a")?;
-    same("an old directory", &above, &2)
+    for exchange in &EXCHANGES {
+        changes(rt.alloc(), *exchange)?;
+    }
+    Ok(())
 }
 
 // A rename.
