@@ -1,6 +1,6 @@
 -- What a caller's proof may cite, next to `OnLiterals`: where lists of components lead, and what the components of a
 -- text are. Other crates can name no other lemma module of this crate.
-use Rattle.std.proofs.Common.{◌≡◌, ◌≢◌, ◌↔◌, ℕ, ◌<◌, ◌≤◌, false, All, List, [], ◌∷◌, ◌++◌, length, map, replicate, take, ◌-◌, get_or, codes, Some, IsSome, option_and_then, inl, inr, refl, sym, ap, ◌∙◌, subst, arith, append_assoc, append-nil, take_at, length-append}
+use Rattle.std.proofs.Common.{◌≡◌, ◌≢◌, ◌↔◌, ℕ, ◌<◌, ◌≤◌, false, All, List, [], ◌∷◌, ◌++◌, length, map, replicate, take, ◌-◌, get_or, codes, Some, IsSome, IsTrue, option_and_then, inl, inr, refl, sym, ap, ◌∙◌, subst, arith, append_assoc, append-nil, take_at, length-append}
 use Rattle.std.specs.Prelude.{slice_get}
 use Rattle.std.proofs.lemmas.Bool.{cond-false}
 use Rattle.std.proofs.lemmas.List.{length-replicate}
@@ -10,7 +10,7 @@ use Rattle.relative_path.specs.Walk.{walk, IsSame, LeadsInTurn, StaysBelow}
 use Rattle.relative_path.specs.Normalizing.{AreNames, IsNormal, IsNormalForm, IsNormalTextOf, climb}
 use Rattle.relative_path.specs.Slices.{IsShortestPrefix, IsFront}
 use Rattle.relative_path.specs.Editing.{kept, pushed, unslashed}
-use Rattle.relative_path.specs.Naming.{last_name}
+use Rattle.relative_path.specs.Naming.{last_name, file_name_of, is_extension, is_plain_extension}
 use Rattle.relative_path.specs.Relating.{Leads, IsReachable, IsShortest, IsShortestText}
 use Rattle.relative_path.specs.Unix.{has_root}
 use Rattle.relative_path.proofs.ListsLemmas as lists
@@ -23,6 +23,7 @@ use Rattle.relative_path.proofs.NamingExtensionLemmas as extensions
 use Rattle.relative_path.proofs.NamingEditsLemmas as edits
 use Rattle.relative_path.proofs.NormalStepsLemmas as normal_steps
 use Rattle.relative_path.proofs.NormalStepsLemmas.{normal_unique}
+use Rattle.relative_path.proofs.NormalizingLemmas as normalizing
 use Rattle.relative_path.proofs.ClimbingLemmas.{climb_after, IsSome-walk}
 use Rattle.relative_path.proofs.RelatingLemmas as relating
 use Rattle.relative_path.proofs.OnLiterals.{relative_path_on_literals}
@@ -148,45 +149,9 @@ IsNormal-push_name = normal_steps.IsNormal-push_name
 pub IsNormal-append_left : (cs ds : List Step) → IsNormal (cs ++ ds) → IsNormal cs
 IsNormal-append_left = normal_steps.IsNormal-append_left
 
--- a normal list with one more step at its end has a normal form
-normal_push : (ds : List Step) (c : Step) → IsNormal ds
-    → (es : List Step) × IsNormal es × ((rest : List Step) → IsSame (ds ++ c ∷ rest) (es ++ rest))
-normal_push ds cur normal = (ds, normal, walks.IsSame-cur ds)
-normal_push ds (name n) normal = (
-  ds ++ name n ∷ [],
-  IsNormal-push_name ds n normal,
-  λ rest. rw (append_assoc ds (name n ∷ []) rest) (IsSame-refl (ds ++ name n ∷ rest)),
-)
-normal_push ds up normal = elim (lists.last_view ds) [
-  | inl none ↦ rw none (up ∷ [], tt, λ rest. IsSame-refl (up ∷ rest))
-  | inr (fs, c, joined) ↦ rw joined (last fs c (subst IsNormal joined normal))
-]
-  where
-    last : (fs : List Step) (c : Step) → IsNormal (fs ++ c ∷ [])
-        → (es : List Step) × IsNormal es × ((rest : List Step) → IsSame ((fs ++ c ∷ []) ++ up ∷ rest) (es ++ rest))
-    last fs cur normal = absurd (normal_steps.IsNormal-not_cur fs normal)
-    last fs up normal = (
-      (fs ++ up ∷ []) ++ up ∷ [],
-      normal_steps.IsNormal-push_up_after_up fs normal,
-      λ rest. rw (append_assoc (fs ++ up ∷ []) (up ∷ []) rest) (IsSame-refl ((fs ++ up ∷ []) ++ up ∷ rest)),
-    )
-    last fs (name n) normal = (
-      fs,
-      normal_steps.IsNormal-front fs (name n) normal,
-      λ rest. rw (append_assoc fs (name n ∷ []) (up ∷ rest)) (walks.IsSame-name_up fs rest n),
-    )
-
-normal_after : (ds cs : List Step) → IsNormal ds → (es : List Step) × IsNormal es × IsSame (ds ++ cs) es
-normal_after ds [] normal = (ds, normal, rw (append-nil ds) (IsSame-refl ds))
-normal_after ds (c ∷ cs) normal =
-    let (es, is, same) = normal_push ds c normal in
-    let (fs, is_last, same_last) = normal_after es cs is in
-    (fs, is_last, IsSame-trans (same cs) same_last)
-
 -- each list has a normal form
 pub IsNormalForm-some : (cs : List Step) → (ds : List Step) × IsNormalForm cs ds
-IsNormalForm-some cs =
-    let (ds, normal, same) = normal_after [] cs tt in (ds, record { normal = normal; same = same })
+IsNormalForm-some = normalizing.IsNormalForm-some
 
 -- ---- what the components of a text are
 
@@ -314,3 +279,23 @@ kept-name = extensions.kept-name
 -- the file name of components that spell themselves spells itself
 pub SpellsItself-last_name : (cs : List Step) (n : List ℕ) → SpellThemselves cs → last_name cs ≡ Some n → SpellsItself (name n)
 SpellsItself-last_name = edits.SpellsItself-last_name
+
+-- the file name of the normal text of a list with a file name is that file name
+pub last_name-IsNormalTextOf : {cs : List Step} {text : List ℕ} → IsNormalTextOf cs text → IsSome (last_name cs)
+    → file_name_of text ≡ last_name cs
+last_name-IsNormalTextOf normal found = normalizing.last_name-IsNormalTextOf _ _ normal found
+
+-- a plain extension can come after a dot
+pub is_extension-plain : (e : List ℕ) → IsTrue (is_plain_extension e) → IsTrue (is_extension e)
+is_extension-plain = extensions.is_extension-plain
+
+-- ---- sets of theorems that `#[tactic(auto, using(..))]` can name
+
+-- which components a text or a push has
+pub ruleset components_of_texts = (components-up, components-trailing_slash, components-pushed, unslashed-spell)
+
+-- where lists of components lead
+pub ruleset places = (walk-append, walk-names, IsSome-walk_normal, IsSame-refl, IsReachable-from_top)
+
+-- file names, and the components before them
+pub ruleset file_names = (last_name-name, kept-name, last_name-IsNormalTextOf, is_extension-plain)

@@ -1,15 +1,20 @@
 -- A text normalised one component at a time.
-use Rattle.std.proofs.Common.{◌≡◌, ℕ, ◌≤◌, List, [], ◌∷◌, ◌++◌, length, take, sym, refl, ap, ap₂, ◌∙◌, subst, append_assoc, append-nil, arith, take_at}
+use Rattle.std.proofs.Common.{◌≡◌, ℕ, ◌≤◌, List, [], ◌∷◌, ◌++◌, length, take, inl, inr, sym, refl, ap, ap₂, ◌∙◌, subst, append_assoc, append-nil, arith, take_at}
+use Rattle.std.specs.Prelude.{IsSome, is_some}
 use Rattle.relative_path.specs.Steps.{Step, cur, up, name, step_text, components, spell, SpellThemselves, SpellsItself}
 use Rattle.relative_path.specs.Walk.{IsSame}
-use Rattle.relative_path.specs.Normalizing.{IsNormal, IsNormalText, IsNormalTextOf}
+use Rattle.relative_path.specs.Normalizing.{IsNormal, IsNormalForm, IsNormalText, IsNormalTextOf}
 use Rattle.relative_path.specs.Slices.{IsShortestPrefix}
-use Rattle.relative_path.specs.Editing.{pushed, kept_len, IsPopped}
+use Rattle.relative_path.specs.Editing.{pushed, kept_len, kept, IsPopped}
+use Rattle.relative_path.specs.Naming.{last_name, file_name_of}
 use Rattle.relative_path.proofs.StepsLemmas.{components-nil, SpellThemselves-components, SpellThemselves-append_left}
 use Rattle.relative_path.proofs.SlicesLemmas.{IsPrefix, IsShortestPrefix-from, IsShortestPrefix-unique}
 use Rattle.relative_path.proofs.EditingLemmas.{components-pushed, kept_len-push, spell-pushed}
 use Rattle.relative_path.proofs.WalkLemmas.{IsSame-refl, IsSame-sym, IsSame-trans, IsSame-append_right, IsSame-cur, IsSame-name_up}
-use Rattle.relative_path.proofs.NormalStepsLemmas.{IsNormal-front, normal_unique}
+use Rattle.relative_path.proofs.NormalStepsLemmas.{IsNormal-front, IsNormal-not_cur, IsNormal-push_name, IsNormal-push_up_after_up, normal_unique}
+use Rattle.relative_path.proofs.ListsLemmas.{IsSome-value, last_view}
+use Rattle.relative_path.proofs.NamingExtensionLemmas.{last_name-name}
+use Rattle.relative_path.proofs.NamingEditsLemmas.{IsSame-last_name, last_name-append}
 use Rattle.relative_path.proofs.SpellingLemmas.{components-spell, spell_end, IsPrefix-spell, length-spell-append_le, length-spell-drop_one, length-spell-components}
 
 -- ---- one component at a time
@@ -179,3 +184,69 @@ pub components-IsNormalTextOf : (cs : List Step) (text : List ℕ) → IsNormalT
     → components text ≡ cs
 components-IsNormalTextOf cs text of normal =
     sym (normal_unique cs (components text) normal of.normal_text.normal of.same)
+
+-- ---- the normal form of a list
+
+-- a normal list with one more step at its end has a normal form
+normal_push : (ds : List Step) (c : Step) → IsNormal ds
+    → (es : List Step) × IsNormal es × ((rest : List Step) → IsSame (ds ++ c ∷ rest) (es ++ rest))
+normal_push ds cur normal = (ds, normal, IsSame-cur ds)
+normal_push ds (name n) normal = (
+  ds ++ name n ∷ [],
+  IsNormal-push_name ds n normal,
+  λ rest. rw (append_assoc ds (name n ∷ []) rest) (IsSame-refl (ds ++ name n ∷ rest)),
+)
+normal_push ds up normal = elim (last_view ds) [
+  | inl none ↦ rw none (up ∷ [], tt, λ rest. IsSame-refl (up ∷ rest))
+  | inr (fs, c, joined) ↦ rw joined (last fs c (subst IsNormal joined normal))
+]
+  where
+    last : (fs : List Step) (c : Step) → IsNormal (fs ++ c ∷ [])
+        → (es : List Step) × IsNormal es × ((rest : List Step) → IsSame ((fs ++ c ∷ []) ++ up ∷ rest) (es ++ rest))
+    last fs cur normal = absurd (IsNormal-not_cur fs normal)
+    last fs up normal = (
+      (fs ++ up ∷ []) ++ up ∷ [],
+      IsNormal-push_up_after_up fs normal,
+      λ rest. rw (append_assoc (fs ++ up ∷ []) (up ∷ []) rest) (IsSame-refl ((fs ++ up ∷ []) ++ up ∷ rest)),
+    )
+    last fs (name n) normal = (
+      fs,
+      IsNormal-front fs (name n) normal,
+      λ rest. rw (append_assoc fs (name n ∷ []) (up ∷ rest)) (IsSame-name_up fs rest n),
+    )
+
+normal_after : (ds cs : List Step) → IsNormal ds → (es : List Step) × IsNormal es × IsSame (ds ++ cs) es
+normal_after ds [] normal = (ds, normal, rw (append-nil ds) (IsSame-refl ds))
+normal_after ds (c ∷ cs) normal =
+    let (es, is, same) = normal_push ds c normal in
+    let (fs, is_last, same_last) = normal_after es cs is in
+    (fs, is_last, IsSame-trans _ _ _ (same cs) same_last)
+
+-- each list has a normal form
+pub IsNormalForm-some : (cs : List Step) → (ds : List Step) × IsNormalForm cs ds
+IsNormalForm-some cs =
+    let (ds, normal, same) = normal_after [] cs tt in (ds, record { normal = normal; same = same })
+
+-- ---- the file name of a normal form
+
+-- the normal text of a list with a file name has this file name
+pub last_name-IsNormalTextOf : (cs : List Step) (text : List ℕ) → IsNormalTextOf cs text → IsSome (last_name cs)
+    → file_name_of text ≡ last_name cs
+last_name-IsNormalTextOf cs text normal found =
+    let (n, named) = IsSome-value (last_name cs) found in
+    let (front, form) = IsNormalForm-some (kept cs) in
+    let same = IsSame-trans cs (kept cs ++ name n ∷ []) (front ++ name n ∷ []) (IsSame-last_name cs n named)
+    (IsSame-append_right (kept cs) front (name n ∷ []) form.same) in
+    let last : components text ≡ front ++ name n ∷ [] =
+    normal_unique (components text) (front ++ name n ∷ []) normal.normal_text.normal
+    (IsNormal-push_name front n form.normal)
+    (IsSame-trans (components text) cs (front ++ name n ∷ []) (IsSame-sym cs (components text) normal.same) same) in
+    ap last_name last ∙ last_name-name front n ∙ sym named
+
+-- so does the normal text of two lists, if the second has a file name
+pub last_name-IsNormalTextOf_append : (cs ds : List Step) (text : List ℕ) → IsNormalTextOf (cs ++ ds) text
+    → IsSome (last_name ds) → file_name_of text ≡ last_name ds
+last_name-IsNormalTextOf_append cs ds text normal found =
+    let (n, named) = IsSome-value (last_name ds) found in
+    let both = last_name-append cs ds n named in
+    last_name-IsNormalTextOf (cs ++ ds) text normal (ap is_some both) ∙ both ∙ sym named

@@ -10,7 +10,7 @@ ghost use Rattle.relative_path.specs.Editing.{kept, pushed};
 ghost use Rattle.relative_path.specs.Naming.{file_name_of};
 ghost use Rattle.relative_path.specs.Normalizing.{IsNormal, IsNormalText, IsNormalTextOf};
 ghost use Rattle.relative_path.specs.RelativePath.{path_text, path_components};
-ghost use Rattle.relative_path.specs.Steps.{Step, name, step_text, components, spell};
+ghost use Rattle.relative_path.specs.Steps.{Step, name, slash, step_text, components, spell};
 ghost use Rattle.relative_path.specs.Walk.{walk, IsSame, StaysBelow};
 ghost use Rattle.relative_path.specs.declared.error.WriteError.TheVariants as write_errors;
 
@@ -45,6 +45,8 @@ pub fn normalize(alloc: Global, path: RelativePath<'_>, out: &mut [u8]) -> Resul
     ensures no_longer { IfOk result (λ len. len ≤ length (path_text path.entry)) }
     ensures normal_stays { IfOk result (λ len. IsNormal (path_components path.entry)
         → components (take len out.new) ≡ path_components path.entry) }
+    ensures file_name { IfOk result (λ len. IsSome (file_name_of (path_text path.entry))
+        → file_name_of (take len out.new) ≡ file_name_of (path_text path.entry)) }
     ensures within { IfOk result (λ len. len ≤ length out.new) }
     ensures utf8 { IfOk result (λ len. IsUtf8 (take len out.new)) }
     ensures fits { length (path_text path.entry) ≤ length out.old → IsOk result }
@@ -145,6 +147,19 @@ fn append(out: &mut [u8], len: usize, text: &str) -> usize
     end
 }
 
+// Writes a slash after the first `len` bytes. Returns the length of both. `append` does the same with a call that copies,
+// which is slower.
+fn append_slash(out: &mut [u8], len: usize) -> usize
+    requires room { len < length out.old }
+    ensures text { take result out.new ≡ take len out.old ++ slash ∷ [] }
+    ensures utf8 { IsUtf8 (take len out.old) → IsUtf8 (take result out.new) }
+    ensures len { result ≡ len + 1 }
+    ensures size { length out.new ≡ length out.old }
+{
+    out[len] = b'/';
+    len + 1
+}
+
 // Pushes a path that fits onto the text in the first `len` bytes. Returns the new length.
 fn push_within(out: &mut [u8], len: usize, path: &str) -> usize
     requires within { len ≤ length out.old }
@@ -156,7 +171,7 @@ fn push_within(out: &mut [u8], len: usize, path: &str) -> usize
     ensures size { length out.new ≡ length out.old }
 {
     let separated = if needs_separator(text_of(out, len)) {
-        append(out, len, "/")
+        append_slash(out, len)
     } else {
         len
     };

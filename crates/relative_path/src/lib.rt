@@ -16,7 +16,7 @@ pub use self::component::{Component, Components, Iter};
 pub use self::error::{
     FromPathError, FromPathErrorKind, RelativeToError, RelativeToErrorKind, WriteError,
 };
-pub use self::path::{Display, RelativePath, StripPrefixError};
+pub use self::path::{Display, RelativePath, StripPrefixError, is_plain_extension};
 pub use self::unix::PathExt;
 
 mod buf;

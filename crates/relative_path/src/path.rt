@@ -519,6 +519,8 @@ impl<'a> RelativePath<'a> {
             → LeadsBelow (path_components self.entry) place (components normal.text)) }
         ensures stays_below { IfOk result (λ normal. IsSome (walk [] (path_components path.entry))
             → StaysBelow (path_components self.entry) (components normal.text)) }
+        ensures file_name { IfOk result (λ normal. IsSome (file_name_of (path_text path.entry))
+            → file_name_of normal.text ≡ file_name_of (path_text path.entry)) }
         ensures succeeds { path_components self.entry ++ path_components path.entry ≡ []
             → IsOk result }
     {
@@ -543,6 +545,8 @@ impl<'a> RelativePath<'a> {
             (λ normal. length normal.text ≤ length (path_text self.entry)) }
         ensures normal_stays { IfOk result (λ normal. IsNormal (path_components self.entry)
             → components normal.text ≡ path_components self.entry) }
+        ensures file_name { IfOk result (λ normal. IsSome (file_name_of (path_text self.entry))
+            → file_name_of normal.text ≡ file_name_of (path_text self.entry)) }
         ensures succeeds { path_components self.entry ≡ [] → IsOk result }
     {
         let normal = NormalForm::of(alloc, self.text)?;
@@ -563,6 +567,8 @@ impl<'a> RelativePath<'a> {
         requires room { length (path_text self) ≤ out.old.room }
         ensures normal_form { IsNormalTextOf (components (path_text self.entry)) out.new.text }
         ensures no_longer { length out.new.text ≤ length (path_text self.entry) }
+        ensures file_name { IsSome (file_name_of (path_text self.entry))
+            → file_name_of out.new.text ≡ file_name_of (path_text self.entry) }
         ensures room { out.old.room ≤ out.new.room }
     {
         for component in self.components() {
@@ -825,4 +831,22 @@ impl fmt::Debug for Display<'_> {
     fn fmt<W: fmt::Write>(&self, f: &mut fmt::Formatter<W>) -> fmt::Result {
         fmt::Debug::fmt(&self.path, f)
     }
+}
+
+/// Returns whether a text can be a whole extension: it isn't empty, and has neither a dot nor a
+/// slash. A path with a file name that gets such an extension has this extension, and keeps its
+/// stem. Allocates nothing.
+///
+/// ```
+/// assert!(rt; is_plain_extension("html"));
+/// assert!(rt; !is_plain_extension("tar.gz"));
+/// ```
+pub fn is_plain_extension(text: &str) -> bool
+    ensures { result ≡ is_plain_extension text.now }
+{
+    !text.is_empty()
+        && text
+            .as_bytes()
+            .iter()
+            .all(|&byte| byte != b'.' && byte != b'/')
 }

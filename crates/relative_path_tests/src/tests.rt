@@ -8,6 +8,7 @@ mod awkward;
 mod bytes;
 mod calling;
 mod comparing;
+mod copying;
 mod decompositions;
 mod editing;
 mod joining;

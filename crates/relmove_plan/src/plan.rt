@@ -26,11 +26,11 @@ use crate::order::{above_first, below_first};
 use crate::pages::{ChangedPage, changed_index, changed_pages};
 use crate::refusal::Refusal;
 use crate::renames::{Renames, add_moves, add_pages, names_between, news_between, old_index};
-use relmove_actions::Steps;
 use crate::symbolic::{LinkNotice, link_notices};
 use relative_path::RelativePath;
 use relative_path_links::{MovedSitePage, SitePage, rewrite_site};
 use relative_path_moves::{PlaceIndex, TreeMoves};
+use relmove_actions::Steps;
 use std::alloc::{AllocError, Global};
 
 /// A tree of files, and the pages among them.

@@ -17,10 +17,10 @@ ghost use Rattle.relmove_plan.specs.Directories.{LeavesTo, LeaveToNames, moves_t
 use crate::between::FreeNames;
 use crate::pages::ChangedPage;
 use crate::refusal::Refusal;
-use relmove_actions::{NewText, Rename};
 use relative_path::RelativePath;
 use relative_path_links::{MovedSitePage, SitePage};
 use relative_path_moves::{NormalPath, PlaceIndex};
+use relmove_actions::{NewText, Rename};
 use std::alloc::{AllocError, Global};
 
 // A name in between for each move.

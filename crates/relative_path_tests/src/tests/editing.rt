@@ -114,8 +114,9 @@ type Extended = (
 
 const EXTENSIONS: [&[Extended]; 2] = [&FILES, &DOTS];
 
-const FILES: [Extended; 8] = [
+const FILES: [Extended; 9] = [
     ("foo", "txt", "foo.txt", true, Some("foo.txt")),
+    ("foo.rs", "txt", "foo.txt", true, Some("foo.txt")),
     ("foo.bar", "txt", "foo.txt", true, Some("foo.txt")),
     (
         "foo.bar.baz",

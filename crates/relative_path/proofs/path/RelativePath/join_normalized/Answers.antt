@@ -1,5 +1,7 @@
 use Rattle.std.proofs.Common.{rules, ◌∙◌}
+use Rattle.relative_path.specs.RelativePath.{path_components}
 use Rattle.relative_path.proofs.NormalFormLemmas.{IsSpellableNormalForm-nil, IsNormalTextOf-spell}
+use Rattle.relative_path.proofs.NormalizingLemmas.{last_name-IsNormalTextOf_append}
 use Rattle.relative_path.proofs.WalkLemmas.{LeadsBelow-in_turn, LeadsInTurn-same, StaysBelow-in_turn}
 use Rattle.relative_path.proofs.path.RelativePath.join_normalized.Goals as goal
 
@@ -15,6 +17,11 @@ returns-clause-below c = λ place is. LeadsBelow-in_turn _ _ _ place (returns-cl
 
 pub returns-clause-stays_below : goal.returns-clause-stays_below
 returns-clause-stays_below c = StaysBelow-in_turn _ _ _ (returns-clause-in_turn c)
+
+pub returns-clause-file_name : goal.returns-clause-file_name
+returns-clause-file_name c =
+    last_name-IsNormalTextOf_append (path_components c.args.self) (path_components c.args.path) _
+    (returns-clause-normal_form c)
 
 pub returns-in_err-into_text-clause-succeeds : goal.returns-in_err-into_text-clause-succeeds
 returns-in_err-into_text-clause-succeeds c = λ none.

@@ -1,6 +1,6 @@
 use Rattle.std.proofs.Common.{rules, ◌∙◌, arith, ap, length}
 use Rattle.relative_path.specs.RelativePath.{path_text}
-use Rattle.relative_path.proofs.NormalizingLemmas.{components-IsNormalTextOf}
+use Rattle.relative_path.proofs.NormalizingLemmas.{components-IsNormalTextOf, last_name-IsNormalTextOf}
 use Rattle.relative_path.proofs.NormalFormLemmas.{IsSpellableNormalForm-nil, IsNormalTextOf-spell}
 use Rattle.relative_path.proofs.SpellingLemmas.{length-spell-components}
 use Rattle.relative_path.proofs.path.RelativePath.normalize.Goals as goal
@@ -17,6 +17,9 @@ returns-clause-no_longer c =
 
 pub returns-clause-normal_stays : goal.returns-clause-normal_stays
 returns-clause-normal_stays c = components-IsNormalTextOf _ _ (returns-clause-normal_form c)
+
+pub returns-clause-file_name : goal.returns-clause-file_name
+returns-clause-file_name c = last_name-IsNormalTextOf _ _ (returns-clause-normal_form c)
 
 pub returns-in_err-into_text-clause-succeeds : goal.returns-in_err-into_text-clause-succeeds
 returns-in_err-into_text-clause-succeeds c = λ none.

@@ -3,7 +3,7 @@ use Rattle.std.proofs.Common.{◌≡◌, ◌∷◌, ℕ, List, subst, arith}
 use Rattle.relative_path.specs.Steps.{Step, components, SpellThemselves, SpellsItself}
 use Rattle.relative_path.specs.RelativePath.{path_text}
 use Rattle.relative_path.proofs.StepsLemmas.{SpellThemselves-components}
-use Rattle.relative_path.proofs.NormalizingLemmas.{Follows, Normalizes, Normalizes-start, Normalizes-follow, Normalizes-end, pushed_fits}
+use Rattle.relative_path.proofs.NormalizingLemmas.{Follows, Normalizes, Normalizes-start, Normalizes-follow, Normalizes-end, pushed_fits, last_name-IsNormalTextOf}
 use Rattle.relative_path.proofs.path.RelativePath.normalize_into.Goals as goal
 
 pub loop-component-init : goal.loop-component-init
@@ -47,4 +47,9 @@ loop-component-preserved c =
 pub returns : goal.returns
 returns c =
     let end = Normalizes-end _ _ _ _ c.loop-component.invariant.normalizes c.in-None.ensures.steps.0 in
-    record { normal_form = end.0; no_longer = end.1; room = c.loop-component.invariant.room }
+    record {
+      normal_form = end.0;
+      no_longer = end.1;
+      file_name = last_name-IsNormalTextOf _ _ end.0;
+      room = c.loop-component.invariant.room;
+    }
