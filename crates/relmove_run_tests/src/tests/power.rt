@@ -167,11 +167,6 @@ fn survives_each_loss_while_it_ends(
 }
 
 #[test]
-fn two_files_that_swapped_stay(rt: HostRuntime) -> Result<(), Fail> {
-    survives_each_loss_while_it_ends(rt.alloc(), &cases::SWAP, Ending::Resume)
-}
-
-#[test]
 fn a_file_that_moved_into_a_directory_comes_back(rt: HostRuntime) -> Result<(), Fail> {
     survives_each_loss_while_it_ends(rt.alloc(), &cases::INTO_A_MOVED_DIRECTORY, Ending::Undo)
 }

@@ -2,10 +2,9 @@
 //! run can be ended and taken back.
 use crate::tests::cases::{self, Case};
 use crate::tests::runs::{
-    Ending, can_be_resumed, can_be_undone, is_done, loses_nothing, moments_of, run_and_fail,
+    Ending, can_be_resumed, can_be_undone, loses_nothing, moments_of, run_and_fail,
 };
 use relmove_disk::{Disk, Way};
-use relmove_run::Ended;
 use std::alloc::Global;
 use std::test::Fail;
 
@@ -18,27 +17,22 @@ struct Faults {
     way: Way,
 }
 
-// What ended at the second of two faults, or went on after it, and the tree then.
-fn fail_twice(alloc: Global, case: &Case, faults: Faults) -> Result<(Ended, Disk), Fail> {
+// The tree after two faults, and whether the second one came before the end.
+fn disk_after(alloc: Global, case: &Case, faults: Faults) -> Result<(Disk, bool), Fail> {
     let (_, disk) = run_and_fail(alloc, case, faults.first, Way::Killed)?;
     disk.fail_at(faults.second, faults.way);
-    let ended = faults.ending.on(&disk);
-    Ok((ended, disk))
+    faults.ending.on(&disk);
+    let is_within = disk.calls() >= faults.second;
+    disk.fail_at(0, Way::Refused);
+    Ok((disk, is_within))
 }
 
 // Whether a run survives two faults. Returns whether the second one came before the end.
 fn survives(alloc: Global, case: &Case, faults: Faults) -> Result<bool, Fail> {
-    let (ended, disk) = fail_twice(alloc, case, faults)?;
-    let is_within = disk.calls() >= faults.second;
-    disk.fail_at(0, Way::Refused);
+    let (disk, _) = disk_after(alloc, case, faults)?;
     loses_nothing(alloc, case, &disk)?;
-    if let Ended::Done(remarks) = &ended {
-        is_done(alloc, case, &disk, remarks)?;
-        return Ok(is_within);
-    }
     can_be_resumed(alloc, case, &disk)?;
-    let (_, disk) = fail_twice(alloc, case, faults)?;
-    disk.fail_at(0, Way::Refused);
+    let (disk, is_within) = disk_after(alloc, case, faults)?;
     can_be_undone(alloc, case, &disk)?;
     Ok(is_within)
 }
@@ -68,7 +62,7 @@ fn survives_from(
 // Makes each call of what ends a run fail, after a kill at each moment.
 fn survives_second_faults(alloc: Global, case: &Case, ending: Ending) -> Result<(), Fail> {
     for first in moments_of(alloc, case)? {
-        for way in &[Way::Refused, Way::DoneAndFailed] {
+        for way in &[Way::Refused, Way::DoneAndFailed, Way::Killed] {
             survives_from(alloc, case, first, ending, *way)?;
         }
     }
@@ -93,9 +87,4 @@ fn a_file_comes_back_from_a_directory_that_moved(rt: HostRuntime) -> Result<(), 
 #[test]
 fn a_page_changes_in_a_directory_that_moves(rt: HostRuntime) -> Result<(), Fail> {
     survives_second_faults(rt.alloc(), &cases::PAGE_IN_A_DIRECTORY, Ending::Resume)
-}
-
-#[test]
-fn a_file_moves(rt: HostRuntime) -> Result<(), Fail> {
-    survives_second_faults(rt.alloc(), &cases::FILE_MOVES, Ending::Resume)
 }
