@@ -2,7 +2,8 @@
 //! run can be ended and taken back.
 use crate::tests::cases::{self, Case};
 use crate::tests::runs::{
-    Ending, can_be_resumed, can_be_undone, loses_nothing, moments_of, run_and_fail,
+    Ending, calls_of, can_be_resumed, can_be_undone, loses_nothing, moments_of, resume_on,
+    run_and_fail,
 };
 use relmove_disk::{Disk, Way};
 use std::alloc::Global;
@@ -84,7 +85,27 @@ fn a_file_comes_back_from_a_directory_that_moved(rt: HostRuntime) -> Result<(), 
     survives_second_faults(rt.alloc(), &cases::INTO_A_MOVED_DIRECTORY, Ending::Undo)
 }
 
+// Fails a run at a call, and then its end at another one. Whether it can be ended then.
+fn survives_two(alloc: Global, case: &Case, first: u32, second: u32) -> Result<bool, Fail> {
+    let (_, disk) = run_and_fail(alloc, case, first, Way::Killed)?;
+    disk.fail_at(second, Way::Refused);
+    resume_on(&disk);
+    let is_last = disk.calls() < second;
+    disk.fail_at(0, Way::Refused);
+    loses_nothing(alloc, case, &disk)?;
+    can_be_resumed(alloc, case, &disk)?;
+    Ok(is_last)
+}
+
 #[test]
-fn a_page_changes_in_a_directory_that_moves(rt: HostRuntime) -> Result<(), Fail> {
-    survives_second_faults(rt.alloc(), &cases::PAGE_IN_A_DIRECTORY, Ending::Resume)
+fn survives_a_fault_of_its_end(rt: HostRuntime) -> Result<(), Fail> {
+    let case = &cases::PAGE_IN_A_DIRECTORY;
+    for first in 1..=calls_of(rt.alloc(), case)? {
+        for second in 1..1000 {
+            if survives_two(rt.alloc(), case, first, second)? {
+                break;
+            }
+        }
+    }
+    Ok(())
 }
