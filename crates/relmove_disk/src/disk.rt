@@ -26,6 +26,10 @@ pub struct Disk {
     size: Cell<u64>,
     // Whether the process may give a file to another user.
     pub(crate) gives_away: Cell<bool>,
+    // Whether a file can have a second name.
+    pub(crate) has_links: Cell<bool>,
+    // The permissions that a new file doesn't get.
+    mask: Cell<u32>,
     // Whether a process has the lock of a directory.
     pub(crate) is_locked: Cell<bool>,
     pub(crate) time: Cell<u64>,
@@ -44,6 +48,8 @@ impl Disk {
             surprises: RefCell::new(Vec::new(alloc)),
             size: Cell::new(u64::MAX),
             gives_away: Cell::new(false),
+            has_links: Cell::new(true),
+            mask: Cell::new(0),
             is_locked: Cell::new(false),
             time: Cell::new(0),
             printed: RefCell::new(Vec::new(alloc)),
@@ -145,6 +151,16 @@ impl Disk {
     /// Says whether the process may give files to other users.
     pub fn allow_giving(&self, is_allowed: bool) {
         self.gives_away.set(is_allowed);
+    }
+
+    /// Says whether the process can give files second names.
+    pub fn allow_links(&self, is_allowed: bool) {
+        self.has_links.set(is_allowed);
+    }
+
+    /// From now on a new file doesn't get these permissions.
+    pub fn set_mask(&self, mask: u32) {
+        self.mask.set(mask);
     }
 
     /// Gives the lock of the directories to another process, or takes it away.
@@ -289,6 +305,7 @@ impl Disk {
     pub(crate) fn make_file(&self, path: &str, mode: u32) -> io::Result<usize> {
         self.need_room(1)?;
         let content = Content::File(Vec::new(self.alloc));
+        let mode = mode & !self.mask.get();
         self.nodes.try_borrow_mut()?.make(path, content, mode)
     }
 

@@ -13,7 +13,7 @@ pub use self::calls::Way;
 pub use self::disk::Disk;
 pub use self::files::{DiskDirectory, DiskFile, DiskMachine};
 pub use self::node::Content;
-pub use self::site::{Place, below_site, disk_of};
+pub use self::site::{Place, below_site, disk_of, file_of};
 pub use self::store::{DiskStore, NewDiskFile};
 
 mod calls;

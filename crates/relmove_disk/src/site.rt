@@ -14,13 +14,18 @@ pub fn below_site(alloc: Global, path: &str) -> Result<String, AllocError> {
     Ok(full)
 }
 
+/// A file with a text.
+pub fn file_of(alloc: Global, text: &str) -> Result<Content, AllocError> {
+    Ok(Content::File(Vec::from_slice(alloc, text.as_bytes())?))
+}
+
 /// A disk with these places below `site`.
 pub fn disk_of(alloc: Global, places: &[Place]) -> io::Result<Disk> {
     let disk = Disk::new(alloc)?;
     disk.add("site", Content::Directory)?;
     for (path, text) in places {
         let content = match text {
-            Some(text) => Content::File(Vec::from_slice(alloc, text.as_bytes())?),
+            Some(text) => file_of(alloc, text)?,
             None => Content::Directory,
         };
         disk.add(below_site(alloc, path)?.as_str(), content)?;

@@ -207,6 +207,9 @@ impl Store for DiskStore<'_> {
 
     fn link(&mut self, from: &str, to: &str) -> io::Result<()> {
         let turn = self.disk.turn()?;
+        if !self.disk.has_links.get() {
+            return Err(io::Error::from(ErrorKind::Unsupported));
+        }
         let (from, to) = (self.resolve(from)?, self.resolve(to)?);
         self.disk
             .nodes

@@ -1,4 +1,5 @@
 //! A run, its end after a fault, and its undoing.
+use crate::actions::sync_directory;
 use crate::ending::{Change, Way, changes_from, stage_to_end};
 use crate::fault::{Call, Fault, at};
 use crate::journal::Journal;
@@ -299,6 +300,8 @@ fn stop<S: Store + Drop>(mut worker: Worker<S>, fault: Fault) -> Ended {
 fn open<S: Store + Drop>(locked: Locked<S>, trust: Trust) -> Result<Worker<S>, Fault> {
     let Locked(mut store) = locked;
     let (own, journal) = open_journal(&mut store, trust)?;
+    // A run may have been killed before the journal's name was on the disk. Nothing that comes now may be there without it.
+    sync_directory(&mut store, "")?;
     let Journal { stage, work, .. } = journal;
     need_ways(&mut store, &work)?;
     Ok(Worker::at(store, own, work, stage)?)

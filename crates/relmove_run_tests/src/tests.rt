@@ -4,15 +4,28 @@ use std::alloc::Global;
 use std::fmt::Debug;
 use std::test::Fail;
 
+mod arrivals;
 mod cases;
+mod changes;
+mod edits;
+mod emptied;
 mod faults;
+mod foreign_journals;
+mod impossible_paths;
 mod journal;
+mod journals_near;
+mod lock;
+mod own_names;
 mod power;
+mod reasons;
+mod rights;
+mod room;
 mod runs;
+mod second_faults;
 mod shapes;
 mod stages;
-mod strangers;
-mod surprises;
+mod symlinks;
+mod without_links;
 
 // Fails in the words of this case where another value was found than is expected. A call of it costs
 // a proof a fourth of what `assert_eq!` with a message does.

@@ -1,8 +1,9 @@
-//! The power is lost before each call of a run, and each number of changes that weren't synced is on the disk. Then the
-//! run can be ended and taken back, and no byte is lost.
+//! The power is lost before each call of a run, or of what ends it, and each number of changes that weren't synced is on
+//! the disk. Then the run can be ended and taken back, and no byte is lost.
 use crate::tests::cases::{self, Case};
 use crate::tests::runs::{
-    can_be_resumed, can_be_undone, is_done, loses_nothing, run, run_and_fail,
+    Ending, can_be_resumed, can_be_undone, is_done, loses_nothing, moments_of, names_on, run,
+    run_and_fail,
 };
 use crate::tests::same;
 use relmove_disk::{Disk, Way, disk_of};
@@ -64,6 +65,21 @@ fn a_file_moves(rt: HostRuntime) -> Result<(), Fail> {
 }
 
 #[test]
+fn a_directory_moves(rt: HostRuntime) -> Result<(), Fail> {
+    survives_each_loss(rt.alloc(), &cases::DIRECTORY_MOVES)
+}
+
+#[test]
+fn each_takes_the_place_of_the_next(rt: HostRuntime) -> Result<(), Fail> {
+    survives_each_loss(rt.alloc(), &cases::CHAIN)
+}
+
+#[test]
+fn a_page_changes(rt: HostRuntime) -> Result<(), Fail> {
+    survives_each_loss(rt.alloc(), &cases::PAGE_CHANGES)
+}
+
+#[test]
 fn two_files_swap(rt: HostRuntime) -> Result<(), Fail> {
     survives_each_loss(rt.alloc(), &cases::SWAP)
 }
@@ -81,4 +97,86 @@ fn a_page_leaves_a_directory_that_moves(rt: HostRuntime) -> Result<(), Fail> {
 #[test]
 fn a_file_moves_into_a_directory_that_moves(rt: HostRuntime) -> Result<(), Fail> {
     survives_each_loss(rt.alloc(), &cases::INTO_A_MOVED_DIRECTORY)
+}
+
+// A kill before a call of a run, and a loss of power before a call of what ends the run.
+#[derive(Clone, Copy)]
+struct Loss {
+    first: u32,
+    ending: Ending,
+    second: u32,
+}
+
+// The tree when the power is lost, and whether what ends the run has so many calls.
+fn disk_at(alloc: Global, case: &Case, loss: Loss) -> Result<(Disk, bool), Fail> {
+    let (_, disk) = run_and_fail(alloc, case, loss.first, Way::Killed)?;
+    disk.fail_at(loss.second, Way::Killed);
+    loss.ending.on(&disk);
+    let is_within = disk.calls() >= loss.second;
+    disk.fail_at(0, Way::Killed);
+    Ok((disk, is_within))
+}
+
+// Whether a run survives that the power is lost while it is ended, with each number of changes on the disk.
+fn survives_while_it_ends(alloc: Global, case: &Case, loss: Loss) -> Result<(), Fail> {
+    let (disk, _) = disk_at(alloc, case, loss)?;
+    for kept in 0..=disk.unsynced()? {
+        let (disk, _) = disk_at(alloc, case, loss)?;
+        disk.lose_power(kept)?;
+        loses_nothing(alloc, case, &disk)?;
+        can_be_resumed(alloc, case, &disk)?;
+        let (disk, _) = disk_at(alloc, case, loss)?;
+        disk.lose_power(kept)?;
+        can_be_undone(alloc, case, &disk)?;
+    }
+    Ok(())
+}
+
+// Loses the power after each change of what ends a run that was killed before a call.
+fn survives_from(alloc: Global, case: &Case, first: u32, ending: Ending) -> Result<(), Fail> {
+    let mut last = String::new(alloc);
+    for second in 1..10_000 {
+        let loss = Loss {
+            first,
+            ending,
+            second,
+        };
+        let (disk, is_within) = disk_at(alloc, case, loss)?;
+        let names = names_on(alloc, &disk)?;
+        if names != last {
+            survives_while_it_ends(alloc, case, loss)?;
+            last = names;
+        }
+        if !is_within {
+            return Ok(());
+        }
+    }
+    Err(Fail::new("no end"))
+}
+
+// Loses the power while a run is ended that was killed at each moment.
+fn survives_each_loss_while_it_ends(
+    alloc: Global,
+    case: &Case,
+    ending: Ending,
+) -> Result<(), Fail> {
+    for first in moments_of(alloc, case)? {
+        survives_from(alloc, case, first, ending)?;
+    }
+    Ok(())
+}
+
+#[test]
+fn two_files_that_swapped_stay(rt: HostRuntime) -> Result<(), Fail> {
+    survives_each_loss_while_it_ends(rt.alloc(), &cases::SWAP, Ending::Resume)
+}
+
+#[test]
+fn a_file_that_moved_into_a_directory_stays(rt: HostRuntime) -> Result<(), Fail> {
+    survives_each_loss_while_it_ends(rt.alloc(), &cases::INTO_A_MOVED_DIRECTORY, Ending::Resume)
+}
+
+#[test]
+fn a_file_that_moved_into_a_directory_comes_back(rt: HostRuntime) -> Result<(), Fail> {
+    survives_each_loss_while_it_ends(rt.alloc(), &cases::INTO_A_MOVED_DIRECTORY, Ending::Undo)
 }

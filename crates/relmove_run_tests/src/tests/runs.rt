@@ -1,7 +1,7 @@
 //! Runs on a disk, and what they leave.
 use crate::tests::cases::Case;
 use crate::tests::{holds, same};
-use relmove_disk::{Disk, DiskStore, Way, below_site, disk_of};
+use relmove_disk::{Disk, DiskStore, Way, below_site, disk_of, file_of};
 use relmove_run::{Ended, Fault, Locked, PageText, Remark, Stage, Trust, carry_out, resume, undo};
 use std::alloc::Global;
 use std::test::Fail;
@@ -80,6 +80,23 @@ pub fn undo_on(disk: &Disk) -> Ended {
     }
 }
 
+/// A call that ends a run that stopped.
+#[derive(Clone, Copy)]
+pub enum Ending {
+    Resume,
+    Undo,
+}
+
+impl Ending {
+    /// Ends the run that stopped on a disk.
+    pub fn on(self, disk: &Disk) -> Ended {
+        match self {
+            Ending::Resume => resume_on(disk),
+            Ending::Undo => undo_on(disk),
+        }
+    }
+}
+
 // The new text of a page, or the text that stays.
 fn text_after(case: &Case, path: &str, text: &'static str) -> &'static str {
     for (page, _, new) in case.texts {
@@ -141,6 +158,50 @@ pub fn run_and_fail(
     let ended = run(alloc, case, &disk)?;
     disk.fail_at(0, way);
     Ok((ended, disk))
+}
+
+/// How many calls a run makes.
+pub fn calls_of(alloc: Global, case: &Case) -> Result<u32, Fail> {
+    let disk = disk_of(alloc, case.before)?;
+    run(alloc, case, &disk)?;
+    Ok(disk.calls())
+}
+
+/// What is on a disk, without the texts of journals that are being written.
+pub fn names_on(alloc: Global, disk: &Disk) -> Result<String, Fail> {
+    for path in ["site/.relmove-journal", "site/.relmove-spare"] {
+        if disk.has(path)? {
+            disk.add(path, file_of(alloc, "")?)?;
+        }
+    }
+    Ok(disk.listing()?)
+}
+
+/// The calls of a run before which its tree isn't as before the call before, but for the texts of journals that are being
+/// written.
+pub fn moments_of(alloc: Global, case: &Case) -> Result<Vec<u32>, Fail> {
+    let mut moments = Vec::new(alloc);
+    let mut last = String::new(alloc);
+    for number in 1..=calls_of(alloc, case)? {
+        let (_, disk) = run_and_fail(alloc, case, number, Way::Killed)?;
+        let names = names_on(alloc, &disk)?;
+        if names != last {
+            moments.push(number)?;
+            last = names;
+        }
+    }
+    Ok(moments)
+}
+
+/// The tree after a run that was killed before its first call at a stage.
+pub fn stopped_at(alloc: Global, case: &Case, wanted: Stage) -> Result<Disk, Fail> {
+    for number in moments_of(alloc, case)? {
+        let (ended, disk) = run_and_fail(alloc, case, number, Way::Killed)?;
+        if end_of(&ended) == End::Stopped(wanted) {
+            return Ok(disk);
+        }
+    }
+    Err(Fail::new("no run stopped"))
 }
 
 /// Whether a disk has the tree after the moves. An emptied directory that couldn't be removed may be there too, if that

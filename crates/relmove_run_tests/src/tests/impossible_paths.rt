@@ -1,0 +1,206 @@
+//! Paths that the system can't have: a run is refused before it changes anything, and a run that stopped goes back.
+use crate::tests::runs::{End, end_of, lock, run};
+use crate::tests::{cases, holds, same};
+use relmove_actions::{NewText, Rename, Steps};
+use relmove_disk::{Disk, DiskStore, disk_of, file_of};
+use relmove_run::{
+    Ended, Fault, Origin, Stage, Trust, Work, carry_out, journal_text, need_possible, undo,
+};
+use std::alloc::{AllocError, Global};
+use std::test::Fail;
+
+// A name of so many bytes.
+fn name_of(alloc: Global, length: usize) -> Result<String, AllocError> {
+    let mut name = String::new(alloc);
+    for _ in 0..length {
+        name.push('n')?;
+    }
+    Ok(name)
+}
+
+// A path of so many bytes, whose names have at most 200.
+fn path_of(alloc: Global, length: usize) -> Result<String, AllocError> {
+    let mut path = String::new(alloc);
+    for index in 0..length {
+        path.push(if index % 201 == 200 { '/' } else { 'n' })?;
+    }
+    Ok(path)
+}
+
+// Steps that do nothing.
+fn no_steps(alloc: Global) -> Steps {
+    Steps {
+        texts: Vec::new(alloc),
+        apart: Vec::new(alloc),
+        made: Vec::new(alloc),
+        together: Vec::new(alloc),
+        removed: Vec::new(alloc),
+        emptied: Vec::new(alloc),
+    }
+}
+
+// Steps that give a file a new path.
+fn steps_to(alloc: Global, path: &str) -> Result<Steps, AllocError> {
+    let mut steps = no_steps(alloc);
+    steps.apart.push(Rename {
+        from: String::from_str(alloc, "a")?,
+        to: String::from_str(alloc, ".relmove-1")?,
+    })?;
+    steps.together.push(Rename {
+        from: String::from_str(alloc, ".relmove-1")?,
+        to: String::from_str(alloc, path)?,
+    })?;
+    Ok(steps)
+}
+
+// Steps that make a directory.
+fn steps_with_directory(alloc: Global, path: &str) -> Result<Steps, AllocError> {
+    let mut steps = no_steps(alloc);
+    steps.made.push(String::from_str(alloc, path)?)?;
+    Ok(steps)
+}
+
+// Steps that write a new text.
+fn steps_with_text(alloc: Global, path: &str) -> Result<Steps, AllocError> {
+    let mut steps = no_steps(alloc);
+    steps.texts.push(NewText {
+        page: String::from_str(alloc, "a")?,
+        file: String::from_str(alloc, path)?,
+        text: String::new(alloc),
+    })?;
+    Ok(steps)
+}
+
+// What is said of steps, or an empty text.
+fn words_of(alloc: Global, disk: &Disk, steps: &Steps) -> Result<String, Fail> {
+    let mut store = DiskStore::new(disk, "site")?;
+    match need_possible(&mut store, steps) {
+        Ok(()) => Ok(String::new(alloc)),
+        Err(fault) => Ok(format!(in alloc; "{fault}")?),
+    }
+}
+
+// Whether steps with a path are refused, since the path is too long.
+fn are_too_long(alloc: Global, path: &str) -> Result<(), Fail> {
+    let disk = disk_of(alloc, cases::SWAP.before)?;
+    let words = format!(in alloc; "{path} is too long, or a name in it is")?;
+    let found = words_of(alloc, &disk, &steps_to(alloc, path)?)?;
+    same("a new path", &found, &words)?;
+    let found = words_of(alloc, &disk, &steps_with_text(alloc, path)?)?;
+    same("a new text", &found, &words)
+}
+
+#[test]
+fn asks_for_names_that_are_too_long(rt: HostRuntime) -> Result<(), Fail> {
+    let alloc = rt.alloc();
+    let name = name_of(alloc, 256)?;
+    let name = name.as_str();
+    are_too_long(alloc, name)?;
+    are_too_long(alloc, format!(in alloc; "{name}/x")?.as_str())?;
+    are_too_long(alloc, format!(in alloc; "x/{name}/x")?.as_str())
+}
+
+// A path below ROOT has five bytes more: `site/`.
+#[test]
+fn asks_for_paths_that_are_too_long(rt: HostRuntime) -> Result<(), Fail> {
+    let alloc = rt.alloc();
+    let longest = path_of(alloc, 4090)?;
+    let longest = longest.as_str();
+    let disk = disk_of(alloc, cases::SWAP.before)?;
+    for steps in [
+        steps_to(alloc, longest)?,
+        steps_with_directory(alloc, longest)?,
+    ] {
+        same(
+            "a path that fits",
+            &words_of(alloc, &disk, &steps)?.as_str(),
+            &"",
+        )?;
+    }
+    let long = path_of(alloc, 4091)?;
+    let long = long.as_str();
+    are_too_long(alloc, long)?;
+    let found = words_of(alloc, &disk, &steps_with_directory(alloc, long)?)?;
+    let words = format!(in alloc; "{long} is too long, or a name in it is")?;
+    same("a new directory", &found, &words)
+}
+
+#[test]
+fn asks_for_directories_that_cannot_be_searched(rt: HostRuntime) -> Result<(), Fail> {
+    let alloc = rt.alloc();
+    let disk = disk_of(alloc, &[("a", Some("aa")), ("d", None), ("d/e", None)])?;
+    disk.set_mode("site/d", 0o600)?;
+    for (path, words) in [
+        ("d/x", "can't look up d/x: permission denied"),
+        ("d/e/x", "can't look up d/e: permission denied"),
+    ] {
+        let found = words_of(alloc, &disk, &steps_to(alloc, path)?)?;
+        same(path, &found.as_str(), &words)?;
+    }
+    Ok(())
+}
+
+#[test]
+fn asks_for_other_devices(rt: HostRuntime) -> Result<(), Fail> {
+    let alloc = rt.alloc();
+    let disk = disk_of(alloc, &[("a", Some("aa")), ("d", None), ("d/e", None)])?;
+    disk.set_device("site/d/e", 2)?;
+    let found = words_of(alloc, &disk, &steps_to(alloc, "d/e/x")?)?;
+    let words = "d/e is on another file system than ROOT";
+    same("a new path", &found.as_str(), &words)?;
+    disk.set_device("site/a", 2)?;
+    let found = words_of(alloc, &disk, &steps_to(alloc, "d/x")?)?;
+    let words = "a is on another file system than ROOT";
+    same("an old path", &found.as_str(), &words)
+}
+
+#[test]
+fn refuses_a_run_that_is_impossible(rt: HostRuntime) -> Result<(), Fail> {
+    let alloc = rt.alloc();
+    let disk = disk_of(alloc, cases::SWAP.before)?;
+    let before = disk.listing()?;
+    let steps = steps_to(alloc, name_of(alloc, 256)?.as_str())?;
+    let ended = carry_out(lock(&disk)?, steps, &[], &[]);
+    let is_long = matches!(&ended, Ended::Refused(Fault::TooLong(_)));
+    same("too long", &is_long, &true)?;
+    same("nothing changes", &disk.listing()?, &before)
+}
+
+// A directory that can't be listed can't be synced either.
+#[test]
+fn moves_files_of_a_directory_that_cannot_be_listed(rt: HostRuntime) -> Result<(), Fail> {
+    let alloc = rt.alloc();
+    let disk = disk_of(alloc, cases::FILE_MOVES.before)?;
+    disk.set_mode("site/a", 0o300)?;
+    let ended = run(alloc, &cases::FILE_MOVES, &disk)?;
+    same("done", &end_of(&ended), &End::Done)?;
+    holds(alloc, "done", &disk, cases::FILE_MOVES.after)
+}
+
+// Takes a run back that stopped before it could make a directory.
+fn goes_back_from(alloc: Global, directory: &str) -> Result<(), Fail> {
+    let disk = disk_of(alloc, &[(".relmove-1", Some("aa"))])?;
+    let mut work = Work::new(alloc);
+    let Steps {
+        apart,
+        together,
+        ..
+    } = steps_to(alloc, format!(in alloc; "{directory}/x")?.as_str())?;
+    work.staged = apart;
+    work.made.push(String::from_str(alloc, directory)?)?;
+    work.placed = together;
+    let origin = Origin { root: 0, file: 0 };
+    let text = journal_text(alloc, origin, Stage::Placing, &work)?;
+    disk.add("site/.relmove", file_of(alloc, text.as_str())?)?;
+    let ended = undo(lock(&disk)?, Trust::AnyFolder);
+    same(directory, &end_of(&ended), &End::TakenBack)?;
+    holds(alloc, directory, &disk, &[("a", Some("aa"))])
+}
+
+#[test]
+fn goes_back_from_what_was_never_made(rt: HostRuntime) -> Result<(), Fail> {
+    let alloc = rt.alloc();
+    goes_back_from(alloc, "d")?;
+    goes_back_from(alloc, name_of(alloc, 256)?.as_str())?;
+    goes_back_from(alloc, path_of(alloc, 4100)?.as_str())
+}

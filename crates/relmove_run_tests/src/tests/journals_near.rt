@@ -1,0 +1,68 @@
+//! A journal in a directory below the root, or above it, refuses a run.
+use crate::tests::reasons::is_refused;
+use crate::tests::runs::{End, calls_of, end_of, run, run_and_fail};
+use crate::tests::{cases, holds, same};
+use relmove_disk::{Content, Way, disk_of, file_of};
+use std::alloc::Global;
+use std::test::Fail;
+
+#[test]
+fn sees_journals_near(rt: HostRuntime) -> Result<(), Fail> {
+    let alloc = rt.alloc();
+    for (path, reason) in [
+        (".relmove", "JournalNear(\"../.relmove\")"),
+        ("site/a/.relmove", "JournalNear(\"a/.relmove\")"),
+    ] {
+        let disk = disk_of(alloc, cases::FILE_MOVES.before)?;
+        disk.add(path, file_of(alloc, "jj")?)?;
+        is_refused(alloc, &cases::FILE_MOVES, &disk, reason)?;
+    }
+    Ok(())
+}
+
+// A run puts only a regular file at the journal's name.
+#[test]
+fn passes_over_what_no_run_left_near(rt: HostRuntime) -> Result<(), Fail> {
+    let alloc = rt.alloc();
+    for path in [".relmove", "site/a/.relmove"] {
+        let disk = disk_of(alloc, cases::DIRECTORY_MOVES.before)?;
+        disk.add(path, Content::Directory)?;
+        let ended = run(alloc, &cases::DIRECTORY_MOVES, &disk)?;
+        same(path, &end_of(&ended), &End::Done)?;
+    }
+    Ok(())
+}
+
+// Puts a journal at a path before a call of a run. The run goes back.
+fn sees_journal_before(alloc: Global, path: &str, number: u32) -> Result<(), Fail> {
+    let case = &cases::FILE_MOVES;
+    let disk = disk_of(alloc, case.before)?;
+    disk.add_before(number, path, file_of(alloc, "jj")?)?;
+    same(path, &end_of(&run(alloc, case, &disk)?), &End::Refused)?;
+    same(path, &disk.is_file(path, "jj")?, &true)?;
+    disk.remove(path)?;
+    holds(alloc, path, &disk, case.before)
+}
+
+// A journal that comes before the run's own stands is seen, whether it comes before or after the first question.
+fn sees_journal_at(alloc: Global, path: &str) -> Result<(), Fail> {
+    let case = &cases::FILE_MOVES;
+    for number in 1..=calls_of(alloc, case)? {
+        let (_, disk) = run_and_fail(alloc, case, number, Way::Killed)?;
+        if disk.has("site/.relmove")? {
+            return Ok(());
+        }
+        sees_journal_before(alloc, path, number)?;
+    }
+    Err(Fail::new("no journal stood"))
+}
+
+#[test]
+fn asks_for_journals_below_again(rt: HostRuntime) -> Result<(), Fail> {
+    sees_journal_at(rt.alloc(), "site/a/.relmove")
+}
+
+#[test]
+fn asks_for_journals_above_again(rt: HostRuntime) -> Result<(), Fail> {
+    sees_journal_at(rt.alloc(), ".relmove")
+}

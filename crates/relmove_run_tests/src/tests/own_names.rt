@@ -1,0 +1,115 @@
+//! What no run left at the names of a run's own files: each call is refused, and nothing is opened or changed.
+use crate::tests::reasons::gives_reason;
+use crate::tests::runs::{resume_on, run, undo_on};
+use crate::tests::{cases, same};
+use relmove_disk::{Content, Disk, disk_of, file_of};
+use relmove_run::Fault;
+use std::alloc::{AllocError, Global};
+use std::test::Fail;
+use std::time::{Duration, SystemTime};
+
+// What a stranger puts at a name.
+#[derive(Clone, Copy, Debug, PartialEq, Eq)]
+enum Stranger {
+    // A file with another text than a run writes.
+    File,
+    // A symbolic link to a file outside the root.
+    Symlink,
+    // A second name of a file outside the root.
+    SecondName,
+    // A FIFO.
+    Fifo,
+    // A directory.
+    Directory,
+}
+
+const STRANGERS: [Stranger; 5] = [
+    Stranger::File,
+    Stranger::Symlink,
+    Stranger::SecondName,
+    Stranger::Fifo,
+    Stranger::Directory,
+];
+
+// A disk with a stranger at a path. The file outside the root begins as a journal does.
+fn disk_with(alloc: Global, path: &str, stranger: Stranger) -> Result<Disk, Fail> {
+    let disk = disk_of(alloc, cases::SWAP.before)?;
+    disk.add("o", file_of(alloc, "relmove journal 2\n")?)?;
+    match stranger {
+        Stranger::File => disk.add(path, file_of(alloc, "mine")?)?,
+        Stranger::Symlink => {
+            disk.add(path, Content::Symlink(String::from_str(alloc, "../o")?))?;
+        }
+        Stranger::SecondName => disk.add_link("o", path)?,
+        Stranger::Fifo => disk.add(path, Content::Other)?,
+        Stranger::Directory => disk.add(path, Content::Directory)?,
+    }
+    Ok(disk)
+}
+
+// The reason to refuse a run with a stranger at the journal's name. A regular file is taken for a journal.
+fn reason_of(alloc: Global, stranger: Stranger) -> Result<String, AllocError> {
+    let fault = match stranger {
+        Stranger::File | Stranger::SecondName => Fault::HasJournal {
+            written: SystemTime::UNIX_EPOCH.checked_add(Duration::from_secs(1_000_000_000)),
+        },
+        _ => Fault::OwnName(String::from_str(alloc, ".relmove")?),
+    };
+    format!(in alloc; "{fault:?}")
+}
+
+// Whether each call is refused, and changes nothing.
+fn refuses(
+    alloc: Global,
+    path: &str,
+    stranger: Stranger,
+    reason: &str,
+    reason_to_end: &str,
+) -> Result<(), Fail> {
+    let disk = disk_with(alloc, path, stranger)?;
+    let before = disk.listing()?;
+    gives_reason(alloc, &run(alloc, &cases::SWAP, &disk)?, reason)?;
+    gives_reason(alloc, &resume_on(&disk), reason_to_end)?;
+    gives_reason(alloc, &undo_on(&disk), reason_to_end)?;
+    same(path, &disk.listing()?, &before)
+}
+
+#[test]
+fn opens_no_next_journal_that_is_there(rt: HostRuntime) -> Result<(), Fail> {
+    for stranger in &STRANGERS {
+        let reason = "OwnName(\".relmove-journal\")";
+        refuses(
+            rt.alloc(),
+            "site/.relmove-journal",
+            *stranger,
+            reason,
+            reason,
+        )?;
+    }
+    Ok(())
+}
+
+#[test]
+fn opens_no_spare_journal_that_is_there(rt: HostRuntime) -> Result<(), Fail> {
+    for stranger in &STRANGERS {
+        let reason = "OwnName(\".relmove-spare\")";
+        refuses(rt.alloc(), "site/.relmove-spare", *stranger, reason, reason)?;
+    }
+    Ok(())
+}
+
+#[test]
+fn opens_no_journal_that_is_there(rt: HostRuntime) -> Result<(), Fail> {
+    let alloc = rt.alloc();
+    for stranger in &STRANGERS {
+        let reason = reason_of(alloc, *stranger)?;
+        refuses(
+            alloc,
+            "site/.relmove",
+            *stranger,
+            reason.as_str(),
+            "NotAJournal",
+        )?;
+    }
+    Ok(())
+}

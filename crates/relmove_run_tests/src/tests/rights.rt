@@ -1,0 +1,102 @@
+//! Owners and permissions of the files that a run makes.
+use crate::tests::runs::{End, calls_of, end_of, resume_on, run};
+use crate::tests::{cases, same};
+use relmove_disk::{Disk, Way, disk_of};
+use relmove_run::{Ended, Stage};
+use std::alloc::Global;
+use std::test::Fail;
+
+// Whether a page that isn't the process's own gets these rights.
+fn gets_rights(
+    alloc: Global,
+    may_give: bool,
+    before: (u32, u32, u32),
+    after: (u32, u32, u32),
+) -> Result<(), Fail> {
+    let (mode, user, group) = before;
+    let disk = disk_of(alloc, cases::PAGE_CHANGES.before)?;
+    disk.set_mode("site/a.md", mode)?;
+    disk.set_owner("site/a.md", user, group)?;
+    disk.allow_giving(may_give);
+    let ended = run(alloc, &cases::PAGE_CHANGES, &disk)?;
+    same("done", &end_of(&ended), &End::Done)?;
+    same("rights", &disk.rights("site/a.md")?, &after)
+}
+
+#[test]
+fn keeps_owners_and_permissions(rt: HostRuntime) -> Result<(), Fail> {
+    let alloc = rt.alloc();
+    gets_rights(alloc, false, (0o640, 1000, 1000), (0o640, 1000, 1000))?;
+    gets_rights(alloc, false, (0o6755, 1000, 1000), (0o6755, 1000, 1000))?;
+    gets_rights(alloc, true, (0o6755, 7, 8), (0o6755, 7, 8))?;
+    gets_rights(alloc, false, (0o6755, 7, 8), (0o755, 1000, 1000))?;
+    gets_rights(alloc, false, (0o6775, 7, 1000), (0o775, 1000, 1000))?;
+    gets_rights(alloc, false, (0o664, 1000, 8), (0o644, 1000, 1000))?;
+    gets_rights(alloc, false, (0o620, 1000, 8), (0o600, 1000, 1000))
+}
+
+// Fails if another user than its owner can read a new text that doesn't have its group, or another file of the run's own.
+fn is_private(disk: &Disk, group: u32) -> Result<(), Fail> {
+    if disk.has("site/.relmove-9")? {
+        let (mode, _, found) = disk.rights("site/.relmove-9")?;
+        same("a new text", &(found == group || mode & 0o077 == 0), &true)?;
+    }
+    for path in [
+        "site/.relmove",
+        "site/.relmove-journal",
+        "site/.relmove-spare",
+    ] {
+        if disk.has(path)? {
+            let (mode, _, _) = disk.rights(path)?;
+            same(path, &mode, &0o600)?;
+        }
+    }
+    Ok(())
+}
+
+#[test]
+fn lets_nobody_read_a_text_without_its_group(rt: HostRuntime) -> Result<(), Fail> {
+    let alloc = rt.alloc();
+    let case = &cases::PAGE_CHANGES;
+    for number in 1..=calls_of(alloc, case)? {
+        let disk = disk_of(alloc, case.before)?;
+        disk.set_mode("site/a.md", 0o664)?;
+        disk.set_owner("site/a.md", 1000, 8)?;
+        disk.allow_giving(true);
+        disk.fail_at(number, Way::Killed);
+        run(alloc, case, &disk)?;
+        is_private(&disk, 8)?;
+    }
+    Ok(())
+}
+
+// Whether a run that was killed at a call can be ended, if new files get no permissions at first.
+fn ends_without_permissions(alloc: Global, number: u32) -> Result<(), Fail> {
+    let case = &cases::PAGE_CHANGES;
+    let disk = disk_of(alloc, case.before)?;
+    disk.set_mask(0o777);
+    disk.fail_at(number, Way::Killed);
+    let is_placed = matches!(
+        &run(alloc, case, &disk)?,
+        Ended::Stopped {
+            stage: Stage::Placing | Stage::Cleaning,
+            ..
+        }
+    );
+    disk.fail_at(0, Way::Killed);
+    let end = end_of(&resume_on(&disk));
+    if is_placed {
+        same("resumed", &end, &End::Done)?;
+        same("rights", &disk.rights("site/a.md")?, &(0o644, 1000, 1000))?;
+    }
+    let is_left = disk.has("site/.relmove-journal")? || disk.has("site/.relmove")?;
+    same("own files", &is_left, &false)
+}
+
+#[test]
+fn needs_no_permissions_by_default(rt: HostRuntime) -> Result<(), Fail> {
+    for number in 1..=calls_of(rt.alloc(), &cases::PAGE_CHANGES)? {
+        ends_without_permissions(rt.alloc(), number)?;
+    }
+    Ok(())
+}

@@ -1,0 +1,111 @@
+//! A run is killed, and then each call of its end, or of its undoing, fails in turn. After both no byte is lost, and the
+//! run can be ended and taken back.
+use crate::tests::cases::{self, Case};
+use crate::tests::runs::{
+    Ending, calls_of, can_be_resumed, can_be_undone, loses_nothing, moments_of, resume_on,
+    run_and_fail,
+};
+use relmove_disk::{Disk, Way};
+use std::alloc::Global;
+use std::test::Fail;
+
+// Two faults: a kill before a call of the run, and the failure of a call of what ends it.
+#[derive(Clone, Copy)]
+struct Faults {
+    first: u32,
+    ending: Ending,
+    second: u32,
+    way: Way,
+}
+
+// The tree after two faults, and whether the second one came before the end.
+fn disk_after(alloc: Global, case: &Case, faults: Faults) -> Result<(Disk, bool), Fail> {
+    let (_, disk) = run_and_fail(alloc, case, faults.first, Way::Killed)?;
+    disk.fail_at(faults.second, faults.way);
+    faults.ending.on(&disk);
+    let is_within = disk.calls() >= faults.second;
+    disk.fail_at(0, Way::Refused);
+    Ok((disk, is_within))
+}
+
+// Whether a run survives two faults. Returns whether the second one came before the end.
+fn survives(alloc: Global, case: &Case, faults: Faults) -> Result<bool, Fail> {
+    let (disk, _) = disk_after(alloc, case, faults)?;
+    loses_nothing(alloc, case, &disk)?;
+    can_be_resumed(alloc, case, &disk)?;
+    let (disk, is_within) = disk_after(alloc, case, faults)?;
+    can_be_undone(alloc, case, &disk)?;
+    Ok(is_within)
+}
+
+// Makes each call of what ends a run fail, in this way, after a kill before a call of the run.
+fn survives_from(
+    alloc: Global,
+    case: &Case,
+    first: u32,
+    ending: Ending,
+    way: Way,
+) -> Result<(), Fail> {
+    for second in 1..10_000 {
+        let faults = Faults {
+            first,
+            ending,
+            second,
+            way,
+        };
+        if !survives(alloc, case, faults)? {
+            return Ok(());
+        }
+    }
+    Err(Fail::new("no end"))
+}
+
+// Makes each call of what ends a run fail, after a kill at each moment.
+fn survives_second_faults(alloc: Global, case: &Case, ending: Ending) -> Result<(), Fail> {
+    for first in moments_of(alloc, case)? {
+        for way in &[Way::Refused, Way::DoneAndFailed, Way::Killed] {
+            survives_from(alloc, case, first, ending, *way)?;
+        }
+    }
+    Ok(())
+}
+
+#[test]
+fn two_files_swap_back(rt: HostRuntime) -> Result<(), Fail> {
+    survives_second_faults(rt.alloc(), &cases::SWAP, Ending::Undo)
+}
+
+#[test]
+fn a_page_comes_back(rt: HostRuntime) -> Result<(), Fail> {
+    survives_second_faults(rt.alloc(), &cases::PAGE_LEAVES, Ending::Undo)
+}
+
+#[test]
+fn a_file_comes_back_from_a_directory_that_moved(rt: HostRuntime) -> Result<(), Fail> {
+    survives_second_faults(rt.alloc(), &cases::INTO_A_MOVED_DIRECTORY, Ending::Undo)
+}
+
+// Fails a run at a call, and then its end at another one. Whether it can be ended then.
+fn survives_two(alloc: Global, case: &Case, first: u32, second: u32) -> Result<bool, Fail> {
+    let (_, disk) = run_and_fail(alloc, case, first, Way::Killed)?;
+    disk.fail_at(second, Way::Refused);
+    resume_on(&disk);
+    let is_last = disk.calls() < second;
+    disk.fail_at(0, Way::Refused);
+    loses_nothing(alloc, case, &disk)?;
+    can_be_resumed(alloc, case, &disk)?;
+    Ok(is_last)
+}
+
+#[test]
+fn survives_a_fault_of_its_end(rt: HostRuntime) -> Result<(), Fail> {
+    let case = &cases::PAGE_IN_A_DIRECTORY;
+    for first in 1..=calls_of(rt.alloc(), case)? {
+        for second in 1..1000 {
+            if survives_two(rt.alloc(), case, first, second)? {
+                break;
+            }
+        }
+    }
+    Ok(())
+}

@@ -1,0 +1,62 @@
+//! A file system without second names: the first journal is renamed to its place.
+use crate::tests::cases::{self, Case};
+use crate::tests::runs::{calls_of, can_be_undone, loses_nothing, run};
+use crate::tests::{holds, same};
+use relmove_disk::{Disk, Way, disk_of, file_of};
+use relmove_run::Ended;
+use std::alloc::Global;
+use std::test::Fail;
+
+// A disk of this kind.
+fn disk_without_links(alloc: Global, case: &Case) -> Result<Disk, Fail> {
+    let disk = disk_of(alloc, case.before)?;
+    disk.allow_links(false);
+    Ok(disk)
+}
+
+#[test]
+fn survives_each_fault(rt: HostRuntime) -> Result<(), Fail> {
+    let alloc = rt.alloc();
+    let case = &cases::SWAP;
+    let disk = disk_without_links(alloc, case)?;
+    let ended = run(alloc, case, &disk)?;
+    same("done", &matches!(&ended, Ended::Done(_)), &true)?;
+    holds(alloc, "done", &disk, case.after)?;
+    for number in 1..=disk.calls() {
+        for way in &[Way::DoneAndFailed, Way::Killed] {
+            let disk = disk_without_links(alloc, case)?;
+            disk.fail_at(number, *way);
+            run(alloc, case, &disk)?;
+            disk.fail_at(0, Way::Refused);
+            loses_nothing(alloc, case, &disk)?;
+            can_be_undone(alloc, case, &disk)?;
+        }
+    }
+    Ok(())
+}
+
+// Puts another journal at the journal's name before a call of a run. Whether it stays.
+fn keeps_journal(alloc: Global, number: u32) -> Result<bool, Fail> {
+    let disk = disk_without_links(alloc, &cases::SWAP)?;
+    disk.fail_at(number, Way::Killed);
+    run(alloc, &cases::SWAP, &disk)?;
+    if disk.has("site/.relmove")? {
+        return Ok(true);
+    }
+    let disk = disk_without_links(alloc, &cases::SWAP)?;
+    disk.add_before(number, "site/.relmove", file_of(alloc, "mine")?)?;
+    run(alloc, &cases::SWAP, &disk)?;
+    Ok(disk.is_file("site/.relmove", "mine")?)
+}
+
+// Only a journal that comes between the question and the rename is replaced.
+#[test]
+fn keeps_a_journal_that_comes(rt: HostRuntime) -> Result<(), Fail> {
+    let mut replaced = 0u32;
+    for number in 1..=calls_of(rt.alloc(), &cases::SWAP)? {
+        if !keeps_journal(rt.alloc(), number)? {
+            replaced = replaced.saturating_add(1);
+        }
+    }
+    same("journals that are replaced", &replaced, &1)
+}
