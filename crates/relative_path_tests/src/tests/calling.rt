@@ -4,9 +4,9 @@ ghost use Rattle.std.specs.List.{All};
 ghost use Rattle.std.specs.Option.{option_and_then, option_map};
 ghost use Rattle.relative_path.specs.Steps.{up, name, components};
 ghost use Rattle.relative_path.specs.Walk.{walk, LeadsBelow, StaysBelow};
-ghost use Rattle.relative_path.specs.Normalizing.{IsNormal, climb};
+ghost use Rattle.relative_path.specs.Normalizing.{IsNormal, IsNormalText, climb};
 ghost use Rattle.relative_path.specs.Editing.{kept};
-ghost use Rattle.relative_path.specs.Naming.{file_name_of, stem_of, extension_of, IsBeside};
+ghost use Rattle.relative_path.specs.Naming.{file_name_of, stem_of, extension_of, is_plain_extension, IsBeside};
 ghost use Rattle.relative_path.specs.RelativePath.{path_text};
 ghost use Rattle.std.specs.Prelude.{◌++◌, ◌↔◌, IfOk, IfSome, IsNone};
 ghost use Rattle.relative_path.specs.RelativePath.{path_components};
@@ -122,6 +122,31 @@ pub fn index_of(
     }
     let index = page.with_file_name(alloc, "index.html")?;
     Ok(Some(index))
+}
+
+/// The file that a build makes of a source, below `out_dir`, in normal form. Clauses on the extension speak
+/// of an extension for which `is_plain_extension` returns true.
+#[tactic(auto, using(relative_path::proofs::ForCallers::file_names))]
+pub fn artifact(
+    alloc: Global,
+    out_dir: RelativePath<'_>,
+    source: RelativePath<'_>,
+    extension: &str,
+) -> Result<RelativePathBuf, AllocError>
+    ensures normal { IfOk result (λ file. IsNormalText file.text) }
+    ensures below { IfOk result (λ file. IsTrue (is_plain_extension extension.now)
+        → IsSome (walk [] (path_components source.entry))
+        → StaysBelow (path_components out_dir.entry) (components file.text)) }
+    ensures extension { IfOk result (λ file. IsTrue (is_plain_extension extension.now)
+        → IsSome (file_name_of (path_text source.entry))
+        → option_and_then extension_of (file_name_of file.text) ≡ Some extension.now) }
+    ensures stem { IfOk result (λ file. IsTrue (is_plain_extension extension.now)
+        → IsSome (file_name_of (path_text source.entry))
+        → option_map stem_of (file_name_of file.text)
+        ≡ option_map stem_of (file_name_of (path_text source.entry))) }
+{
+    let file = source.with_extension(alloc, extension)?;
+    out_dir.join_normalized(alloc, file.as_relative_path())
 }
 
 /// A link from the page that a build makes of `from` to the page that it makes of `to`; `None` exactly if
@@ -257,6 +282,8 @@ fn makes_pages_of_sources(rt: HostRuntime) -> Result<(), std::test::Fail> {
     )?;
     let index = index_of(alloc, RelativePath::new("guide/.."));
     super::may_give("index_of without a name", index, None)?;
+    let file = artifact(alloc, out_dir, source, "o");
+    super::gives("artifact", file, "../out/guide/a.tar.o")?;
     let way = link(alloc, out_dir, source, RelativePath::new("b.md"));
     super::may_give("link", way, Some("../b.html"))
 }
