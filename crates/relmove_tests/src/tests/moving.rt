@@ -1,7 +1,7 @@
 //! What a call that moves files prints, its status, and the tree after it.
 use crate::tests::reading::answers;
 use crate::tests::{holds, same};
-use relmove_disk::{Disk, DiskMachine, Place, Way, disk_of};
+use relmove_disk::{Content, Disk, DiskMachine, Place, Way, disk_of};
 use relmove_lib::{Status, answer};
 use relmove_run::{Ended, Locked, Machine, Trust, resume};
 use std::alloc::Global;
