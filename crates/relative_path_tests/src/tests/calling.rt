@@ -124,31 +124,6 @@ pub fn index_of(
     Ok(Some(index))
 }
 
-/// The file that a build makes of a source, below `out_dir`, in normal form. Clauses on the extension speak
-/// of an extension for which `is_plain_extension` returns true.
-#[tactic(auto, using(relative_path::proofs::ForCallers::file_names))]
-pub fn artifact(
-    alloc: Global,
-    out_dir: RelativePath<'_>,
-    source: RelativePath<'_>,
-    extension: &str,
-) -> Result<RelativePathBuf, AllocError>
-    ensures normal { IfOk result (λ file. IsNormalText file.text) }
-    ensures below { IfOk result (λ file. IsTrue (is_plain_extension extension.now)
-        → IsSome (walk [] (path_components source.entry))
-        → StaysBelow (path_components out_dir.entry) (components file.text)) }
-    ensures extension { IfOk result (λ file. IsTrue (is_plain_extension extension.now)
-        → IsSome (file_name_of (path_text source.entry))
-        → option_and_then extension_of (file_name_of file.text) ≡ Some extension.now) }
-    ensures stem { IfOk result (λ file. IsTrue (is_plain_extension extension.now)
-        → IsSome (file_name_of (path_text source.entry))
-        → option_map stem_of (file_name_of file.text)
-        ≡ option_map stem_of (file_name_of (path_text source.entry))) }
-{
-    let file = source.with_extension(alloc, extension)?;
-    out_dir.join_normalized(alloc, file.as_relative_path())
-}
-
 /// A link from the page that a build makes of `from` to the page that it makes of `to`; `None` exactly if
 /// the build makes no page of `from` or no page of `to`.
 pub fn link(
@@ -175,6 +150,31 @@ pub fn link(
         .as_relative_path()
         .try_relative(alloc, target.as_relative_path())?;
     Ok(way)
+}
+
+/// The file that a build makes of a source, below `out_dir`, in normal form. Clauses on the extension speak
+/// of an extension for which `is_plain_extension` returns true.
+#[tactic(auto, using(relative_path::proofs::ForCallers::file_names))]
+pub fn artifact(
+    alloc: Global,
+    out_dir: RelativePath<'_>,
+    source: RelativePath<'_>,
+    extension: &str,
+) -> Result<RelativePathBuf, AllocError>
+    ensures normal { IfOk result (λ file. IsNormalText file.text) }
+    ensures below { IfOk result (λ file. IsTrue (is_plain_extension extension.now)
+        → IsSome (walk [] (path_components source.entry))
+        → StaysBelow (path_components out_dir.entry) (components file.text)) }
+    ensures extension { IfOk result (λ file. IsTrue (is_plain_extension extension.now)
+        → IsSome (file_name_of (path_text source.entry))
+        → option_and_then extension_of (file_name_of file.text) ≡ Some extension.now) }
+    ensures stem { IfOk result (λ file. IsTrue (is_plain_extension extension.now)
+        → IsSome (file_name_of (path_text source.entry))
+        → option_map stem_of (file_name_of file.text)
+        ≡ option_map stem_of (file_name_of (path_text source.entry))) }
+{
+    let file = source.with_extension(alloc, extension)?;
+    out_dir.join_normalized(alloc, file.as_relative_path())
 }
 
 /// The normal form of a path. If the path leads from the top to a place other than the top, the result's
