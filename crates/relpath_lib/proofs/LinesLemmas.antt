@@ -1,44 +1,51 @@
 -- The first piece of a text that is cut at a byte: its first line, or its first field.
-use Rattle.std.proofs.Common.{◌≡◌, ◌≢◌, ℕ, ◌<◌, ◌==◌, not, false, List, [], ◌∷◌, ◌++◌, length, map, take, drop, set, get_or, Bor, Option, None, refl, sym, ap, ◌∙◌, ◌+◌, append_assoc, arith, inl, inr, eqb-true}
-use Rattle.std.proofs.lemmas.Bool.{cases_lt}
+use Rattle.std.proofs.Common.{◌≡◌, ◌≢◌, ℕ, ◌<◌, ◌==◌, Bool, true, false, List, [], ◌∷◌, ◌++◌, length, map, take, drop, set, get_or, Bor, Option, None, Some, refl, sym, ap, ◌∙◌, ◌+◌, append_assoc, arith, inl, inr, eqb-true}
+use Rattle.std.proofs.lemmas.Bool.{cases_lt, false≢true}
 use Rattle.std.proofs.lemmas.List.{length-append, length-map, map-append, take_more_set}
 use Rattle.std.proofs.lemmas.List.Elements.{All-from_get_or}
 use Rattle.std.proofs.lemmas.List.Splits.{slice_split_none, slice_split_first, length-slice_split}
-use Rattle.std.proofs.lemmas.List.Sums.{fails_before_first, passes_at_first, prefix_len-le-length}
+use Rattle.std.proofs.lemmas.List.Sums.{fails_before_first, passes_at_first}
 use Rattle.std.specs.List.{slice_split, position_or_len}
+use Rattle.memchr.specs.Find.{IsFirstByte, is_byte}
 use Rattle.relpath_lib.specs.Lines.{is_line_feed, is_tab, without_empty_last, last_line, lines_of, fields_of, fields_left}
 
--- an index that isn't the length is within the text
-pub position-inside : (text : List ℕ) (byte at : ℕ) → at ≡ position_or_len (λ b. b == byte) text
-    → at ≢ length text → at < length text
-position-inside text byte at is short =
-    let bound = prefix_len-le-length (λ b. not (b == byte)) text in
-    elim (cases_lt at (length text)) [
-      | inl inside ↦ inside
-      | inr end ↦ absurd (short (omega (arith, bound, is, end)))
+is_false : (b : Bool) → b ≢ true → b ≡ false
+is_false true other = absurd (other refl)
+is_false false other = refl
+
+-- a text in which no byte passes the test is its only piece
+pub slice_split-nowhere : (byte : ℕ) (text : List ℕ) → IsFirstByte (is_byte byte) text None
+    → slice_split (λ b. b == byte) text ≡ text ∷ []
+slice_split-nowhere byte text none =
+    slice_split_none (λ b. b == byte) text (All-from_get_or (λ b. (b == byte) ≡ false) text 0
+    (λ i l. is_false (get_or text i 0 == byte) (none i (omega arith) l)))
+
+-- the first index at which the byte is
+position-first : (byte : ℕ) (text : List ℕ) (at : ℕ) → IsFirstByte (is_byte byte) text (Some at)
+    → at ≡ position_or_len (λ b. b == byte) text
+position-first byte text at is =
+    let first = position_or_len (λ b. b == byte) text in
+    elim (cases_lt at first) [
+      | inl before ↦ absurd (false≢true (sym (fails_before_first (λ b. b == byte) text at 0 before) ∙ is.1))
+      | inr after ↦ elim (cases_lt first at) [
+        | inl earlier ↦ absurd (is.0.before first (omega arith) earlier
+            (passes_at_first (λ b. b == byte) text 0 (omega (arith, earlier, is.0.high))))
+        | inr same ↦ omega (arith, after, same)
+      ]
     ]
 
 -- the byte is at its first index
-pub position-holds : (text : List ℕ) (byte at : ℕ) → at ≡ position_or_len (λ b. b == byte) text → at < length text
+pub first-holds : (byte : ℕ) (text : List ℕ) (at : ℕ) → IsFirstByte (is_byte byte) text (Some at)
     → get_or text at 0 ≡ byte
-position-holds text byte at is inside =
-    eqb-true _ byte (ap (λ n. get_or text n 0 == byte) is
-    ∙ passes_at_first (λ b. b == byte) text 0 (omega (arith, is, inside)))
-
--- a text that doesn't have the byte is its only piece
-pub slice_split-none : (byte : ℕ) (text : List ℕ) (at : ℕ) → at ≡ position_or_len (λ b. b == byte) text
-    → at ≡ length text → slice_split (λ b. b == byte) text ≡ text ∷ []
-slice_split-none byte text at is end =
-    slice_split_none (λ b. b == byte) text (All-from_get_or (λ b. (b == byte) ≡ false) text 0
-    (λ i l. fails_before_first (λ b. b == byte) text i 0 (omega (arith, is, end, l))))
+first-holds byte text at is = eqb-true _ byte is.1
 
 -- the text before the first index of the byte is the first piece
-pub slice_split-first : (byte : ℕ) (text : List ℕ) (at : ℕ) → at ≡ position_or_len (λ b. b == byte) text
-    → at < length text
+pub slice_split-first : (byte : ℕ) (text : List ℕ) (at : ℕ) → IsFirstByte (is_byte byte) text (Some at)
     → slice_split (λ b. b == byte) text ≡ take at text ∷ slice_split (λ b. b == byte) (drop (at + 1) text)
-slice_split-first byte text at is inside =
-    slice_split_first (λ b. b == byte) text 0 (omega (arith, is, inside))
-    ∙ ap (λ n. take n text ∷ slice_split (λ b. b == byte) (drop (n + 1) text)) (sym is)
+slice_split-first byte text at is =
+    let first = position-first byte text at is in
+    slice_split_first (λ b. b == byte) text 0 (omega (arith, first, is.0.high))
+    ∙ ap (λ n. take n text ∷ slice_split (λ b. b == byte) (drop (n + 1) text)) (sym first)
 
 without_empty_last-cons : (piece : List ℕ) (pieces : List (List ℕ)) → 0 < length pieces
     → without_empty_last (piece ∷ pieces) ≡ piece ∷ without_empty_last pieces

@@ -3,7 +3,7 @@ ghost use Rattle.std.specs.Prelude.{◌≡◌, ◌<◌, ◌==◌, [], ◌∷◌,
 ghost use Rattle.std.specs.List.{slice_split};
 ghost use Rattle.relpath_lib.specs.Lines.{lines_of, fields_of, fields_left};
 
-use byte_classes::{OneByte, len_before};
+use memchr::memchr;
 
 /// How many fields of a line are read at most: one more than a command with its arguments has.
 pub const MAX_FIELDS: usize = 5;
@@ -58,9 +58,8 @@ fn cut_at(text: &str, byte: u8) -> Option<(&str, &str)>
         ≡ parts.0.now ∷ slice_split (λ b. b == byte) parts.1.now) }
     ensures shorter { IfSome result (λ parts. length parts.1.now < length text.now) }
 {
-    let at = len_before(&OneByte { byte }, text.as_bytes());
-    if at == text.len() {
+    let Some(at) = memchr(byte, text.as_bytes()) else {
         return None;
-    }
+    };
     Some((&text[..at], &text[at + 1..]))
 }
