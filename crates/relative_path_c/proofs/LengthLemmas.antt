@@ -1,17 +1,17 @@
 -- How long the texts are that the calls write, by the lengths of the texts that they read.
-use Rattle.std.proofs.Common.{◌≡◌, ◌≤◌, ◌<◌, ◌+◌, ◌-◌, ◌*◌, ℕ, zero, suc, Bool, true, false, cond, not, List, [], ◌∷◌, ◌++◌, length, map, filter, take, drop, replicate, Option, Some, None, option_and_then, option_map, bytes_eq, sym, refl, ap, ◌∙◌, subst, inl, inr, ⊎_elim, arith, append_assoc, append-nil, length-append, length-take, take-append-drop, take_at}
+use Rattle.std.proofs.Common.{◌≡◌, ◌≤◌, ◌<◌, ◌+◌, ◌-◌, ◌*◌, ℕ, zero, suc, Bool, true, false, cond, not, List, [], ◌∷◌, ◌++◌, length, map, filter, take, drop, replicate, Option, Some, None, option_and_then, option_map, bytes_eq, sym, refl, ap, ◌∙◌, subst, ⊎_elim, arith, append_assoc, append-nil, length-append, length-take, take-append-drop, take_at}
 use Rattle.std.specs.List.{slice_split, onto_first}
-use Rattle.std.proofs.lemmas.Bool.{cases_Bool, cases_lt, cond-true, cond-false, cond_both}
+use Rattle.std.proofs.lemmas.Bool.{cases_lt, cond_both}
 use Rattle.std.proofs.lemmas.List.{length-replicate, take-replicate, map_push}
 use Rattle.std.proofs.lemmas.Slice.Eq.{bytes_eq-Decides}
-use Rattle.relative_path.specs.Editing.{is_cur, without_cur_dirs}
+use Rattle.relative_path.specs.Editing.{without_cur_dirs}
 use Rattle.relative_path.specs.Normalizing.{AreNames, IsNormal, IsNormalForm, IsNormalTextOf}
 use Rattle.relative_path.specs.Relating.{Leads, IsShortest, IsShortestText, IsWayText}
 use Rattle.relative_path.specs.Steps.{Step, cur, up, name, slash, dot, is_slash, is_not_empty, pieces, step_text, classed, components, spell, slashed_len}
-use Rattle.relative_path.specs.Unix.{has_root, counted, unix_components, onto, way_to, shared_len, IsAbove, IsLogical}
+use Rattle.relative_path.specs.Unix.{has_root, counted, unix_components, onto, way_to, shared_len, IsLogical}
 use Rattle.relative_path.specs.Walk.{walk, above, IsSame}
 use Rattle.relative_path.specs.Writing.{with_piece}
-use Rattle.relative_path.proofs.ForCallers.{walk-append, walk-append_some, walk-names, walk-some, IsNormalForm-some, IsSame-append_left, IsSame-sym, IsSame-trans}
+use Rattle.relative_path.proofs.ForCallers.{walk-append, walk-append_some, walk-names, IsNormalForm-some, IsSame-append_left, IsSame-sym, IsSame-trans}
 
 -- ---- the components of a text
 
