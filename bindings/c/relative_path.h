@@ -7,7 +7,7 @@
  *
  * A part that a function hands out is a slice of the caller's own text, and lives as long as that text. A new text goes
  * into `out`, which must not overlap a text that the function reads. Nothing that a function returns has to be freed.
- * Where the sentence doesn't say how many bytes of memory always suffice, RELATIVE_PATH_NO_ROOM says how many the text needs.
+ * The sentence says how many bytes of memory always suffice; with fewer, RELATIVE_PATH_NO_ROOM may say how many the text needs.
  * Unless the status is RELATIVE_PATH_DONE, `part`, `walk`, `memory` and `out` stay as they were.
  *
  * The functions keep nothing from call to call, so threads may call them at the same time.
@@ -144,7 +144,8 @@ uint32_t relative_path_next_back(struct relative_path_walk *walk, struct relativ
 /* Writes `text` followed by `path`. `text_len + 1 + path_len` bytes always suffice. Allocates. */
 struct relative_path_written relative_path_join(const char *text, size_t text_len, const char *path, size_t path_len, char *out, size_t out_len);
 
-/* Writes the only normal path that leads where `text` and then `path` lead. Allocates. */
+/* Writes the only normal path that leads where `text` and then `path` lead. `text_len + 1 + path_len` bytes always suffice.
+   Allocates. */
 struct relative_path_written relative_path_join_normalized(const char *text, size_t text_len, const char *path, size_t path_len, char *out, size_t out_len);
 
 /* Writes the only normal path that leads where `text` leads. `text_len` bytes always suffice. May allocate. */
@@ -166,11 +167,12 @@ struct relative_path_written relative_path_set_extension(char *memory, size_t me
    `len + 1 + path_len` bytes always suffice. */
 struct relative_path_written relative_path_push(char *memory, size_t memory_len, size_t len, const char *path, size_t path_len);
 
-/* Writes the shortest path from where `text` leads to where `to` leads, or the empty path if none leads there. Allocates. */
+/* Writes the shortest path from where `text` leads to where `to` leads, or the empty path if none leads there.
+   `2 * text_len + 1 + to_len` bytes always suffice. Allocates. */
 struct relative_path_written relative_path_relative(const char *text, size_t text_len, const char *to, size_t to_len, char *out, size_t out_len);
 
 /* Writes the shortest path from where `text` leads to where `to` leads, or returns RELATIVE_PATH_ABSENT if none leads
-   there. Allocates. */
+   there. `2 * text_len + 1 + to_len` bytes always suffice. Allocates. */
 struct relative_path_written relative_path_try_relative(const char *text, size_t text_len, const char *to, size_t to_len, char *out, size_t out_len);
 
 /* ---- platform paths, under the Unix rules */
@@ -182,17 +184,18 @@ uint32_t relative_path_unix_parent_text(const char *text, size_t text_len, struc
 uint32_t relative_path_unix_view(const char *text, size_t text_len, struct relative_path_text *part);
 
 /* Writes the components of `text`, without any ".", joined by single slashes, or returns RELATIVE_PATH_NON_RELATIVE if
-   `text` begins with a slash. Allocates. */
+   `text` begins with a slash. `text_len` bytes always suffice. Allocates. */
 struct relative_path_written relative_path_unix_from_path(const char *text, size_t text_len, char *out, size_t out_len);
 
-/* Writes `base` followed by the text of each component of `text`. Allocates. */
+/* Writes `base` followed by the text of each component of `text`. `base_len + 1 + text_len` bytes always suffice.
+   Allocates. */
 struct relative_path_written relative_path_unix_to_path(const char *text, size_t text_len, const char *base, size_t base_len, char *out, size_t out_len);
 
-/* Writes the platform path where `text` leads from `base`. Allocates. */
+/* Writes the platform path where `text` leads from `base`. `base_len + 1 + text_len` bytes always suffice. Allocates. */
 struct relative_path_written relative_path_unix_to_logical_path(const char *text, size_t text_len, const char *base, size_t base_len, char *out, size_t out_len);
 
 /* Writes the relative path from `root` to `text`, or returns RELATIVE_PATH_PREFIX_MISMATCH or
-   RELATIVE_PATH_AMBIGUOUS_TRAVERSAL. Allocates. */
+   RELATIVE_PATH_AMBIGUOUS_TRAVERSAL. `2 * root_len + 1 + text_len` bytes always suffice. Allocates. */
 struct relative_path_written relative_path_unix_relative_to(const char *text, size_t text_len, const char *root, size_t root_len, char *out, size_t out_len);
 
 #ifdef __cplusplus

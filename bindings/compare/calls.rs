@@ -4,9 +4,10 @@
 //! Two calls differ by intent: borrowed `from_path` and `relative_to`. There the package has to return what the rule in
 //! docs/DIFFERENCES.md says.
 
-use std::collections::hash_map::DefaultHasher;
+#[macro_use]
+mod shared;
+
 use std::fmt::Debug;
-use std::hash::{Hash, Hasher};
 use std::path::{Component, Path};
 use std::process::ExitCode;
 
@@ -14,6 +15,7 @@ use original as theirs;
 use relative_path as ours;
 
 use ours::PathExt as _;
+use shared::{hash_of, Numbers};
 
 /// How many calls are made.
 const CALLS: u64 = 1_000_000;
@@ -36,18 +38,7 @@ const PIECES: [&str; 14] = [
     "\u{1F600}",
 ];
 
-/// A source of numbers that look random, and are the same in each run.
-struct Numbers(u64);
-
 impl Numbers {
-    /// Returns a number below a limit.
-    fn below(&mut self, limit: usize) -> usize {
-        self.0 ^= self.0 << 13;
-        self.0 ^= self.0 >> 7;
-        self.0 ^= self.0 << 17;
-        usize::try_from(self.0 >> 33).unwrap() % limit
-    }
-
     /// Returns a text of up to nine pieces, mostly with slashes between them.
     fn text(&mut self) -> String {
         let mut text = String::new();
@@ -103,12 +94,6 @@ impl Tally {
     }
 }
 
-fn hash_of(value: &(impl Hash + ?Sized)) -> u64 {
-    let mut hasher = DefaultHasher::new();
-    value.hash(&mut hasher);
-    hasher.finish()
-}
-
 /// The rule of borrowed `from_path`.
 fn viewed(text: &str) -> Result<String, String> {
     if text.starts_with('/') {
@@ -141,13 +126,37 @@ fn way(path: &str, root: &str) -> Result<String, String> {
     Ok(pieces.join("/"))
 }
 
-/// Makes the calls on one path.
-fn compare_path(tally: &mut Tally, text: &str) {
+/// Compares what both sides return.
+macro_rules! row {
+    (($tally:ident, $text:ident, $other:ident), $name:literal, |$path:ident, $to:ident| $call:expr, |$texts:ident| $timed:expr) => {
+        $tally.compare(
+            $name,
+            ($text, $other),
+            {
+                #[allow(unused_imports)]
+                use ours::{RelativePath, RelativePathBuf};
+                let ($path, $to) = (RelativePath::new($text), $other);
+                let _ = ($path, $to);
+                $call
+            },
+            {
+                #[allow(unused_imports)]
+                use theirs::{RelativePath, RelativePathBuf};
+                let ($path, $to) = (RelativePath::new($text), $other);
+                let _ = ($path, $to);
+                $call
+            },
+        );
+    };
+}
+
+/// Compares the walks over one path, and the two calls that differ by intent.
+fn compare_path(tally: &mut Tally, text: &str, other: &str) {
     let (our, their) = (
         ours::RelativePath::new(text),
         theirs::RelativePath::new(text),
     );
-    let texts = (text, "");
+    let texts = (text, other);
     tally.compare(
         "components",
         texts,
@@ -166,24 +175,6 @@ fn compare_path(tally: &mut Tally, text: &str) {
         our.iter().collect::<Vec<_>>(),
         their.iter().collect::<Vec<_>>(),
     );
-    tally.compare("parent", texts, our.parent(), their.parent());
-    tally.compare("file_name", texts, our.file_name(), their.file_name());
-    tally.compare("file_stem", texts, our.file_stem(), their.file_stem());
-    tally.compare("extension", texts, our.extension(), their.extension());
-    tally.compare(
-        "is_normalized",
-        texts,
-        our.is_normalized(),
-        their.is_normalized(),
-    );
-    tally.compare("normalize", texts, our.normalize(), their.normalize());
-    tally.compare("hash", texts, hash_of(our), hash_of(their));
-    tally.compare(
-        "from_path, owned",
-        texts,
-        ours::RelativePathBuf::from_path(text),
-        theirs::RelativePathBuf::from_path(text),
-    );
     let our_view = ours::RelativePath::from_path(text)
         .map(ToString::to_string)
         .map_err(|it| it.to_string());
@@ -191,74 +182,6 @@ fn compare_path(tally: &mut Tally, text: &str) {
         .map(ToString::to_string)
         .map_err(|it| it.to_string());
     tally.compare_with_rule("from_path", texts, [our_view, their_view, viewed(text)]);
-    let (mut our, mut their) = (our.to_owned(), their.to_owned());
-    tally.compare("pop", texts, (our.pop(), &our), (their.pop(), &their));
-}
-
-/// Makes the calls on two paths.
-fn compare_paths(tally: &mut Tally, text: &str, other: &str) {
-    let (our, their) = (
-        ours::RelativePath::new(text),
-        theirs::RelativePath::new(text),
-    );
-    let texts = (text, other);
-    tally.compare("join", texts, our.join(other), their.join(other));
-    tally.compare(
-        "join_normalized",
-        texts,
-        our.join_normalized(other),
-        their.join_normalized(other),
-    );
-    tally.compare(
-        "relative",
-        texts,
-        our.relative(other),
-        their.relative(other),
-    );
-    tally.compare(
-        "with_file_name",
-        texts,
-        our.with_file_name(other),
-        their.with_file_name(other),
-    );
-    tally.compare(
-        "with_extension",
-        texts,
-        our.with_extension(other),
-        their.with_extension(other),
-    );
-    tally.compare(
-        "starts_with",
-        texts,
-        our.starts_with(other),
-        their.starts_with(other),
-    );
-    tally.compare(
-        "ends_with",
-        texts,
-        our.ends_with(other),
-        their.ends_with(other),
-    );
-    tally.compare(
-        "strip_prefix",
-        texts,
-        our.strip_prefix(other),
-        their.strip_prefix(other),
-    );
-    tally.compare("eq", texts, our == other, their == other);
-    tally.compare(
-        "cmp",
-        texts,
-        our.partial_cmp(other),
-        their.partial_cmp(other),
-    );
-    tally.compare("to_path", texts, our.to_path(other), their.to_path(other));
-    tally.compare(
-        "to_logical_path",
-        texts,
-        our.to_logical_path(other),
-        their.to_logical_path(other),
-    );
     let our_way = Path::new(text)
         .relative_to(other)
         .map(String::from)
@@ -267,7 +190,14 @@ fn compare_paths(tally: &mut Tally, text: &str, other: &str) {
         .map(String::from)
         .map_err(|it| it.to_string());
     tally.compare_with_rule("relative_to", texts, [our_way, their_way, way(text, other)]);
-    let (mut our, mut their) = (our.to_owned(), their.to_owned());
+}
+
+/// Compares the calls that change a buffer.
+fn compare_buffers(tally: &mut Tally, text: &str, other: &str) {
+    let mut our = ours::RelativePathBuf::from(text);
+    let mut their = theirs::RelativePathBuf::from(text);
+    let texts = (text, other);
+    tally.compare("pop", texts, (our.pop(), &our), (their.pop(), &their));
     our.push(other);
     their.push(other);
     tally.compare("push", texts, &our, &their);
@@ -283,11 +213,13 @@ fn compare_paths(tally: &mut Tally, text: &str, other: &str) {
 }
 
 fn main() -> ExitCode {
-    let (mut numbers, mut tally) = (Numbers(0x9E37_79B9_7F4A_7C15), Tally::default());
+    let (mut numbers, mut tally) = (Numbers::new(), Tally::default());
     while tally.calls < CALLS {
         let (text, other) = numbers.texts();
-        compare_path(&mut tally, &text);
-        compare_paths(&mut tally, &text, &other);
+        let (text, other) = (text.as_str(), other.as_str());
+        for_each_call!(row, (tally, text, other));
+        compare_path(&mut tally, text, other);
+        compare_buffers(&mut tally, text, other);
     }
     println!(
         "{} calls; in {} of them the original crate differs by intent",

@@ -1,13 +1,15 @@
 //! Times the same calls of the package and of the original crate on the same paths, by turns, and prints a table.
 
-use std::collections::hash_map::DefaultHasher;
-use std::hash::{Hash, Hasher};
+#[macro_use]
+mod shared;
+
 use std::hint::black_box;
 use std::path::Path;
 use std::time::Instant;
 
 use original as theirs;
 use relative_path as ours;
+use shared::{hash_of, Numbers};
 
 /// How many pairs of paths a call is timed on.
 const PAIRS: usize = 100;
@@ -18,18 +20,7 @@ const TURNS: usize = 9;
 /// How long a turn takes at least, in nanoseconds.
 const TURN: u128 = 1_000_000;
 
-/// A source of numbers that look random, and are the same in each run.
-struct Numbers(u64);
-
 impl Numbers {
-    /// Returns a number below a limit.
-    fn below(&mut self, limit: usize) -> usize {
-        self.0 ^= self.0 << 13;
-        self.0 ^= self.0 >> 7;
-        self.0 ^= self.0 << 17;
-        usize::try_from(self.0 >> 33).unwrap() % limit
-    }
-
     /// Returns a path of so many bytes: names of up to eight letters, and among them some `.` and `..`.
     fn path(&mut self, len: usize) -> String {
         let mut path = String::new();
@@ -50,11 +41,26 @@ impl Numbers {
     }
 }
 
-/// Two paths, and the first one with another slash at its end.
+/// Two paths; of the first one also its parent, its file name, and the path with another slash at its end.
 struct Texts {
     path: String,
     other: String,
+    parent: String,
+    file_name: String,
     slashed: String,
+}
+
+impl Texts {
+    fn new(path: String, other: String) -> Texts {
+        let view = theirs::RelativePath::new(&path);
+        Texts {
+            parent: view.parent().map(ToString::to_string).unwrap_or_default(),
+            file_name: view.file_name().unwrap_or_default().into(),
+            slashed: format!("{path}/"),
+            path,
+            other,
+        }
+    }
 }
 
 /// Returns nanoseconds for a call of each side, the best of their turns.
@@ -80,33 +86,25 @@ fn times(all: &[Texts], ours: impl Fn(&Texts), theirs: impl Fn(&Texts)) -> [f64;
     best.map(|it| it as f64 / f64::from(rounds) / all.len() as f64)
 }
 
-fn hash_of(value: &(impl Hash + ?Sized)) -> u64 {
-    let mut hasher = DefaultHasher::new();
-    value.hash(&mut hasher);
-    hasher.finish()
-}
-
-/// Times one expression of both sides: `path` and `other` are paths in it, and `PathBuf` is the side's buffer.
+/// Times one call of both sides.
 macro_rules! row {
-    ($table:ident, $name:literal, |$path:ident, $other:ident, $Buf:ident| $call:expr) => {
+    ($table:expr, $name:literal, |$path:ident, $other:ident| $call:expr, |$texts:ident| $timed:expr) => {
         $table.add($name, |all| {
             times(
                 all,
-                |it| {
+                |$texts| {
                     #[allow(unused_imports)]
-                    use ours::{PathExt as _, RelativePath, RelativePathBuf as $Buf};
-                    let ($path, $other) =
-                        (RelativePath::new(&it.path), RelativePath::new(&it.other));
-                    let _ = ($path, $other, $Buf::new());
-                    black_box($call);
+                    use ours::{PathExt as _, RelativePath, RelativePathBuf};
+                    let ($path, $other): (_, &str) = (RelativePath::new(&$texts.path), $timed);
+                    let _ = ($path, $other);
+                    black_box(&$call);
                 },
-                |it| {
+                |$texts| {
                     #[allow(unused_imports)]
-                    use theirs::{PathExt as _, RelativePath, RelativePathBuf as $Buf};
-                    let ($path, $other) =
-                        (RelativePath::new(&it.path), RelativePath::new(&it.other));
-                    let _ = ($path, $other, $Buf::new());
-                    black_box($call);
+                    use theirs::{PathExt as _, RelativePath, RelativePathBuf};
+                    let ($path, $other): (_, &str) = (RelativePath::new(&$texts.path), $timed);
+                    let _ = ($path, $other);
+                    black_box(&$call);
                 },
             )
         });
@@ -130,17 +128,11 @@ impl Table {
 }
 
 fn main() {
-    let mut numbers = Numbers(0x9E37_79B9_7F4A_7C15);
+    let mut numbers = Numbers::new();
     let mut column = |len: fn(&mut Numbers) -> usize| -> Vec<Texts> {
         let texts = (0..PAIRS).map(|_| {
             let (first, second) = (len(&mut numbers), len(&mut numbers));
-            let (path, other) = (numbers.path(first), numbers.path(second));
-            let slashed = format!("{path}/");
-            Texts {
-                path,
-                other,
-                slashed,
-            }
+            Texts::new(numbers.path(first), numbers.path(second))
         });
         texts.collect()
     };
@@ -152,94 +144,41 @@ fn main() {
     let table = Table { columns };
     println!("| Call | 10 bytes | 20 to 60 bytes | 400 bytes |");
     println!("|---|--:|--:|--:|");
-    row!(table, "components, from the front", |path, other, Buf| path
-        .components()
-        .fold(0, |n, it| n + it.as_str().len()));
-    row!(table, "components, from the back", |path, other, Buf| path
-        .components()
-        .rev()
-        .fold(0, |n, it| n + it.as_str().len()));
-    table.add("`==`, equal but for a slash", |all| {
-        times(
-            all,
-            |it| {
-                black_box(
-                    ours::RelativePath::new(&it.path) == ours::RelativePath::new(&it.slashed),
-                );
-            },
-            |it| {
-                black_box(
-                    theirs::RelativePath::new(&it.path) == theirs::RelativePath::new(&it.slashed),
-                );
-            },
-        )
-    });
-    table.add("`cmp`, equal but for a slash", |all| {
-        times(
-            all,
-            |it| {
-                black_box(
-                    ours::RelativePath::new(&it.path).cmp(ours::RelativePath::new(&it.slashed)),
-                );
-            },
-            |it| {
-                black_box(
-                    theirs::RelativePath::new(&it.path).cmp(theirs::RelativePath::new(&it.slashed)),
-                );
-            },
-        )
-    });
     row!(
         table,
-        "`hash`, into a `DefaultHasher`",
-        |path, other, Buf| hash_of(path)
+        "components, from the front",
+        |path, other| path.components().fold(0, |n, it| n + it.as_str().len()),
+        |texts| ""
     );
-    row!(table, "`parent`", |path, other, Buf| path.parent());
-    row!(table, "`file_name`", |path, other, Buf| path.file_name());
-    row!(table, "`file_stem`", |path, other, Buf| path.file_stem());
-    row!(table, "`extension`", |path, other, Buf| path.extension());
-    row!(table, "`is_normalized`", |path, other, Buf| path
-        .is_normalized());
-    row!(table, "`starts_with`, the parent", |path, other, Buf| path
-        .starts_with(path.parent().unwrap()));
-    row!(table, "`ends_with`, the file name", |path, other, Buf| path
-        .ends_with(path.file_name().unwrap_or("")));
-    row!(table, "`strip_prefix`, the parent", |path, other, Buf| path
-        .strip_prefix(path.parent().unwrap())
-        .is_ok());
-    row!(table, "`join`", |path, other, Buf| path.join(other));
-    row!(table, "five `push`es of a name", |path, other, Buf| {
-        let mut buf = Buf::new();
-        for _ in 0..5 {
-            buf.push("name");
-        }
-        buf
-    });
-    row!(table, "`with_file_name`", |path, other, Buf| path
-        .with_file_name("name"));
-    row!(table, "`with_extension`", |path, other, Buf| path
-        .with_extension("md"));
-    row!(table, "`normalize`", |path, other, Buf| path.normalize());
-    row!(table, "`join_normalized`", |path, other, Buf| path
-        .join_normalized(other));
-    row!(table, "`relative`", |path, other, Buf| path.relative(other));
-    row!(table, "`to_path`", |path, other, Buf| path
-        .to_path(Path::new("/srv/www")));
-    row!(table, "`to_logical_path`", |path, other, Buf| path
-        .to_logical_path(Path::new("/srv/www")));
-    row!(table, "owned `from_path`", |path, other, Buf| {
-        Buf::from_path(path.as_str()).is_ok()
-    });
-    row!(table, "`relative_to`", |path, other, Buf| Path::new(
-        path.as_str()
-    )
-    .relative_to(other.as_str())
-    .is_ok());
-    let empty = || Texts {
-        path: String::new(),
-        other: String::new(),
-        slashed: String::new(),
-    };
+    row!(
+        table,
+        "components, from the back",
+        |path, other| path
+            .components()
+            .rev()
+            .fold(0, |n, it| n + it.as_str().len()),
+        |texts| ""
+    );
+    for_each_call!(row, table);
+    row!(
+        table,
+        "five `push`es of a name",
+        |path, other| {
+            let mut buf = RelativePathBuf::new();
+            for _ in 0..5 {
+                buf.push(other);
+            }
+            buf
+        },
+        |texts| "name"
+    );
+    row!(
+        table,
+        "`relative_to`",
+        |path, other| Path::new(path.as_str()).relative_to(other),
+        |texts| &texts.other
+    );
+    let empty = || Texts::new(String::new(), String::new());
     let none: Vec<Texts> = (0..PAIRS).map(|_| empty()).collect();
     let [parent, nothing] = times(
         &none,

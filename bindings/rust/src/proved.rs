@@ -21,9 +21,6 @@ use crate::{Component, RelativePath};
 
 /// The answer is there.
 const DONE: u32 = 0;
-/// The caller's memory is too short for the text.
-#[cfg(feature = "alloc")]
-const NO_ROOM: u32 = 3;
 /// An allocation failed.
 #[cfg(feature = "alloc")]
 const OUT_OF_MEMORY: u32 = 4;
@@ -296,8 +293,8 @@ fn end_without_memory(size: usize) -> ! {
     handle_alloc_error(Layout::array::<u8>(size).unwrap_or(Layout::new::<u8>()))
 }
 
-/// Returns the text that a call writes, or the call's status. If the text is longer than `room`, the call is made once
-/// more.
+/// Returns the text that a call writes, or the call's status. `room` has to be as many bytes as always suffice for the
+/// call, by its clause `suffices`.
 ///
 /// # Safety
 ///
@@ -305,20 +302,17 @@ fn end_without_memory(size: usize) -> ! {
 #[cfg(feature = "alloc")]
 unsafe fn text_of(room: usize, call: impl Fn(*mut u8, usize) -> Written) -> Result<String, u32> {
     let mut bytes = Vec::with_capacity(room);
-    loop {
-        let written = call(bytes.as_mut_ptr(), bytes.capacity());
-        match written.status {
-            DONE => {
-                // SAFETY: the call wrote that many bytes, and they are UTF-8 by the word `Writes`.
-                return Ok(unsafe {
-                    bytes.set_len(written.len);
-                    String::from_utf8_unchecked(bytes)
-                });
-            }
-            NO_ROOM => bytes.reserve_exact(written.len),
-            OUT_OF_MEMORY => end_without_memory(room),
-            status => return Err(status),
+    let written = call(bytes.as_mut_ptr(), bytes.capacity());
+    match written.status {
+        DONE => {
+            // SAFETY: the call wrote that many bytes, and they are UTF-8 by the word `Writes`.
+            Ok(unsafe {
+                bytes.set_len(written.len);
+                String::from_utf8_unchecked(bytes)
+            })
         }
+        OUT_OF_MEMORY => end_without_memory(room),
+        status => Err(status),
     }
 }
 
@@ -326,8 +320,8 @@ unsafe fn text_of(room: usize, call: impl Fn(*mut u8, usize) -> Written) -> Resu
 #[cfg(feature = "alloc")]
 const LEAST_GROWTH: usize = 64;
 
-/// Changes a text by a call that writes it anew into the same memory, with room for `more` bytes. Returns whether the call
-/// was done; otherwise the text is as it was.
+/// Changes a text by a call that writes it anew into the same memory. `more` has to be as many bytes as always suffice
+/// after the text, by the call's clause `suffices`. Returns whether the call was done; otherwise the text is as it was.
 ///
 /// # Safety
 ///
@@ -345,18 +339,15 @@ unsafe fn change(
     }
     // SAFETY: the bytes are UTF-8 again at the end, whatever the call does.
     let bytes = unsafe { text.as_mut_vec() };
-    loop {
-        let written = call(bytes.as_mut_ptr(), bytes.capacity(), bytes.len());
-        match written.status {
-            DONE => {
-                // SAFETY: the memory has a text of that many bytes, and they are UTF-8 by the word `Writes`.
-                unsafe { bytes.set_len(written.len) };
-                return true;
-            }
-            NO_ROOM => bytes.reserve(written.len - bytes.len()),
-            OUT_OF_MEMORY => end_without_memory(bytes.len() + more),
-            _ => return false,
+    let written = call(bytes.as_mut_ptr(), bytes.capacity(), bytes.len());
+    match written.status {
+        DONE => {
+            // SAFETY: the memory has a text of that many bytes, and they are UTF-8 by the word `Writes`.
+            unsafe { bytes.set_len(written.len) };
+            true
         }
+        OUT_OF_MEMORY => end_without_memory(bytes.len() + more),
+        _ => false,
     }
 }
 
@@ -470,7 +461,7 @@ pub(crate) fn join_normalized(text: &str, path: &str) -> String {
 pub(crate) fn relative(text: &str, to: &str) -> String {
     // SAFETY: the call writes a text into `out`.
     certain(unsafe {
-        text_of(text.len() + 1 + to.len(), |out, out_len| {
+        text_of(2 * text.len() + 1 + to.len(), |out, out_len| {
             relative_path_relative(
                 text.as_ptr(),
                 text.len(),
@@ -571,7 +562,7 @@ pub(crate) fn to_logical_path(text: &str, base: &str) -> String {
 pub(crate) fn relative_to(text: &str, root: &str) -> Result<String, Refusal> {
     // SAFETY: the call writes a text into `out`.
     unsafe {
-        text_of(root.len() + 1 + text.len(), |out, out_len| {
+        text_of(2 * root.len() + 1 + text.len(), |out, out_len| {
             relative_path_unix_relative_to(
                 text.as_ptr(),
                 text.len(),

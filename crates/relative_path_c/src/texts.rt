@@ -1,6 +1,6 @@
 //! Calls that write a path into the caller's memory. Unless the call is done, the memory stays as it was; with 'no room'
 //! `len` says how many bytes the path has.
-ghost use Rattle.std.specs.Prelude.{◌≡◌, ◌≢◌, ◌≤◌, ◌+◌, ◌↔◌, ◌++◌, Some, None, length, take};
+ghost use Rattle.std.specs.Prelude.{◌≡◌, ◌≢◌, ◌≤◌, ◌+◌, ◌*◌, ◌↔◌, ◌++◌, Some, None, length, take};
 ghost use Rattle.std.specs.Str.{IsUtf8};
 ghost use Rattle.relative_path.specs.Editing.{pushed};
 ghost use Rattle.relative_path.specs.Naming.{file_name_of, IsNamed, IsExtended};
@@ -38,6 +38,7 @@ pub extern "C" fn relative_path_join(
 }
 
 /// Writes the only normal path that leads where `text` and then `path` lead.
+#[tactic(auto, using(crate::proofs::LengthLemmas::length_join_normalized_le))]
 #[unsafe(no_mangle)]
 pub extern "C" fn relative_path_join_normalized(
     alloc: Global,
@@ -49,6 +50,7 @@ pub extern "C" fn relative_path_join_normalized(
         (IsNormalTextOf (components text.now ++ components path.now)) }
     ensures needs { Needs result.status result.len out.old
         (IsNormalTextOf (components text.now ++ components path.now)) }
+    ensures suffices { length text.now + 1 + length path.now ≤ length out.old → result.status ≢ no_room }
     ensures not_utf8 { (result.status ≡ not_utf8) ↔ (¬ (IsUtf8 text.now × IsUtf8 path.now)) }
     ensures kept { result.status ≢ done → out.new ≡ out.old }
     ensures status { (result.status ≤ out_of_memory) × (result.status ≢ absent) }
@@ -59,7 +61,7 @@ pub extern "C" fn relative_path_join_normalized(
     write_path(text.join_normalized(alloc, path), out)
 }
 
-/// Writes the only normal path that leads where `text` leads. Memory as long as `text` always suffices.
+/// Writes the only normal path that leads where `text` leads.
 #[unsafe(no_mangle)]
 pub extern "C" fn relative_path_normalize(alloc: Global, text: &[u8], out: &mut [u8]) -> Written
     ensures normal_form { Writes result.status result.len out.new (IsNormalTextOf (components text.now)) }
@@ -187,6 +189,7 @@ pub extern "C" fn relative_path_push(memory: &mut [u8], len: usize, path: &[u8])
 }
 
 /// Writes the shortest path from where `text` leads to where `to` leads, or the empty path if none leads there.
+#[tactic(auto, using(crate::proofs::LengthLemmas::length_way_le))]
 #[unsafe(no_mangle)]
 pub extern "C" fn relative_path_relative(
     alloc: Global,
@@ -198,6 +201,7 @@ pub extern "C" fn relative_path_relative(
         (IsWayText (components text.now) (components to.now)) }
     ensures needs { Needs result.status result.len out.old
         (IsWayText (components text.now) (components to.now)) }
+    ensures suffices { 2 * length text.now + 1 + length to.now ≤ length out.old → result.status ≢ no_room }
     ensures not_utf8 { (result.status ≡ not_utf8) ↔ (¬ (IsUtf8 text.now × IsUtf8 to.now)) }
     ensures kept { result.status ≢ done → out.new ≡ out.old }
     ensures status { (result.status ≤ out_of_memory) × (result.status ≢ absent) }
@@ -209,6 +213,7 @@ pub extern "C" fn relative_path_relative(
 }
 
 /// Writes the shortest path from where `text` leads to where `to` leads. The status is 'absent' if none leads there.
+#[tactic(auto, using(crate::proofs::LengthLemmas::length_shortest_le))]
 #[unsafe(no_mangle)]
 pub extern "C" fn relative_path_try_relative(
     alloc: Global,
@@ -220,6 +225,7 @@ pub extern "C" fn relative_path_try_relative(
         (IsShortestText (components text.now) (components to.now)) }
     ensures needs { Needs result.status result.len out.old
         (IsShortestText (components text.now) (components to.now)) }
+    ensures suffices { 2 * length text.now + 1 + length to.now ≤ length out.old → result.status ≢ no_room }
     ensures absent { result.status ≡ absent → ¬ IsReachable (components text.now) (components to.now) }
     ensures not_utf8 { (result.status ≡ not_utf8) ↔ (¬ (IsUtf8 text.now × IsUtf8 to.now)) }
     ensures kept { result.status ≢ done → out.new ≡ out.old }

@@ -1,5 +1,5 @@
 //! Calls on platform paths under the Unix rules: the module `unix` of `relative_path`.
-ghost use Rattle.std.specs.Prelude.{◌≡◌, ◌≢◌, ◌≤◌, ◌⊎◌, ◌↔◌, IsTrue, List, Some, None};
+ghost use Rattle.std.specs.Prelude.{◌≡◌, ◌≢◌, ◌≤◌, ◌+◌, ◌*◌, ◌⊎◌, ◌↔◌, IsTrue, List, Some, None, length};
 ghost use Rattle.std.specs.Str.{IsUtf8};
 ghost use Rattle.relative_path.specs.Editing.{without_cur_dirs};
 ghost use Rattle.relative_path.specs.Steps.{Step, components, spell};
@@ -65,6 +65,7 @@ fn from_path_status(kind: FromPathErrorKind) -> u32
 
 /// Writes the components of `text`, without any `.`, joined by single slashes. The status is 'non-relative' if `text`
 /// begins with a slash.
+#[tactic(auto, using(crate::proofs::LengthLemmas::length_from_path_le))]
 #[unsafe(no_mangle)]
 pub extern "C" fn relative_path_unix_from_path(
     alloc: Global,
@@ -75,6 +76,7 @@ pub extern "C" fn relative_path_unix_from_path(
         (λ path. path ≡ spell (without_cur_dirs (unix_components text.now))) }
     ensures needs { Needs result.status result.len out.old
         (λ path. path ≡ spell (without_cur_dirs (unix_components text.now))) }
+    ensures suffices { length text.now ≤ length out.old → result.status ≢ no_room }
     ensures non_relative { (result.status ≡ non_relative)
         ↔ (IsUtf8 text.now × IsTrue (has_root text.now)) }
     ensures not_utf8 { (result.status ≡ not_utf8) ↔ (¬ IsUtf8 text.now) }
@@ -91,6 +93,7 @@ pub extern "C" fn relative_path_unix_from_path(
 }
 
 /// Writes `base` followed by the text of each component of `text`.
+#[tactic(auto, using(crate::proofs::LengthLemmas::length_onto_le))]
 #[unsafe(no_mangle)]
 pub extern "C" fn relative_path_unix_to_path(
     alloc: Global,
@@ -102,6 +105,7 @@ pub extern "C" fn relative_path_unix_to_path(
         (λ path. path ≡ onto base.now (components text.now)) }
     ensures needs { Needs result.status result.len out.old
         (λ path. path ≡ onto base.now (components text.now)) }
+    ensures suffices { length base.now + 1 + length text.now ≤ length out.old → result.status ≢ no_room }
     ensures not_utf8 { (result.status ≡ not_utf8) ↔ (¬ (IsUtf8 text.now × IsUtf8 base.now)) }
     ensures kept { result.status ≢ done → out.new ≡ out.old }
     ensures status { (result.status ≤ out_of_memory) × (result.status ≢ absent) }
@@ -113,6 +117,7 @@ pub extern "C" fn relative_path_unix_to_path(
 }
 
 /// Writes the platform path where `text` leads from `base`.
+#[tactic(auto, using(crate::proofs::LengthLemmas::length_logical_le))]
 #[unsafe(no_mangle)]
 pub extern "C" fn relative_path_unix_to_logical_path(
     alloc: Global,
@@ -122,6 +127,7 @@ pub extern "C" fn relative_path_unix_to_logical_path(
 ) -> Written
     ensures path { Writes result.status result.len out.new (IsLogical base.now (components text.now)) }
     ensures needs { Needs result.status result.len out.old (IsLogical base.now (components text.now)) }
+    ensures suffices { length base.now + 1 + length text.now ≤ length out.old → result.status ≢ no_room }
     ensures not_utf8 { (result.status ≡ not_utf8) ↔ (¬ (IsUtf8 text.now × IsUtf8 base.now)) }
     ensures kept { result.status ≢ done → out.new ≡ out.old }
     ensures status { (result.status ≤ out_of_memory) × (result.status ≢ absent) }
@@ -148,6 +154,7 @@ fn relative_to_status(kind: RelativeToErrorKind) -> u32
 
 /// Writes the relative path from `root` to `text`. The status is 'prefix mismatch' if only one of the two begins with a
 /// slash, and 'ambiguous traversal' if the rest of `root` climbs above what both begin with.
+#[tactic(auto, using(crate::proofs::LengthLemmas::length_way_to_le))]
 #[unsafe(no_mangle)]
 pub extern "C" fn relative_path_unix_relative_to(
     alloc: Global,
@@ -159,6 +166,7 @@ pub extern "C" fn relative_path_unix_relative_to(
         (λ path. (way : List Step) × (way_to text.now root.now ≡ Some way) × (path ≡ spell way)) }
     ensures needs { Needs result.status result.len out.old
         (λ path. (way : List Step) × (way_to text.now root.now ≡ Some way) × (path ≡ spell way)) }
+    ensures suffices { 2 * length root.now + 1 + length text.now ≤ length out.old → result.status ≢ no_room }
     ensures prefix_mismatch { result.status ≡ prefix_mismatch → has_root text.now ≢ has_root root.now }
     ensures ambiguous_traversal { result.status ≡ ambiguous_traversal
         → (has_root text.now ≡ has_root root.now) × (way_to text.now root.now ≡ None) }
