@@ -373,7 +373,8 @@ fn gives_no_path_that_is_too_long(rt: HostRuntime) -> Result<(), Fail> {
     answers(alloc, &disk, &words, expected)?;
     answers(alloc, &disk, &words[1..], expected)?;
     same("nothing changes", &disk.listing()?, &before)?;
-    let words = ["--write", "site", "d", &long[1..]];
+    let longest = letters(alloc, 'n', 95)?;
+    let words = ["--write", "site", "d", longest.as_str()];
     let printed = "0 pages changed, 1 directory moved.\n";
     answers(alloc, &disk, &words, (Status::Kept, printed, ""))
 }
