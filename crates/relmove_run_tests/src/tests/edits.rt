@@ -1,5 +1,7 @@
 //! What another process does to the files of a run: no byte that it wrote is lost.
-use crate::tests::runs::{End, calls_of, end_of, run, run_and_fail, undo_on};
+use crate::tests::runs::{
+    End, calls_of, end_of, resume_on, run, run_and_fail, stopped_at, undo_on,
+};
 use crate::tests::{cases, holds, same};
 use relmove_disk::{Disk, Way, disk_of, file_of};
 use relmove_run::{Ended, Fault, Remark, Stage};
@@ -79,4 +81,30 @@ fn keeps_a_new_text_that_is_edited(rt: HostRuntime) -> Result<(), Fail> {
         keeps_edit_in_undo(rt.alloc(), number)?;
     }
     Ok(())
+}
+
+#[test]
+fn tells_what_is_gone(rt: HostRuntime) -> Result<(), Fail> {
+    let alloc = rt.alloc();
+    let disk = stopped_at(alloc, &cases::SWAP, Stage::Making)?;
+    disk.remove("site/.relmove-1")?;
+    let ended = resume_on(&disk);
+    let is_missing = matches!(
+        &ended,
+        Ended::Stopped {
+            fault: Fault::Missing(_),
+            ..
+        }
+    );
+    same("missing", &is_missing, &true)?;
+    let Ended::TakenBack(remarks) = undo_on(&disk) else {
+        return Err(Fail::new("not taken back"));
+    };
+    // It was to come back from its new path, and then from its staging name.
+    let is_gone = matches!(
+        remarks.as_slice(),
+        [Remark::Gone { .. }, Remark::Gone { .. }]
+    );
+    same("said", &is_gone, &true)?;
+    holds(alloc, "taken back", &disk, &[("b", Some("bb"))])
 }

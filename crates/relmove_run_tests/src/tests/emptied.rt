@@ -1,8 +1,8 @@
-//! A directory that a run emptied, and that can't be removed, stays.
-use crate::tests::runs::{calls_of, run_and_fail};
+//! A directory that a run emptied stays if it can't be removed, or if something came to it.
+use crate::tests::runs::{calls_of, resume_on, run_and_fail, stopped_at};
 use crate::tests::{cases, same};
-use relmove_disk::Way;
-use relmove_run::{Ended, Remark};
+use relmove_disk::{Way, file_of};
+use relmove_run::{Ended, Remark, Stage};
 use std::test::Fail;
 
 #[test]
@@ -20,4 +20,15 @@ fn leaves_a_directory_that_cannot_be_removed(rt: HostRuntime) -> Result<(), Fail
         }
     }
     same("a directory stays", &(refused > 0), &true)
+}
+
+#[test]
+fn leaves_a_directory_to_which_a_file_came(rt: HostRuntime) -> Result<(), Fail> {
+    let disk = stopped_at(rt.alloc(), &cases::FILE_MOVES, Stage::Cleaning)?;
+    disk.add("site/a/n", file_of(rt.alloc(), "mine")?)?;
+    let Ended::Done(remarks) = resume_on(&disk) else {
+        return Err(Fail::new("not done"));
+    };
+    same("nothing to say", &remarks.len(), &0)?;
+    same("it stays", &disk.is_file("site/a/n", "mine")?, &true)
 }

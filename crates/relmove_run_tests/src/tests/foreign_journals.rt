@@ -28,6 +28,32 @@ fn believes_no_copy_of_a_journal(rt: HostRuntime) -> Result<(), Fail> {
     is_foreign(alloc, "a copy of the journal", &disk)
 }
 
+// The journal's file is moved, so it keeps its inode. The directory is another one.
+#[test]
+fn believes_no_journal_of_another_directory(rt: HostRuntime) -> Result<(), Fail> {
+    let alloc = rt.alloc();
+    let disk = stopped_at(alloc, &cases::SWAP, Stage::Placing)?;
+    disk.add("copy", Content::Directory)?;
+    for name in [".relmove", ".relmove-spare", ".relmove-1", ".relmove-2"] {
+        let from = format!(in alloc; "site/{name}")?;
+        let to = format!(in alloc; "copy/{name}")?;
+        if disk.has(from.as_str())? {
+            disk.add_link(from.as_str(), to.as_str())?;
+        }
+    }
+    disk.remove("site")?;
+    disk.add("site", Content::Directory)?;
+    for name in [".relmove", ".relmove-spare", ".relmove-1", ".relmove-2"] {
+        let from = format!(in alloc; "copy/{name}")?;
+        let to = format!(in alloc; "site/{name}")?;
+        if disk.has(from.as_str())? {
+            disk.add_link(from.as_str(), to.as_str())?;
+        }
+    }
+    disk.remove("copy")?;
+    is_foreign(alloc, "another directory", &disk)
+}
+
 #[test]
 fn believes_no_journal_with_another_name(rt: HostRuntime) -> Result<(), Fail> {
     let alloc = rt.alloc();

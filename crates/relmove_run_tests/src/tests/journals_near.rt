@@ -2,7 +2,8 @@
 use crate::tests::reasons::is_refused;
 use crate::tests::runs::{End, calls_of, end_of, run, run_and_fail};
 use crate::tests::{cases, holds, same};
-use relmove_disk::{Content, Way, disk_of, file_of};
+use relmove_disk::{Content, DiskStore, Way, disk_of, file_of};
+use relmove_run::need_no_journal_near;
 use std::alloc::Global;
 use std::test::Fail;
 
@@ -18,6 +19,18 @@ fn sees_journals_near(rt: HostRuntime) -> Result<(), Fail> {
         is_refused(alloc, &cases::FILE_MOVES, &disk, reason)?;
     }
     Ok(())
+}
+
+#[test]
+fn sees_journals_far_above(rt: HostRuntime) -> Result<(), Fail> {
+    let alloc = rt.alloc();
+    let disk = disk_of(alloc, &[("a", None), ("a/b", None)])?;
+    disk.add(".relmove", file_of(alloc, "jj")?)?;
+    let mut store = DiskStore::new(&disk, "site/a/b")?;
+    let asked = need_no_journal_near(&mut store, &[]);
+    let found = format!(in alloc; "{asked:?}")?;
+    let expected = "Err(JournalNear(\"../../../.relmove\"))";
+    same("far above", &found.as_str(), &expected)
 }
 
 // A run puts only a regular file at the journal's name.

@@ -2,8 +2,8 @@
 //! the disk. Then the run can be ended and taken back, and no byte is lost.
 use crate::tests::cases::{self, Case};
 use crate::tests::runs::{
-    Ending, can_be_resumed, can_be_undone, is_done, loses_nothing, moments_of, names_on, run,
-    run_and_fail,
+    Ending, calls_of, can_be_resumed, can_be_undone, is_done, loses_nothing, moments_of, names_on,
+    run, run_and_fail,
 };
 use crate::tests::same;
 use relmove_disk::{Disk, Way, disk_of};
@@ -97,6 +97,28 @@ fn a_page_leaves_a_directory_that_moves(rt: HostRuntime) -> Result<(), Fail> {
 #[test]
 fn a_file_moves_into_a_directory_that_moves(rt: HostRuntime) -> Result<(), Fail> {
     survives_each_loss(rt.alloc(), &cases::INTO_A_MOVED_DIRECTORY)
+}
+
+// A call of a run fails, and the power is lost after the run ended or stopped.
+fn survives_after_fault(alloc: Global, case: &Case, number: u32) -> Result<(), Fail> {
+    let (_, disk) = run_and_fail(alloc, case, number, Way::Refused)?;
+    for kept in 0..=disk.unsynced()? {
+        let (_, disk) = run_and_fail(alloc, case, number, Way::Refused)?;
+        disk.lose_power(kept)?;
+        loses_nothing(alloc, case, &disk)?;
+        can_be_undone(alloc, case, &disk)?;
+    }
+    Ok(())
+}
+
+// A sync that fails isn't passed over.
+#[test]
+fn a_page_leaves_after_a_fault(rt: HostRuntime) -> Result<(), Fail> {
+    let case = &cases::PAGE_LEAVES;
+    for number in 1..=calls_of(rt.alloc(), case)? {
+        survives_after_fault(rt.alloc(), case, number)?;
+    }
+    Ok(())
 }
 
 // A kill before a call of a run, and a loss of power before a call of what ends the run.

@@ -195,7 +195,7 @@ pub fn moments_of(alloc: Global, case: &Case) -> Result<Vec<u32>, Fail> {
 
 /// The tree after a run that was killed before its first call at a stage.
 pub fn stopped_at(alloc: Global, case: &Case, wanted: Stage) -> Result<Disk, Fail> {
-    for number in moments_of(alloc, case)? {
+    for number in 1..=calls_of(alloc, case)? {
         let (ended, disk) = run_and_fail(alloc, case, number, Way::Killed)?;
         if end_of(&ended) == End::Stopped(wanted) {
             return Ok(disk);

@@ -1,9 +1,12 @@
 //! A run goes through no symbolic link, whenever one comes.
+use crate::tests::cases::{self, Case};
 use crate::tests::reasons::gives_reason;
-use crate::tests::runs::{End, calls_of, end_of, lock, resume_on, run_and_fail};
-use crate::tests::{cases, same};
+use crate::tests::runs::{
+    End, calls_of, end_of, lock, resume_on, run, run_and_fail, stopped_at, undo_on,
+};
+use crate::tests::same;
 use relmove_actions::Rename;
-use relmove_disk::{Content, Disk, Way, disk_of, file_of};
+use relmove_disk::{Content, Disk, Place, Way, disk_of, file_of};
 use relmove_run::{Ended, Leftover, Origin, Stage, Trust, Work, journal_text, resume};
 use std::alloc::{AllocError, Global};
 use std::test::Fail;
@@ -28,6 +31,130 @@ fn goes_through_no_symlink(rt: HostRuntime) -> Result<(), Fail> {
             same(case.name, &matches!(&ended, Ended::Done(_)), &false)?;
             same("outside", &disk.has("out/c/z.md")?, &false)?;
         }
+    }
+    Ok(())
+}
+
+// A directory in the root becomes a link to a directory outside, which has these places. That happens while a run works, or
+// while a run is taken back that was killed at this stage. Something outside changes only if it happens before one of so many
+// calls: between the last question for the directory and a change below it stand the questions for what is below the
+// directory, and the change itself.
+#[derive(Clone, Copy)]
+struct Exchange {
+    what: &'static str,
+    case: Case,
+    undone_from: Option<Stage>,
+    directory: &'static str,
+    outside: &'static [Place],
+    calls: u32,
+}
+
+const EXCHANGES: [Exchange; 6] = [
+    Exchange {
+        what: "a new text is written, and an old page is staged",
+        case: cases::PAGE_IN_A_DIRECTORY,
+        undone_from: None,
+        directory: "site/docs",
+        outside: &[("a.md", Some("outside"))],
+        calls: 3,
+    },
+    Exchange {
+        what: "a file is staged",
+        case: cases::FILE_MOVES,
+        undone_from: None,
+        directory: "site/a",
+        outside: &[("x.md", Some("outside"))],
+        calls: 2,
+    },
+    Exchange {
+        what: "a file is placed",
+        case: cases::FILE_MOVES,
+        undone_from: None,
+        directory: "site/b",
+        outside: &[("c", None)],
+        calls: 3,
+    },
+    Exchange {
+        what: "a directory is made",
+        case: cases::FILE_MOVES,
+        undone_from: None,
+        directory: "site/b",
+        outside: &[],
+        calls: 1,
+    },
+    Exchange {
+        what: "a directory is unmade",
+        case: cases::FILE_MOVES,
+        undone_from: Some(Stage::Placing),
+        directory: "site/b",
+        outside: &[("c", None)],
+        calls: 1,
+    },
+    Exchange {
+        what: "a new text is erased",
+        case: cases::PAGE_IN_A_DIRECTORY,
+        undone_from: Some(Stage::Staging),
+        directory: "site/docs",
+        outside: &[(".relmove-9", Some("[x](../../x)"))],
+        calls: 1,
+    },
+];
+
+// A disk before the exchange.
+fn disk_before(alloc: Global, exchange: Exchange) -> Result<Disk, Fail> {
+    let disk = match exchange.undone_from {
+        Some(stage) => stopped_at(alloc, &exchange.case, stage)?,
+        None => disk_of(alloc, exchange.case.before)?,
+    };
+    disk.add("out", Content::Directory)?;
+    for (path, text) in exchange.outside {
+        let content = match text {
+            Some(text) => file_of(alloc, text)?,
+            None => Content::Directory,
+        };
+        disk.add(format!(in alloc; "out/{path}")?.as_str(), content)?;
+    }
+    disk.fail_at(0, Way::Refused);
+    Ok(disk)
+}
+
+// Does what is done on a disk.
+fn work_on(alloc: Global, exchange: Exchange, disk: &Disk) -> Result<Ended, Fail> {
+    match exchange.undone_from {
+        Some(_) => Ok(undo_on(disk)),
+        None => run(alloc, &exchange.case, disk),
+    }
+}
+
+// Whether something outside changes if the exchange comes before a call.
+fn changes_outside(alloc: Global, exchange: Exchange, number: u32) -> Result<bool, Fail> {
+    let disk = disk_before(alloc, exchange)?;
+    disk.add_before(number, exchange.directory, symlink(alloc, "../out")?)?;
+    work_on(alloc, exchange, &disk)?;
+    disk.remove("site")?;
+    let after = disk.listing()?;
+    let disk = disk_before(alloc, exchange)?;
+    disk.remove("site")?;
+    Ok(after != disk.listing()?)
+}
+
+// Whether something outside changes only if the exchange comes before one of so many calls.
+fn changes(alloc: Global, exchange: Exchange) -> Result<(), Fail> {
+    let disk = disk_before(alloc, exchange)?;
+    work_on(alloc, exchange, &disk)?;
+    let mut count = 0u32;
+    for number in 1..=disk.calls() {
+        if changes_outside(alloc, exchange, number)? {
+            count = count.saturating_add(1);
+        }
+    }
+    same(exchange.what, &count, &exchange.calls)
+}
+
+#[test]
+fn asks_for_the_way_before_each_change(rt: HostRuntime) -> Result<(), Fail> {
+    for exchange in &EXCHANGES {
+        changes(rt.alloc(), *exchange)?;
     }
     Ok(())
 }
