@@ -7,7 +7,7 @@ ghost use Rattle.relative_path.specs.Components.{step_of};
 ghost use Rattle.relative_path.specs.RelativePath.{path_components};
 ghost use Rattle.relative_path_files.specs.Win32.{is_space, is_cut, is_reserved};
 ghost use Rattle.relative_path_files.specs.Names.{ends_in_number, is_device, is_like_short_name, names_device, IfName, IsPlainName};
-ghost use Rattle.relative_path_files.specs.NameTests.{begins_as_device, ends_in_dot_or_space, holds_foreign, is_device_letter, is_foreign, is_unportable, is_unportable_step};
+ghost use Rattle.relative_path_files.specs.NameTests.{begins_as_device, ends_in_dot_or_space, holds_foreign, is_device_letter, is_unportable, is_unportable_step};
 
 use relative_path::{Component, RelativePath};
 
@@ -176,14 +176,8 @@ fn is_cut(b: u8) -> bool
 fn holds_foreign(name: &str) -> bool
     ensures { result ≡ holds_foreign name.now }
 {
-    name.bytes().any(is_foreign)
-}
-
-// Returns whether no plain name has a byte. Letters and digits, the most frequent bytes, are told first.
-fn is_foreign(b: u8) -> bool
-    ensures { result ≡ is_foreign b }
-{
-    !b.is_ascii_alphanumeric() && (is_reserved(b) || is_cut(b) || b == 127)
+    name.bytes()
+        .any(|b| is_reserved(b) || is_cut(b) || b == 127)
 }
 
 // Returns whether a name ends in a dot or a space, which Windows drops.
