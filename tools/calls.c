@@ -17,8 +17,7 @@
  *
  * CALLS_HELD_AT is a path: the program is stopped before it opens this path for reading for the first time.
  *
- * It includes no header, so that the toolchain's compiler builds it on a machine without headers. The numbers are those
- * of Linux. */
+ * It includes no header, so that it compiles on a machine without headers. The numbers are those of Linux. */
 
 typedef unsigned long size;
 typedef unsigned mode;

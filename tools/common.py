@@ -200,22 +200,18 @@ def closing(mask, at):
 
 
 def built(folder, name, source, libraries, script):
-    """A program of these libraries of the repository, proved in this folder."""
-    def rt(command, crate):
-        done = ran(["rt", command], crate)
-        if done.returncode != 0:
-            sys.exit(f"{script}: rt {command} in {crate}:\n{done.stdout}")
+    """A program of these libraries of the repository, proved in this folder over a copy of their sources."""
     ours = [it for it in crates() if it in below(libraries)]
-    for library in libraries:
-        rt("lib", CRATES / library)
-    for library in ours:
-        shutil.copytree(CRATES / library, folder / "crates" / library, ignore=shutil.ignore_patterns("incremental"))
+    copy_crates(folder, ours, "out", "must-fail")
     crate = folder / "crates" / name
     (crate / "src").mkdir(parents=True)
     (crate / "src/main.rt").write_text(source)
     lines = [f"{it}: {' '.join(crates()[it])}\n" for it in ours]
     (folder / "crates.txt").write_text("".join([*lines, f"{name}: {' '.join(libraries)}\n"]))
-    rt("run", crate)
+    print(f"{script}: rt run proves a copy of {', '.join(ours)}, which may take minutes", file=sys.stderr, flush=True)
+    done = ran(["rt", "run"], crate)
+    if done.returncode != 0:
+        sys.exit(f"{script}: rt run in {crate}:\n{done.stdout}")
     return str(crate / "out" / name)
 
 
@@ -312,12 +308,23 @@ class Run:
         return self.status == 0 and re.fullmatch(pattern, self.trace)
 
 
+def count_instructions(words, counts, text=""):
+    """How many instructions a program executes on an input. callgrind writes into the file `counts` where they are."""
+    words = [shutil.which("valgrind") or "valgrind", "--tool=callgrind", f"--callgrind-out-file={counts}", *words]
+    # In no environment: the loader's count depends on how long it is.
+    counting = subprocess.run(words, input=text.encode(), capture_output=True, env={}, check=False)
+    found = re.search(rb"Collected : (\d+)", counting.stderr)
+    if counting.returncode != 0 or not found:
+        sys.exit(f"{words}: {counting.stderr.decode(errors='replace')}")
+    return int(found[1])
+
+
 def build_library(folder, name):
-    """The library of tools/NAME.c, to be preloaded, built by the compiler that comes with `rt`."""
-    page = subprocess.run(["rt", "doc"], capture_output=True, text=True, check=True).stdout.strip()
+    """The library of tools/NAME.c, to be preloaded."""
+    if not shutil.which("cc"):
+        sys.exit(f"cc, which compiles tools/{name}.c, isn't there: install Debian's package gcc or clang")
     library = f"{folder}/{name}.so"
-    words = [pathlib.Path(page).parent / "toolchain/bin/clang", "-O1", "-Wall", "-Wextra", "-Werror"]
-    words += ["-shared", "-fPIC", "-ffreestanding", "-nostdlib", "-fuse-ld=lld"]
+    words = ["cc", "-O1", "-Wall", "-Wextra", "-Werror", "-shared", "-fPIC", "-ffreestanding", "-nostdlib"]
     subprocess.run([*words, "-o", library, ROOT / f"tools/{name}.c"], check=True)
     return library
 

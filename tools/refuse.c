@@ -9,7 +9,7 @@
  * of a whole program, it writes `!` if the call reported a failed allocation, and otherwise `=`; then
  * how many more blocks are held than at the beginning: `=1` for a call that returns a text.
  *
- * It includes no header, so that the toolchain's compiler builds it on a machine without headers. */
+ * It includes no header, so that it compiles on a machine without headers. */
 
 typedef unsigned long size;
 
