@@ -5,12 +5,18 @@
  * A text is a pointer and a length in bytes. No text ends in NUL. A pointer is never null, not even for a length of 0.
  * A text that isn't UTF-8 is no mistake of the caller: the function returns RELATIVE_PATH_NOT_UTF8.
  *
- * A part that a function hands out is a slice of the caller's own text, and lives as long as that text. A new text goes
- * into `out`, which must not overlap a text that the function reads. Nothing that a function returns has to be freed.
- * The sentence says how many bytes of memory always suffice; with fewer, RELATIVE_PATH_NO_ROOM may say how many the text needs.
- * Unless the status is RELATIVE_PATH_DONE, `part`, `walk`, `memory` and `out` stay as they were.
+ * A part that a function hands out is a slice of the caller's own text, and lives as long as that text. A walk reads its
+ * text, which has to live and to stay as it is while the walk is used.
  *
- * The functions keep nothing from call to call, so threads may call them at the same time.
+ * A new text goes into `out`, which must not overlap a text that the function reads. `memory` has a text at its start, which
+ * the new text replaces; it must not overlap another text that the function reads. The sentence says how many bytes of
+ * memory always suffice; with fewer, RELATIVE_PATH_NO_ROOM may say how many the text needs. The bytes after the new text stay
+ * as they were, but `relative_path_normalize` may change as many bytes of `out` as `text` has. Unless the status is
+ * RELATIVE_PATH_DONE, `part`, `walk`, `memory` and `out` stay as they were.
+ *
+ * If the sentence says that the function allocates, the status may be RELATIVE_PATH_OUT_OF_MEMORY. What a function
+ * allocates, it frees before it returns: nothing that it returns has to be freed, and no result keeps memory. The functions
+ * keep nothing from call to call, so threads may call them at the same time.
  */
 #ifndef RELATIVE_PATH_H
 #define RELATIVE_PATH_H
@@ -57,7 +63,8 @@ struct relative_path_text {
 };
 
 /* A walk over the components of a text: what is left of the text. `relative_path_components` makes it, and only
-   `relative_path_next` and `relative_path_next_back` change it. It may be copied. */
+   `relative_path_next` and `relative_path_next_back` change it. It may be copied. The text has to live and to stay as it is
+   while the walk, or a copy of it, is used. */
 struct relative_path_walk {
     struct relative_path_text left;
 };
@@ -148,7 +155,8 @@ struct relative_path_written relative_path_join(const char *text, size_t text_le
    Allocates. */
 struct relative_path_written relative_path_join_normalized(const char *text, size_t text_len, const char *path, size_t path_len, char *out, size_t out_len);
 
-/* Writes the only normal path that leads where `text` leads. `text_len` bytes always suffice. May allocate. */
+/* Writes the only normal path that leads where `text` leads. `text_len` bytes always suffice. With fewer, the function
+   allocates; with as many, it may allocate, and does without if memory is lacking. */
 struct relative_path_written relative_path_normalize(const char *text, size_t text_len, char *out, size_t out_len);
 
 /* Writes `text` with its file name replaced; without a file name, `file_name` is pushed onto `text`.

@@ -2,9 +2,10 @@
  * Tests the library from C, under the address sanitizer: test STDIN STDOUT
  *
  * The two files are the stored lines of crates/conformance: calls, and what the original crate returns for each. The other
- * tests make calls on damaged bytes, on short texts, and with memory that is too short. Every text and every piece of
- * memory is allocated at its exact length, so that the sanitizer sees a copy that goes outside it, and valgrind every
- * access. The last line is `N passed, M failed`.
+ * tests make calls on damaged bytes, on short texts, with memory that is too short or too long, and without the memory that
+ * the library asks for. Every text and every piece of memory is allocated at its exact length, so that the sanitizer sees a
+ * copy that goes outside it, and valgrind every access. The linker's options `--wrap=malloc`, `--wrap=realloc` and
+ * `--wrap=free` give the library the allocator of this file. The last line is `N passed, M failed`.
  */
 #include "relative_path.h"
 
@@ -63,6 +64,66 @@ static bool is(text of, const char *word)
     return same(of, (text){word, strlen(word)});
 }
 
+/* ---- the allocator */
+
+void *__real_malloc(size_t size);
+void *__real_realloc(void *old, size_t size);
+void __real_free(void *old);
+
+/* The requests for memory of the call that is being made. */
+static struct {
+    bool counts, and_on;  /* whether requests are counted now; whether all requests from `refused` on fail */
+    size_t seen, refused; /* how many were counted; the number of the first that fails, or 0 */
+    long held;            /* how many blocks the call holds */
+} requests;
+
+static bool is_granted(void)
+{
+    if (!requests.counts)
+        return true;
+    requests.seen++;
+    return !requests.refused || (requests.and_on ? requests.seen < requests.refused : requests.seen != requests.refused);
+}
+
+void *__wrap_malloc(size_t size)
+{
+    if (!is_granted())
+        return NULL;
+    requests.held += requests.counts;
+    return __real_malloc(size);
+}
+
+void *__wrap_realloc(void *old, size_t size)
+{
+    if (!is_granted())
+        return NULL;
+    requests.held += requests.counts && !old;
+    return __real_realloc(old, size);
+}
+
+void __wrap_free(void *old)
+{
+    requests.held -= requests.counts && old;
+    __real_free(old);
+}
+
+/* Begins to count requests, and lets request `refused` fail, alone or with all after it. None fails if `refused` is 0. */
+static void count_requests(size_t refused, bool and_on)
+{
+    requests.counts = true;
+    requests.and_on = and_on;
+    requests.seen = 0;
+    requests.refused = refused;
+    requests.held = 0;
+}
+
+/* Stops counting. Returns how many requests there were. */
+static size_t stop_counting(void)
+{
+    requests.counts = false;
+    return requests.seen;
+}
+
 /* ---- the calls, by their names */
 
 static written normalize(const char *at, size_t len, const char *other, size_t other_len, char *out, size_t room)
@@ -114,6 +175,8 @@ static const struct {
     {"push", push, true, true},
     {"set_extension", set_extension, true, true},
 };
+
+enum { CALLS = sizeof WRITES / sizeof *WRITES };
 
 static const struct {
     const char *name;
@@ -474,6 +537,113 @@ static void shorten(text path, text other)
     }
 }
 
+/* ---- memory that is too long */
+
+/* Gives each call more memory than it needs: it leaves the bytes after the text as they were, but for `normalize`, which may
+   change as many bytes as the path has. */
+static void lengthen(text path, text other)
+{
+    size_t room = 3 * path.len + 3 * other.len + 40;
+    char *out = malloc(room), *before = malloc(room);
+    if (!out || !before)
+        abort();
+    for EACH (WRITES) {
+        memset(out, 'x', room);
+        memset(before, 'x', room);
+        if (WRITES[i].in_place)
+            memcpy(before, path.at, path.len);
+        written made = WRITES[i].call(path.at, path.len, other.at, other.len, out, room);
+        size_t end = made.status != RELATIVE_PATH_DONE ? 0 : made.len;
+        if (WRITES[i].call == normalize && end < path.len)
+            end = path.len;
+        check(!memcmp(out + end, before + end, room - end), "a byte after the text is changed", path);
+    }
+    free(out);
+    free(before);
+}
+
+/* ---- memory that is refused */
+
+/* How often a call failed for a request. */
+static size_t out_of_memory[CALLS], counts_out_of_memory;
+
+/* Refuses each request of a call in turn, alone and with all after it. The call says so, leaves `out` as it was, and holds no
+   block; `normalize` does without if `out` is as long as the path. */
+static void refuse_each(size_t i, text path, text other, size_t room)
+{
+    bool does_without = WRITES[i].call == normalize && room >= path.len;
+    char *wanted = malloc(room), *out = malloc(room), *before = malloc(room);
+    if (!wanted || !out || !before)
+        abort();
+    memset(before, 'x', room);
+    if (WRITES[i].in_place && path.len <= room)
+        memcpy(before, path.at, path.len);
+    count_requests(0, false);
+    written whole = WRITES[i].call(path.at, path.len, other.at, other.len, wanted, room);
+    size_t count = stop_counting();
+    check(!requests.held, "a call holds memory", path);
+    for (size_t n = 2; n < 2 * count + 2; n++) {
+        memset(out, 'x', room);
+        count_requests(n / 2, n % 2);
+        written made = WRITES[i].call(path.at, path.len, other.at, other.len, out, room);
+        stop_counting();
+        check(!requests.held, "a call that is refused memory holds some", path);
+        if (does_without) {
+            check(made.status == whole.status && same((text){out, made.len}, (text){wanted, whole.len}),
+                  "normalize doesn't do without memory", path);
+            continue;
+        }
+        check(made.status == RELATIVE_PATH_OUT_OF_MEMORY && !memcmp(out, before, room), "a refused request is lost", path);
+        out_of_memory[i]++;
+    }
+    free(wanted);
+    free(out);
+    free(before);
+}
+
+/* Refuses memory to each call, with memory for the text that is enough and too short. */
+static void refuse(text path, text other)
+{
+    for EACH (WRITES) {
+        refuse_each(i, path, other, 3 * path.len + 3 * other.len + 3);
+        refuse_each(i, path, other, path.len ? path.len - 1 : 0);
+    }
+    count_requests(0, false);
+    relative_path_leads_apart(path.at, path.len, other.at, other.len);
+    size_t count = stop_counting();
+    for (size_t n = 2; n < 2 * count + 2; n++) {
+        count_requests(n / 2, n % 2);
+        struct relative_path_count made = relative_path_leads_apart(path.at, path.len, other.at, other.len);
+        stop_counting();
+        check(made.status == RELATIVE_PATH_OUT_OF_MEMORY && !requests.held, "leads_apart without memory", path);
+        counts_out_of_memory++;
+    }
+}
+
+/* Compares which calls can fail for memory with what the header says of them: each but `push` allocates. */
+static void compare_allocations(void)
+{
+    for EACH (WRITES)
+        check((out_of_memory[i] > 0) == (WRITES[i].call != push), "the header says otherwise whether the call allocates",
+              (text){WRITES[i].name, strlen(WRITES[i].name)});
+    check(counts_out_of_memory > 0, "leads_apart allocates nothing", (text){"", 0});
+}
+
+/* Paths whose normal form is shorter, and made by two ways: for a path of fewer than 128 bytes, and for another. */
+static const char *const NAMES_THAT_GO[] = {
+    "name/../b",
+    "a/name/../../..",
+    "../a/long/name/../../../../a/long/name/../../../../a/long/name/../../../../a/long/name/../../../../a/long/name/../../.."
+    "/../a/long/name/../../../../b",
+};
+
+static void vary_memory(text path, text other)
+{
+    shorten(path, other);
+    lengthen(path, other);
+    refuse(path, other);
+}
+
 int main(int count, char **arguments)
 {
     if (count != 3)
@@ -491,8 +661,14 @@ int main(int count, char **arguments)
     }
     for (size_t i = 0; i < found; i++) {
         damage(texts[i]);
-        shorten(texts[i], texts[(i + 7) % found]);
+        vary_memory(texts[i], texts[(i + 7) % found]);
     }
+    for EACH (NAMES_THAT_GO) {
+        text path = copy((text){NAMES_THAT_GO[i], strlen(NAMES_THAT_GO[i])});
+        vary_memory(path, texts[0]);
+        drop(path);
+    }
+    compare_allocations();
     call_all((text){"", 0});
     for (int byte = 0; byte < 256; byte++)
         call_all((text){&(char){(char)byte}, 1});

@@ -1,8 +1,9 @@
 //! Portable relative paths: texts that are cut at `/` on every platform.
 //!
-//! This package has the interface of `relative-path` 2.0.2. Each answer about a text comes from a library that is proved:
-//! its exports have contracts, and a checker proved that the code meets them. What is Rust here only passes texts on, and
-//! it is tested and not proved.
+//! This package has the interface of `relative-path` 2.0.2. Its answers about texts come from a library that is proved: its
+//! exports have contracts, and a checker proved that the code meets them. What is Rust here is tested and not proved. It
+//! passes texts on, and computes three things by itself: the equality, the order and the hash of a [`Component`], the hash of
+//! a path, and the results of calls on a platform path that isn't UTF-8.
 //!
 //! ```
 //! use relative_path::{RelativePath, RelativePathBuf};
@@ -14,10 +15,13 @@
 //! assert_eq!(page.file_stem(), Some("index"));
 //! ```
 //!
+//! A new path keeps at most 64 bytes of memory more than its text, if memory suffices to move it. A buffer that is lengthened
+//! grows by at least 64 bytes. If memory runs out, the program ends.
+//!
 //! With the feature `serde`, paths are read and written as strings.
 
 #![no_std]
-#![deny(missing_docs, unsafe_op_in_unsafe_fn)]
+#![deny(missing_docs, unsafe_code, unsafe_op_in_unsafe_fn)]
 
 #[cfg(feature = "alloc")]
 extern crate alloc;
@@ -31,6 +35,7 @@ mod component;
 mod path;
 #[cfg(feature = "std")]
 mod path_ext;
+#[allow(unsafe_code)]
 mod proved;
 #[cfg(feature = "serde")]
 mod serde_impls;

@@ -19,9 +19,11 @@ use std::{
 };
 
 use crate::proved;
+#[cfg(feature = "std")]
+use crate::Component;
 #[cfg(feature = "alloc")]
 use crate::RelativePathBuf;
-use crate::{Component, Components, Iter};
+use crate::{Components, Iter};
 
 /// Why a platform path is no relative path.
 #[cfg(feature = "std")]
@@ -67,10 +69,8 @@ impl From<FromPathErrorKind> for FromPathError {
 }
 
 #[cfg(feature = "std")]
-impl From<proved::Refusal> for FromPathError {
-    /// The calls refuse a platform path that is UTF-8 for its root only.
-    fn from(refusal: proved::Refusal) -> FromPathError {
-        debug_assert_eq!(refusal, proved::Refusal::NonRelative);
+impl From<proved::NonRelative> for FromPathError {
+    fn from(_: proved::NonRelative) -> FromPathError {
         FromPathErrorKind::NonRelative.into()
     }
 }

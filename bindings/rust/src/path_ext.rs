@@ -5,7 +5,7 @@ use core::fmt;
 use std::error;
 use std::path::{Component, Path, PathBuf};
 
-use crate::proved::{self, Refusal};
+use crate::proved::{self, NoWay};
 use crate::RelativePathBuf;
 
 mod sealed {
@@ -42,12 +42,11 @@ impl From<RelativeToErrorKind> for RelativeToError {
     }
 }
 
-impl From<Refusal> for RelativeToError {
-    /// The call refuses two texts for their roots only, or for a climb.
-    fn from(refusal: Refusal) -> RelativeToError {
-        match refusal {
-            Refusal::PrefixMismatch => RelativeToErrorKind::PrefixMismatch.into(),
-            _ => RelativeToErrorKind::AmbiguousTraversal.into(),
+impl From<NoWay> for RelativeToError {
+    fn from(why: NoWay) -> RelativeToError {
+        match why {
+            NoWay::PrefixMismatch => RelativeToErrorKind::PrefixMismatch.into(),
+            NoWay::AmbiguousTraversal => RelativeToErrorKind::AmbiguousTraversal.into(),
         }
     }
 }

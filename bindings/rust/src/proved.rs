@@ -1,7 +1,9 @@
-//! The calls of the proved library, and the views of a text as a path. All `unsafe` code is in this module.
+//! The calls of the proved library, and the views of a text as a path. All `unsafe` code is in this module: the compiler
+//! accepts none elsewhere.
 //!
-//! Each call is declared as `crates/relative_path_c` exports it; `tools/bindings` compares the two. What a call gives out
-//! is UTF-8 by a clause of its contract, so no text is tested again here.
+//! Each call, each number and each type that has the layout of C is declared as `crates/relative_path_c` has it;
+//! `tools/bindings` compares the two. What a call gives out is UTF-8 by a clause of its contract, so no text is tested
+//! again here. If a call ends with a status that its contract rules out, the program panics: no other result stands in.
 
 #[cfg(feature = "alloc")]
 use alloc::{
@@ -21,6 +23,8 @@ use crate::{Component, RelativePath};
 
 /// The answer is there.
 const DONE: u32 = 0;
+/// The answer is that there is none.
+const ABSENT: u32 = 2;
 /// An allocation failed.
 #[cfg(feature = "alloc")]
 const OUT_OF_MEMORY: u32 = 4;
@@ -33,6 +37,28 @@ const PREFIX_MISMATCH: u32 = 6;
 /// The root climbs above the components that both platform paths begin with.
 #[cfg(feature = "std")]
 const AMBIGUOUS_TRAVERSAL: u32 = 7;
+
+/// The first path comes before the second.
+const LESS: u32 = 0;
+/// Both paths have the same components.
+const EQUAL: u32 = 1;
+/// The first path comes after the second.
+const GREATER: u32 = 2;
+
+/// The walk has no component left.
+const NO_COMPONENT: u32 = 0;
+/// The component is `.`.
+const CUR_DIR: u32 = 1;
+/// The component is `..`.
+const PARENT_DIR: u32 = 2;
+/// The component is a name.
+const NORMAL: u32 = 3;
+
+/// Ends a call whose status, or other number, its contract rules out.
+#[cold]
+fn contradicts(number: u32) -> ! {
+    unreachable!("the library returned {number}, which the call's contract rules out")
+}
 
 /// A slice of a text, as the library hands it out.
 #[repr(C)]
@@ -125,11 +151,12 @@ impl<'a> Walk<'a> {
 #[inline]
 unsafe fn component<'a>(kind: u32, part: Text) -> Option<Component<'a>> {
     match kind {
-        0 => None,
-        1 => Some(Component::CurDir),
-        2 => Some(Component::ParentDir),
+        NO_COMPONENT => None,
+        CUR_DIR => Some(Component::CurDir),
+        PARENT_DIR => Some(Component::ParentDir),
         // SAFETY: of a name, the step gave the part of the text, and it is UTF-8 by the clause `utf8`.
-        _ => Some(Component::Normal(unsafe { part.get() })),
+        NORMAL => Some(Component::Normal(unsafe { part.get() })),
+        _ => contradicts(kind),
     }
 }
 
@@ -140,7 +167,7 @@ struct Answer {
     yes: bool,
 }
 
-/// How a call ended, and an order: 0 for less, 1 for equal, 2 for greater.
+/// How a call ended, and an order.
 #[repr(C)]
 struct Order {
     status: u32,
@@ -148,6 +175,7 @@ struct Order {
 }
 
 /// How a call ended, and how many bytes it wrote, or would have to write.
+#[cfg(feature = "alloc")]
 #[repr(C)]
 struct Written {
     status: u32,
@@ -207,41 +235,54 @@ unsafe fn part_of<'a>(call: impl FnOnce(*mut Text) -> u32) -> Result<&'a str, u3
     }
 }
 
+/// Returns the part of a text, or `None` if the text has no such part.
+#[inline]
+fn part_if_any(part: Result<&str, u32>) -> Option<&str> {
+    match part {
+        Ok(part) => Some(part),
+        Err(ABSENT) => None,
+        Err(status) => contradicts(status),
+    }
+}
+
 /// Returns the parent of a path.
 #[inline]
 pub(crate) fn parent(text: &str) -> Option<&str> {
     // SAFETY: a `str` is UTF-8, as the call requires, and the part is one of `text`.
-    unsafe { part_of(|part| relative_path_str_parent(text.as_ptr(), text.len(), part)) }.ok()
+    part_if_any(unsafe {
+        part_of(|part| relative_path_str_parent(text.as_ptr(), text.len(), part))
+    })
 }
 
 /// Returns the file name of a path.
 #[inline]
 pub(crate) fn file_name(text: &str) -> Option<&str> {
     // SAFETY: a `str` is UTF-8, as the call requires, and the part is one of `text`.
-    unsafe { part_of(|part| relative_path_str_file_name(text.as_ptr(), text.len(), part)) }.ok()
+    part_if_any(unsafe {
+        part_of(|part| relative_path_str_file_name(text.as_ptr(), text.len(), part))
+    })
 }
 
 /// Returns the stem of the file name of a path.
 pub(crate) fn file_stem(text: &str) -> Option<&str> {
     // SAFETY: the part is one of `text`.
-    unsafe { part_of(|part| relative_path_file_stem(text.as_ptr(), text.len(), part)) }.ok()
+    part_if_any(unsafe { part_of(|part| relative_path_file_stem(text.as_ptr(), text.len(), part)) })
 }
 
 /// Returns the extension of the file name of a path.
 pub(crate) fn extension(text: &str) -> Option<&str> {
     // SAFETY: the part is one of `text`.
-    unsafe { part_of(|part| relative_path_extension(text.as_ptr(), text.len(), part)) }.ok()
+    part_if_any(unsafe { part_of(|part| relative_path_extension(text.as_ptr(), text.len(), part)) })
 }
 
 /// Returns what follows the components of a base in a path.
 pub(crate) fn strip_prefix<'a>(text: &'a str, base: &str) -> Option<&'a str> {
     // SAFETY: the part is one of `text`.
-    unsafe {
+    part_if_any(unsafe {
         part_of(|part| {
             relative_path_strip_prefix(text.as_ptr(), text.len(), base.as_ptr(), base.len(), part)
         })
-    }
-    .ok()
+    })
 }
 
 /// Returns whether a path begins with the components of a base.
@@ -275,15 +316,22 @@ pub(crate) fn cmp(text: &str, other: &str) -> Ordering {
     // SAFETY: the call reads two slices. Its status is 'done', since both are UTF-8.
     let answer =
         unsafe { relative_path_cmp(text.as_ptr(), text.len(), other.as_ptr(), other.len()) };
-    debug_assert_eq!(answer.status, DONE);
-    answer.order.cmp(&1)
+    match (answer.status, answer.order) {
+        (DONE, LESS) => Ordering::Less,
+        (DONE, EQUAL) => Ordering::Equal,
+        (DONE, GREATER) => Ordering::Greater,
+        (DONE, order) => contradicts(order),
+        (status, _) => contradicts(status),
+    }
 }
 
 impl Answer {
     /// Returns the answer about texts that are UTF-8.
     fn yes(self) -> bool {
-        debug_assert_eq!(self.status, DONE);
-        self.yes
+        match self.status {
+            DONE => self.yes,
+            status => contradicts(status),
+        }
     }
 }
 
@@ -291,6 +339,27 @@ impl Answer {
 #[cfg(feature = "alloc")]
 fn end_without_memory(size: usize) -> ! {
     handle_alloc_error(Layout::array::<u8>(size).unwrap_or(Layout::new::<u8>()))
+}
+
+/// How many bytes a text that a call makes keeps beyond its length, at most.
+#[cfg(feature = "alloc")]
+const MOST_SPARE: usize = 64;
+
+/// Moves a text into memory of its length if it has much more. If that memory isn't there, the text stays where it is.
+#[cfg(feature = "alloc")]
+#[inline]
+fn without_spare(text: String) -> String {
+    if text.capacity() - text.len() <= MOST_SPARE {
+        return text;
+    }
+    let mut exact = String::new();
+    match exact.try_reserve_exact(text.len()) {
+        Ok(()) => {
+            exact.push_str(&text);
+            exact
+        }
+        Err(_) => text,
+    }
 }
 
 /// Returns the text that a call writes, or the call's status. `room` has to be as many bytes as always suffice for the
@@ -306,10 +375,10 @@ unsafe fn text_of(room: usize, call: impl Fn(*mut u8, usize) -> Written) -> Resu
     match written.status {
         DONE => {
             // SAFETY: the call wrote that many bytes, and they are UTF-8 by the word `Writes`.
-            Ok(unsafe {
+            Ok(without_spare(unsafe {
                 bytes.set_len(written.len);
                 String::from_utf8_unchecked(bytes)
-            })
+            }))
         }
         OUT_OF_MEMORY => end_without_memory(room),
         status => Err(status),
@@ -321,7 +390,7 @@ unsafe fn text_of(room: usize, call: impl Fn(*mut u8, usize) -> Written) -> Resu
 const LEAST_GROWTH: usize = 64;
 
 /// Changes a text by a call that writes it anew into the same memory. `more` has to be as many bytes as always suffice
-/// after the text, by the call's clause `suffices`. Returns whether the call was done; otherwise the text is as it was.
+/// after the text, by the call's clause `suffices`. Returns the status if the call isn't done; the text is then as it was.
 ///
 /// # Safety
 ///
@@ -333,7 +402,7 @@ unsafe fn change(
     text: &mut String,
     more: usize,
     call: impl Fn(*mut u8, usize, usize) -> Written,
-) -> bool {
+) -> Result<(), u32> {
     if text.capacity() - text.len() < more {
         text.reserve(more.max(LEAST_GROWTH));
     }
@@ -344,18 +413,17 @@ unsafe fn change(
         DONE => {
             // SAFETY: the memory has a text of that many bytes, and they are UTF-8 by the word `Writes`.
             unsafe { bytes.set_len(written.len) };
-            true
+            Ok(())
         }
         OUT_OF_MEMORY => end_without_memory(bytes.len() + more),
-        _ => false,
+        status => Err(status),
     }
 }
 
-/// Returns the text of a call that ends in no other status.
+/// Returns the text of a call whose contract rules out every other status.
 #[cfg(feature = "alloc")]
 fn certain(text: Result<String, u32>) -> String {
-    debug_assert!(text.is_ok());
-    text.unwrap_or_default()
+    text.unwrap_or_else(|status| contradicts(status))
 }
 
 /// Pushes a path onto another.
@@ -363,19 +431,19 @@ fn certain(text: Result<String, u32>) -> String {
 #[inline]
 pub(crate) fn push(text: &mut String, path: &str) {
     // SAFETY: the call writes the text anew into the memory that it is passed. Both texts are UTF-8, as it requires.
-    let done = unsafe {
+    let pushed = unsafe {
         change(text, path.len() + 1, |memory, memory_len, len| {
             relative_path_str_push(memory, memory_len, len, path.as_ptr(), path.len())
         })
     };
-    debug_assert!(done);
+    pushed.unwrap_or_else(|status| contradicts(status));
 }
 
 /// Replaces the extension of a path's file name. Returns whether the path has a file name.
 #[cfg(feature = "alloc")]
 pub(crate) fn set_extension(text: &mut String, extension: &str) -> bool {
     // SAFETY: the call writes the text anew into the memory that it is passed.
-    unsafe {
+    let extended = unsafe {
         change(text, extension.len() + 1, |memory, memory_len, len| {
             relative_path_set_extension(
                 memory,
@@ -385,6 +453,11 @@ pub(crate) fn set_extension(text: &mut String, extension: &str) -> bool {
                 extension.len(),
             )
         })
+    };
+    match extended {
+        Ok(()) => true,
+        Err(ABSENT) => false,
+        Err(status) => contradicts(status),
     }
 }
 
@@ -434,7 +507,7 @@ pub(crate) fn normalize(text: &str) -> String {
         let out = bytes.as_mut_ptr();
         let len = relative_path_str_normalize(text.as_ptr(), text.len(), out, bytes.capacity());
         bytes.set_len(len);
-        String::from_utf8_unchecked(bytes)
+        without_spare(String::from_utf8_unchecked(bytes))
     }
 }
 
@@ -474,12 +547,24 @@ pub(crate) fn relative(text: &str, to: &str) -> String {
     })
 }
 
-/// Why a call on a platform path has no answer.
+/// A platform path is no relative path: it begins with a slash.
 #[cfg(feature = "std")]
-#[derive(Debug, Clone, Copy, PartialEq, Eq)]
-pub(crate) enum Refusal {
-    /// The path begins with a slash.
-    NonRelative,
+pub(crate) struct NonRelative;
+
+#[cfg(feature = "std")]
+impl NonRelative {
+    /// Returns what a status of a call on one platform path stands for.
+    fn of(status: u32) -> NonRelative {
+        match status {
+            NON_RELATIVE => NonRelative,
+            _ => contradicts(status),
+        }
+    }
+}
+
+/// Why no relative path leads from one platform path to another.
+#[cfg(feature = "std")]
+pub(crate) enum NoWay {
     /// One of the paths begins with a slash, and the other doesn't.
     PrefixMismatch,
     /// The root climbs above the components that both paths begin with.
@@ -487,38 +572,35 @@ pub(crate) enum Refusal {
 }
 
 #[cfg(feature = "std")]
-impl Refusal {
-    /// Returns what a status stands for.
-    fn of(status: u32) -> Refusal {
+impl NoWay {
+    /// Returns what a status of a call on two platform paths stands for.
+    fn of(status: u32) -> NoWay {
         match status {
-            NON_RELATIVE => Refusal::NonRelative,
-            PREFIX_MISMATCH => Refusal::PrefixMismatch,
-            _ => {
-                debug_assert_eq!(status, AMBIGUOUS_TRAVERSAL);
-                Refusal::AmbiguousTraversal
-            }
+            PREFIX_MISMATCH => NoWay::PrefixMismatch,
+            AMBIGUOUS_TRAVERSAL => NoWay::AmbiguousTraversal,
+            _ => contradicts(status),
         }
     }
 }
 
 /// Returns a platform path as a relative path.
 #[cfg(feature = "std")]
-pub(crate) fn view(text: &str) -> Result<&str, Refusal> {
+pub(crate) fn view(text: &str) -> Result<&str, NonRelative> {
     // SAFETY: the part is one of `text`.
     unsafe { part_of(|part| relative_path_unix_view(text.as_ptr(), text.len(), part)) }
-        .map_err(Refusal::of)
+        .map_err(NonRelative::of)
 }
 
 /// Returns the components of a platform path as a relative path.
 #[cfg(feature = "std")]
-pub(crate) fn from_path(text: &str) -> Result<String, Refusal> {
+pub(crate) fn from_path(text: &str) -> Result<String, NonRelative> {
     // SAFETY: the call writes a text into `out`.
     unsafe {
         text_of(text.len(), |out, out_len| {
             relative_path_unix_from_path(text.as_ptr(), text.len(), out, out_len)
         })
     }
-    .map_err(Refusal::of)
+    .map_err(NonRelative::of)
 }
 
 /// Returns a platform path followed by the components of a path.
@@ -559,7 +641,7 @@ pub(crate) fn to_logical_path(text: &str, base: &str) -> String {
 
 /// Returns the relative path from one platform path to another.
 #[cfg(feature = "std")]
-pub(crate) fn relative_to(text: &str, root: &str) -> Result<String, Refusal> {
+pub(crate) fn relative_to(text: &str, root: &str) -> Result<String, NoWay> {
     // SAFETY: the call writes a text into `out`.
     unsafe {
         text_of(2 * root.len() + 1 + text.len(), |out, out_len| {
@@ -573,7 +655,7 @@ pub(crate) fn relative_to(text: &str, root: &str) -> Result<String, Refusal> {
             )
         })
     }
-    .map_err(Refusal::of)
+    .map_err(NoWay::of)
 }
 
 /// Views a text as a path.
@@ -602,4 +684,16 @@ pub(crate) fn into_rc_path(text: Rc<str>) -> Rc<RelativePath> {
 pub(crate) fn into_arc_path(text: Arc<str>) -> Arc<RelativePath> {
     // SAFETY: a path is `repr(transparent)` over a `str`, so both have one size and alignment.
     unsafe { Arc::from_raw(Arc::into_raw(text) as *const RelativePath) }
+}
+
+#[cfg(all(test, feature = "alloc"))]
+mod tests {
+    use super::*;
+
+    /// The library returns no such status, so no caller of the package can test this.
+    #[test]
+    #[should_panic(expected = "the library returned 3")]
+    fn a_status_that_is_ruled_out_is_no_empty_path() {
+        certain(Err(3));
+    }
 }

@@ -4,8 +4,6 @@ ghost use Rattle.std.specs.Str.{IsUtf8};
 ghost use Rattle.relative_path.specs.Editing.{without_cur_dirs};
 ghost use Rattle.relative_path.specs.Steps.{Step, components, spell};
 ghost use Rattle.relative_path.specs.Unix.{has_root, onto, unix_components, way_to, IsAbove, IsLogical};
-ghost use Rattle.relative_path.specs.declared.error.FromPathErrorKind.TheVariants as from_path_kinds;
-ghost use Rattle.relative_path.specs.declared.error.RelativeToErrorKind.TheVariants as relative_to_kinds;
 ghost use Rattle.relative_path_c.specs.Memory.{HandsOut, Writes, Needs};
 ghost use Rattle.relative_path_c.specs.Status.{done, not_utf8, absent, no_room, out_of_memory, non_relative, prefix_mismatch, ambiguous_traversal};
 
@@ -52,17 +50,6 @@ pub extern "C" fn relative_path_unix_view<'a>(text: &'a [u8], part: &mut &'a [u8
     }
 }
 
-// Returns the status of an error of `from_path`.
-fn from_path_status(kind: FromPathErrorKind) -> u32
-    ensures non_relative { (result ≡ non_relative) ↔ (kind ≡ from_path_kinds.NonRelative) }
-    ensures status { (result ≡ non_relative) ⊎ (result ≡ out_of_memory) }
-{
-    match kind {
-        FromPathErrorKind::NonRelative => NON_RELATIVE,
-        _ => OUT_OF_MEMORY,
-    }
-}
-
 /// Writes the components of `text`, without any `.`, joined by single slashes. The status is 'non-relative' if `text`
 /// begins with a slash.
 #[tactic(auto, using(crate::proofs::LengthLemmas::length_from_path_le))]
@@ -88,7 +75,12 @@ pub extern "C" fn relative_path_unix_from_path(
     };
     match unix::from_path(alloc, text.as_str()) {
         Ok(path) => write(path.as_relative_path().as_str(), out),
-        Err(error) => nothing_written(from_path_status(error.kind())),
+        Err(error) => match error.kind() {
+            FromPathErrorKind::NonRelative => nothing_written(NON_RELATIVE),
+            FromPathErrorKind::OutOfMemory => nothing_written(OUT_OF_MEMORY),
+            FromPathErrorKind::NonUtf8 => unreachable!(),
+            FromPathErrorKind::BadSeparator => unreachable!(),
+        },
     }
 }
 
@@ -138,20 +130,6 @@ pub extern "C" fn relative_path_unix_to_logical_path(
     write_string(unix::to_logical_path(alloc, text, base.as_str()), out)
 }
 
-// Returns the status of an error of `relative_to`.
-fn relative_to_status(kind: RelativeToErrorKind) -> u32
-    ensures prefix_mismatch { (result ≡ prefix_mismatch) ↔ (kind ≡ relative_to_kinds.PrefixMismatch) }
-    ensures ambiguous_traversal { (result ≡ ambiguous_traversal)
-        ↔ (kind ≡ relative_to_kinds.AmbiguousTraversal) }
-    ensures status { (result ≡ prefix_mismatch) ⊎ (result ≡ ambiguous_traversal) ⊎ (result ≡ out_of_memory) }
-{
-    match kind {
-        RelativeToErrorKind::PrefixMismatch => PREFIX_MISMATCH,
-        RelativeToErrorKind::AmbiguousTraversal => AMBIGUOUS_TRAVERSAL,
-        _ => OUT_OF_MEMORY,
-    }
-}
-
 /// Writes the relative path from `root` to `text`. The status is 'prefix mismatch' if only one of the two begins with a
 /// slash, and 'ambiguous traversal' if the rest of `root` climbs above what both begin with.
 #[tactic(auto, using(crate::proofs::LengthLemmas::length_way_to_le))]
@@ -180,6 +158,12 @@ pub extern "C" fn relative_path_unix_relative_to(
     };
     match unix::relative_to(alloc, text.as_str(), root.as_str()) {
         Ok(way) => write(way.as_relative_path().as_str(), out),
-        Err(error) => nothing_written(relative_to_status(error.kind())),
+        Err(error) => match error.kind() {
+            RelativeToErrorKind::PrefixMismatch => nothing_written(PREFIX_MISMATCH),
+            RelativeToErrorKind::AmbiguousTraversal => nothing_written(AMBIGUOUS_TRAVERSAL),
+            RelativeToErrorKind::OutOfMemory => nothing_written(OUT_OF_MEMORY),
+            RelativeToErrorKind::NonUtf8 => unreachable!(),
+            RelativeToErrorKind::IllegalComponent => unreachable!(),
+        },
     }
 }

@@ -21,11 +21,11 @@ fn same<T: PartialEq + Debug + Drop>(case: &str, found: T, expected: T) -> Resul
     }
 }
 
-// Fails where a value prints other words than these, as it is and in a width and a precision that
-// hold them.
+// Fails where a value prints other words than these: as it is, and in widths and precisions that are
+// shorter and longer than the words.
 fn prints<T: Display>(alloc: Global, value: &T, words: &str) -> Result<(), Fail> {
-    let printed = format!(in alloc; "{value}|{value:5.99}")?;
-    let expected = format!(in alloc; "{words}|{words}")?;
+    let printed = format!(in alloc; "{value}|{value:5.99}|{value:>99}|{value:.2}")?;
+    let expected = format!(in alloc; "{words}|{words}|{words}|{words}")?;
     same(words, printed, expected)
 }
 

@@ -87,17 +87,28 @@ fn a_path_becomes_its_text(rt: HostRuntime) -> Result<(), Fail> {
     same("a//b", &value.as_str(), &Some("a//b"))
 }
 
-const ERRORS: [(FromValueError, &str); 2] = [
-    (FromValueError::NotAString, "expected a relative path"),
-    (FromValueError::OutOfMemory, "out of memory"),
+// Errors, what each prints, and what it prints in a width of 26.
+const ERRORS: [(FromValueError, &str, &str); 2] = [
+    (
+        FromValueError::NotAString,
+        "expected a relative path",
+        "**expected a relative path",
+    ),
+    (
+        FromValueError::OutOfMemory,
+        "out of memory",
+        "*************out of memory",
+    ),
 ];
 
 #[test]
 fn errors_print_their_text() -> Result<(), Fail> {
-    for (error, text) in &ERRORS {
+    for (error, text, filled) in &ERRORS {
         let printed = InlineText::<64>::of(&format_args!("{error}|{error:5.99}"));
         let expected = InlineText::<64>::of(&format_args!("{text}|{text}"));
         same(text, &printed.as_str(), &expected.as_str())?;
+        let printed = InlineText::<64>::of(&format_args!("{error:*>26}"));
+        same(text, &printed.as_str(), filled)?;
     }
     Ok(())
 }

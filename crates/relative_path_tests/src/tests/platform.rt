@@ -302,47 +302,57 @@ fn finds_ways_to_paths(rt: HostRuntime) -> Result<(), Fail> {
 }
 
 // Fails if an error isn't equal to its clone, or doesn't print these words, as it is and in a
-// width and a precision that hold them.
+// width and a precision that hold them, or doesn't fill a width of 48 as it has to.
 fn tells<T: Clone + Drop + PartialEq + Debug + Display>(
     alloc: Global,
     refusal: &T,
     words: &str,
+    filled: &str,
 ) -> Result<(), Fail> {
     same(words, &refusal.clone()?, refusal)?;
     gives_text(words, format!(in alloc; "{refusal}"), words)?;
-    gives_text(words, format!(in alloc; "{refusal:5.99}"), words)
+    gives_text(words, format!(in alloc; "{refusal:5.99}"), words)?;
+    gives_text(words, format!(in alloc; "{refusal:*>48}"), filled)
 }
 
-const FROM_PATH_KINDS: [(FromPathErrorKind, &str); 4] = [
+// Kinds of errors, what an error of the kind prints, and what it prints in a width of 48.
+const FROM_PATH_KINDS: [(FromPathErrorKind, &str, &str); 4] = [
     (
         FromPathErrorKind::NonRelative,
         "path contains non-relative component",
+        "************path contains non-relative component",
     ),
     (
         FromPathErrorKind::NonUtf8,
         "path contains non-utf8 component",
+        "****************path contains non-utf8 component",
     ),
     (
         FromPathErrorKind::BadSeparator,
         "path contains platform-specific path separator",
+        "**path contains platform-specific path separator",
     ),
-    (FromPathErrorKind::OutOfMemory, "out of memory"),
+    (
+        FromPathErrorKind::OutOfMemory,
+        "out of memory",
+        "***********************************out of memory",
+    ),
 ];
 
 #[test]
 fn tells_why_a_path_is_not_relative(rt: HostRuntime) -> Result<(), Fail> {
-    for (kind, words) in &FROM_PATH_KINDS {
+    for (kind, words, filled) in &FROM_PATH_KINDS {
         let error = FromPathError::from(*kind);
         same(words, error.kind(), *kind)?;
-        tells(rt.alloc(), &error, words)?;
+        tells(rt.alloc(), &error, words, filled)?;
     }
     Ok(())
 }
 
 #[test]
 fn reasons_why_a_path_is_not_relative_differ() -> Result<(), Fail> {
-    for (kind, words) in &FROM_PATH_KINDS {
-        for (other, _) in &FROM_PATH_KINDS {
+    for (kind, words, _) in &FROM_PATH_KINDS {
+        for (other, _, _) in &FROM_PATH_KINDS {
             let is_same = FromPathError::from(*kind) == FromPathError::from(*other);
             same(words, is_same, kind == other)?;
         }
@@ -350,40 +360,49 @@ fn reasons_why_a_path_is_not_relative_differ() -> Result<(), Fail> {
     Ok(())
 }
 
-const RELATIVE_TO_KINDS: [(RelativeToErrorKind, &str); 5] = [
+// The same of the kinds of the other error.
+const RELATIVE_TO_KINDS: [(RelativeToErrorKind, &str, &str); 5] = [
     (
         RelativeToErrorKind::NonUtf8,
         "path contains non-utf8 component",
+        "****************path contains non-utf8 component",
     ),
     (
         RelativeToErrorKind::PrefixMismatch,
         "paths contain different absolute prefixes",
+        "*******paths contain different absolute prefixes",
     ),
     (
         RelativeToErrorKind::AmbiguousTraversal,
         "path traversal cannot be determined",
+        "*************path traversal cannot be determined",
     ),
     (
         RelativeToErrorKind::IllegalComponent,
         "path contains illegal components",
+        "****************path contains illegal components",
     ),
-    (RelativeToErrorKind::OutOfMemory, "out of memory"),
+    (
+        RelativeToErrorKind::OutOfMemory,
+        "out of memory",
+        "***********************************out of memory",
+    ),
 ];
 
 #[test]
 fn tells_why_no_way_leads_to_a_path(rt: HostRuntime) -> Result<(), Fail> {
-    for (kind, words) in &RELATIVE_TO_KINDS {
+    for (kind, words, filled) in &RELATIVE_TO_KINDS {
         let error = RelativeToError::from(*kind);
         same(words, error.kind(), *kind)?;
-        tells(rt.alloc(), &error, words)?;
+        tells(rt.alloc(), &error, words, filled)?;
     }
     Ok(())
 }
 
 #[test]
 fn reasons_why_no_way_leads_to_a_path_differ() -> Result<(), Fail> {
-    for (kind, words) in &RELATIVE_TO_KINDS {
-        for (other, _) in &RELATIVE_TO_KINDS {
+    for (kind, words, _) in &RELATIVE_TO_KINDS {
+        for (other, _, _) in &RELATIVE_TO_KINDS {
             let is_same = RelativeToError::from(*kind) == RelativeToError::from(*other);
             same(words, is_same, kind == other)?;
         }
