@@ -1,2 +1,3 @@
+mod LabelsLemmas
 pub mod SpansLemmas
 mod StepsLemmas

@@ -1,7 +1,6 @@
 -- Destinations of links without angles: CommonMark 0.31.2, section 6.3.
 use Rattle.std.specs.Prelude.{ℕ, ◌+◌, ◌-◌, Bool, false, not, ◌==◌, ◌&&◌, ◌||◌, nat_le, List, [], ◌∷◌, drop, Option, Some, None, if◌then◌else◌}
 use Rattle.std.specs.Char.{is_ascii_punctuation}
-use Rattle.markdown_targets.specs.declared.finder.links.TheConstants.{DEEPEST}
 
 -- the byte is a space or a control byte of ASCII other than NUL
 abbrev pub is_space_or_control : ℕ → Bool
@@ -11,9 +10,10 @@ is_space_or_control b = (not (b == 0) && nat_le b 32) || b == 127
 abbrev pub is_of_uri : ℕ → Bool
 is_of_uri b = not (is_space_or_control b) && not (b == 60) && not (b == 62)
 
--- a destination with so many open parentheses ends before the byte, or isn't one if a parenthesis is open
+-- a destination with so many open parentheses ends before the byte, or isn't one if a parenthesis is open. CommonMark
+-- lets a reader limit how many are open, and asks for three at least; here 32 may be
 abbrev pub stops : ℕ → ℕ → Bool
-stops depth b = (b == 40 && depth == DEEPEST) || (b == 41 && depth == 0) || is_space_or_control b
+stops depth b = (b == 40 && depth == 32) || (b == 41 && depth == 0) || is_space_or_control b
 
 -- how many parentheses are open after the byte
 abbrev pub depth_after : ℕ → ℕ → ℕ

@@ -1,14 +1,17 @@
 //! Blocks of HTML: what begins a block, and what ends it.
+ghost use Rattle.std.specs.Prelude.{◌≡◌};
+ghost use Rattle.std.specs.List.{list_any};
+ghost use Rattle.markdown_targets.specs.Tags.{is_apart, is_apart_or_closed, is_raw_tag, is_block_tag, without_slash, begins_raw, begins_block};
 
-use crate::finder::bytes::{is_blank_text, run_end};
+use crate::finder::bytes::{is_blank, is_blank_text};
 use crate::finder::cursor::Cursor;
-use crate::finder::tags::{StartTag, closing_tag_end};
+use crate::finder::tags::{StartTag, begins_with_name, closing_tag_end};
 
 // The names of tags that begin a block which goes on to a closing tag.
-const RAW_NAMES: [&[u8]; 4] = [b"script", b"pre", b"textarea", b"style"];
+const RAW_NAMES: [&[u8]; 4] = [b"pre", b"script", b"style", b"textarea"];
 
 // The closing tags that end such a block.
-const RAW_ENDS: [&[u8]; 4] = [b"</script>", b"</pre>", b"</textarea>", b"</style>"];
+const RAW_ENDS: [&[u8]; 4] = [b"</pre>", b"</script>", b"</style>", b"</textarea>"];
 
 // The names of tags that begin a block which goes on to a blank line.
 const BLOCK_NAMES: [&[u8]; 62] = [
@@ -138,17 +141,79 @@ fn untagged_block(text: &[u8]) -> Option<HtmlBlock> {
     }
 }
 
-// Whether a tag begins a block that goes on to a closing tag.
-fn begins_raw(tag: &[u8]) -> bool {
-    let (name, rest) = split_name(tag);
-    is_one_of(&RAW_NAMES, name) && matches!(rest.first(), None | Some(b' ' | b'\t' | b'>'))
+// Returns whether a tag begins a block that goes on to a closing tag.
+fn begins_raw(tag: &[u8]) -> bool
+    ensures { result ≡ begins_raw tag.now }
+{
+    is_any_raw_tag(tag, &RAW_NAMES)
 }
 
-// Whether a tag begins a block that goes on to a blank line.
-fn begins_block(tag: &[u8]) -> bool {
-    let (name, rest) = split_name(tag.strip_prefix(b"/").unwrap_or(tag));
-    let is_apart = matches!(rest.first(), None | Some(b' ' | b'\t' | b'>'));
-    (is_apart || rest.starts_with(b"/>")) && is_one_of(&BLOCK_NAMES, name)
+// Returns whether one of these names is that of a tag that begins a block which goes on to a closing tag.
+fn is_any_raw_tag(tag: &[u8], names: &[&[u8]]) -> bool
+    ensures { result ≡ list_any (λ name. is_raw_tag name.now tag.now) names.now }
+{
+    names.iter().any(|name| is_raw_tag(tag, name))
+}
+
+// Returns whether this name is that of a tag that begins a block which goes on to a closing tag.
+fn is_raw_tag(tag: &[u8], name: &[u8]) -> bool
+    ensures { result ≡ is_raw_tag name.now tag.now }
+{
+    match tag.get(name.len()..) {
+        Some(rest) => is_apart(rest) && begins_with_name(tag, name),
+        None => false,
+    }
+}
+
+// Returns whether a tag begins a block that goes on to a blank line.
+fn begins_block(tag: &[u8]) -> bool
+    ensures { result ≡ begins_block tag.now }
+{
+    is_any_block_tag(without_slash(tag), &BLOCK_NAMES)
+}
+
+// Returns a text without the slash with which it begins.
+fn without_slash(text: &[u8]) -> &[u8]
+    ensures { result.now ≡ without_slash text.now }
+{
+    match text.strip_prefix(b"/") {
+        Some(rest) => rest,
+        None => text,
+    }
+}
+
+// Returns whether one of these names is that of a tag that begins a block which goes on to a blank line.
+fn is_any_block_tag(tag: &[u8], names: &[&[u8]]) -> bool
+    ensures { result ≡ list_any (λ name. is_block_tag name.now tag.now) names.now }
+{
+    names.iter().any(|name| is_block_tag(tag, name))
+}
+
+// Returns whether this name is that of a tag that begins a block which goes on to a blank line.
+fn is_block_tag(tag: &[u8], name: &[u8]) -> bool
+    ensures { result ≡ is_block_tag name.now tag.now }
+{
+    match tag.get(name.len()..) {
+        Some(rest) => is_apart_or_closed(rest) && begins_with_name(tag, name),
+        None => false,
+    }
+}
+
+// Returns whether a text is apart from the name before it: a space, a tab or `>` comes first, or the line ends.
+fn is_apart(rest: &[u8]) -> bool
+    ensures { result ≡ is_apart rest.now }
+{
+    match rest.first() {
+        Some(&byte) => is_blank(byte) || byte == b'>',
+        None => true,
+    }
+}
+
+// Returns whether a text is apart from the name before it, or begins with `/>`.
+fn is_apart_or_closed(rest: &[u8]) -> bool
+    ensures { result ≡ is_apart_or_closed rest.now }
+{
+    is_apart(rest) || rest.starts_with(b"/>")
 }
 
 // Whether a text is a whole tag, and spaces. `<pre/>` and its like are none.
@@ -159,16 +224,6 @@ fn is_lone_tag(text: &[u8]) -> bool {
         None => closing_tag_end(text, 0),
     };
     end.is_some_and(|end| is_blank_text(&text[end..]))
-}
-
-// The letters and digits at the beginning of a text, and the text after them.
-fn split_name(text: &[u8]) -> (&[u8], &[u8]) {
-    text.split_at(run_end(text, 0, |byte| byte.is_ascii_alphanumeric()))
-}
-
-// Whether a name is one of these, in any case.
-fn is_one_of(names: &[&[u8]], name: &[u8]) -> bool {
-    names.iter().any(|other| other.eq_ignore_ascii_case(name))
 }
 
 // Whether a text has a part, in any case.

@@ -1,7 +1,8 @@
 //! Names of links: the labels in brackets, and which of them are defined.
-ghost use Rattle.std.specs.Prelude.{◌≡◌, ◌≤◌, ◌<◌, nat_lt, length, IfSome};
+ghost use Rattle.std.specs.Prelude.{◌≡◌, ◌≤◌, ◌<◌, nat_lt, length, IfOk, IfSome};
 ghost use Rattle.std.specs.List.{count_by};
 ghost use Rattle.markdown_targets.specs.Classes.{begins_character};
+ghost use Rattle.markdown_targets.specs.Labels.{normalized_label};
 ghost use Rattle.markdown_targets.specs.Steps.{Advances};
 
 use crate::finder::bytes::{find_unescaped, is_space, skip_byte};
@@ -92,15 +93,21 @@ impl Names {
     }
 }
 
-// A name without case as far as ASCII, with one space in place of several.
-fn folded(alloc: Global, name: &[u8]) -> Result<Vec<u8>, AllocError> {
+// Returns a name without case as far as ASCII, with one space in place of several.
+fn folded(alloc: Global, name: &[u8]) -> Result<Vec<u8>, AllocError>
+    ensures { IfOk result (λ folded. folded.items ≡ normalized_label name.now) }
+{
     let mut folded = Vec::with_capacity(alloc, name.len())?;
-    for word in name.split(|&byte| is_space(byte)) {
-        if !word.is_empty() && !folded.is_empty() {
-            folded.push(b' ')?;
-        }
-        for byte in word {
+    let mut is_apart = false;
+    for &byte in name {
+        if is_space(byte) {
+            is_apart = true;
+        } else {
+            if is_apart && !folded.is_empty() {
+                folded.push(b' ')?;
+            }
             folded.push(byte.to_ascii_lowercase())?;
+            is_apart = false;
         }
     }
     Ok(folded)

@@ -1,7 +1,8 @@
 //! Tags in HTML, with the attributes that link.
-ghost use Rattle.std.specs.Prelude.{◌≡◌, ◌≤◌, ◌<◌, length, IfSome};
+ghost use Rattle.std.specs.Prelude.{◌≡◌, ◌≤◌, ◌<◌, ◌&&◌, length, slice_index, IfSome};
 ghost use Rattle.markdown_targets.specs.Classes.{is_of_tag, begins_attribute, is_of_attribute, is_of_value};
 ghost use Rattle.markdown_targets.specs.Steps.{Skips, Advances};
+ghost use Rattle.markdown_targets.specs.Tags.{begins_with_name, ends_name, closes};
 
 use crate::finder::bytes::{is_space, run_end, skip_byte, skip_spaces};
 use crate::span::Span;
@@ -195,11 +196,42 @@ pub(crate) fn closing_tag_end(text: &[u8], start: usize) -> Option<usize>
     skip_byte(text, skip_spaces(text, name_end), b'>')
 }
 
-// Whether a text begins with the closing tag of an element.
-fn closes(text: &[u8], name: &[u8]) -> bool {
-    text.strip_prefix(b"</").is_some_and(|tag| tag[..run_end(
-        tag, 0, is_of_tag,
-    )].eq_ignore_ascii_case(name))
+// Returns whether the content of an element, which has no tags, ends where a text begins. A browser reads no `>` for
+// that.
+fn closes(text: &[u8], name: &[u8]) -> bool
+    ensures { result ≡ closes name.now text.now }
+{
+    match text.strip_prefix(b"</") {
+        Some(tag) => has_ended_name(tag, name),
+        None => false,
+    }
+}
+
+// Returns whether a text begins with a name, in any case, and a byte that ends it.
+fn has_ended_name(tag: &[u8], name: &[u8]) -> bool
+    ensures { result ≡ (ends_name (slice_index tag.now (length name.now)) && begins_with_name name.now tag.now) }
+{
+    match tag.get(name.len()) {
+        Some(&byte) => ends_name(byte) && begins_with_name(tag, name),
+        None => false,
+    }
+}
+
+// Returns whether a text begins with a name, in any case.
+pub(crate) fn begins_with_name(text: &[u8], name: &[u8]) -> bool
+    ensures { result ≡ begins_with_name name.now text.now }
+{
+    match text.get(..name.len()) {
+        Some(front) => front.eq_ignore_ascii_case(name),
+        None => false,
+    }
+}
+
+// Returns whether a byte ends the name of a closing tag.
+fn ends_name(byte: u8) -> bool
+    ensures { result ≡ ends_name byte }
+{
+    is_space(byte) || matches!(byte, FORM_FEED | b'/' | b'>')
 }
 
 // The end of the name of a tag at an offset.

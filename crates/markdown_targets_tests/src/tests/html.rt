@@ -197,6 +197,8 @@ a <a¶href =¶"b.md" > ⇒ b.md
 <a:b href="c.md"> ⇒ none
 § Attributes after a closing tag of a longer name
 <script>¶</scripts> <img src="b.png">¶</script> <img src="c.png"> ⇒ c.png
+§ Attributes after a closing tag whose name ends otherwise than in HTML
+<script>¶</script_> <img src="b.png">¶</script/> <img src="c.png"> ⇒ c.png
 § Attributes of a base without an `href`
 <base src=b.md> ⇒ b.md
 "##;
