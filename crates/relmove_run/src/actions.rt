@@ -1,4 +1,7 @@
 //! The calls of a run on the files below a root. Each asks before it changes something.
+ghost use Rattle.std.specs.Prelude.{◌≡◌, ◌<◌};
+ghost use Rattle.relmove_run.specs.Permissions.{allowed_permissions, permissions};
+
 use crate::fault::{Call, Fault, at};
 use crate::file_store::is_absence;
 use crate::store::{Found, FoundKind, Store};
@@ -203,9 +206,6 @@ pub(crate) fn sync<S: Store>(store: &mut S, file: &S::NewFile, path: &str) -> Re
 // The permissions of a file's owner.
 const OWNER_PERMISSIONS: u32 = 0o700;
 
-// The permissions of owner, group and others.
-const PLAIN_PERMISSIONS: u32 = 0o777;
-
 // Gives a new file to the owner and the group of the old one, if the system allows it. Returns the permissions that the
 // new file may have.
 fn give_to_owner<S: Store>(
@@ -228,15 +228,27 @@ fn give_to_owner<S: Store>(
 
 // The permissions of an old file that a new one may have. Without the old owner it doesn't run as its owner or its
 // group, and without the old group its group may do only what others may do.
-fn allowed_mode(old: &Found, new: &Found) -> u32 {
+fn allowed_mode(old: &Found, new: &Found) -> u32
+    ensures { result ≡ allowed_permissions old.now new.now }
+{
     if new.owner == old.owner && new.group == old.group {
         return old.mode;
     }
-    let mode = old.mode & PLAIN_PERMISSIONS;
+    let (owner, group, others) = (old.mode / 64 % 8, old.mode / 8 % 8, old.mode % 8);
     if new.group == old.group {
-        return mode;
+        return permissions(owner, group, others);
     }
-    mode & (OWNER_PERMISSIONS | 0o007 | ((mode & 0o007) << 3))
+    permissions(owner, group & others, others)
+}
+
+// The permissions with these rights of owner, group and others.
+fn permissions(owner: u32, group: u32, others: u32) -> u32
+    requires owner { owner < 8 }
+    requires group { group < 8 }
+    requires others { others < 8 }
+    ensures { result ≡ permissions owner group others }
+{
+    owner * 64 + group * 8 + others
 }
 
 // Waits until the names in a directory are on the disk. A directory that can't be opened, or whose file system can't

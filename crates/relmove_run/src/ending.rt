@@ -1,4 +1,8 @@
 //! What the end of a run that stopped would do.
+ghost use Rattle.std.specs.Prelude.{◌≡◌, MatchResult, None, Some};
+ghost use Rattle.relmove_run.specs.Ends.{stage_back, stage_to_end};
+ghost use Rattle.relmove_run.specs.declared.fault.Fault.TheVariants.{TooLate};
+
 use crate::fault::Fault;
 use crate::printable::Printable;
 use crate::work::{Leftover, Stage, TextFile, Work};
@@ -58,13 +62,33 @@ fn write_change<W: fmt::Write>(f: &mut fmt::Formatter<W>, words: &str, path: &st
 }
 
 // The stage from which a run is ended this way, if the run is at a stage. Fails if it is too late to take the run back.
-pub(crate) fn stage_to_end(way: Way, stage: Stage) -> Result<Stage, Fault> {
-    match (way, stage) {
-        (Way::Undo, Stage::Cleaning) => Err(Fault::TooLate),
-        (Way::Undo, Stage::Staging) => Ok(Stage::Unstaging),
-        (Way::Undo, Stage::Making) => Ok(Stage::Unmaking),
-        (Way::Undo, Stage::Placing) => Ok(Stage::Unplacing),
-        _ => Ok(stage),
+pub(crate) fn stage_to_end(way: Way, stage: Stage) -> Result<Stage, Fault>
+    ensures { MatchResult result
+        (λ next. stage_to_end way stage ≡ Some next)
+        (λ fault. (fault ≡ TooLate) × (stage_to_end way stage ≡ None)) }
+{
+    match way {
+        Way::Resume => Ok(stage),
+        Way::Undo => stage_back(stage),
+    }
+}
+
+// The stage from which a run at a stage goes back. Fails if it is too late.
+fn stage_back(stage: Stage) -> Result<Stage, Fault>
+    ensures { MatchResult result
+        (λ next. stage_back stage ≡ Some next)
+        (λ fault. (fault ≡ TooLate) × (stage_back stage ≡ None)) }
+{
+    match stage {
+        Stage::Writing => Ok(Stage::Writing),
+        Stage::Staging => Ok(Stage::Unstaging),
+        Stage::Making => Ok(Stage::Unmaking),
+        Stage::Placing => Ok(Stage::Unplacing),
+        Stage::Cleaning => Err(Fault::TooLate),
+        Stage::Unplacing => Ok(Stage::Unplacing),
+        Stage::Unmaking => Ok(Stage::Unmaking),
+        Stage::Unstaging => Ok(Stage::Unstaging),
+        Stage::Erasing => Ok(Stage::Erasing),
     }
 }
 

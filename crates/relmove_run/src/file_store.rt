@@ -1,6 +1,9 @@
 //! The files of the system below a root.
 //!
 //! Nothing is proved of what they hold. This module is thin: each call is a call of the system or two.
+ghost use Rattle.std.specs.Prelude.{◌≡◌, ◌↔◌, ◌⊎◌, IsTrue};
+ghost use Rattle.std.specs.declared.io.ErrorKind.TheVariants.{NotADirectory, NotFound};
+
 use crate::path::join;
 use crate::store::{Found, FoundKind, Machine, Store};
 use std::alloc::{AllocError, Global};
@@ -202,7 +205,9 @@ fn kind_of(kind: FileType) -> FoundKind {
 }
 
 /// Whether an error says that nothing is at a path.
-pub fn is_absence(kind: ErrorKind) -> bool {
+pub fn is_absence(kind: ErrorKind) -> bool
+    ensures absence { IsTrue result ↔ ((kind ≡ NotFound) ⊎ (kind ≡ NotADirectory)) }
+{
     match kind {
         ErrorKind::NotFound => true,
         ErrorKind::NotADirectory => true,

@@ -1,4 +1,6 @@
 //! What a run needs of the files below a root, as a trait.
+ghost use Rattle.std.specs.Prelude.{◌≡◌, ◌==◌, ◌&&◌};
+
 use std::alloc::{AllocError, Global};
 use std::fs::Files;
 use std::io;
@@ -42,7 +44,9 @@ pub struct Found {
 
 impl Found {
     /// Whether this is the same thing as another one, maybe under another name.
-    pub fn is_same(&self, other: &Found) -> bool {
+    pub fn is_same(&self, other: &Found) -> bool
+        ensures same { result ≡ (self.now.device == other.now.device && self.now.inode == other.now.inode) }
+    {
         self.device == other.device && self.inode == other.inode
     }
 }

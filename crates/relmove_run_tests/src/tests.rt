@@ -17,6 +17,7 @@ mod journals_near;
 mod lock;
 mod own_names;
 mod power;
+mod printing;
 mod reasons;
 mod rights;
 mod room;
