@@ -77,11 +77,6 @@ IsSoFar-space label items apart k inside is so_far =
     ∙ ap (λ t. items ++ (if t then left_of begun true (drop (k + 1) label)
     else gap begun apart ++ (to_ascii_lowercase (get_or label k 0) ∷ left_of true false (drop (k + 1) label)))) is
 
-pub IsSoFar-end : (label items : List ℕ) (apart : Bool) (k : ℕ) → drop k label ≡ [] → IsSoFar label items apart k
-    → items ≡ normalized_label label
-IsSoFar-end label items apart k end so_far =
-    sym (so_far ∙ ap (λ l. items ++ left_of (not (length items == 0)) apart l) end ∙ append-nil items)
-
 pub IsSoFar-byte : (label items new : List ℕ) (apart : Bool) (k : ℕ) → k < length label
     → is_space (get_or label k 0) ≡ false
     → new ≡ items ++ gap (not (length items == 0)) apart ++ (to_ascii_lowercase (get_or label k 0) ∷ [])
