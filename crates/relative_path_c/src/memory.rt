@@ -2,7 +2,7 @@
 ghost use Rattle.std.specs.Prelude.{◌≡◌, ◌≢◌, ◌≤◌, ◌<◌, ◌↔◌, ◌⊎◌, length, take, IfOk, IfErr, MatchOption, string_bytes};
 ghost use Rattle.std.specs.Str.{IsUtf8};
 ghost use Rattle.relative_path.specs.declared.error.WriteError.TheVariants as write_errors;
-ghost use Rattle.relative_path_c.specs.Memory.{Writes};
+ghost use Rattle.relative_path_c.specs.Memory.{KeepsRest, Writes};
 ghost use Rattle.relative_path_c.specs.Status.{done, absent, no_room, out_of_memory};
 
 use crate::status::{ABSENT, DONE, NO_ROOM, OUT_OF_MEMORY, Written};
@@ -54,6 +54,7 @@ pub(crate) fn write(text: &str, out: &mut [u8]) -> Written
     ensures no_room { (result.status ≡ no_room) ↔ (length out.old < length text.now) }
     ensures len { result.len ≡ length text.now }
     ensures text { Writes result.status result.len out.new (λ t. t ≡ text.now) }
+    ensures rest { KeepsRest result.status result.len out.old out.new }
     ensures kept { result.status ≢ done → out.new ≡ out.old }
 {
     let text = text.as_bytes();
@@ -75,6 +76,7 @@ pub(crate) fn write_path(made: Result<RelativePathBuf, AllocError>, out: &mut [u
         × ((result.status ≡ no_room) ↔ (length out.old < length path.text))
         × Writes result.status result.len out.new (λ t. t ≡ path.text)) }
     ensures err { IfErr made (λ error. result.status ≡ out_of_memory) }
+    ensures rest { KeepsRest result.status result.len out.old out.new }
     ensures kept { result.status ≢ done → out.new ≡ out.old }
 {
     match made {
@@ -90,6 +92,7 @@ pub(crate) fn write_string(made: Result<String, AllocError>, out: &mut [u8]) -> 
         × ((result.status ≡ no_room) ↔ (length out.old < length (string_bytes text)))
         × Writes result.status result.len out.new (λ t. t ≡ string_bytes text)) }
     ensures err { IfErr made (λ error. result.status ≡ out_of_memory) }
+    ensures rest { KeepsRest result.status result.len out.old out.new }
     ensures kept { result.status ≢ done → out.new ≡ out.old }
 {
     match made {

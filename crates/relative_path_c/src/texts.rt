@@ -7,7 +7,7 @@ ghost use Rattle.relative_path.specs.Naming.{file_name_of, IsNamed, IsExtended};
 ghost use Rattle.relative_path.specs.Normalizing.{IsNormalTextOf};
 ghost use Rattle.relative_path.specs.Relating.{IsWayText, IsShortestText, IsReachable};
 ghost use Rattle.relative_path.specs.Steps.{components};
-ghost use Rattle.relative_path_c.specs.Memory.{Writes, Needs};
+ghost use Rattle.relative_path_c.specs.Memory.{KeepsRest, Writes, Needs};
 ghost use Rattle.relative_path_c.specs.Status.{done, not_utf8, absent, no_room, out_of_memory};
 
 use crate::memory::{nothing_written, write, write_path, written};
@@ -28,6 +28,7 @@ pub extern "C" fn relative_path_join(
     ensures needs { Needs result.status result.len out.old (λ joined. joined ≡ pushed text.now path.now) }
     ensures suffices { length text.now + 1 + length path.now ≤ length out.old → result.status ≢ no_room }
     ensures not_utf8 { (result.status ≡ not_utf8) ↔ (¬ (IsUtf8 text.now × IsUtf8 path.now)) }
+    ensures rest { KeepsRest result.status result.len out.old out.new }
     ensures kept { result.status ≢ done → out.new ≡ out.old }
     ensures status { (result.status ≤ out_of_memory) × (result.status ≢ absent) }
 {
@@ -52,6 +53,7 @@ pub extern "C" fn relative_path_join_normalized(
         (IsNormalTextOf (components text.now ++ components path.now)) }
     ensures suffices { length text.now + 1 + length path.now ≤ length out.old → result.status ≢ no_room }
     ensures not_utf8 { (result.status ≡ not_utf8) ↔ (¬ (IsUtf8 text.now × IsUtf8 path.now)) }
+    ensures rest { KeepsRest result.status result.len out.old out.new }
     ensures kept { result.status ≢ done → out.new ≡ out.old }
     ensures status { (result.status ≤ out_of_memory) × (result.status ≢ absent) }
 {
@@ -91,6 +93,7 @@ pub extern "C" fn relative_path_with_file_name(
     ensures suffices { length text.now + 1 + length file_name.now ≤ length out.old
         → result.status ≢ no_room }
     ensures not_utf8 { (result.status ≡ not_utf8) ↔ (¬ (IsUtf8 text.now × IsUtf8 file_name.now)) }
+    ensures rest { KeepsRest result.status result.len out.old out.new }
     ensures kept { result.status ≢ done → out.new ≡ out.old }
     ensures status { (result.status ≤ out_of_memory) × (result.status ≢ absent) }
 {
@@ -114,6 +117,7 @@ pub extern "C" fn relative_path_with_extension(
     ensures suffices { length text.now + 1 + length extension.now ≤ length out.old
         → result.status ≢ no_room }
     ensures not_utf8 { (result.status ≡ not_utf8) ↔ (¬ (IsUtf8 text.now × IsUtf8 extension.now)) }
+    ensures rest { KeepsRest result.status result.len out.old out.new }
     ensures kept { result.status ≢ done → out.new ≡ out.old }
     ensures status { (result.status ≤ out_of_memory) × (result.status ≢ absent) }
 {
@@ -152,6 +156,7 @@ pub extern "C" fn relative_path_set_extension(
         → result.status ≢ no_room }
     ensures not_utf8 { (result.status ≡ not_utf8)
         ↔ (¬ (IsUtf8 (take len memory.old) × IsUtf8 extension.now)) }
+    ensures rest { KeepsRest result.status result.len memory.old memory.new }
     ensures kept { result.status ≢ done → memory.new ≡ memory.old }
     ensures status { result.status ≤ out_of_memory }
 {
@@ -203,6 +208,7 @@ pub extern "C" fn relative_path_relative(
         (IsWayText (components text.now) (components to.now)) }
     ensures suffices { 2 * length text.now + 1 + length to.now ≤ length out.old → result.status ≢ no_room }
     ensures not_utf8 { (result.status ≡ not_utf8) ↔ (¬ (IsUtf8 text.now × IsUtf8 to.now)) }
+    ensures rest { KeepsRest result.status result.len out.old out.new }
     ensures kept { result.status ≢ done → out.new ≡ out.old }
     ensures status { (result.status ≤ out_of_memory) × (result.status ≢ absent) }
 {
@@ -228,6 +234,7 @@ pub extern "C" fn relative_path_try_relative(
     ensures suffices { 2 * length text.now + 1 + length to.now ≤ length out.old → result.status ≢ no_room }
     ensures absent { result.status ≡ absent → ¬ IsReachable (components text.now) (components to.now) }
     ensures not_utf8 { (result.status ≡ not_utf8) ↔ (¬ (IsUtf8 text.now × IsUtf8 to.now)) }
+    ensures rest { KeepsRest result.status result.len out.old out.new }
     ensures kept { result.status ≢ done → out.new ≡ out.old }
     ensures status { result.status ≤ out_of_memory }
 {

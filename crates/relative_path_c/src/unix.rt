@@ -4,7 +4,7 @@ ghost use Rattle.std.specs.Str.{IsUtf8};
 ghost use Rattle.relative_path.specs.Editing.{without_cur_dirs};
 ghost use Rattle.relative_path.specs.Steps.{Step, components, spell};
 ghost use Rattle.relative_path.specs.Unix.{has_root, onto, unix_components, way_to, IsAbove, IsLogical};
-ghost use Rattle.relative_path_c.specs.Memory.{HandsOut, Writes, Needs};
+ghost use Rattle.relative_path_c.specs.Memory.{HandsOut, KeepsRest, Writes, Needs};
 ghost use Rattle.relative_path_c.specs.Status.{done, not_utf8, absent, no_room, out_of_memory, non_relative, prefix_mismatch, ambiguous_traversal};
 
 use crate::memory::{hand_out, nothing_written, write, write_string};
@@ -67,6 +67,7 @@ pub extern "C" fn relative_path_unix_from_path(
     ensures non_relative { (result.status ≡ non_relative)
         ↔ (IsUtf8 text.now × IsTrue (has_root text.now)) }
     ensures not_utf8 { (result.status ≡ not_utf8) ↔ (¬ IsUtf8 text.now) }
+    ensures rest { KeepsRest result.status result.len out.old out.new }
     ensures kept { result.status ≢ done → out.new ≡ out.old }
     ensures status { (result.status ≤ non_relative) × (result.status ≢ absent) }
 {
@@ -99,6 +100,7 @@ pub extern "C" fn relative_path_unix_to_path(
         (λ path. path ≡ onto base.now (components text.now)) }
     ensures suffices { length base.now + 1 + length text.now ≤ length out.old → result.status ≢ no_room }
     ensures not_utf8 { (result.status ≡ not_utf8) ↔ (¬ (IsUtf8 text.now × IsUtf8 base.now)) }
+    ensures rest { KeepsRest result.status result.len out.old out.new }
     ensures kept { result.status ≢ done → out.new ≡ out.old }
     ensures status { (result.status ≤ out_of_memory) × (result.status ≢ absent) }
 {
@@ -121,6 +123,7 @@ pub extern "C" fn relative_path_unix_to_logical_path(
     ensures needs { Needs result.status result.len out.old (IsLogical base.now (components text.now)) }
     ensures suffices { length base.now + 1 + length text.now ≤ length out.old → result.status ≢ no_room }
     ensures not_utf8 { (result.status ≡ not_utf8) ↔ (¬ (IsUtf8 text.now × IsUtf8 base.now)) }
+    ensures rest { KeepsRest result.status result.len out.old out.new }
     ensures kept { result.status ≢ done → out.new ≡ out.old }
     ensures status { (result.status ≤ out_of_memory) × (result.status ≢ absent) }
 {
@@ -149,6 +152,7 @@ pub extern "C" fn relative_path_unix_relative_to(
     ensures ambiguous_traversal { result.status ≡ ambiguous_traversal
         → (has_root text.now ≡ has_root root.now) × (way_to text.now root.now ≡ None) }
     ensures not_utf8 { (result.status ≡ not_utf8) ↔ (¬ (IsUtf8 text.now × IsUtf8 root.now)) }
+    ensures rest { KeepsRest result.status result.len out.old out.new }
     ensures kept { result.status ≢ done → out.new ≡ out.old }
     ensures status { (result.status ≤ ambiguous_traversal) × (result.status ≢ absent)
         × (result.status ≢ non_relative) }
