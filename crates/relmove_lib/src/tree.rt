@@ -1,7 +1,7 @@
 //! Reads what is below the root: directories, files, links, and the texts of pages.
 use crate::root::Root;
 use markdown_targets::link_targets;
-use relmove_run::{Call, Fault, at, join, read_regular};
+use relmove_run::{Call, Fault, STAGING, at, join, read_regular};
 use std::alloc::{AllocError, Global};
 use std::collections::BTreeMap;
 use std::fs::{self, DirEntry, FileType};
@@ -321,7 +321,7 @@ fn has_base(alloc: Global, text: &str) -> Result<bool, AllocError> {
 
 // Whether a path has a name that a run gives to what moves, or to a new text.
 pub(crate) fn is_staging_name(path: &str) -> bool {
-    name_of(path).starts_with(".relmove-")
+    name_of(path).starts_with(STAGING)
 }
 
 // The name at the end of a path.

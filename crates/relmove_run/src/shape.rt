@@ -8,10 +8,10 @@ use relmove_actions::Rename;
 use std::alloc::{AllocError, Global};
 
 // What the names of a run's own files begin with.
-const OWN: &str = ".relmove";
+const RESERVED: &str = ".relmove";
 
-// What staging names and the names of new texts begin with, before their number.
-const STAGING: &str = ".relmove-";
+/// What staging names and the names of new texts begin with, before their number.
+pub const STAGING: &str = ".relmove-";
 
 /// Whether work can be a run's.
 ///
@@ -177,7 +177,7 @@ fn is_made_path(path: &str) -> bool
 fn is_name(part: &str) -> bool
     ensures { result ≡ is_name part.now }
 {
-    !is_nameless(part) && !part.starts_with(OWN) && !part.contains('\0')
+    !is_nameless(part) && !part.starts_with(RESERVED) && !part.contains('\0')
 }
 
 // Whether a part of a path is no name: the part is empty, `.` or `..`.
