@@ -6,12 +6,23 @@ use std::alloc::{AllocError, Global};
 use std::cell::{Cell, RefCell};
 use std::io::{self, ErrorKind};
 
-// What another process puts somewhere, and before which call.
+// What another process does at a path.
+#[derive(Drop)]
+enum Deed {
+    // It puts something there. A file that is there stays the same file.
+    Put(Content),
+    // It removes what is there.
+    Removed,
+    // It removes what is there, and puts something else there.
+    Replaced(Content),
+}
+
+// What another process does, and before which call.
 #[derive(Drop)]
 struct Surprise {
     number: u32,
     path: String,
-    content: Content,
+    deed: Deed,
 }
 
 /// A disk, and the process that works on it: its user and group, 1000 at first, the number of its calls, and those that
@@ -81,12 +92,23 @@ impl Disk {
 
     /// Puts something at a path, as [`Disk::add`] does, before the call of this number.
     pub fn add_before(&self, number: u32, path: &str, content: Content) -> io::Result<()> {
+        self.surprise_before(number, path, Deed::Put(content))
+    }
+
+    /// Removes a path and all below it, as [`Disk::remove`] does, before the call of this number.
+    pub fn remove_before(&self, number: u32, path: &str) -> io::Result<()> {
+        self.surprise_before(number, path, Deed::Removed)
+    }
+
+    /// Puts something else at a path, before the call of this number. What is there is removed, with all below it.
+    pub fn replace_before(&self, number: u32, path: &str, content: Content) -> io::Result<()> {
+        self.surprise_before(number, path, Deed::Replaced(content))
+    }
+
+    // Notes what another process does before the call of this number.
+    fn surprise_before(&self, number: u32, path: &str, deed: Deed) -> io::Result<()> {
         let path = String::from_str(self.alloc, path)?;
-        let surprise = Surprise {
-            number,
-            path,
-            content,
-        };
+        let surprise = Surprise { number, path, deed };
         match self.surprises.try_borrow_mut()?.push(surprise) {
             Ok(()) => Ok(()),
             Err(_) => Err(io::Error::from(AllocError)),
@@ -286,10 +308,22 @@ impl Disk {
             }
         };
         if let Some(surprise) = surprise {
-            let Surprise { path, content, .. } = surprise;
-            self.add(path.as_str(), content)?;
+            let Surprise { path, deed, .. } = surprise;
+            self.happen(path.as_str(), deed)?;
         }
         turn
+    }
+
+    // Does what another process does at a path.
+    fn happen(&self, path: &str, deed: Deed) -> io::Result<()> {
+        match deed {
+            Deed::Put(content) => self.add(path, content),
+            Deed::Removed => self.remove(path),
+            Deed::Replaced(content) => {
+                self.remove(path)?;
+                self.add(path, content)
+            }
+        }
     }
 
     // Fails unless so many more bytes have room.

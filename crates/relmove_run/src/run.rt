@@ -22,9 +22,14 @@ use std::collections::BTreeMap;
 pub enum Ended {
     /// All is done: everything is at its new path.
     Done(Vec<Remark>),
-    /// The run was taken back: everything is as before.
-    TakenBack(Vec<Remark>),
-    /// Nothing is changed, or everything was taken back.
+    /// The run was taken back: everything is as before, but for what the remarks say.
+    TakenBack {
+        /// Why the run went back by itself. `None` if it was to go back.
+        cause: Option<Fault>,
+        /// What is left.
+        remarks: Vec<Remark>,
+    },
+    /// Nothing is changed.
     Refused(Fault),
     /// The call stopped in the middle. What it did stays.
     Stopped {
@@ -35,6 +40,8 @@ pub enum Ended {
         fault: Fault,
         /// Whether the journal was read afterwards.
         has_journal: bool,
+        /// What is left of the stages that ended.
+        remarks: Vec<Remark>,
     },
 }
 
@@ -111,7 +118,7 @@ pub fn resume<S: Store + Drop>(locked: Locked<S>, trust: Trust) -> Ended {
 /// Takes back a run that stopped before everything was at its new path.
 pub fn undo<S: Store + Drop>(locked: Locked<S>, trust: Trust) -> Ended {
     match open(locked, trust) {
-        Ok(worker) => turn_back(worker),
+        Ok(worker) => turn_back(worker, None),
         Err(fault) => Ended::Refused(fault),
     }
 }
@@ -134,12 +141,12 @@ pub fn changes_to_end<S: Store + Drop>(
 fn end_from<S: Store + Drop>(worker: Worker<S>) -> Ended {
     match worker.stage() {
         Stage::Staging | Stage::Making | Stage::Placing | Stage::Cleaning => go_on_or_back(worker),
-        _ => go_back(worker),
+        _ => go_back(worker, None),
     }
 }
 
-// Takes a run back, unless it is too late.
-fn turn_back<S: Store + Drop>(mut worker: Worker<S>) -> Ended {
+// Takes a run back, unless it is too late. If it goes back by itself, it has a cause.
+fn turn_back<S: Store + Drop>(mut worker: Worker<S>, cause: Option<Fault>) -> Ended {
     let stage = match stage_to_end(Way::Undo, worker.stage()) {
         Ok(stage) => stage,
         Err(fault) => return Ended::Refused(fault),
@@ -149,7 +156,7 @@ fn turn_back<S: Store + Drop>(mut worker: Worker<S>) -> Ended {
     {
         return stop(worker, fault);
     }
-    go_back(worker)
+    go_back(worker, cause)
 }
 
 // Does everything up to the first rename.
@@ -278,7 +285,18 @@ fn refuse_staging<S: Store + Drop>(mut worker: Worker<S>, fault: Fault) -> Ended
 fn refuse<S: Store + Drop>(mut worker: Worker<S>, fault: Fault) -> Ended {
     match worker.go_back() {
         Err(_) if worker.may_have_journal() => stop(worker, fault),
-        _ => Ended::Refused(fault),
+        _ => refused(fault, worker.into_remarks()),
+    }
+}
+
+// How a run ended that did nothing but what was taken back.
+fn refused(fault: Fault, remarks: Vec<Remark>) -> Ended {
+    if remarks.is_empty() {
+        return Ended::Refused(fault);
+    }
+    Ended::TakenBack {
+        cause: Some(fault),
+        remarks,
     }
 }
 
@@ -293,6 +311,7 @@ fn stop<S: Store + Drop>(mut worker: Worker<S>, fault: Fault) -> Ended {
         stage,
         fault,
         has_journal,
+        remarks: worker.into_remarks(),
     }
 }
 
@@ -311,18 +330,18 @@ fn open<S: Store + Drop>(locked: Locked<S>, trust: Trust) -> Result<Worker<S>, F
 fn go_on_or_back<S: Store + Drop>(mut worker: Worker<S>) -> Ended {
     match worker.go_on() {
         Ok(()) => Ended::Done(worker.into_remarks()),
-        Err(Fault::Changed(page)) => match turn_back(worker) {
-            Ended::TakenBack(_) => Ended::Refused(Fault::Changed(page)),
-            ended => ended,
-        },
+        Err(Fault::Changed(page)) => turn_back(worker, Some(Fault::Changed(page))),
         Err(fault) => stop(worker, fault),
     }
 }
 
 // Goes back to the beginning.
-fn go_back<S: Store + Drop>(mut worker: Worker<S>) -> Ended {
+fn go_back<S: Store + Drop>(mut worker: Worker<S>, cause: Option<Fault>) -> Ended {
     match worker.go_back() {
-        Ok(()) => Ended::TakenBack(worker.into_remarks()),
+        Ok(()) => Ended::TakenBack {
+            cause,
+            remarks: worker.into_remarks(),
+        },
         Err(fault) => stop(worker, fault),
     }
 }

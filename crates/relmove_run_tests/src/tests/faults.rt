@@ -23,7 +23,7 @@ fn survives(alloc: Global, case: &Case, number: u32, way: Way) -> Result<(), Fai
     loses_nothing(alloc, case, &disk)?;
     match ended {
         Ended::Done(remarks) => is_done(alloc, case, &disk, &remarks),
-        Ended::TakenBack(_) => Err(Fail::new("the run was taken back")),
+        Ended::TakenBack { .. } => Err(Fail::new("the run was taken back")),
         Ended::Refused(_) => {
             if way == Way::Killed || way == Way::DoneAndKilled {
                 forgets_new_journal(&disk)?;
