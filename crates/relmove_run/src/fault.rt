@@ -1,5 +1,6 @@
 //! Why a call fails.
 use crate::printable::Printable;
+use crate::work::Stage;
 use httpdate::{HttpDate, fmt_http_date};
 use std::alloc::{AllocError, AllocFailed, Global};
 use std::error::Error;
@@ -90,6 +91,8 @@ pub enum Fault {
     HasJournal {
         /// When the journal was written, if this is known.
         written: Option<SystemTime>,
+        /// The stage that the journal says, if it can be read.
+        stage: Option<Stage>,
     },
     /// A directory below the root or above it has the journal of a run that didn't end.
     JournalNear(String),
@@ -119,7 +122,7 @@ impl fmt::Display for Fault {
                 let path = Printable(path.as_str());
                 write!(f, "can't {words} {path}: {why}")
             }
-            Fault::HasJournal { written } => write_has_journal(f, *written),
+            Fault::HasJournal { written, stage } => write_has_journal(f, *written, *stage),
             other => match words_with_path(other) {
                 Some((path, words)) => {
                     let path = Printable(path);
@@ -135,6 +138,7 @@ impl fmt::Display for Fault {
 fn write_has_journal<W: fmt::Write>(
     f: &mut fmt::Formatter<W>,
     written: Option<SystemTime>,
+    stage: Option<Stage>,
 ) -> fmt::Result {
     f.write_str("a run before this one didn't end")?;
     if let Some(written) = written
@@ -142,9 +146,19 @@ fn write_has_journal<W: fmt::Write>(
     {
         write!(f, "; its journal .relmove was written on {date}")?;
     }
-    f.write_str(
-        ". If it was your run, call relmove --resume ROOT or relmove --undo ROOT. If the folder came from elsewhere, the journal may have come with it: then remove it",
+    let commands = commands_at(stage);
+    write!(
+        f,
+        ". If it was your run, call {commands}. If the folder came from elsewhere, the journal may have come with it: then remove it"
     )
+}
+
+// The calls that end a run, if its journal says this stage.
+fn commands_at(stage: Option<Stage>) -> &'static str {
+    match stage {
+        Some(Stage::Cleaning) => "relmove --resume ROOT",
+        _ => "relmove --resume ROOT or relmove --undo ROOT",
+    }
 }
 
 // The path of a fault, and the words that follow it.

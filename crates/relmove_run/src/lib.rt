@@ -9,7 +9,7 @@
 //! parts of it         own_files  near  possible  synced  ways
 //! single calls        actions
 //! what a journal is   shape  journal
-//! what all share      path  printable  text_digest  fault  work  remark
+//! what all share      path  printable  text_digest  work  fault  remark
 //! files               store  file_store
 //! ```
 #![tactic(auto)]

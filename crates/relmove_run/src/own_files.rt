@@ -82,9 +82,19 @@ fn need_no_journal<S: Store>(store: &mut S) -> Result<(), Fault> {
     match find(store, JOURNAL)? {
         Some(found) if found.kind == FoundKind::File => Err(Fault::HasJournal {
             written: found.modified,
+            stage: stage_said(store, &found)?,
         }),
         Some(_) => Err(Fault::OwnName(copy_of(store, JOURNAL)?)),
         None => Ok(()),
+    }
+}
+
+// The stage that the journal that was found says, if it can be read.
+fn stage_said<S: Store>(store: &mut S, found: &Found) -> Result<Option<Stage>, Fault> {
+    match &read_journal(store, found) {
+        Ok(journal) => Ok(Some(journal.stage)),
+        Err(Fault::OutOfMemory) => Err(Fault::OutOfMemory),
+        Err(_) => Ok(None),
     }
 }
 

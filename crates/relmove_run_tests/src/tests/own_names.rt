@@ -52,6 +52,7 @@ fn reason_of(alloc: Global, stranger: Stranger) -> Result<String, AllocError> {
     let fault = match stranger {
         Stranger::File | Stranger::SecondName => Fault::HasJournal {
             written: SystemTime::UNIX_EPOCH.checked_add(Duration::from_secs(1_000_000_000)),
+            stage: None,
         },
         _ => Fault::OwnName(String::from_str(alloc, ".relmove")?),
     };
