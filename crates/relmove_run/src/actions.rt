@@ -169,17 +169,42 @@ impl OwnFile {
     }
 }
 
+// The file of a new text.
+#[derive(Clone, Copy)]
+pub(crate) struct Written {
+    // Which file it is.
+    pub(crate) own: OwnFile,
+    // Whether the whole text was written to it.
+    pub(crate) is_whole: bool,
+}
+
+impl Written {
+    // No file.
+    pub(crate) const NONE: Written = Written {
+        own: OwnFile::None,
+        is_whole: false,
+    };
+
+    // A file that a killed run may have made.
+    pub(crate) const UNKNOWN: Written = Written {
+        own: OwnFile::Unknown,
+        is_whole: false,
+    };
+}
+
 // Writes the new text of a page whole to a new file, and syncs it. The file gets the permissions of the page, and its
-// owner, if the system allows that. Only its owner can read it before it has its group. Notes which file it is.
+// owner, if the system allows that. Only its owner can read it before it has its group. Notes which file it is, and when
+// it is whole.
 pub(crate) fn write_text<S: Store>(
     store: &mut S,
     new: &NewText,
-    own: &mut OwnFile,
+    written: &mut Written,
 ) -> Result<(), Fault> {
     let (page, path) = (new.page.as_str(), new.file.as_str());
     let old = find_page(store, page)?;
-    let mut file = create(store, path, old.mode & OWNER_PERMISSIONS, own)?;
+    let mut file = create(store, path, old.mode & OWNER_PERMISSIONS, &mut written.own)?;
     write_whole(store, &mut file, path, new.text.as_bytes())?;
+    written.is_whole = true;
     let mode = give_to_owner(store, &file, path, &old)?;
     let set = store.set_mode(&file, mode);
     at(store.alloc(), Call::SetPermissions, path, set)?;

@@ -1,6 +1,6 @@
 //! Does the work of a run, from any stage on. Each step asks first whether it is done.
 use crate::actions::{
-    OwnFile, carry, copy_of, digest_at, find, is_there, make_directory, need_free,
+    OwnFile, Written, carry, copy_of, digest_at, find, is_there, make_directory, need_free,
     remove_directory, remove_file, write_text,
 };
 use crate::fault::Fault;
@@ -11,6 +11,7 @@ use crate::synced::sync_stage;
 use crate::work::{Leftover, Stage, TextFile, Work};
 use relmove_actions::{NewText, Rename};
 use std::alloc::AllocError;
+use std::io::ErrorKind;
 
 // A run under way.
 #[derive(Drop)]
@@ -20,7 +21,7 @@ pub(crate) struct Worker<S: Drop> {
     work: Work,
     stage: Stage,
     // The files of the first new texts, which the run may have made.
-    written: Vec<OwnFile>,
+    written: Vec<Written>,
     remarks: Vec<Remark>,
 }
 
@@ -47,7 +48,7 @@ impl<S: Store + Drop> Worker<S> {
     ) -> Result<Worker<S>, AllocError> {
         let mut written = Vec::with_capacity(store.alloc(), work.texts.len())?;
         for _ in &work.texts {
-            written.push(OwnFile::Unknown)?;
+            written.push(Written::UNKNOWN)?;
         }
         let remarks = Vec::new(store.alloc());
         Ok(Worker {
@@ -108,10 +109,10 @@ impl<S: Store + Drop> Worker<S> {
     // Writes the new texts.
     pub(crate) fn write_texts(&mut self, texts: &[NewText]) -> Result<(), Fault> {
         for text in texts {
-            let mut own = OwnFile::None;
-            let written = write_text(&mut self.store, text, &mut own);
-            self.written.push(own)?;
-            written?;
+            let mut written = Written::NONE;
+            let outcome = write_text(&mut self.store, text, &mut written);
+            self.written.push(written)?;
+            outcome?;
         }
         Ok(())
     }
@@ -236,8 +237,8 @@ impl<S: Store + Drop> Worker<S> {
 
     // Removes the new texts that may be written in part, and ends the run. This needs no room on the disk.
     fn abandon(&mut self) -> Result<(), Fault> {
-        for (text, own) in self.work.texts.iter().zip(&self.written) {
-            remove_part(&mut self.store, text, *own, &mut self.remarks)?;
+        for (text, written) in self.work.texts.iter().zip(&self.written) {
+            remove_part(&mut self.store, text, *written, &mut self.remarks)?;
         }
         self.end()
     }
@@ -284,31 +285,46 @@ fn remove_text<S: Store>(
     Ok(remarks.push(Remark::Kept(copy_of(store, path)?))?)
 }
 
-// Removes a text that the run wrote, maybe in part. Anything else there stays, and this is noted.
+// Removes a text that the run wrote, maybe in part. Anything else there stays, and this is noted. A part is told by its
+// file and its length, and a whole text by its digest.
 fn remove_part<S: Store>(
     store: &mut S,
     text: &TextFile,
-    own: OwnFile,
+    written: Written,
     remarks: &mut Vec<Remark>,
 ) -> Result<(), Fault> {
+    if written.own == OwnFile::None {
+        return Ok(());
+    }
     let path = text.path.as_str();
     let Some(found) = find(store, path)? else {
         return Ok(());
     };
-    let is_part = match own {
-        OwnFile::None => return Ok(()),
-        OwnFile::Unknown => may_be_part(&found, text),
-        OwnFile::Inode(_) => own.is(&found),
-    };
-    if is_part {
+    if may_be_part(store, text, written, &found) {
         return remove_file(store, path);
     }
-    Ok(remarks.push(Remark::Kept(copy_of(store, path)?))?)
+    remove_text(store, text, remarks)
 }
 
-// Whether what is found may be a part of a text that a killed run wrote.
-fn may_be_part(found: &Found, text: &TextFile) -> bool {
-    found.kind == FoundKind::File && found.links == 1 && found.length <= text.digest.length
+// Whether what is found may be a part of a text that the run wrote. A file that a killed run made is whole only if it has
+// its permissions: before, it can't be read.
+fn may_be_part<S: Store>(store: &mut S, text: &TextFile, written: Written, found: &Found) -> bool {
+    let is_own = match written.own {
+        OwnFile::Unknown => found.kind == FoundKind::File && found.links == 1,
+        own => own.is(found),
+    };
+    let length = text.digest.length;
+    is_own
+        && !written.is_whole
+        && (found.length < length || found.length == length && !can_read(store, text.path.as_str()))
+}
+
+// Whether the system lets the program read a file.
+fn can_read<S: Store>(store: &mut S, path: &str) -> bool {
+    match store.read(path) {
+        Err(error) => error.kind() != ErrorKind::PermissionDenied,
+        Ok(_) => true,
+    }
 }
 
 // Removes a directory that the run emptied. If it can't be removed, it stays, and this is noted.

@@ -1,7 +1,7 @@
 //! What another process does to the files of a run: no byte that it wrote is lost.
 use crate::tests::runs::{
-    End, calls_of, end_of, first_call_at, is_changed, remarks_of, resume_on, run, run_and_fail,
-    stopped_at, undo_on,
+    End, Ending, calls_of, end_of, first_call_at, is_changed, remarks_of, resume_on, run,
+    run_and_fail, stopped_at, undo_on,
 };
 use crate::tests::{cases, holds, same};
 use relmove_disk::{Disk, Way, disk_of, file_of};
@@ -56,6 +56,74 @@ fn takes_a_run_back_if_a_page_was_edited(rt: HostRuntime) -> Result<(), Fail> {
     same("nothing to say", &remarks_of(&ended).len(), &0)?;
     let after = [("a.md", Some("edited")), ("x.md", Some("xx"))];
     holds(alloc, "taken back", &disk, &after)
+}
+
+// Edits a new text before a call of a run, and fails the run's call of this number. Whether the run went back since it
+// failed. If the text was whole then, the edit has to be there, and this has to be said.
+fn keeps_edit_of_a_text(alloc: Global, number: u32, failed: u32) -> Result<bool, Fail> {
+    let disk = disk_of(alloc, cases::PAGE_CHANGES.before)?;
+    disk.add_before(number, "site/.relmove-9", file_of(alloc, "edited")?)?;
+    disk.fail_at(failed, Way::Refused);
+    let ended = run(alloc, &cases::PAGE_CHANGES, &disk)?;
+    let is_cause = matches!(
+        &ended,
+        Ended::TakenBack {
+            cause: Some(Fault::System { .. }),
+            ..
+        }
+    );
+    if is_cause {
+        let is_said = matches!(remarks_of(&ended), [Remark::Kept(_)]);
+        same("said", &is_said, &true)?;
+        same("the edit", &is_somewhere(&disk, "edited")?, &true)?;
+    }
+    Ok(is_cause)
+}
+
+// The first call of a run before which a new text is whole.
+fn first_whole(alloc: Global) -> Result<u32, Fail> {
+    for number in 1..=calls_of(alloc, &cases::PAGE_CHANGES)? {
+        let (_, disk) = run_and_fail(alloc, &cases::PAGE_CHANGES, number, Way::Killed)?;
+        let is_whole = disk.has("site/.relmove-9")?
+            && disk.is_file("site/.relmove-9", "[x](y/x.md) more")?;
+        if is_whole {
+            return Ok(number);
+        }
+    }
+    Err(Fail::new("no text was whole"))
+}
+
+// A new text that is whole is removed only by its digest, also by the run that wrote it.
+#[test]
+fn keeps_a_whole_text_that_is_edited(rt: HostRuntime) -> Result<(), Fail> {
+    let first = first_whole(rt.alloc())?;
+    let mut count = 0u32;
+    for more in 1..6u32 {
+        let failed = first.saturating_add(more);
+        if keeps_edit_of_a_text(rt.alloc(), failed, failed)? {
+            count = count.saturating_add(1);
+        }
+    }
+    same("runs that went back", &(count > 0), &true)
+}
+
+// Edits a new text after a kill, and ends the run. The edit has as many bytes as the text.
+fn keeps_edit_after_kill(alloc: Global, number: u32, ending: Ending) -> Result<(), Fail> {
+    let (_, disk) = run_and_fail(alloc, &cases::PAGE_CHANGES, number, Way::Killed)?;
+    disk.add("site/.relmove-9", file_of(alloc, "[x](y/x.md) mine")?)?;
+    let ended = ending.on(&disk);
+    same("back", &end_of(&ended), &End::TakenBack)?;
+    let is_said = matches!(remarks_of(&ended), [Remark::Kept(_)]);
+    same("said", &is_said, &true)?;
+    let is_kept = disk.is_file("site/.relmove-9", "[x](y/x.md) mine")?;
+    same("the edit", &is_kept, &true)
+}
+
+#[test]
+fn keeps_a_whole_text_that_is_edited_after_a_kill(rt: HostRuntime) -> Result<(), Fail> {
+    let first = first_whole(rt.alloc())?;
+    keeps_edit_after_kill(rt.alloc(), first, Ending::Undo)?;
+    keeps_edit_after_kill(rt.alloc(), first, Ending::Resume)
 }
 
 // Removes a page before a call of a run, once it has its staging name. Whether the run went back by itself.
