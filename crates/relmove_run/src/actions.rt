@@ -59,7 +59,10 @@ fn need_directory<S: Store>(store: &mut S, path: &str) -> Result<(), Fault> {
 fn rename<S: Store>(store: &mut S, from: &str, to: &str) -> Result<(), Fault> {
     need_way(store, from)?;
     need_way(store, to)?;
-    need_free(store, to)?;
+    if is_there(store, to)? {
+        let (from, to) = (copy_of(store, from)?, copy_of(store, to)?);
+        return Err(Fault::Both { from, to });
+    }
     let renamed = store.rename(from, to);
     at(store.alloc(), Call::Rename, from, renamed)
 }

@@ -75,6 +75,13 @@ pub enum Fault {
     },
     /// Something is at a path that has to be free.
     Taken(String),
+    /// Something is at both paths of a rename.
+    Both {
+        /// The path before.
+        from: String,
+        /// The path after.
+        to: String,
+    },
     /// Nothing is at a path that the run needs.
     Missing(String),
     /// A path on the way to another one is no directory, but a symbolic link or a file.
@@ -121,6 +128,13 @@ impl fmt::Display for Fault {
                 let words = call.words();
                 let path = Printable(path.as_str());
                 write!(f, "can't {words} {path}: {why}")
+            }
+            Fault::Both { from, to } => {
+                let (from, to) = (Printable(from.as_str()), Printable(to.as_str()));
+                write!(
+                    f,
+                    "can't rename {from} to {to}: something is at both paths. Rename or remove the one that isn't the run's"
+                )
             }
             Fault::HasJournal { written, stage } => write_has_journal(f, *written, *stage),
             other => match words_with_path(other) {

@@ -8,6 +8,7 @@ use crate::own_files::{OwnFiles, put_first, put_next, remove_all};
 use crate::remark::Remark;
 use crate::store::{Found, FoundKind, Store};
 use crate::synced::sync_stage;
+use crate::text_digest::TextDigest;
 use crate::work::{Leftover, Stage, TextFile, Work};
 use relmove_actions::{NewText, Rename};
 use std::alloc::AllocError;
@@ -220,9 +221,7 @@ impl<S: Store + Drop> Worker<S> {
 
     // Takes what has its staging name back to its old path, and goes on back.
     fn go_back_from_staging(&mut self) -> Result<(), Fault> {
-        for rename in self.work.staged.iter().rev() {
-            carry_back(&mut self.store, rename, &mut self.remarks)?;
-        }
+        unstage_all(&mut self.store, &self.work, &mut self.remarks)?;
         self.enter(Stage::Erasing)?;
         self.erase()
     }
@@ -267,6 +266,60 @@ fn carry_back<S: Store>(
         remarks.push(Remark::Gone { from, to })?;
     }
     Ok(())
+}
+
+// Takes everything that has its staging name back to its old path.
+fn unstage_all<S: Store>(
+    store: &mut S,
+    work: &Work,
+    remarks: &mut Vec<Remark>,
+) -> Result<(), Fault> {
+    for rename in work.staged.iter().rev() {
+        unstage(store, work, rename, remarks)?;
+    }
+    Ok(())
+}
+
+// Takes what has its staging name back to its old path. If a text of the run is at its old path already, what has its
+// staging name isn't the run's: it stays, and this is noted.
+fn unstage<S: Store>(
+    store: &mut S,
+    work: &Work,
+    rename: &Rename,
+    remarks: &mut Vec<Remark>,
+) -> Result<(), Fault> {
+    let back = carry_back(store, rename, remarks);
+    if let Err(Fault::Both { .. }) = &back
+        && is_back(store, work, rename)?
+    {
+        return Ok(remarks.push(Remark::Kept(copy_of(store, rename.to.as_str())?))?);
+    }
+    back
+}
+
+// Whether a text of the run is at the old path of a rename.
+fn is_back<S: Store>(store: &mut S, work: &Work, rename: &Rename) -> Result<bool, Fault> {
+    match digest_of(work, rename) {
+        Some(digest) => Ok(digest_at(store, rename.from.as_str())? == Some(digest)),
+        None => Ok(false),
+    }
+}
+
+// The digest of what a rename gives a staging name, if the journal has it: of a new text, or of the old text of a page.
+fn digest_of(work: &Work, rename: &Rename) -> Option<TextDigest> {
+    for text in &work.texts {
+        if text.path == rename.from {
+            return Some(text.digest);
+        }
+    }
+    for leftover in &work.cleaned {
+        if let Leftover::Text(text) = leftover
+            && text.path == rename.to
+        {
+            return Some(text.digest);
+        }
+    }
+    None
 }
 
 // Removes a text of the run, unless it has changed: then it stays, and this is noted.

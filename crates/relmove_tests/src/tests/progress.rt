@@ -147,6 +147,6 @@ fn says_what_a_run_left_that_stopped(rt: HostRuntime) -> Result<(), Fail> {
     let mut out = Vec::new(alloc);
     print_end(&mut out, "d/", &stopped)?;
     let expected =
-        "relmove: d/: a.md isn't there\nd/: .relmove-1 is kept: its text was changed during the run\nrelmove: stopped in the middle: everything is at its new path, and what is left over was being removed. Call relmove with --resume and d/.\nrelmove: the journal .relmove in d/ has the old paths, the names that begin with .relmove- and the new paths.\n";
+        "relmove: d/: a.md isn't there\nd/: .relmove-1 is kept: another program changed it, or put it there\nrelmove: stopped in the middle: everything is at its new path, and what is left over was being removed. Call relmove with --resume and d/.\nrelmove: the journal .relmove in d/ has the old paths, the names that begin with .relmove- and the new paths.\n";
     same("a stop", &out.as_slice(), &expected.as_bytes())
 }
