@@ -224,6 +224,13 @@ impl Disk {
         self.nodes.try_borrow_mut()?.lose_power(kept)
     }
 
+    /// Turns the power off and on, as [`Disk::lose_power`] does. But of a file whose rename is on the disk in its new
+    /// directory alone, both names stay. Returns whether a file has both names.
+    pub fn lose_power_and_keep_names(&self, kept: usize) -> io::Result<bool> {
+        self.is_locked.set(false);
+        self.nodes.try_borrow_mut()?.lose_power_and_keep_names(kept)
+    }
+
     /// Whether exactly this was printed on standard error.
     pub fn has_printed(&self, text: &str) -> io::Result<bool> {
         Ok(self.printed.try_borrow()?.as_slice() == text.as_bytes())

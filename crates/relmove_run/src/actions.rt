@@ -55,22 +55,60 @@ fn need_directory<S: Store>(store: &mut S, path: &str) -> Result<(), Fault> {
     }
 }
 
-// Renames a file or directory to a path that is free.
-fn rename<S: Store>(store: &mut S, from: &str, to: &str) -> Result<(), Fault> {
+// Renames what was found to a path that is free. If both paths are names of one file, the old one is removed.
+fn rename<S: Store>(store: &mut S, from: &str, to: &str, found: &Found) -> Result<(), Fault> {
     need_way(store, from)?;
     need_way(store, to)?;
-    if is_there(store, to)? {
-        let (from, to) = (copy_of(store, from)?, copy_of(store, to)?);
-        return Err(Fault::Both { from, to });
+    match find(store, to)? {
+        None => {
+            let renamed = store.rename(from, to);
+            at(store.alloc(), Call::Rename, from, renamed)
+        }
+        Some(other) if are_names_of_one_file(found, &other) => remove_name(store, from, &other),
+        Some(_) => {
+            let (from, to) = (copy_of(store, from)?, copy_of(store, to)?);
+            Err(Fault::Both { from, to })
+        }
     }
-    let renamed = store.rename(from, to);
-    at(store.alloc(), Call::Rename, from, renamed)
+}
+
+// Whether two paths are names of one file. A loss of power can keep both names of a file that was renamed.
+fn are_names_of_one_file(one: &Found, other: &Found) -> bool {
+    one.is_same(other) && one.links > 1 && one.kind != FoundKind::Directory
+}
+
+// Removes a path, if it is a name of the file that was found at another path.
+fn remove_name<S: Store>(store: &mut S, path: &str, other: &Found) -> Result<(), Fault> {
+    match find(store, path)? {
+        Some(found) if are_names_of_one_file(&found, other) => {
+            let removed = store.remove_file(path);
+            at(store.alloc(), Call::RemoveFile, path, removed)
+        }
+        _ => Ok(()),
+    }
+}
+
+// Removes a path, if it is a second name of what is at another path.
+pub(crate) fn remove_second_name<S: Store>(
+    store: &mut S,
+    path: &str,
+    kept: &str,
+) -> Result<(), Fault> {
+    if let Some(other) = find(store, kept)?
+        && other.links > 1
+        && let Some(found) = find(store, path)?
+        && are_names_of_one_file(&found, &other)
+    {
+        need_way(store, path)?;
+        return remove_name(store, path, &other);
+    }
+    Ok(())
 }
 
 // Renames a file or directory, unless that is done.
 pub(crate) fn carry<S: Store>(store: &mut S, from: &str, to: &str) -> Result<(), Fault> {
-    if is_there(store, from)? {
-        return rename(store, from, to);
+    if let Some(found) = find(store, from)? {
+        return rename(store, from, to, &found);
     }
     if is_there(store, to)? {
         return Ok(());

@@ -1,7 +1,7 @@
-//! Syncs the directories in which a stage of a run changed names.
-use crate::actions::sync_directory;
+//! Syncs the directories in which a stage of a run changed names, and removes the names that a loss of power kept there.
+use crate::actions::{remove_second_name, sync_directory};
 use crate::fault::Fault;
-use crate::path::directory_of;
+use crate::path::{directory_of, join, name_of};
 use crate::store::Store;
 use crate::work::{Leftover, Stage, TextFile, Work};
 use relmove_actions::Rename;
@@ -14,6 +14,60 @@ pub(crate) fn sync_stage<S: Store>(store: &mut S, work: &Work, stage: Stage) -> 
         sync_directory(store, directory.as_str())?;
     }
     Ok(())
+}
+
+// Removes the names that things left for their staging names in a stage, where a loss of power kept them. A directory in
+// which such a name is may have left too.
+pub(crate) fn remove_left_names<S: Store>(
+    store: &mut S,
+    work: &Work,
+    stage: Stage,
+) -> Result<(), Fault> {
+    for (path, kept) in &left_names_of(store.alloc(), work, stage)? {
+        remove_second_name(store, path.as_str(), kept)?;
+    }
+    Ok(())
+}
+
+// The names that things left for their staging names in a stage, where they are after the stage, and the staging names.
+fn left_names_of(
+    alloc: Global,
+    work: &Work,
+    stage: Stage,
+) -> Result<Vec<(String, &str)>, AllocError> {
+    let mut left = Vec::new(alloc);
+    match stage {
+        Stage::Staging => {
+            for rename in &work.staged {
+                left.push((rename.from.as_str(), rename.to.as_str()))?;
+            }
+        }
+        Stage::Unplacing => {
+            for rename in &work.placed {
+                left.push((rename.to.as_str(), rename.from.as_str()))?;
+            }
+        }
+        _ => {}
+    }
+    places_of(alloc, &left)
+}
+
+// Where names are that things left for their staging names, and the staging names.
+fn places_of<'a>(
+    alloc: Global,
+    left: &[(&'a str, &'a str)],
+) -> Result<Vec<(String, &'a str)>, AllocError> {
+    let mut names = BTreeMap::new(alloc);
+    for (path, name) in left {
+        names.insert(*path, *name)?;
+    }
+    let mut places = Vec::with_capacity(alloc, left.len())?;
+    for (path, name) in left {
+        let directory = place_after(alloc, &names, directory_of(path))?;
+        let place = join(alloc, directory.as_str(), name_of(path))?;
+        places.push((place, *name))?;
+    }
+    Ok(places)
 }
 
 // The directories in which a stage changes names, where they are after the stage.

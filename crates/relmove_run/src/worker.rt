@@ -7,7 +7,7 @@ use crate::fault::Fault;
 use crate::own_files::{OwnFiles, put_first, put_next, remove_all};
 use crate::remark::Remark;
 use crate::store::{Found, FoundKind, Store};
-use crate::synced::sync_stage;
+use crate::synced::{remove_left_names, sync_stage};
 use crate::text_digest::TextDigest;
 use crate::work::{Leftover, Stage, TextFile, Work};
 use relmove_actions::{NewText, Rename};
@@ -23,6 +23,8 @@ pub(crate) struct Worker<S: Drop> {
     stage: Stage,
     // The files of the first new texts, which the run may have made.
     written: Vec<Written>,
+    // Whether a loss of power may have kept both names of a file that was renamed.
+    may_have_both_names: bool,
     remarks: Vec<Remark>,
 }
 
@@ -36,6 +38,7 @@ impl<S: Store + Drop> Worker<S> {
             work,
             stage: Stage::Writing,
             written,
+            may_have_both_names: false,
             remarks,
         }
     }
@@ -58,6 +61,7 @@ impl<S: Store + Drop> Worker<S> {
             work,
             stage,
             written,
+            may_have_both_names: true,
             remarks,
         })
     }
@@ -133,6 +137,7 @@ impl<S: Store + Drop> Worker<S> {
         for rename in &self.work.staged {
             carry(&mut self.store, rename.from.as_str(), rename.to.as_str())?;
         }
+        self.remove_left_names()?;
         self.need_old_texts()?;
         self.enter(Stage::Making)?;
         self.go_on_from_making()
@@ -206,8 +211,17 @@ impl<S: Store + Drop> Worker<S> {
                 carry_back(&mut self.store, rename, &mut self.remarks)?;
             }
         }
+        self.remove_left_names()?;
         self.enter(Stage::Unmaking)?;
         self.go_back_from_making()
+    }
+
+    // Removes the names that a loss of power kept of what has its staging name.
+    fn remove_left_names(&mut self) -> Result<(), Fault> {
+        if self.may_have_both_names {
+            remove_left_names(&mut self.store, &self.work, self.stage)?;
+        }
+        Ok(())
     }
 
     // Removes the directories that were made, and goes on back.

@@ -5,6 +5,7 @@ use std::fmt::Debug;
 use std::test::Fail;
 
 mod arrivals;
+mod both_names;
 mod cases;
 mod changes;
 mod edits;
