@@ -111,6 +111,8 @@ pub enum Fault {
     OldJournal,
     /// The journal wasn't written in this folder: it came with a copy, a clone or an archive.
     ForeignJournal,
+    /// The journal's file has another name too.
+    LinkedJournal,
     /// Something has a name of the run's own, and no run left it.
     OwnName(String),
     /// A run that was killed before it changed anything left a file of its own.
@@ -219,7 +221,10 @@ fn words_alone(fault: &Fault) -> &'static str {
             "the journal .relmove is of an older relmove. Rename by hand what it lists: from the names that begin with .relmove- to the old paths (lines apart) or to the new ones (lines together)"
         }
         Fault::ForeignJournal => {
-            "the journal .relmove wasn't written in this folder: it came with a copy or from elsewhere. Remove it, or add --trust-journal to see what it asks for"
+            "the journal .relmove wasn't written in this folder: it came with a copy or from elsewhere. Add --trust-journal to see what it asks for. If you remove it, what has a name that begins with .relmove- keeps this name, and nothing says where it belongs"
+        }
+        Fault::LinkedJournal => {
+            "the journal .relmove has another name too, as cp -al and some backups give to a file. Add --trust-journal to see what it asks for"
         }
         Fault::NotAPlan => "the steps aren't those of a plan",
         Fault::TooLate => {

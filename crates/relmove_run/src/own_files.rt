@@ -29,7 +29,7 @@ const PRIVATE: u32 = 0o600;
 pub enum Trust {
     /// Those that were written in this folder.
     ThisFolder,
-    /// Also those that came with a copy of another folder.
+    /// Also those that came with a copy of another folder, and those that have other names too.
     AnyFolder,
 }
 
@@ -130,13 +130,12 @@ pub(crate) fn open_journal<S: Store>(
     };
     let journal = read_journal(store, &found)?;
     let root = inode_of_root(store)?;
-    let is_of_folder = journal.origin
-        == Origin {
-            root,
-            file: found.inode,
-        };
-    if trust == Trust::ThisFolder && !is_of_folder {
-        return Err(Fault::ForeignJournal);
+    if trust == Trust::ThisFolder {
+        need_one_name(store, &found)?;
+        let file = found.inode;
+        if journal.origin != (Origin { root, file }) {
+            return Err(Fault::ForeignJournal);
+        }
     }
     remove_leftover(store, NEW_JOURNAL, Some(&found))?;
     remove_leftover(store, SPARE, None)?;
@@ -150,20 +149,18 @@ pub(crate) fn open_journal<S: Store>(
     Ok((own, journal))
 }
 
-// Fails unless a regular file with one name is at the journal's path. A run that is killed may leave it the name of the
-// next journal too.
+// Fails if a journal has a name outside the root. A run that is killed may leave it the name of the next journal too.
 fn need_one_name<S: Store>(store: &mut S, found: &Found) -> Result<(), Fault> {
-    if found.kind == FoundKind::File && found.links == 1 {
+    if found.links == 1 {
         return Ok(());
     }
-    if found.kind == FoundKind::File
-        && found.links == 2
+    if found.links == 2
         && let Some(next) = find(store, NEW_JOURNAL)?
         && next.is_same(found)
     {
         return Ok(());
     }
-    Err(Fault::NotAJournal)
+    Err(Fault::LinkedJournal)
 }
 
 // Finds the journal of a run that didn't end, wherever it was written, and reads it.
@@ -176,7 +173,9 @@ pub(crate) fn find_journal<S: Store>(store: &mut S) -> Result<Journal, Fault> {
 
 // Reads the journal that was found.
 fn read_journal<S: Store>(store: &mut S, found: &Found) -> Result<Journal, Fault> {
-    need_one_name(store, found)?;
+    if found.kind != FoundKind::File {
+        return Err(Fault::NotAJournal);
+    }
     let read = store.read(JOURNAL);
     let bytes = at(store.alloc(), Call::Read, JOURNAL, read)?;
     match std::str::from_utf8(bytes.as_slice()) {

@@ -312,7 +312,7 @@ const SPECIAL: [Row<'static>; 4] = [
         keeps_journal: true,
         status: Status::Refused,
         printed: "",
-        errors: "relmove: site: the journal .relmove wasn't written in this folder: it came with a copy or from elsewhere. Remove it, or add --trust-journal to see what it asks for\n",
+        errors: "relmove: site: the journal .relmove wasn't written in this folder: it came with a copy or from elsewhere. Add --trust-journal to see what it asks for. If you remove it, what has a name that begins with .relmove- keeps this name, and nothing says where it belongs\n",
     },
 ];
 
