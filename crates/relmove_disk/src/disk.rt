@@ -212,6 +212,12 @@ impl Disk {
         self.calls.count()
     }
 
+    /// Whether the bytes of a file are on the disk, or a directory was synced itself.
+    pub fn is_synced(&self, path: &str) -> io::Result<bool> {
+        let nodes = self.nodes.try_borrow()?;
+        Ok(nodes.node(number_at(&nodes, path)?)?.is_synced)
+    }
+
     /// How many changes of names aren't on the disk yet.
     pub fn unsynced(&self) -> io::Result<usize> {
         Ok(self.nodes.try_borrow()?.unsynced())

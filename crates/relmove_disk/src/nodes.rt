@@ -280,6 +280,7 @@ impl Nodes {
             return Err(io::Error::from(ErrorKind::NotADirectory));
         }
         node.need_permission(self.process, READ)?;
+        self.node_mut(number)?.is_synced = true;
         self.changes.sync(number);
         Ok(())
     }

@@ -79,7 +79,11 @@ fn directories_of(
     let mut directories = BTreeSet::new(alloc);
     match stage {
         Stage::Writing | Stage::Erasing => add_texts(alloc, &work.texts, &mut directories)?,
-        Stage::Making | Stage::Unmaking => add_made(alloc, &work.made, &mut directories)?,
+        Stage::Making => {
+            add_made(alloc, &work.made, &mut directories)?;
+            add_new_directories(alloc, &work.made, &mut directories)?;
+        }
+        Stage::Unmaking => add_made(alloc, &work.made, &mut directories)?,
         Stage::Staging => add_left(alloc, &work.staged, &mut directories)?,
         Stage::Unstaging => add_old(alloc, &work.staged, &mut directories)?,
         Stage::Placing => add_new(alloc, &work.placed, &mut directories)?,
@@ -119,6 +123,18 @@ fn add_made(
 ) -> Result<(), AllocError> {
     for path in made {
         add(alloc, directory_of(path.as_str()), directories)?;
+    }
+    Ok(())
+}
+
+// Adds the directories that are made. Without its own inode a new directory loses what is placed in it.
+fn add_new_directories(
+    alloc: Global,
+    made: &[String],
+    directories: &mut BTreeSet<String>,
+) -> Result<(), AllocError> {
+    for path in made {
+        add(alloc, path.as_str(), directories)?;
     }
     Ok(())
 }
