@@ -272,12 +272,14 @@ impl Nodes {
             .retain(|name| !is_at_or_below(name.path.as_str(), path));
     }
 
-    /// Puts the changes of the names in a directory on the disk.
+    /// Puts the changes of the names in a directory on the disk. A FIFO would make the call wait: here it fails.
     pub fn sync_directory(&mut self, path: &str) -> io::Result<()> {
         let number = self.need_number(path)?;
         let node = self.node(number)?;
-        if !node.is_directory() {
-            return Err(io::Error::from(ErrorKind::NotADirectory));
+        match &node.content {
+            Content::Directory => {}
+            Content::Other => return Err(io::Error::from(ErrorKind::TimedOut)),
+            _ => return Err(io::Error::from(ErrorKind::NotADirectory)),
         }
         node.need_permission(self.process, READ)?;
         self.node_mut(number)?.is_synced = true;

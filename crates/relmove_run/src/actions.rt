@@ -2,7 +2,7 @@
 ghost use Rattle.std.specs.Prelude.{◌≡◌, ◌<◌};
 ghost use Rattle.relmove_run.specs.Permissions.{allowed_permissions, permissions};
 
-use crate::fault::{Call, Fault, at};
+use crate::fault::{Call, Fault, at, fault_of};
 use crate::file_store::is_absence;
 use crate::store::{Found, FoundKind, Store};
 use crate::text_digest::TextDigest;
@@ -318,8 +318,14 @@ fn permissions(owner: u32, group: u32, others: u32) -> u32
 }
 
 // Waits until the names in a directory are on the disk. A directory that can't be opened, or whose file system can't
-// wait, is left out.
+// wait, is left out. Nothing but a directory is opened: a FIFO would make the call wait.
 pub(crate) fn sync_directory<S: Store>(store: &mut S, path: &str) -> Result<(), Fault> {
+    match store.find(path) {
+        Ok(Some(found)) if found.kind == FoundKind::Directory => {}
+        Ok(_) => return Ok(()),
+        Err(error) if cannot_sync(error.kind()) => return Ok(()),
+        Err(error) => return Err(fault_of(store.alloc(), Call::Ask, path, &error)),
+    }
     match store.sync_directory(path) {
         Err(error) if cannot_sync(error.kind()) => Ok(()),
         synced => at(store.alloc(), Call::Sync, path, synced),

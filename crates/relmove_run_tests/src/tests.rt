@@ -11,6 +11,7 @@ mod changes;
 mod edits;
 mod emptied;
 mod faults;
+mod fifos;
 mod foreign_journals;
 mod impossible_paths;
 mod journal;
