@@ -39,7 +39,7 @@ pub struct Disk {
     pub(crate) gives_away: Cell<bool>,
     // Whether a file can have a second name.
     pub(crate) has_links: Cell<bool>,
-    // The permissions that a new file doesn't get.
+    // The permissions that a new file or directory doesn't get.
     mask: Cell<u32>,
     // Whether a process has the lock of a directory.
     pub(crate) is_locked: Cell<bool>,
@@ -180,7 +180,7 @@ impl Disk {
         self.has_links.set(is_allowed);
     }
 
-    /// From now on a new file doesn't get these permissions.
+    /// From now on a new file or directory doesn't get these permissions.
     pub fn set_mask(&self, mask: u32) {
         self.mask.set(mask);
     }
@@ -354,6 +354,13 @@ impl Disk {
         let content = Content::File(Vec::new(self.alloc));
         let mode = mode & !self.mask.get();
         self.nodes.try_borrow_mut()?.make(path, content, mode)
+    }
+
+    // Makes a directory where nothing is. Returns its permissions too.
+    pub(crate) fn make_directory(&self, path: &str) -> io::Result<(usize, u32)> {
+        let mode = 0o755 & !self.mask.get();
+        let mut nodes = self.nodes.try_borrow_mut()?;
+        Ok((nodes.make(path, Content::Directory, mode)?, mode))
     }
 
     // Adds bytes to a file.

@@ -10,6 +10,9 @@ use std::time::{Duration, SystemTime};
 // The most bytes that one call writes.
 const MOST_WRITTEN: usize = 9;
 
+// What the owner of a directory may do there.
+const OWNER_PERMISSIONS: u32 = 0o700;
+
 // When everything on a disk was written, in seconds since 1970.
 const WRITTEN: u64 = 1_000_000_000;
 
@@ -221,11 +224,13 @@ impl Store for DiskStore<'_> {
     fn make_directory(&mut self, path: &str) -> io::Result<()> {
         let turn = self.disk.turn()?;
         let path = self.resolve(path)?;
-        let content = Content::Directory;
-        self.disk
-            .nodes
-            .try_borrow_mut()?
-            .make(path.as_str(), content, 0o755)?;
+        let (number, mode) = self.disk.make_directory(path.as_str())?;
+        turn.end()?;
+        if mode & OWNER_PERMISSIONS == OWNER_PERMISSIONS {
+            return Ok(());
+        }
+        let turn = self.disk.turn()?;
+        self.disk.nodes.try_borrow_mut()?.node_mut(number)?.mode = mode | OWNER_PERMISSIONS;
         turn.end()
     }
 

@@ -138,6 +138,15 @@ pub(crate) fn remove_directory<S: Store>(store: &mut S, path: &str) -> Result<()
     }
 }
 
+// Removes a directory that a run made, unless it isn't empty or nothing is there. What its directory forbids to look up was
+// never made: the run may have been killed before that directory had its permissions.
+pub(crate) fn unmake_directory<S: Store>(store: &mut S, path: &str) -> Result<(), Fault> {
+    match store.find(path) {
+        Err(error) if error.kind() == ErrorKind::PermissionDenied => Ok(()),
+        _ => remove_directory(store, path),
+    }
+}
+
 // Removes a file, unless nothing is there.
 pub(crate) fn remove_file<S: Store>(store: &mut S, path: &str) -> Result<(), Fault> {
     if !is_there(store, path)? {

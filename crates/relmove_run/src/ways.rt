@@ -1,10 +1,11 @@
 //! Whether a symbolic link is on the way to a path of a run.
-use crate::actions::{copy_of, find};
-use crate::fault::Fault;
+use crate::actions::copy_of;
+use crate::fault::{Call, Fault, at};
 use crate::store::{FoundKind, Store};
 use crate::work::{Leftover, Work};
 use std::alloc::{AllocError, Global};
 use std::collections::BTreeSet;
+use std::io::ErrorKind;
 
 /// Fails if a symbolic link is on the way to a path of a run, and isn't itself one that the run moves.
 ///
@@ -46,11 +47,24 @@ fn need_no_symlink_above<S: Store>(
     for (slash, _) in path.match_indices('/') {
         if let Some(above) = path.get(..slash)
             && !paths.contains(above)
-            && let Some(found) = find(store, above)?
-            && found.kind == FoundKind::Symlink
         {
-            return Err(Fault::NotADirectory(copy_of(store, above)?));
+            need_no_symlink(store, above)?;
         }
     }
     Ok(())
+}
+
+// Fails if a symbolic link is at a path. What can't be looked up leads nowhere.
+fn need_no_symlink<S: Store>(store: &mut S, path: &str) -> Result<(), Fault> {
+    let found = match store.find(path) {
+        Err(error) if error.kind() == ErrorKind::PermissionDenied => None,
+        Err(error) if error.kind() == ErrorKind::InvalidFilename => None,
+        asked => at(store.alloc(), Call::Ask, path, asked)?,
+    };
+    match found {
+        Some(found) if found.kind == FoundKind::Symlink => {
+            Err(Fault::NotADirectory(copy_of(store, path)?))
+        }
+        _ => Ok(()),
+    }
 }

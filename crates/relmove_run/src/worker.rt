@@ -1,7 +1,7 @@
 //! Does the work of a run, from any stage on. Each step asks first whether it is done.
 use crate::actions::{
     OwnFile, Written, carry, copy_of, digest_at, find, is_there, make_directory, need_free,
-    remove_directory, remove_file, write_text,
+    remove_directory, remove_file, unmake_directory, write_text,
 };
 use crate::fault::Fault;
 use crate::own_files::{OwnFiles, put_first, put_next, remove_all};
@@ -227,7 +227,7 @@ impl<S: Store + Drop> Worker<S> {
     // Removes the directories that were made, and goes on back.
     fn go_back_from_making(&mut self) -> Result<(), Fault> {
         for path in self.work.made.iter().rev() {
-            remove_directory(&mut self.store, path.as_str())?;
+            unmake_directory(&mut self.store, path.as_str())?;
         }
         self.enter(Stage::Unstaging)?;
         self.go_back_from_staging()
