@@ -37,8 +37,8 @@ pub struct Disk {
     size: Cell<u64>,
     // Whether the process may give a file to another user.
     pub(crate) gives_away: Cell<bool>,
-    // Whether a file can have a second name.
-    pub(crate) has_links: Cell<bool>,
+    // Why a file can't have a second name, if it can't.
+    pub(crate) no_links: Cell<Option<ErrorKind>>,
     // The permissions that a new file or directory doesn't get.
     mask: Cell<u32>,
     // Whether a process has the lock of a directory.
@@ -59,7 +59,7 @@ impl Disk {
             surprises: RefCell::new(Vec::new(alloc)),
             size: Cell::new(u64::MAX),
             gives_away: Cell::new(false),
-            has_links: Cell::new(true),
+            no_links: Cell::new(None),
             mask: Cell::new(0),
             is_locked: Cell::new(false),
             time: Cell::new(0),
@@ -175,9 +175,9 @@ impl Disk {
         self.gives_away.set(is_allowed);
     }
 
-    /// Says whether the process can give files second names.
-    pub fn allow_links(&self, is_allowed: bool) {
-        self.has_links.set(is_allowed);
+    /// From now on the process can't give a file a second name: that fails with this error.
+    pub fn refuse_links(&self, why: ErrorKind) {
+        self.no_links.set(Some(why));
     }
 
     /// From now on a new file or directory doesn't get these permissions.

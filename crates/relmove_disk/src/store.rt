@@ -210,8 +210,8 @@ impl Store for DiskStore<'_> {
 
     fn link(&mut self, from: &str, to: &str) -> io::Result<()> {
         let turn = self.disk.turn()?;
-        if !self.disk.has_links.get() {
-            return Err(io::Error::from(ErrorKind::Unsupported));
+        if let Some(why) = self.disk.no_links.get() {
+            return Err(io::Error::from(why));
         }
         let (from, to) = (self.resolve(from)?, self.resolve(to)?);
         self.disk

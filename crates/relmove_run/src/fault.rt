@@ -128,7 +128,7 @@ impl fmt::Display for Fault {
         match self {
             Fault::System { call, path, why } => {
                 let words = call.words();
-                let path = Printable(path.as_str());
+                let path = Printable(named(path.as_str()));
                 write!(f, "can't {words} {path}: {why}")
             }
             Fault::Both { from, to } => {
@@ -141,13 +141,18 @@ impl fmt::Display for Fault {
             Fault::HasJournal { written, stage } => write_has_journal(f, *written, *stage),
             other => match words_with_path(other) {
                 Some((path, words)) => {
-                    let path = Printable(path);
+                    let path = Printable(named(path));
                     write!(f, "{path} {words}")
                 }
                 None => f.write_str(words_alone(other)),
             },
         }
     }
+}
+
+// A path as it is printed. The root has the empty path.
+fn named(path: &str) -> &str {
+    if path.is_empty() { "ROOT" } else { path }
 }
 
 // Writes that the root has a journal.

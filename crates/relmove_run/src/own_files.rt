@@ -253,9 +253,16 @@ fn link_next<S: Store>(store: &mut S) -> io::Result<()> {
     }
 }
 
-// Whether an error says that a file system has no second names.
+// Whether an error says that a file system has no second names, or not here.
 fn has_no_links(kind: ErrorKind) -> bool {
-    matches!(kind, ErrorKind::PermissionDenied | ErrorKind::Unsupported)
+    matches!(
+        kind,
+        ErrorKind::PermissionDenied
+            | ErrorKind::Unsupported
+            | ErrorKind::CrossesDevices
+            | ErrorKind::TooManyLinks
+            | ErrorKind::InvalidInput
+    )
 }
 
 // Makes the spare journal: that of the stage with the longest name. Without room there is none.

@@ -4,7 +4,7 @@ use crate::tests::{holds, same};
 use relmove_disk::{DiskMachine, disk_of};
 use relmove_lib::report::print_end;
 use relmove_lib::{Progress, Status, WithProgress, answer};
-use relmove_run::{Ended, Fault, Remark, Stage};
+use relmove_run::{Call, Ended, Fault, Remark, Stage};
 use std::alloc::Global;
 use std::test::Fail;
 
@@ -149,4 +149,18 @@ fn says_what_a_run_left_that_stopped(rt: HostRuntime) -> Result<(), Fail> {
     let expected =
         "relmove: d/: a.md isn't there\nd/: .relmove-1 is kept: another program changed it, or put it there\nrelmove: stopped in the middle: everything is at its new path, and what is left over was being removed. Call relmove with --resume and d/.\nrelmove: the journal .relmove in d/ has the old paths, the names that begin with .relmove- and the new paths.\n";
     same("a stop", &out.as_slice(), &expected.as_bytes())
+}
+
+#[test]
+fn names_the_root(rt: HostRuntime) -> Result<(), Fail> {
+    let alloc = rt.alloc();
+    let ended = Ended::Refused(Fault::System {
+        call: Call::Sync,
+        path: String::new(alloc),
+        why: String::from_str(alloc, "no room")?,
+    });
+    let mut out = Vec::new(alloc);
+    print_end(&mut out, "d/", &ended)?;
+    let expected = "relmove: d/: can't sync ROOT: no room\n";
+    same("the root", &out.as_slice(), &expected.as_bytes())
 }
