@@ -1,4 +1,5 @@
 //! A disk as the files of a run.
+use crate::calls::Turn;
 use crate::disk::Disk;
 use crate::files::DiskMachine;
 use crate::node::{Content, Node, Owner, READ};
@@ -107,6 +108,9 @@ impl Store for DiskStore<'_> {
 
     fn find(&mut self, path: &str) -> io::Result<Option<Found>> {
         let turn = self.disk.turn()?;
+        if turn == Turn::Hides {
+            return Ok(None);
+        }
         turn.end()?;
         let number = match self.resolve(path) {
             Ok(path) => self.disk.nodes.try_borrow()?.number_at(path.as_str()),

@@ -23,6 +23,15 @@ pub(crate) fn find<S: Store>(store: &mut S, path: &str) -> Result<Option<Found>,
     }
 }
 
+// What is at a path from which something is to be removed. That nothing is there is asked twice: a file system that says so
+// wrongly once would leave the thing there, and nobody would know.
+pub(crate) fn find_to_remove<S: Store>(store: &mut S, path: &str) -> Result<Option<Found>, Fault> {
+    match find(store, path)? {
+        Some(found) => Ok(Some(found)),
+        None => find(store, path),
+    }
+}
+
 // Whether something is at a path. A symbolic link is there, wherever it leads.
 pub(crate) fn is_there<S: Store>(store: &mut S, path: &str) -> Result<bool, Fault> {
     Ok(find(store, path)?.is_some())
@@ -128,7 +137,7 @@ pub(crate) fn make_directory<S: Store>(store: &mut S, path: &str) -> Result<(), 
 
 // Removes a directory, unless it isn't empty or nothing is there.
 pub(crate) fn remove_directory<S: Store>(store: &mut S, path: &str) -> Result<(), Fault> {
-    if !is_there(store, path)? {
+    if find_to_remove(store, path)?.is_none() {
         return Ok(());
     }
     need_way(store, path)?;
@@ -149,7 +158,7 @@ pub(crate) fn unmake_directory<S: Store>(store: &mut S, path: &str) -> Result<()
 
 // Removes a file, unless nothing is there.
 pub(crate) fn remove_file<S: Store>(store: &mut S, path: &str) -> Result<(), Fault> {
-    if !is_there(store, path)? {
+    if find_to_remove(store, path)?.is_none() {
         return Ok(());
     }
     need_way(store, path)?;

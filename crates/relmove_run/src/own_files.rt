@@ -4,7 +4,7 @@
 //! first one is put where nothing is, and each later one replaces the one before. The spare one is there for its room: on
 //! a disk that is full, it makes way for the next journal.
 use crate::actions::{
-    OwnFile, copy_of, create, find, remove_file, sync, sync_directory, write_whole,
+    OwnFile, copy_of, create, find, find_to_remove, remove_file, sync, sync_directory, write_whole,
 };
 use crate::fault::{Call, Fault, at};
 use crate::journal::{Journal, Origin, begins_as_journal, journal_of, journal_text};
@@ -191,7 +191,7 @@ fn remove_leftover<S: Store>(
     path: &str,
     journal: Option<&Found>,
 ) -> Result<(), Fault> {
-    let Some(found) = find(store, path)? else {
+    let Some(found) = find_to_remove(store, path)? else {
         return Ok(());
     };
     let is_journal = match journal {
@@ -280,7 +280,7 @@ fn remove_own<S: Store>(store: &mut S, path: &str, own: &mut OwnFile) -> Result<
     if *own == OwnFile::None {
         return Ok(());
     }
-    if let Some(found) = find(store, path)? {
+    if let Some(found) = find_to_remove(store, path)? {
         let is_own = match own {
             OwnFile::Unknown => is_beginning(store, path, &found)?,
             _ => own.is(&found),
@@ -381,7 +381,7 @@ pub(crate) fn remove_all<S: Store>(store: &mut S, own: &mut OwnFiles) -> Result<
     if !own.may_have_journal {
         return Ok(());
     }
-    match find(store, JOURNAL)? {
+    match find_to_remove(store, JOURNAL)? {
         None => Ok(()),
         Some(found) if own.has(&found) => remove_journal(store),
         Some(_) => Err(Fault::NotAJournal),

@@ -1,7 +1,7 @@
 //! Does the work of a run, from any stage on. Each step asks first whether it is done.
 use crate::actions::{
-    OwnFile, Written, carry, copy_of, digest_at, find, is_there, make_directory, need_free,
-    remove_directory, remove_file, unmake_directory, write_text,
+    OwnFile, Written, carry, copy_of, digest_at, find_to_remove, is_there, make_directory,
+    need_free, remove_directory, remove_file, unmake_directory, write_text,
 };
 use crate::fault::Fault;
 use crate::own_files::{OwnFiles, put_first, put_next, remove_all};
@@ -343,7 +343,7 @@ fn remove_text<S: Store>(
     remarks: &mut Vec<Remark>,
 ) -> Result<(), Fault> {
     let path = text.path.as_str();
-    if !is_there(store, path)? {
+    if find_to_remove(store, path)?.is_none() {
         return Ok(());
     }
     if digest_at(store, path)? == Some(text.digest) {
@@ -364,7 +364,7 @@ fn remove_part<S: Store>(
         return Ok(());
     }
     let path = text.path.as_str();
-    let Some(found) = find(store, path)? else {
+    let Some(found) = find_to_remove(store, path)? else {
         return Ok(());
     };
     if may_be_part(store, text, written, &found) {
