@@ -1,10 +1,10 @@
 //! A run, its end after a fault, and its undoing.
-use crate::actions::sync_directory;
+use crate::actions::{find, sync_directory};
 use crate::ending::{Change, Way, changes_from, stage_to_end};
 use crate::fault::{Call, Fault, at};
 use crate::journal::Journal;
 use crate::near::need_no_journal_near;
-use crate::own_files::{Trust, find_journal, need_no_own_files, none_yet, open_journal};
+use crate::own_files::{JOURNAL, Trust, find_journal, need_no_own_files, none_yet, open_journal};
 use crate::possible::need_possible;
 use crate::remark::Remark;
 use crate::shape::is_of_run;
@@ -283,10 +283,15 @@ fn refuse_staging<S: Store + Drop>(mut worker: Worker<S>, fault: Fault) -> Ended
 
 // Takes back what was done.
 fn refuse<S: Store + Drop>(mut worker: Worker<S>, fault: Fault) -> Ended {
-    match worker.go_back() {
-        Err(_) if worker.may_have_journal() => stop(worker, fault),
-        _ => refused(fault, worker.into_remarks()),
+    if worker.go_back().is_err() && may_have_journal(&mut worker) {
+        return stop(worker, fault);
     }
+    refused(fault, worker.into_remarks())
+}
+
+// Whether the root may have the run's journal. If it hasn't, the run changed nothing, or all of it is taken back.
+fn may_have_journal<S: Store + Drop>(worker: &mut Worker<S>) -> bool {
+    worker.may_have_journal() && !matches!(&find(worker.store(), JOURNAL), Ok(None))
 }
 
 // How a run ended that did nothing but what was taken back.

@@ -2,10 +2,12 @@
 //! run can be ended and taken back.
 use crate::tests::cases::{self, Case};
 use crate::tests::runs::{
-    Ending, calls_of, can_be_resumed, can_be_undone, loses_nothing, moments_of, resume_on,
-    run_and_fail,
+    Ending, calls_of, can_be_resumed, can_be_undone, first_call_at, loses_nothing, moments_of,
+    resume_on, run, run_and_fail,
 };
-use relmove_disk::{Disk, Way};
+use crate::tests::same;
+use relmove_disk::{Disk, Way, disk_of};
+use relmove_run::{Ended, Stage};
 use std::alloc::Global;
 use std::test::Fail;
 
@@ -105,6 +107,36 @@ fn survives_a_fault_of_its_end(rt: HostRuntime) -> Result<(), Fail> {
             if survives_two(rt.alloc(), case, first, second)? {
                 break;
             }
+        }
+    }
+    Ok(())
+}
+
+// Fails two calls of a run. Whether it stopped, and has no journal, though the last questions for one were answered.
+fn stops_without_journal(alloc: Global, first: u32, second: u32) -> Result<bool, Fail> {
+    let disk = disk_of(alloc, cases::SWAP.before)?;
+    disk.fail_at(first, Way::Refused);
+    disk.refuse_at(second);
+    let ended = run(alloc, &cases::SWAP, &disk)?;
+    let is_answered = disk.calls() > second.saturating_add(1);
+    disk.fail_at(0, Way::Refused);
+    let is_stopped = matches!(&ended, Ended::Stopped { .. });
+    Ok(is_stopped && is_answered && !disk.has("site/.relmove")?)
+}
+
+// A run that left nothing but the next journal didn't stop in the middle.
+#[test]
+fn stops_only_with_a_journal(rt: HostRuntime) -> Result<(), Fail> {
+    let alloc = rt.alloc();
+    let last = first_call_at(alloc, &cases::SWAP, Stage::Staging)?;
+    for first in 1..last {
+        for more in 1..12u32 {
+            let second = first.saturating_add(more);
+            same(
+                "a stop",
+                &stops_without_journal(alloc, first, second)?,
+                &false,
+            )?;
         }
     }
     Ok(())
