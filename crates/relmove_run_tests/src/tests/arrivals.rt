@@ -112,3 +112,24 @@ fn names_both_files_of_a_rename(rt: HostRuntime) -> Result<(), Fail> {
     disk.remove("site/.relmove-1")?;
     can_be_undone(alloc, &cases::FILE_MOVES, &disk)
 }
+
+// Puts a file in the place of the journal, before a call of a run. Whether the file stays.
+fn stays_as_journal(alloc: Global, number: u32) -> Result<bool, Fail> {
+    let disk = disk_of(alloc, cases::PAGE_CHANGES.before)?;
+    disk.replace_before(number, "site/.relmove", file_of(alloc, "mine")?)?;
+    run(alloc, &cases::PAGE_CHANGES, &disk)?;
+    Ok(disk.has("site/.relmove")? && disk.is_file("site/.relmove", "mine")?)
+}
+
+// Four times a next journal takes the place of the one before: after the question for that one come the question for the
+// next one and the rename. Once the journal is removed right after the question for it.
+#[test]
+fn keeps_what_comes_in_the_place_of_its_journal(rt: HostRuntime) -> Result<(), Fail> {
+    let mut lost = 0u32;
+    for number in 1..=calls_of(rt.alloc(), &cases::PAGE_CHANGES)? {
+        if !stays_as_journal(rt.alloc(), number)? {
+            lost = lost.saturating_add(1);
+        }
+    }
+    same("files that are lost", &lost, &9)
+}

@@ -2,8 +2,8 @@
 //! run can be ended and taken back.
 use crate::tests::cases::{self, Case};
 use crate::tests::runs::{
-    Ending, calls_of, can_be_resumed, can_be_undone, first_call_at, loses_nothing, moments_of,
-    resume_on, run, run_and_fail,
+    Ending, calls_of, can_be_resumed, can_be_undone, first_call_at, is_done, loses_nothing,
+    moments_of, resume_on, run, run_and_fail,
 };
 use crate::tests::same;
 use relmove_disk::{Disk, Way, disk_of};
@@ -20,22 +20,26 @@ struct Faults {
     way: Way,
 }
 
-// The tree after two faults, and whether the second one came before the end.
-fn disk_after(alloc: Global, case: &Case, faults: Faults) -> Result<(Disk, bool), Fail> {
+// How what ends a run ended after two faults, the tree then, and whether the second fault came before the end.
+fn disk_after(alloc: Global, case: &Case, faults: Faults) -> Result<(Ended, Disk, bool), Fail> {
     let (_, disk) = run_and_fail(alloc, case, faults.first, Way::Killed)?;
     disk.fail_at(faults.second, faults.way);
-    faults.ending.on(&disk);
+    let ended = faults.ending.on(&disk);
     let is_within = disk.calls() >= faults.second;
     disk.fail_at(0, Way::Refused);
-    Ok((disk, is_within))
+    Ok((ended, disk, is_within))
 }
 
 // Whether a run survives two faults. Returns whether the second one came before the end.
 fn survives(alloc: Global, case: &Case, faults: Faults) -> Result<bool, Fail> {
-    let (disk, _) = disk_after(alloc, case, faults)?;
+    let (ended, disk, is_within) = disk_after(alloc, case, faults)?;
     loses_nothing(alloc, case, &disk)?;
+    if let Ended::Done(remarks) = &ended {
+        is_done(alloc, case, &disk, remarks)?;
+        return Ok(is_within);
+    }
     can_be_resumed(alloc, case, &disk)?;
-    let (disk, is_within) = disk_after(alloc, case, faults)?;
+    let (_, disk, _) = disk_after(alloc, case, faults)?;
     can_be_undone(alloc, case, &disk)?;
     Ok(is_within)
 }
@@ -75,6 +79,17 @@ fn survives_second_faults(alloc: Global, case: &Case, ending: Ending) -> Result<
 #[test]
 fn two_files_swap_back(rt: HostRuntime) -> Result<(), Fail> {
     survives_second_faults(rt.alloc(), &cases::SWAP, Ending::Undo)
+}
+
+#[test]
+fn a_file_comes_back(rt: HostRuntime) -> Result<(), Fail> {
+    survives_second_faults(rt.alloc(), &cases::FILE_MOVES, Ending::Undo)
+}
+
+// What stays is said, also if a second fault ends in `Done`.
+#[test]
+fn a_file_moves_on(rt: HostRuntime) -> Result<(), Fail> {
+    survives_second_faults(rt.alloc(), &cases::FILE_MOVES, Ending::Resume)
 }
 
 #[test]
