@@ -33,6 +33,9 @@ pub struct Disk {
     pub(crate) nodes: RefCell<Nodes>,
     calls: Calls,
     surprises: RefCell<Vec<Surprise>>,
+    // A path, and how often it was asked what is there.
+    asked_for: RefCell<String>,
+    asked: Cell<u32>,
     // How many bytes all files may have.
     size: Cell<u64>,
     // Whether the process may give a file to another user.
@@ -57,6 +60,8 @@ impl Disk {
             nodes: RefCell::new(nodes),
             calls: Calls::new(),
             surprises: RefCell::new(Vec::new(alloc)),
+            asked_for: RefCell::new(String::new(alloc)),
+            asked: Cell::new(0),
             size: Cell::new(u64::MAX),
             gives_away: Cell::new(false),
             no_links: Cell::new(None),
@@ -216,6 +221,26 @@ impl Disk {
     pub fn is_synced(&self, path: &str) -> io::Result<bool> {
         let nodes = self.nodes.try_borrow()?;
         Ok(nodes.node(number_at(&nodes, path)?)?.is_synced)
+    }
+
+    /// From now on the disk counts how often it is asked what is at a path.
+    pub fn count_questions(&self, path: &str) -> io::Result<()> {
+        *self.asked_for.try_borrow_mut()? = String::from_str(self.alloc, path)?;
+        self.asked.set(0);
+        Ok(())
+    }
+
+    /// How often it was asked what is at that path.
+    pub fn questions(&self) -> u32 {
+        self.asked.get()
+    }
+
+    // Notes a question what is at a path.
+    pub(crate) fn note_question(&self, path: &str) -> io::Result<()> {
+        if self.asked_for.try_borrow()?.as_str() == path {
+            self.asked.set(self.asked.get().saturating_add(1));
+        }
+        Ok(())
     }
 
     /// How many changes of names aren't on the disk yet.

@@ -113,7 +113,10 @@ impl Store for DiskStore<'_> {
         }
         turn.end()?;
         let number = match self.resolve(path) {
-            Ok(path) => self.disk.nodes.try_borrow()?.number_at(path.as_str()),
+            Ok(path) => {
+                self.disk.note_question(path.as_str())?;
+                self.disk.nodes.try_borrow()?.number_at(path.as_str())
+            }
             Err(error) if is_absence(error.kind()) => None,
             Err(error) => return Err(error),
         };

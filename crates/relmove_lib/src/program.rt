@@ -12,8 +12,8 @@ use crate::summary::{
 use crate::tree::{Tree, is_staging_name, read_tree};
 use relmove_run::{
     Call, Ended, Fault, Locked, Machine, PageText, Printable, Remark, Trust, Way, carry_out,
-    changes_to_end, fault_of, need_no_journal_near, need_no_own_files, need_possible, need_rest,
-    resume, undo,
+    changes_to_end, fault_of, need_no_journal_below, need_no_journal_near, need_no_own_files,
+    need_possible, need_rest, resume, undo,
 };
 use std::alloc::{AllocError, Global};
 use std::io::{self, Write};
@@ -309,7 +309,7 @@ fn read_whole<R: Machine, E: Write>(
     errors: &mut E,
 ) -> Result<Tree, Fault> {
     let tree = read_tree(root)?;
-    need_no_journal_near(store, &directories_of(root.runtime().alloc(), &tree)?)?;
+    need_no_journal_below(store, &directories_of(root.runtime().alloc(), &tree)?)?;
     print_unread(root.path(), &tree, errors);
     Ok(tree)
 }

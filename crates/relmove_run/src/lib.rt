@@ -18,7 +18,7 @@ pub use self::ending::{Change, Way};
 pub use self::fault::{Call, Fault, at, fault_of};
 pub use self::file_store::{FileStore, is_absence, read_regular};
 pub use self::journal::{Journal, Origin, journal_of, journal_text};
-pub use self::near::need_no_journal_near;
+pub use self::near::{need_no_journal_below, need_no_journal_near};
 pub use self::own_files::{JOURNAL, Trust, need_no_own_files};
 pub use self::path::{directory_of, join};
 pub use self::possible::{LONGEST_PATH, need_possible, need_short};

@@ -93,7 +93,9 @@ pub struct PageText<'a> {
 /// its staging name, and so is each page with its old or its new text. Then [`resume`] does the rest, and until
 /// everything is at its new path [`undo`] takes back what was done.
 ///
-/// The call refuses to work if the root has a journal, or one of the directories, or a directory above the root.
+/// The call refuses to work if the root has a journal, or one of the directories, or a directory above the root. It looks
+/// for journals near once, after its own first journal is in its place: a caller looks for them before it plans, by
+/// [`need_no_journal_near`].
 pub fn carry_out<S: Store + Drop>(
     locked: Locked<S>,
     steps: Steps,
@@ -166,7 +168,7 @@ fn begin<S: Store + Drop>(
     pages: &[PageText<'_>],
     directories: &[&str],
 ) -> Result<Worker<S>, Ended> {
-    let (texts, mut worker) = match prepare(locked, steps, pages, directories) {
+    let (texts, mut worker) = match prepare(locked, steps, pages) {
         Ok(prepared) => prepared,
         Err(fault) => return Err(Ended::Refused(fault)),
     };
@@ -184,11 +186,9 @@ fn prepare<S: Store + Drop>(
     locked: Locked<S>,
     steps: Steps,
     pages: &[PageText<'_>],
-    directories: &[&str],
 ) -> Result<(Vec<NewText>, Worker<S>), Fault> {
     let Locked(mut store) = locked;
     let own = none_yet(&mut store)?;
-    need_no_journal_near(&mut store, directories)?;
     need_possible(&mut store, &steps)?;
     let (texts, work) = work_of(store.alloc(), steps, pages)?;
     if !is_of_run(store.alloc(), &work)? {

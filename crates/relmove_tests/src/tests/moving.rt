@@ -450,3 +450,15 @@ fn names_a_page_that_is_gone(rt: HostRuntime) -> Result<(), Fail> {
     }
     Err(Fail::new("no run went back"))
 }
+
+// A call looks for journals near before it plans, and once again after its own journal is in its place.
+#[test]
+fn asks_twice_for_journals_near(rt: HostRuntime) -> Result<(), Fail> {
+    for path in [".relmove", "site/guide/.relmove"] {
+        let disk = disk_of(rt.alloc(), SITE)?;
+        disk.count_questions(path)?;
+        same(path, &written(rt.alloc(), &disk), &Status::Kept)?;
+        same(path, &disk.questions(), &2)?;
+    }
+    Ok(())
+}
