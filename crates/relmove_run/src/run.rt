@@ -1,6 +1,7 @@
 //! A run, its end after a fault, and its undoing.
 use crate::actions::{find, sync_directory};
-use crate::ending::{Change, Way, changes_from, stage_to_end};
+use crate::change::Change;
+use crate::ending::{Way, changes_from, goes_on, stage_to_end};
 use crate::fault::{Call, Fault, at};
 use crate::journal::Journal;
 use crate::near::need_no_journal_near;
@@ -141,10 +142,10 @@ pub fn changes_to_end<S: Store + Drop>(
 
 // Ends a run from its stage: goes on, or goes on back.
 fn end_from<S: Store + Drop>(worker: Worker<S>) -> Ended {
-    match worker.stage() {
-        Stage::Staging | Stage::Making | Stage::Placing | Stage::Cleaning => go_on_or_back(worker),
-        _ => go_back(worker, None),
+    if goes_on(worker.stage()) {
+        return go_on_or_back(worker);
     }
+    go_back(worker, None)
 }
 
 // Takes a run back, unless it is too late. If it goes back by itself, it has a cause.
@@ -283,7 +284,7 @@ fn refuse_staging<S: Store + Drop>(mut worker: Worker<S>, fault: Fault) -> Ended
 
 // Takes back what was done.
 fn refuse<S: Store + Drop>(mut worker: Worker<S>, fault: Fault) -> Ended {
-    if worker.go_back().is_err() && may_have_journal(&mut worker) {
+    if worker.finish().is_err() && may_have_journal(&mut worker) {
         return stop(worker, fault);
     }
     refused(fault, worker.into_remarks())
@@ -333,7 +334,7 @@ fn open<S: Store + Drop>(locked: Locked<S>, trust: Trust) -> Result<Worker<S>, F
 
 // Goes on to the end. If a page was changed before it got its staging name, goes back.
 fn go_on_or_back<S: Store + Drop>(mut worker: Worker<S>) -> Ended {
-    match worker.go_on() {
+    match worker.finish() {
         Ok(()) => Ended::Done(worker.into_remarks()),
         Err(Fault::Changed(page)) => turn_back(worker, Some(Fault::Changed(page))),
         Err(fault) => stop(worker, fault),
@@ -342,7 +343,7 @@ fn go_on_or_back<S: Store + Drop>(mut worker: Worker<S>) -> Ended {
 
 // Goes back to the beginning.
 fn go_back<S: Store + Drop>(mut worker: Worker<S>, cause: Option<Fault>) -> Ended {
-    match worker.go_back() {
+    match worker.finish() {
         Ok(()) => Ended::TakenBack {
             cause,
             remarks: worker.into_remarks(),

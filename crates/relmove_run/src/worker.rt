@@ -6,6 +6,7 @@ use crate::actions::{
 use crate::fault::Fault;
 use crate::own_files::{OwnFiles, put_first, put_next, remove_all};
 use crate::remark::Remark;
+use crate::stages::{Action, MOST_STAGES, actions_of};
 use crate::store::{Found, FoundKind, Store};
 use crate::synced::{remove_left_names, sync_stage};
 use crate::text_digest::TextDigest;
@@ -122,56 +123,45 @@ impl<S: Store + Drop> Worker<S> {
         Ok(())
     }
 
-    // Goes on to the end.
-    pub(crate) fn go_on(&mut self) -> Result<(), Fault> {
-        match self.stage {
-            Stage::Staging => self.go_on_from_staging(),
-            Stage::Making => self.go_on_from_making(),
-            Stage::Placing => self.go_on_from_placing(),
-            _ => self.clean(),
-        }
-    }
-
-    // Gives everything its staging name, and goes on.
-    fn go_on_from_staging(&mut self) -> Result<(), Fault> {
-        for rename in &self.work.staged {
-            carry(&mut self.store, rename.from.as_str(), rename.to.as_str())?;
-        }
-        self.remove_left_names()?;
-        self.need_old_texts()?;
-        self.enter(Stage::Making)?;
-        self.go_on_from_making()
-    }
-
-    // Makes the new directories, and goes on.
-    fn go_on_from_making(&mut self) -> Result<(), Fault> {
-        for path in &self.work.made {
-            make_directory(&mut self.store, path.as_str())?;
-        }
-        self.enter(Stage::Placing)?;
-        self.go_on_from_placing()
-    }
-
-    // Gives everything its new path, and goes on.
-    fn go_on_from_placing(&mut self) -> Result<(), Fault> {
-        for rename in &self.work.placed {
-            carry(&mut self.store, rename.from.as_str(), rename.to.as_str())?;
-        }
-        self.enter(Stage::Cleaning)?;
-        self.clean()
-    }
-
-    // Removes what is left over, and ends the run.
-    fn clean(&mut self) -> Result<(), Fault> {
-        for leftover in &self.work.cleaned {
-            match leftover {
-                Leftover::Text(file) => remove_text(&mut self.store, file, &mut self.remarks)?,
-                Leftover::Directory(path) => {
-                    remove_emptied(&mut self.store, path.as_str(), &mut self.remarks)?
-                }
-            }
+    // Does what is left of the run's stage and of those after it, and ends the run. At the stages `writing` and `erasing`
+    // this needs no room on the disk.
+    pub(crate) fn finish(&mut self) -> Result<(), Fault> {
+        self.do_stage()?;
+        for _ in 0..MOST_STAGES {
+            let Some(next) = self.stage.next() else {
+                break;
+            };
+            self.enter(next)?;
+            self.do_stage()?;
         }
         self.end()
+    }
+
+    // Does the actions of the run's stage.
+    fn do_stage(&mut self) -> Result<(), Fault> {
+        act_at(
+            &mut self.store,
+            &self.work,
+            &self.written,
+            self.stage,
+            &mut self.remarks,
+        )?;
+        match self.stage {
+            Stage::Staging => {
+                self.remove_left_names()?;
+                self.need_old_texts()
+            }
+            Stage::Unplacing => self.remove_left_names(),
+            _ => Ok(()),
+        }
+    }
+
+    // Removes the names that a loss of power kept of what has its staging name.
+    fn remove_left_names(&mut self) -> Result<(), Fault> {
+        if self.may_have_both_names {
+            remove_left_names(&mut self.store, &self.work, self.stage)?;
+        }
+        Ok(())
     }
 
     // Removes the run's own files.
@@ -192,69 +182,6 @@ impl<S: Store + Drop> Worker<S> {
         }
         Ok(())
     }
-
-    // Goes back to the beginning.
-    pub(crate) fn go_back(&mut self) -> Result<(), Fault> {
-        match self.stage {
-            Stage::Unplacing => self.go_back_from_placing(),
-            Stage::Unmaking => self.go_back_from_making(),
-            Stage::Unstaging => self.go_back_from_staging(),
-            Stage::Erasing => self.erase(),
-            _ => self.abandon(),
-        }
-    }
-
-    // Gives what is at its new path its staging name again, and goes on back.
-    fn go_back_from_placing(&mut self) -> Result<(), Fault> {
-        for rename in self.work.placed.iter().rev() {
-            if !is_there(&mut self.store, rename.from.as_str())? {
-                carry_back(&mut self.store, rename, &mut self.remarks)?;
-            }
-        }
-        self.remove_left_names()?;
-        self.enter(Stage::Unmaking)?;
-        self.go_back_from_making()
-    }
-
-    // Removes the names that a loss of power kept of what has its staging name.
-    fn remove_left_names(&mut self) -> Result<(), Fault> {
-        if self.may_have_both_names {
-            remove_left_names(&mut self.store, &self.work, self.stage)?;
-        }
-        Ok(())
-    }
-
-    // Removes the directories that were made, and goes on back.
-    fn go_back_from_making(&mut self) -> Result<(), Fault> {
-        for path in self.work.made.iter().rev() {
-            unmake_directory(&mut self.store, path.as_str())?;
-        }
-        self.enter(Stage::Unstaging)?;
-        self.go_back_from_staging()
-    }
-
-    // Takes what has its staging name back to its old path, and goes on back.
-    fn go_back_from_staging(&mut self) -> Result<(), Fault> {
-        unstage_all(&mut self.store, &self.work, &mut self.remarks)?;
-        self.enter(Stage::Erasing)?;
-        self.erase()
-    }
-
-    // Removes the new texts, and ends the run.
-    fn erase(&mut self) -> Result<(), Fault> {
-        for text in &self.work.texts {
-            remove_text(&mut self.store, text, &mut self.remarks)?;
-        }
-        self.end()
-    }
-
-    // Removes the new texts that may be written in part, and ends the run. This needs no room on the disk.
-    fn abandon(&mut self) -> Result<(), Fault> {
-        for (text, written) in self.work.texts.iter().zip(&self.written) {
-            remove_part(&mut self.store, text, *written, &mut self.remarks)?;
-        }
-        self.end()
-    }
 }
 
 // The path from which a staging name came.
@@ -263,6 +190,55 @@ fn old_path<'a>(staged: &'a [Rename], name: &'a str) -> &'a str {
         Some(rename) => rename.from.as_str(),
         None => name,
     }
+}
+
+// Does the actions of a stage.
+fn act_at<S: Store>(
+    store: &mut S,
+    work: &Work,
+    written: &[Written],
+    stage: Stage,
+    remarks: &mut Vec<Remark>,
+) -> Result<(), Fault> {
+    for action in &actions_of(store.alloc(), work, stage)? {
+        act(store, work, written, *action, remarks)?;
+    }
+    Ok(())
+}
+
+// Does an action, unless that is done.
+fn act<S: Store>(
+    store: &mut S,
+    work: &Work,
+    written: &[Written],
+    action: Action<'_>,
+    remarks: &mut Vec<Remark>,
+) -> Result<(), Fault> {
+    match action {
+        Action::Carry(rename) => carry(store, rename.from.as_str(), rename.to.as_str()),
+        Action::Unplace(rename) => unplace(store, rename, remarks),
+        Action::Unstage(rename) => unstage(store, work, rename, remarks),
+        Action::Make(path) => make_directory(store, path),
+        Action::Unmake(path) => unmake_directory(store, path),
+        Action::RemoveText(text) => remove_text(store, text, remarks),
+        Action::RemovePart(number, text) => match written.get(number) {
+            Some(written) => remove_part(store, text, *written, remarks),
+            None => Ok(()),
+        },
+        Action::RemoveEmptied(path) => remove_emptied(store, path, remarks),
+    }
+}
+
+// Gives what is at its new path its staging name again, unless something has that name.
+fn unplace<S: Store>(
+    store: &mut S,
+    rename: &Rename,
+    remarks: &mut Vec<Remark>,
+) -> Result<(), Fault> {
+    if is_there(store, rename.from.as_str())? {
+        return Ok(());
+    }
+    carry_back(store, rename, remarks)
 }
 
 // Takes back a rename, unless that is done. Notes what is at neither path.
@@ -278,18 +254,6 @@ fn carry_back<S: Store>(
     if !is_there(store, from)? {
         let (from, to) = (copy_of(store, from)?, copy_of(store, to)?);
         remarks.push(Remark::Gone { from, to })?;
-    }
-    Ok(())
-}
-
-// Takes everything that has its staging name back to its old path.
-fn unstage_all<S: Store>(
-    store: &mut S,
-    work: &Work,
-    remarks: &mut Vec<Remark>,
-) -> Result<(), Fault> {
-    for rename in work.staged.iter().rev() {
-        unstage(store, work, rename, remarks)?;
     }
     Ok(())
 }
