@@ -4,7 +4,8 @@
 //! first one is put where nothing is, and each later one replaces the one before. The spare one is there for its room: on
 //! a disk that is full, it makes way for the next journal.
 use crate::actions::{
-    OwnFile, copy_of, create, find, find_to_remove, remove_file, sync, sync_directory, write_whole,
+    OwnFile, Ways, copy_of, create, find, find_to_remove, remove_file, sync, sync_directory,
+    write_whole,
 };
 use crate::fault::{Call, Fault, at};
 use crate::journal::{Journal, Origin, begins_as_journal, journal_of, journal_text};
@@ -199,7 +200,8 @@ fn remove_leftover<S: Store>(
         None => false,
     };
     if is_journal || is_beginning(store, path, &found)? {
-        return remove_file(store, path);
+        let mut ways = Ways::new(store.alloc());
+        return remove_file(store, &mut ways, path);
     }
     Err(Fault::OwnName(copy_of(store, path)?))
 }
@@ -288,7 +290,8 @@ fn remove_own<S: Store>(store: &mut S, path: &str, own: &mut OwnFile) -> Result<
         if !is_own {
             return Err(Fault::OwnName(copy_of(store, path)?));
         }
-        remove_file(store, path)?;
+        let mut ways = Ways::new(store.alloc());
+        remove_file(store, &mut ways, path)?;
     }
     *own = OwnFile::None;
     Ok(())
@@ -358,7 +361,8 @@ fn write_journal<S: Store>(
     (stage, work): (Stage, &Work),
     own: &mut OwnFile,
 ) -> Result<(), Fault> {
-    let mut file = create(store, path, PRIVATE, own)?;
+    let mut ways = Ways::new(store.alloc());
+    let mut file = create(store, &mut ways, path, PRIVATE, own)?;
     let file_inode = match own {
         OwnFile::Inode(inode) => *inode,
         _ => 0,

@@ -1,5 +1,5 @@
 //! Syncs the directories in which a stage of a run changed names, and removes the names that a loss of power kept there.
-use crate::actions::{remove_second_name, sync_directory};
+use crate::actions::{Ways, remove_second_name, sync_directory};
 use crate::fault::Fault;
 use crate::path::{directory_of, join, name_of};
 use crate::stages::{Action, actions_of};
@@ -20,11 +20,12 @@ pub(crate) fn sync_stage<S: Store>(store: &mut S, work: &Work, stage: Stage) -> 
 // which such a name is may have left too.
 pub(crate) fn remove_left_names<S: Store>(
     store: &mut S,
+    ways: &mut Ways,
     work: &Work,
     stage: Stage,
 ) -> Result<(), Fault> {
     for (path, kept) in &left_names_of(store.alloc(), work, stage)? {
-        remove_second_name(store, path.as_str(), kept)?;
+        remove_second_name(store, ways, path.as_str(), kept)?;
     }
     Ok(())
 }

@@ -12,8 +12,9 @@ use std::io::ErrorKind;
 /// Allocates a list of its paths.
 pub(crate) fn need_ways<S: Store>(store: &mut S, work: &Work) -> Result<(), Fault> {
     let paths = paths_of(store.alloc(), work)?;
+    let mut asked = BTreeSet::new(store.alloc());
     for path in &paths {
-        need_no_symlink_above(store, path, &paths)?;
+        need_no_symlink_above(store, path, &paths, &mut asked)?;
     }
     Ok(())
 }
@@ -38,17 +39,20 @@ fn paths_of(alloc: Global, work: &Work) -> Result<BTreeSet<&str>, AllocError> {
     Ok(paths)
 }
 
-// Fails if a symbolic link that isn't one of these paths is on the way to a path.
-fn need_no_symlink_above<S: Store>(
+// Fails if a symbolic link that isn't one of these paths is on the way to a path. Each path is asked for once.
+fn need_no_symlink_above<'a, S: Store>(
     store: &mut S,
-    path: &str,
+    path: &'a str,
     paths: &BTreeSet<&str>,
+    asked: &mut BTreeSet<&'a str>,
 ) -> Result<(), Fault> {
     for (slash, _) in path.match_indices('/') {
         if let Some(above) = path.get(..slash)
             && !paths.contains(above)
+            && !asked.contains(above)
         {
             need_no_symlink(store, above)?;
+            asked.insert(above)?;
         }
     }
     Ok(())

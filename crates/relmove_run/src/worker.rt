@@ -1,6 +1,6 @@
 //! Does the work of a run, from any stage on. Each step asks first whether it is done.
 use crate::actions::{
-    OwnFile, Written, carry, copy_of, digest_at, find_to_remove, is_there, make_directory,
+    OwnFile, Ways, Written, carry, copy_of, digest_at, find_to_remove, is_there, make_directory,
     need_free, remove_directory, remove_file, unmake_directory, write_text,
 };
 use crate::fault::Fault;
@@ -26,6 +26,8 @@ pub(crate) struct Worker<S: Drop> {
     written: Vec<Written>,
     // Whether a loss of power may have kept both names of a file that was renamed.
     may_have_both_names: bool,
+    // The directories on the ways to paths.
+    ways: Ways,
     remarks: Vec<Remark>,
 }
 
@@ -33,6 +35,7 @@ impl<S: Store + Drop> Worker<S> {
     // A run that begins.
     pub(crate) fn new(store: S, own: OwnFiles, work: Work) -> Worker<S> {
         let (written, remarks) = (Vec::new(store.alloc()), Vec::new(store.alloc()));
+        let ways = Ways::new(store.alloc());
         Worker {
             store,
             own,
@@ -40,6 +43,7 @@ impl<S: Store + Drop> Worker<S> {
             stage: Stage::Writing,
             written,
             may_have_both_names: false,
+            ways,
             remarks,
         }
     }
@@ -56,6 +60,7 @@ impl<S: Store + Drop> Worker<S> {
             written.push(Written::UNKNOWN)?;
         }
         let remarks = Vec::new(store.alloc());
+        let ways = Ways::new(store.alloc());
         Ok(Worker {
             store,
             own,
@@ -63,6 +68,7 @@ impl<S: Store + Drop> Worker<S> {
             stage,
             written,
             may_have_both_names: true,
+            ways,
             remarks,
         })
     }
@@ -116,7 +122,7 @@ impl<S: Store + Drop> Worker<S> {
     pub(crate) fn write_texts(&mut self, texts: &[NewText]) -> Result<(), Fault> {
         for text in texts {
             let mut written = Written::NONE;
-            let outcome = write_text(&mut self.store, text, &mut written);
+            let outcome = write_text(&mut self.store, &mut self.ways, text, &mut written);
             self.written.push(written)?;
             outcome?;
         }
@@ -141,6 +147,7 @@ impl<S: Store + Drop> Worker<S> {
     fn do_stage(&mut self) -> Result<(), Fault> {
         act_at(
             &mut self.store,
+            &mut self.ways,
             &self.work,
             &self.written,
             self.stage,
@@ -159,7 +166,7 @@ impl<S: Store + Drop> Worker<S> {
     // Removes the names that a loss of power kept of what has its staging name.
     fn remove_left_names(&mut self) -> Result<(), Fault> {
         if self.may_have_both_names {
-            remove_left_names(&mut self.store, &self.work, self.stage)?;
+            remove_left_names(&mut self.store, &mut self.ways, &self.work, self.stage)?;
         }
         Ok(())
     }
@@ -195,13 +202,14 @@ fn old_path<'a>(staged: &'a [Rename], name: &'a str) -> &'a str {
 // Does the actions of a stage.
 fn act_at<S: Store>(
     store: &mut S,
+    ways: &mut Ways,
     work: &Work,
     written: &[Written],
     stage: Stage,
     remarks: &mut Vec<Remark>,
 ) -> Result<(), Fault> {
     for action in &actions_of(store.alloc(), work, stage)? {
-        act(store, work, written, *action, remarks)?;
+        act(store, ways, work, written, *action, remarks)?;
     }
     Ok(())
 }
@@ -209,47 +217,50 @@ fn act_at<S: Store>(
 // Does an action, unless that is done.
 fn act<S: Store>(
     store: &mut S,
+    ways: &mut Ways,
     work: &Work,
     written: &[Written],
     action: Action<'_>,
     remarks: &mut Vec<Remark>,
 ) -> Result<(), Fault> {
     match action {
-        Action::Carry(rename) => carry(store, rename.from.as_str(), rename.to.as_str()),
-        Action::Unplace(rename) => unplace(store, rename, remarks),
-        Action::Unstage(rename) => unstage(store, work, rename, remarks),
-        Action::Make(path) => make_directory(store, path),
-        Action::Unmake(path) => unmake_directory(store, path),
-        Action::RemoveText(text) => remove_text(store, text, remarks),
+        Action::Carry(rename) => carry(store, ways, rename.from.as_str(), rename.to.as_str()),
+        Action::Unplace(rename) => unplace(store, ways, rename, remarks),
+        Action::Unstage(rename) => unstage(store, ways, work, rename, remarks),
+        Action::Make(path) => make_directory(store, ways, path),
+        Action::Unmake(path) => unmake_directory(store, ways, path),
+        Action::RemoveText(text) => remove_text(store, ways, text, remarks),
         Action::RemovePart(number, text) => match written.get(number) {
-            Some(written) => remove_part(store, text, *written, remarks),
+            Some(written) => remove_part(store, ways, text, *written, remarks),
             None => Ok(()),
         },
-        Action::RemoveEmptied(path) => remove_emptied(store, path, remarks),
+        Action::RemoveEmptied(path) => remove_emptied(store, ways, path, remarks),
     }
 }
 
 // Gives what is at its new path its staging name again, unless something has that name.
 fn unplace<S: Store>(
     store: &mut S,
+    ways: &mut Ways,
     rename: &Rename,
     remarks: &mut Vec<Remark>,
 ) -> Result<(), Fault> {
     if is_there(store, rename.from.as_str())? {
         return Ok(());
     }
-    carry_back(store, rename, remarks)
+    carry_back(store, ways, rename, remarks)
 }
 
 // Takes back a rename, unless that is done. Notes what is at neither path.
 fn carry_back<S: Store>(
     store: &mut S,
+    ways: &mut Ways,
     rename: &Rename,
     remarks: &mut Vec<Remark>,
 ) -> Result<(), Fault> {
     let (from, to) = (rename.from.as_str(), rename.to.as_str());
     if is_there(store, to)? {
-        return carry(store, to, from);
+        return carry(store, ways, to, from);
     }
     if !is_there(store, from)? {
         let (from, to) = (copy_of(store, from)?, copy_of(store, to)?);
@@ -262,11 +273,12 @@ fn carry_back<S: Store>(
 // staging name isn't the run's: it stays, and this is noted.
 fn unstage<S: Store>(
     store: &mut S,
+    ways: &mut Ways,
     work: &Work,
     rename: &Rename,
     remarks: &mut Vec<Remark>,
 ) -> Result<(), Fault> {
-    let back = carry_back(store, rename, remarks);
+    let back = carry_back(store, ways, rename, remarks);
     if let Err(Fault::Both { .. }) = &back
         && is_back(store, work, rename)?
     {
@@ -303,6 +315,7 @@ fn digest_of(work: &Work, rename: &Rename) -> Option<TextDigest> {
 // Removes a text of the run, unless it has changed: then it stays, and this is noted.
 fn remove_text<S: Store>(
     store: &mut S,
+    ways: &mut Ways,
     text: &TextFile,
     remarks: &mut Vec<Remark>,
 ) -> Result<(), Fault> {
@@ -311,7 +324,7 @@ fn remove_text<S: Store>(
         return Ok(());
     }
     if digest_at(store, path)? == Some(text.digest) {
-        return remove_file(store, path);
+        return remove_file(store, ways, path);
     }
     Ok(remarks.push(Remark::Kept(copy_of(store, path)?))?)
 }
@@ -320,6 +333,7 @@ fn remove_text<S: Store>(
 // file and its length, and a whole text by its digest.
 fn remove_part<S: Store>(
     store: &mut S,
+    ways: &mut Ways,
     text: &TextFile,
     written: Written,
     remarks: &mut Vec<Remark>,
@@ -332,9 +346,9 @@ fn remove_part<S: Store>(
         return Ok(());
     };
     if may_be_part(store, text, written, &found) {
-        return remove_file(store, path);
+        return remove_file(store, ways, path);
     }
-    remove_text(store, text, remarks)
+    remove_text(store, ways, text, remarks)
 }
 
 // Whether what is found may be a part of a text that the run wrote. A file that a killed run made is whole only if it has
@@ -361,10 +375,11 @@ fn can_read<S: Store>(store: &mut S, path: &str) -> bool {
 // Removes a directory that the run emptied. If it can't be removed, it stays, and this is noted.
 fn remove_emptied<S: Store>(
     store: &mut S,
+    ways: &mut Ways,
     path: &str,
     remarks: &mut Vec<Remark>,
 ) -> Result<(), Fault> {
-    match remove_directory(store, path) {
+    match remove_directory(store, ways, path) {
         Ok(()) => Ok(()),
         Err(Fault::OutOfMemory) => Err(Fault::OutOfMemory),
         // A call may report a failure after it removed the directory.

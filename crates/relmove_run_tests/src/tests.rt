@@ -8,6 +8,7 @@ mod arrivals;
 mod both_names;
 mod cases;
 mod changes;
+mod depth;
 mod edits;
 mod emptied;
 mod faults;
