@@ -30,7 +30,7 @@ pub enum Ended {
         /// What is left.
         remarks: Vec<Remark>,
     },
-    /// Nothing is changed.
+    /// Nothing is changed. A file of the run's own may be left, if the run couldn't remove it.
     Refused(Fault),
     /// The call stopped in the middle. What it did stays.
     Stopped {
