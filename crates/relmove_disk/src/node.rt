@@ -37,7 +37,7 @@ pub(crate) struct Node {
     pub mode: u32,
     pub owner: Owner,
     pub device: u64,
-    /// Whether all its bytes are on the disk.
+    /// Whether all its bytes are on the disk. Of a directory: whether it was synced itself.
     pub is_synced: bool,
 }
 

@@ -1,4 +1,5 @@
 //! A disk as the files of a run.
+use crate::calls::Turn;
 use crate::disk::Disk;
 use crate::files::DiskMachine;
 use crate::node::{Content, Node, Owner, READ};
@@ -9,6 +10,9 @@ use std::time::{Duration, SystemTime};
 
 // The most bytes that one call writes.
 const MOST_WRITTEN: usize = 9;
+
+// What the owner of a directory may do there.
+const OWNER_PERMISSIONS: u32 = 0o700;
 
 // When everything on a disk was written, in seconds since 1970.
 const WRITTEN: u64 = 1_000_000_000;
@@ -104,9 +108,15 @@ impl Store for DiskStore<'_> {
 
     fn find(&mut self, path: &str) -> io::Result<Option<Found>> {
         let turn = self.disk.turn()?;
+        if turn == Turn::Hides {
+            return Ok(None);
+        }
         turn.end()?;
         let number = match self.resolve(path) {
-            Ok(path) => self.disk.nodes.try_borrow()?.number_at(path.as_str()),
+            Ok(path) => {
+                self.disk.note_question(path.as_str())?;
+                self.disk.nodes.try_borrow()?.number_at(path.as_str())
+            }
             Err(error) if is_absence(error.kind()) => None,
             Err(error) => return Err(error),
         };
@@ -207,8 +217,8 @@ impl Store for DiskStore<'_> {
 
     fn link(&mut self, from: &str, to: &str) -> io::Result<()> {
         let turn = self.disk.turn()?;
-        if !self.disk.has_links.get() {
-            return Err(io::Error::from(ErrorKind::Unsupported));
+        if let Some(why) = self.disk.no_links.get() {
+            return Err(io::Error::from(why));
         }
         let (from, to) = (self.resolve(from)?, self.resolve(to)?);
         self.disk
@@ -221,11 +231,13 @@ impl Store for DiskStore<'_> {
     fn make_directory(&mut self, path: &str) -> io::Result<()> {
         let turn = self.disk.turn()?;
         let path = self.resolve(path)?;
-        let content = Content::Directory;
-        self.disk
-            .nodes
-            .try_borrow_mut()?
-            .make(path.as_str(), content, 0o755)?;
+        let (number, mode) = self.disk.make_directory(path.as_str())?;
+        turn.end()?;
+        if mode & OWNER_PERMISSIONS == OWNER_PERMISSIONS {
+            return Ok(());
+        }
+        let turn = self.disk.turn()?;
+        self.disk.nodes.try_borrow_mut()?.node_mut(number)?.mode = mode | OWNER_PERMISSIONS;
         turn.end()
     }
 

@@ -11,9 +11,9 @@ use crate::summary::{
 };
 use crate::tree::{Tree, is_staging_name, read_tree};
 use relmove_run::{
-    Call, Ended, Fault, Locked, Machine, PageText, Printable, Trust, Way, carry_out,
-    changes_to_end, fault_of, need_no_journal_near, need_no_own_files, need_possible, need_rest,
-    resume, undo,
+    Call, Ended, Fault, Locked, Machine, PageText, Printable, Remark, Trust, Way, carry_out,
+    changes_to_end, fault_of, need_no_journal_below, need_no_journal_near, need_no_own_files,
+    need_possible, need_rest, resume, undo,
 };
 use std::alloc::{AllocError, Global};
 use std::io::{self, Write};
@@ -309,7 +309,7 @@ fn read_whole<R: Machine, E: Write>(
     errors: &mut E,
 ) -> Result<Tree, Fault> {
     let tree = read_tree(root)?;
-    need_no_journal_near(store, &directories_of(root.runtime().alloc(), &tree)?)?;
+    need_no_journal_below(store, &directories_of(root.runtime().alloc(), &tree)?)?;
     print_unread(root.path(), &tree, errors);
     Ok(tree)
 }
@@ -469,25 +469,44 @@ fn print_what_ends<R: Machine, O: Write>(
 fn end<O: Write, E: Write>(ended: Ended, root: &str, out: &mut O, errors: &mut E) -> Status {
     let status = status_of(&ended);
     // The work is done or not, whether this is printed or not.
-    let _ = match status {
-        Status::Kept | Status::LinksLeft => print_end(out, root, &ended),
-        Status::Refused | Status::Stopped => print_end(errors, root, &ended),
+    let _ = if has_fault(&ended) {
+        print_end(errors, root, &ended)
+    } else {
+        print_end(out, root, &ended)
     };
     let _ = out.flush();
     status
 }
 
+// Whether a run didn't end as it was to.
+fn has_fault(ended: &Ended) -> bool {
+    match ended {
+        Ended::Done(_) => false,
+        Ended::TakenBack { cause, .. } => cause.is_some(),
+        Ended::Refused(_) => true,
+        Ended::Stopped { .. } => true,
+    }
+}
+
 // The status of a run.
 fn status_of(ended: &Ended) -> Status {
     match ended {
-        Ended::Done(remarks) | Ended::TakenBack(remarks) => {
-            if remarks.is_empty() {
-                Status::Kept
-            } else {
-                Status::LinksLeft
-            }
-        }
+        Ended::Done(remarks) => status_without_fault(remarks),
+        Ended::TakenBack {
+            cause: Some(_),
+            remarks,
+        } if remarks.is_empty() => Status::Refused,
+        Ended::TakenBack { remarks, .. } => status_without_fault(remarks),
         Ended::Refused(_) => Status::Refused,
         Ended::Stopped { .. } => Status::Stopped,
+    }
+}
+
+// The status of a run that ended, with these remarks.
+fn status_without_fault(remarks: &[Remark]) -> Status {
+    if remarks.is_empty() {
+        Status::Kept
+    } else {
+        Status::LinksLeft
     }
 }

@@ -16,6 +16,9 @@ use std::rt::Files;
 // The bits of a mode that are permissions.
 const PERMISSIONS: u32 = 0o7777;
 
+// What the owner of a directory that a run made may do there, whatever the process takes from new files.
+const OWNER_PERMISSIONS: u32 = 0o700;
+
 /// The files of the system below a root.
 #[derive(Drop)]
 pub struct FileStore {
@@ -115,7 +118,14 @@ impl Store for FileStore {
     }
 
     fn make_directory(&mut self, path: &str) -> io::Result<()> {
-        fs::create_dir(&self.runtime, self.full(path)?.as_str())
+        let path = self.full(path)?;
+        fs::create_dir(&self.runtime, path.as_str())?;
+        let mode = fs::symlink_metadata(&self.runtime, path.as_str())?.mode() & PERMISSIONS;
+        if mode & OWNER_PERMISSIONS == OWNER_PERMISSIONS {
+            return Ok(());
+        }
+        let permissions = Permissions::from_mode(mode | OWNER_PERMISSIONS);
+        fs::set_permissions(&self.runtime, path.as_str(), permissions)
     }
 
     fn remove_file(&mut self, path: &str) -> io::Result<()> {

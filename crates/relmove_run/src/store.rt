@@ -97,7 +97,7 @@ pub trait Store {
     /// Gives a file a second name. Fails if something is there.
     fn link(&mut self, from: &str, to: &str) -> io::Result<()>;
 
-    /// Makes a directory. Fails if something is there.
+    /// Makes a directory whose owner may list it, change it and use its names. Fails if something is there.
     fn make_directory(&mut self, path: &str) -> io::Result<()>;
 
     /// Removes a file.

@@ -5,11 +5,14 @@ use std::fmt::Debug;
 use std::test::Fail;
 
 mod arrivals;
+mod both_names;
 mod cases;
 mod changes;
+mod depth;
 mod edits;
 mod emptied;
 mod faults;
+mod fifos;
 mod foreign_journals;
 mod impossible_paths;
 mod journal;

@@ -424,3 +424,41 @@ fn stops_in_the_middle(rt: HostRuntime) -> Result<(), Fail> {
     same("some stop", &(stopped > 0), &true)?;
     same("some are refused", &(refused > 0), &true)
 }
+
+// Removes a page before a call of the run, once it has its staging name. Whether the run went back by itself and said so.
+fn says_what_is_gone(alloc: Global, number: u32) -> Result<bool, Fail> {
+    let disk = disk_of(alloc, SITE)?;
+    disk.remove_before(number, "site/.relmove-1")?;
+    let status = written(alloc, &disk);
+    if status != Status::LinksLeft {
+        return Ok(false);
+    }
+    let (one, other) = (disk.has("site/index.md")?, disk.has("site/guide/o.md")?);
+    same("one page is gone", &(one != other), &true)?;
+    same("no journal", &disk.has("site/.relmove")?, &false)?;
+    Ok(true)
+}
+
+#[test]
+fn names_a_page_that_is_gone(rt: HostRuntime) -> Result<(), Fail> {
+    let disk = disk_of(rt.alloc(), SITE)?;
+    written(rt.alloc(), &disk);
+    for number in 1..=disk.calls() {
+        if says_what_is_gone(rt.alloc(), number)? {
+            return Ok(());
+        }
+    }
+    Err(Fail::new("no run went back"))
+}
+
+// A call looks for journals near before it plans, and once again after its own journal is in its place.
+#[test]
+fn asks_twice_for_journals_near(rt: HostRuntime) -> Result<(), Fail> {
+    for path in [".relmove", "site/guide/.relmove"] {
+        let disk = disk_of(rt.alloc(), SITE)?;
+        disk.count_questions(path)?;
+        same(path, &written(rt.alloc(), &disk), &Status::Kept)?;
+        same(path, &disk.questions(), &2)?;
+    }
+    Ok(())
+}
