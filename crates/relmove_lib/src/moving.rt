@@ -5,15 +5,18 @@ ghost use Rattle.relmove_lib.specs.Pages.{AreTargetsOf};
 
 use crate::dead_links::leads_somewhere;
 use crate::position::{Position, Positions};
-use crate::tree::{EntryKind, Page, Tree};
+use crate::tree::{EntryKind, Page, Tree, cannot_read};
 use relative_path::RelativePath;
 use relative_path_links::{
     MovedSitePage, SitePage, Target, Unchanged, are_in_order, rewrite_links, targets,
 };
 use relative_path_moves::{MoveTableError, MovedPage, TreeMoves};
 use relmove_plan::{Entry, Kind, Plan, Refusal, make_plan};
-use relmove_run::{Fault, LONGEST_PATH, Store, name_of, need_short};
+use relmove_run::{
+    Call, Fault, FoundKind, LONGEST_PATH, Store, at, is_absence, join, name_of, need_short,
+};
 use std::alloc::{AllocError, AllocFailed, Global};
+use std::io::ErrorKind;
 use target_paths::{TargetReading, path_of_target};
 
 /// Why moves are refused. Moves are numbered from 0.
@@ -107,7 +110,8 @@ pub struct Moving<'a> {
 /// Plans the moves of a tree: each OLD with its NEW. Nothing is changed. Fails with [`Fault::TooLong`] if something in the
 /// tree gets a path that is too long for the system.
 ///
-/// Asks the system only whether what the links that stay lead to is there. What is above the root isn't asked for.
+/// Asks the system whether what the links that stay lead to is there, and for the names in directories that aren't read
+/// and get longer paths. What is above the root isn't asked for.
 pub fn moving_of<'a, S: Store>(
     store: &mut S,
     tree: &'a Tree,
@@ -207,11 +211,15 @@ fn need_short_paths<S: Store>(
     let alloc = store.alloc();
     let table = TreeMoves::new(alloc, moves)?;
     let most = most_added(store.root(), moves);
-    for path in tree.entries.keys() {
+    for (path, kind) in &tree.entries {
         let path = path.as_str();
         if path.len().saturating_add(most) > LONGEST_PATH {
             let after = table.path_after(alloc, RelativePath::new(path))?;
             need_short(alloc, store.root(), after.as_relative_path().as_str())?;
+        }
+        if *kind == EntryKind::Directory && has_dot_name(path) {
+            let after = table.path_after(alloc, RelativePath::new(path))?;
+            need_short_below(store, path, after.as_relative_path().as_str())?;
         }
     }
     Ok(())
@@ -224,6 +232,63 @@ fn most_added(root: &str, moves: &[(RelativePath<'_>, RelativePath<'_>)]) -> usi
         longest = longest.max(new.as_str().len());
     }
     root.len().saturating_add(1).saturating_add(longest)
+}
+
+// Fails if something below a directory that isn't read gets a path that is too long, since the directory gets another
+// one. Asks for names and kinds alone. What can't be listed isn't asked for.
+fn need_short_below<S: Store>(store: &mut S, old: &str, new: &str) -> Result<(), Fault> {
+    if new.len() <= old.len() {
+        return Ok(());
+    }
+    let alloc = store.alloc();
+    let mut directories = Vec::new(alloc);
+    directories.push((String::from_str(alloc, old)?, String::from_str(alloc, new)?))?;
+    let mut next = 0;
+    while let Some((old, new)) = directories.get(next) {
+        let more = need_short_in(store, old.as_str(), new.as_str())?;
+        directories.extend(more)?;
+        next += 1;
+    }
+    Ok(())
+}
+
+// Fails if something in a directory gets a path that is too long. Returns the directories in it, each with its new path.
+fn need_short_in<S: Store>(
+    store: &mut S,
+    old: &str,
+    new: &str,
+) -> Result<Vec<(String, String)>, Fault> {
+    let alloc = store.alloc();
+    let mut directories = Vec::new(alloc);
+    let names = match store.list(old) {
+        Err(error) if cannot_ask(error.kind()) => return Ok(directories),
+        listed => at(alloc, Call::List, old, listed)?,
+    };
+    for name in &names.texts {
+        let new = join(alloc, new, name.as_str())?;
+        need_short(alloc, store.root(), new.as_str())?;
+        let old = join(alloc, old, name.as_str())?;
+        if is_directory_at(store, old.as_str())? {
+            directories.push((old, new))?;
+        }
+    }
+    Ok(directories)
+}
+
+// Whether a directory is at a path. What can't be looked up is none.
+fn is_directory_at<S: Store>(store: &mut S, path: &str) -> Result<bool, Fault> {
+    match store.find(path) {
+        Err(error) if cannot_ask(error.kind()) => Ok(false),
+        asked => match at(store.alloc(), Call::Ask, path, asked)? {
+            Some(found) => Ok(found.kind == FoundKind::Directory),
+            None => Ok(false),
+        },
+    }
+}
+
+// Whether an error says that something can't be read, or is gone.
+fn cannot_ask(kind: ErrorKind) -> bool {
+    cannot_read(kind) || is_absence(kind)
 }
 
 /// Whether a directory is at a path of a tree.

@@ -221,7 +221,7 @@ impl Walk {
 }
 
 // Whether an error says that the system doesn't let this program read something, or that its path is too long.
-fn cannot_read(kind: ErrorKind) -> bool {
+pub(crate) fn cannot_read(kind: ErrorKind) -> bool {
     matches!(
         kind,
         ErrorKind::PermissionDenied | ErrorKind::InvalidFilename
