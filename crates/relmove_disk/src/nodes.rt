@@ -195,6 +195,7 @@ impl Nodes {
             mode,
             owner: self.process,
             device,
+            hole: 0,
             is_synced: false,
         };
         if self.nodes.push(node).is_err() {

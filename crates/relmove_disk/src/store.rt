@@ -85,7 +85,7 @@ impl<'a> DiskStore<'a> {
             device: node.device,
             inode: (number as u64).saturating_add(1),
             links: nodes.links(number),
-            length: node.length(),
+            length: node.length().saturating_add(node.hole),
             mode: node.mode,
             owner: node.owner.user,
             group: node.owner.group,
@@ -172,6 +172,7 @@ impl Store for DiskStore<'_> {
         };
         let node = nodes.node(number)?;
         match &node.content {
+            Content::File(_) if node.hole > 0 => Err(io::Error::from(ErrorKind::OutOfMemory)),
             Content::File(bytes) => {
                 node.need_permission(nodes.process, READ)?;
                 Ok(Vec::from_slice(self.disk.alloc, bytes.as_slice())?)

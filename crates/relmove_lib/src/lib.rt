@@ -20,7 +20,7 @@ pub use self::moving::{
 pub use self::position::{Position, position_after};
 pub use self::program::{Status, answer};
 pub use self::progress::{Progress, StoreWithProgress, WithProgress};
-pub use self::tree::{EntryKind, Page, Tree, Unread, read_tree};
+pub use self::tree::{EntryKind, LONGEST_PAGE, Page, Tree, Unread, read_tree};
 
 mod arguments;
 mod dead_links;

@@ -2,7 +2,7 @@
 use markdown_targets::link_targets;
 use relmove_run::{Call, Fault, Found, FoundKind, Store, at, join, name_of};
 use std::alloc::{AllocError, Global};
-use std::collections::BTreeMap;
+use std::collections::{BTreeMap, BTreeSet};
 use std::io::{self, ErrorKind};
 
 /// What is at a path.
@@ -54,12 +54,12 @@ pub struct Tree {
     pub unlisted: Vec<String>,
     /// The directories that are read. The root is the empty path.
     pub directories: Vec<String>,
-    /// What can't be read, or isn't a regular file although it has the name of a page.
+    /// What can't be read, and what has the name of a page and isn't a regular file, or is longer than [`LONGEST_PAGE`].
     pub unread: Vec<Unread>,
 }
 
 /// Reads what is below the root of a store. No symbolic link is followed, and only regular files are opened. What can't
-/// be read is left out, and named.
+/// be read is left out, and named. So is a page that is longer than [`LONGEST_PAGE`].
 ///
 /// Allocates a path for each file, and the texts of the pages.
 pub fn read_tree<S: Store>(store: &mut S) -> Result<Tree, Fault> {
@@ -75,6 +75,9 @@ pub fn read_tree<S: Store>(store: &mut S) -> Result<Tree, Fault> {
     walk.into_tree(store, directories)
 }
 
+/// How many bytes a page may have that is read: 64 MiB.
+pub const LONGEST_PAGE: u64 = 64 << 20;
+
 // What was found so far.
 #[derive(Drop)]
 struct Walk {
@@ -82,6 +85,8 @@ struct Walk {
     unreadable_names: Vec<String>,
     unlisted: Vec<String>,
     unread: Vec<Unread>,
+    // The files that are too long for a page.
+    long_files: BTreeSet<String>,
 }
 
 impl Walk {
@@ -92,6 +97,7 @@ impl Walk {
             unreadable_names: Vec::new(alloc),
             unlisted: Vec::new(alloc),
             unread: Vec::new(alloc),
+            long_files: BTreeSet::new(alloc),
         }
     }
 
@@ -190,6 +196,10 @@ impl Walk {
                 why: String::from_str(alloc, NO_TEXT)?,
             })?;
         }
+        if kind == EntryKind::File && found.length > LONGEST_PAGE {
+            self.long_files
+                .insert(String::from_str(alloc, path.as_str())?)?;
+        }
         self.entries.insert(path, kind)?;
         Ok(())
     }
@@ -201,11 +211,12 @@ impl Walk {
             mut unreadable_names,
             mut unlisted,
             mut unread,
+            long_files,
         } = self;
         unreadable_names.sort()?;
         unreadable_names.dedup();
         unlisted.sort()?;
-        let mut reading = read_pages(store, &entries)?;
+        let mut reading = read_pages(store, &entries, &long_files)?;
         unread.append(&mut reading.unread)?;
         Ok(Tree {
             entries,
@@ -253,16 +264,20 @@ fn kind_of<S: Store>(store: &mut S, path: &str, found: FoundKind) -> Result<Entr
     })
 }
 
-// Reads the pages among the entries.
+// Reads the pages among the entries, but for those that are too long.
 fn read_pages<S: Store>(
     store: &mut S,
     entries: &BTreeMap<String, EntryKind>,
+    long_files: &BTreeSet<String>,
 ) -> Result<Reading, Fault> {
     let alloc = store.alloc();
     let mut reading = Reading::new(alloc);
     for (path, kind) in entries {
         if is_page(path.as_str()) {
             match kind {
+                EntryKind::File if long_files.contains(path.as_str()) => {
+                    reading.leave_out(alloc, path.as_str(), TOO_LONG)?
+                }
                 EntryKind::File => reading.add(store, path.as_str())?,
                 EntryKind::Other => reading.leave_out(alloc, path.as_str(), NO_FILE)?,
                 EntryKind::Directory | EntryKind::Link(_) => {}
@@ -271,6 +286,9 @@ fn read_pages<S: Store>(
     }
     Ok(reading)
 }
+
+// Why a page above the limit isn't read.
+const TOO_LONG: &str = "longer than 64 MiB";
 
 // Why a FIFO, a socket or a device isn't read.
 const NO_FILE: &str = "not a regular file";
