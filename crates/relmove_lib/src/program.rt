@@ -4,13 +4,14 @@ use crate::dead_links::{DeadLink, dead_links_of};
 use crate::moving::{Moving, moving_of};
 use crate::report::{
     HELP, USAGE, print_changes, print_dead_link, print_dead_link_as_json, print_end,
+    print_remarks_as_json,
 };
 use crate::summary::{
     Counts, counts_of, print_did, print_moving, print_moving_as_json, print_refused, print_would,
 };
 use crate::tree::{Tree, has_reserved_name, read_tree};
 use relmove_run::{
-    Call, Ended, Fault, Locked, Machine, PageText, Printable, Store, Trust, Way, carry_out,
+    Call, Ended, Fault, Locked, Machine, PageText, Printable, Remark, Store, Trust, Way, carry_out,
     changes_to_end, fault_of, need_no_journal_near, need_no_own_files, need_possible, need_rest,
     resume, undo,
 };
@@ -186,7 +187,7 @@ fn move_and_write<R: Machine, O: Write, E: Write>(
     let texts = old_texts(alloc, &tree, &moving)?;
     let ended = carry_out(locked, moving.plan.steps, &texts, &directories);
     let done = (counts, status);
-    Ok(print_run(root, ended, done, options, out, errors))
+    Ok(print_run(alloc, root, ended, done, options, out, errors))
 }
 
 // Plans moves, and prints what they do. Returns the plan, what is counted of it, and the status of a run that does all of
@@ -276,6 +277,7 @@ fn print_plan<S: Store, O: Write>(
 
 // Prints how a run ended: how many files it moved, if it did all of its plan. Returns the status of the call.
 fn print_run<O: Write, E: Write>(
+    alloc: Global,
     root: &str,
     ended: Ended,
     (counts, status): (Counts, Status),
@@ -283,15 +285,35 @@ fn print_run<O: Write, E: Write>(
     out: &mut O,
     errors: &mut E,
 ) -> Status {
+    if options.json
+        && let Ended::Done(remarks) = &ended
+    {
+        return print_left_as_json(alloc, remarks, status, out);
+    }
     if !is_done_whole(&ended) {
         return end(ended, root, out, errors);
     }
     // The work is done, whether this is printed or not.
-    if !options.json {
-        let _ = print_did(out, counts);
-    }
+    let _ = print_did(out, counts);
     let _ = out.flush();
     status
+}
+
+// Prints in JSON what a run left that did all of its plan. Returns the status of the call.
+fn print_left_as_json<O: Write>(
+    alloc: Global,
+    remarks: &[Remark],
+    status: Status,
+    out: &mut O,
+) -> Status {
+    // The work is done, whether this is printed or not.
+    let _ = print_remarks_as_json(alloc, out, remarks);
+    let _ = out.flush();
+    if remarks.is_empty() {
+        status
+    } else {
+        Status::LinksLeft
+    }
 }
 
 // Whether a run did all of its plan, and has nothing to say.
