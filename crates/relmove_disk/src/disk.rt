@@ -169,6 +169,14 @@ impl Disk {
         Ok(())
     }
 
+    /// Gives a file a hole of so many bytes at its end. No process has memory for it.
+    pub fn add_hole(&self, path: &str, bytes: u64) -> io::Result<()> {
+        let mut nodes = self.nodes.try_borrow_mut()?;
+        let number = number_at(&nodes, path)?;
+        nodes.node_mut(number)?.hole = bytes;
+        Ok(())
+    }
+
     /// From now on the process works as this user and group. The user 0 may do everything but give files away.
     pub fn work_as(&self, user: u32, group: u32) -> io::Result<()> {
         self.nodes.try_borrow_mut()?.process = Owner { user, group };

@@ -3,7 +3,7 @@
 //!
 //! ```text
 //! what a test uses           site  disk
-//! files for programs         files  store
+//! files for programs         machine  store
 //! calls, and how they fail   calls
 //! what is on the disk        nodes  changes  node
 //! ```
@@ -11,7 +11,7 @@
 
 pub use self::calls::Way;
 pub use self::disk::Disk;
-pub use self::files::{DiskDirectory, DiskFile, DiskMachine};
+pub use self::machine::DiskMachine;
 pub use self::node::Content;
 pub use self::site::{Place, below_site, disk_of, file_of};
 pub use self::store::{DiskStore, NewDiskFile};
@@ -19,7 +19,7 @@ pub use self::store::{DiskStore, NewDiskFile};
 mod calls;
 mod changes;
 mod disk;
-mod files;
+mod machine;
 mod node;
 mod nodes;
 mod site;

@@ -1,6 +1,7 @@
 //! What is on a disk: nodes, and the names that lead to them.
 use crate::changes::{Change, Changes};
 use crate::node::{Content, Node, Owner, READ, SEARCH, WRITE};
+use relmove_run::{directory_of, join, name_of};
 use std::alloc::{AllocError, Global};
 use std::io::{self, ErrorKind};
 
@@ -146,6 +147,9 @@ impl Nodes {
     /// The names in a directory.
     pub fn names_in(&self, directory: &str) -> io::Result<Vec<String>> {
         let node = self.node(self.need_number(directory)?)?;
+        if !node.is_directory() {
+            return Err(io::Error::from(ErrorKind::NotADirectory));
+        }
         node.need_permission(self.process, READ)?;
         let mut names = Vec::new(self.alloc);
         for name in &self.names {
@@ -191,6 +195,7 @@ impl Nodes {
             mode,
             owner: self.process,
             device,
+            hole: 0,
             is_synced: false,
         };
         if self.nodes.push(node).is_err() {
@@ -462,32 +467,6 @@ impl Nodes {
 // The error that nothing is there.
 fn absence() -> io::Error {
     io::Error::from(ErrorKind::NotFound)
-}
-
-// The path of a name in a directory.
-fn join(alloc: Global, directory: &str, name: &str) -> Result<String, AllocError> {
-    let mut path = String::from_str(alloc, directory)?;
-    if !directory.is_empty() {
-        path.push('/')?;
-    }
-    path.push_str(name)?;
-    Ok(path)
-}
-
-// The directory in which a path is.
-fn directory_of(path: &str) -> &str {
-    match path.rsplit_once('/') {
-        Some((directory, _)) => directory,
-        None => "",
-    }
-}
-
-// The last name of a path.
-fn name_of(path: &str) -> &str {
-    match path.rsplit_once('/') {
-        Some((_, name)) => name,
-        None => path,
-    }
 }
 
 // Whether a path is directly in a directory.

@@ -185,6 +185,22 @@ fn print_remarks<W: Write>(out: &mut W, root: &str, remarks: &[Remark]) -> io::R
     Ok(())
 }
 
+// Prints what a run left, an object of JSON on each line.
+pub(crate) fn print_remarks_as_json<W: Write>(
+    alloc: Global,
+    out: &mut W,
+    remarks: &[Remark],
+) -> io::Result<()> {
+    for remark in remarks {
+        let words = remark.to_string(alloc)?;
+        let words = words.as_str();
+        let object = json!(in alloc; { "remark": words })?;
+        let text = object.to_string(alloc)?;
+        writeln!(out, "{text}")?;
+    }
+    Ok(())
+}
+
 // How everything is after a run that was taken back.
 fn state_before(remarks: &[Remark]) -> &'static str {
     if remarks.is_empty() {

@@ -15,3 +15,8 @@ path_below directory path = if needs_slash directory path then directory ++ 47 �
 abbrev pub IsDirectoryOf : List ℕ → List ℕ → Type 0
 IsDirectoryOf directory path = (name : List ℕ) × All (λ b. b ≢ 47) name
     × ((path ≡ directory ++ 47 ∷ name) ⊎ ((path ≡ name) × (directory ≡ [])))
+
+-- the name has no slash, and the path is the name, or ends in a slash and the name
+abbrev pub IsNameOf : List ℕ → List ℕ → Type 0
+IsNameOf name path = All (λ b. b ≢ 47) name
+    × ((path ≡ name) ⊎ ((directory : List ℕ) × (path ≡ directory ++ 47 ∷ name)))

@@ -5,13 +5,12 @@ ghost use Rattle.std.specs.Prelude.{◌≡◌, ◌↔◌, ◌⊎◌, IsTrue};
 ghost use Rattle.std.specs.declared.io.ErrorKind.TheVariants.{NotADirectory, NotFound};
 
 use crate::path::join;
-use crate::store::{Found, FoundKind, Machine, Store};
+use crate::store::{Found, FoundKind, Machine, Names, Store};
 use std::alloc::{AllocError, Global};
 use std::fs::{self, File, FileType, Metadata, OpenFile, OpenOptions, Permissions, TryLockError};
 use std::io::{self, ErrorKind, Read, Write};
 use std::os::fd::AsFd;
 use std::os::unix::fs::{MetadataExt, OpenOptionsExt, PermissionsExt, fchown};
-use std::rt::Files;
 
 // The bits of a mode that are permissions.
 const PERMISSIONS: u32 = 0o7777;
@@ -69,6 +68,40 @@ impl Store for FileStore {
         match fs::symlink_metadata(&self.runtime, self.full(path)?.as_str()) {
             Ok(metadata) => Ok(Some(found_of(&metadata))),
             Err(error) if is_absence(error.kind()) => Ok(None),
+            Err(error) => Err(error),
+        }
+    }
+
+    fn follow(&mut self, path: &str) -> io::Result<Option<Found>> {
+        match fs::metadata(&self.runtime, self.full(path)?.as_str()) {
+            Ok(metadata) => Ok(Some(found_of(&metadata))),
+            Err(error) if is_absence(error.kind()) => Ok(None),
+            Err(error) => Err(error),
+        }
+    }
+
+    fn list(&mut self, path: &str) -> io::Result<Names> {
+        let mut names = Names {
+            texts: Vec::new(self.runtime.alloc()),
+            has_other: false,
+        };
+        for entry in fs::read_dir(&self.runtime, self.full(path)?.as_str())? {
+            match entry {
+                Ok(entry) => {
+                    let name = String::from_str(self.runtime.alloc(), entry.file_name())?;
+                    names.texts.push(name)?;
+                }
+                Err(error) if error.kind() == ErrorKind::InvalidFilename => names.has_other = true,
+                Err(error) => return Err(error),
+            }
+        }
+        Ok(names)
+    }
+
+    fn read_link(&mut self, path: &str) -> io::Result<Option<String>> {
+        match fs::read_link(&self.runtime, self.full(path)?.as_str()) {
+            Ok(target) => Ok(Some(String::from_str(self.runtime.alloc(), target.as_str())?)),
+            Err(error) if error.kind() == ErrorKind::InvalidFilename => Ok(None),
             Err(error) => Err(error),
         }
     }
@@ -165,11 +198,9 @@ impl Machine for HostRuntime {
     }
 }
 
-/// Reads a regular file. Whatever else is there isn't opened. If something else comes there before the file is opened,
-/// the call fails after it opened that; the call may wait then, if that is a FIFO.
-///
-/// Allocates the bytes.
-pub fn read_regular<R: Files + AllocGlobal>(runtime: &R, path: &str) -> io::Result<Vec<u8>> {
+// Reads a regular file. Whatever else is there isn't opened. If something else comes there before the file is opened,
+// the call fails after it opened that; the call may wait then, if that is a FIFO.
+fn read_regular(runtime: &HostRuntime, path: &str) -> io::Result<Vec<u8>> {
     need_file(fs::symlink_metadata(runtime, path)?.file_type())?;
     let mut file = fs::open(runtime, path)?;
     need_file(file.metadata()?.file_type())?;

@@ -1,6 +1,6 @@
 //! Paths below a root.
 ghost use Rattle.std.specs.Prelude.{◌≡◌, IfOk, string_bytes};
-ghost use Rattle.relmove_run.specs.Paths.{IsDirectoryOf, path_below};
+ghost use Rattle.relmove_run.specs.Paths.{IsDirectoryOf, IsNameOf, path_below};
 
 use std::alloc::{AllocError, Global};
 
@@ -33,5 +33,15 @@ pub fn directory_of(path: &str) -> &str
     match path.rsplit_once('/') {
         Some((directory, _)) => directory,
         None => "",
+    }
+}
+
+/// The name at the end of a path.
+pub fn name_of(path: &str) -> &str
+    ensures name { IsNameOf result.now path.now }
+{
+    match path.rsplit_once('/') {
+        Some((_, name)) => name,
+        None => path,
     }
 }

@@ -2,7 +2,6 @@
 ghost use Rattle.std.specs.Prelude.{◌≡◌, ◌==◌, ◌&&◌};
 
 use std::alloc::{AllocError, Global};
-use std::fs::Files;
 use std::io;
 use std::time::SystemTime;
 
@@ -51,6 +50,15 @@ impl Found {
     }
 }
 
+/// The names in a directory.
+#[derive(Debug, PartialEq, Eq, Drop)]
+pub struct Names {
+    /// The names that are UTF-8, in no order. `.` and `..` aren't among them.
+    pub texts: Vec<String>,
+    /// Whether there is a name that isn't UTF-8.
+    pub has_other: bool,
+}
+
 /// The files below a root. A path is relative to the root. The empty path is the root itself, and `..` is above it.
 ///
 /// A call that fails may have done what it is to do.
@@ -66,6 +74,15 @@ pub trait Store {
 
     /// What is at a path, or `None` if nothing is there. No symbolic link at the end of the path is followed.
     fn find(&mut self, path: &str) -> io::Result<Option<Found>>;
+
+    /// What is at a path where symbolic links lead, also one at the end of the path, or `None` if nothing is there.
+    fn follow(&mut self, path: &str) -> io::Result<Option<Found>>;
+
+    /// The names in a directory.
+    fn list(&mut self, path: &str) -> io::Result<Names>;
+
+    /// The path that is written in a symbolic link, or `None` if it isn't UTF-8.
+    fn read_link(&mut self, path: &str) -> io::Result<Option<String>>;
 
     /// The bytes of a regular file. Fails without opening it if something else is there.
     fn read(&mut self, path: &str) -> io::Result<Vec<u8>>;
@@ -115,7 +132,7 @@ pub trait Store {
 }
 
 /// A runtime whose files a run can reach.
-pub trait Machine: Files + AllocGlobal + Clone + Drop {
+pub trait Machine: AllocGlobal {
     /// The files below a root.
     type Store: Store + Drop;
 

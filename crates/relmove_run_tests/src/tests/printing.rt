@@ -6,7 +6,11 @@ use std::test::Fail;
 
 // Whether a text is printed so.
 fn prints(alloc: Global, text: &str, printed: &str) -> Result<(), Fail> {
-    same(printed, &Printable(text).to_string(alloc)?.as_str(), &printed)
+    same(
+        printed,
+        &Printable(text).to_string(alloc)?.as_str(),
+        &printed,
+    )
 }
 
 const BY_NUMBER: [(&str, &str); 12] = [
