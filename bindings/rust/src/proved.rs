@@ -348,17 +348,20 @@ const MOST_SPARE: usize = 64;
 /// Moves a text into memory of its length if it has much more. If that memory isn't there, the text stays where it is.
 #[cfg(feature = "alloc")]
 #[inline]
-fn without_spare(text: String) -> String {
-    if text.capacity() - text.len() <= MOST_SPARE {
-        return text;
+fn drop_spare(text: &mut String) {
+    if text.capacity() - text.len() > MOST_SPARE {
+        move_to_exact(text);
     }
+}
+
+/// Moves a text into memory of its length, if that memory is there.
+#[cfg(feature = "alloc")]
+#[cold]
+fn move_to_exact(text: &mut String) {
     let mut exact = String::new();
-    match exact.try_reserve_exact(text.len()) {
-        Ok(()) => {
-            exact.push_str(&text);
-            exact
-        }
-        Err(_) => text,
+    if exact.try_reserve_exact(text.len()).is_ok() {
+        exact.push_str(text);
+        *text = exact;
     }
 }
 
@@ -375,10 +378,12 @@ unsafe fn text_of(room: usize, call: impl Fn(*mut u8, usize) -> Written) -> Resu
     match written.status {
         DONE => {
             // SAFETY: the call wrote that many bytes, and they are UTF-8 by the word `Writes`.
-            Ok(without_spare(unsafe {
+            let mut text = unsafe {
                 bytes.set_len(written.len);
                 String::from_utf8_unchecked(bytes)
-            }))
+            };
+            drop_spare(&mut text);
+            Ok(text)
         }
         OUT_OF_MEMORY => end_without_memory(room),
         status => Err(status),
@@ -503,12 +508,14 @@ pub(crate) fn normalize(text: &str) -> String {
     let mut bytes = Vec::with_capacity(text.len());
     // SAFETY: a `str` is UTF-8, and the memory is as long as the text, as the call requires. It writes the bytes that it
     // counts, and they are UTF-8 by its clause `utf8`.
-    unsafe {
+    let mut normal = unsafe {
         let out = bytes.as_mut_ptr();
         let len = relative_path_str_normalize(text.as_ptr(), text.len(), out, bytes.capacity());
         bytes.set_len(len);
-        without_spare(String::from_utf8_unchecked(bytes))
-    }
+        String::from_utf8_unchecked(bytes)
+    };
+    drop_spare(&mut normal);
+    normal
 }
 
 /// Returns the normal path of two paths in turn.
