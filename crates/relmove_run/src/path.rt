@@ -18,14 +18,6 @@ pub fn join(alloc: Global, directory: &str, path: &str) -> Result<String, AllocE
     Ok(full)
 }
 
-// The last name of a path.
-pub(crate) fn name_of(path: &str) -> &str {
-    match path.rsplit_once('/') {
-        Some((_, name)) => name,
-        None => path,
-    }
-}
-
 /// The directory in which a path is. The root is the empty path.
 pub fn directory_of(path: &str) -> &str
     ensures directory { IsDirectoryOf result.now path.now }

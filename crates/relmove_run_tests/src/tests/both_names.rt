@@ -89,7 +89,8 @@ fn survives_in_undo(alloc: Global, case: &Case, first: u32, second: u32) -> Resu
 #[test]
 fn a_page_comes_back_into_a_directory_that_moved(rt: HostRuntime) -> Result<(), Fail> {
     let (alloc, case) = (rt.alloc(), &cases::PAGE_IN_A_DIRECTORY);
-    let first = first_call_at(alloc, case, Stage::Cleaning)?.saturating_sub(1);
+    // The rename of the journal, the question for the root and the root's sync come before the first call at a stage.
+    let first = first_call_at(alloc, case, Stage::Cleaning)?.saturating_sub(3);
     let mut count = 0u32;
     for second in 1..1000 {
         if survives_in_undo(alloc, case, first, second)? {
