@@ -11,6 +11,8 @@ use std::fs::{self, File, FileType, Metadata, OpenFile, OpenOptions, Permissions
 use std::io::{self, ErrorKind, Read, Write};
 use std::os::fd::AsFd;
 use std::os::unix::fs::{MetadataExt, OpenOptionsExt, PermissionsExt, fchown};
+use std::thread;
+use std::time::Duration;
 
 // The bits of a mode that are permissions.
 const PERMISSIONS: u32 = 0o7777;
@@ -171,22 +173,45 @@ impl Store for FileStore {
 
     fn lock(&mut self) -> io::Result<bool> {
         let root = self.open_root()?;
-        match root.try_lock() {
-            Ok(()) => {
-                self.lock = Some(root);
-                Ok(true)
+        for _ in 0..MOST_TRIES {
+            match root.try_lock() {
+                Ok(()) => {
+                    self.lock = Some(root);
+                    return Ok(true);
+                }
+                Err(TryLockError::WouldBlock) if is_locked(&root)? => return Ok(false),
+                Err(TryLockError::WouldBlock) => {
+                    thread::sleep(&self.runtime, Duration::from_millis(PAUSE))
+                }
+                Err(TryLockError::Error(error)) => return Err(error),
             }
-            Err(TryLockError::WouldBlock) => Ok(false),
-            Err(TryLockError::Error(error)) => Err(error),
         }
+        Ok(false)
     }
 
     fn is_locked(&mut self) -> io::Result<bool> {
-        match self.open_root()?.try_lock_shared() {
-            Ok(()) => Ok(false),
-            Err(TryLockError::WouldBlock) => Ok(true),
-            Err(TryLockError::Error(error)) => Err(error),
+        let root = self.open_root()?;
+        // Where the system has no locks, nobody has one.
+        Ok(is_locked(&root).unwrap_or(false))
+    }
+}
+
+// How often a call tries to lock the root while another call asks whether it is locked.
+const MOST_TRIES: u32 = 1000;
+
+// How many milliseconds it waits before it tries again.
+const PAUSE: u64 = 1;
+
+// Whether another process has the lock of a root, and doesn't only ask for it. Takes a lock that others may have too, and
+// gives it back.
+fn is_locked(root: &File) -> io::Result<bool> {
+    match root.try_lock_shared() {
+        Ok(()) => {
+            root.unlock()?;
+            Ok(false)
         }
+        Err(TryLockError::WouldBlock) => Ok(true),
+        Err(TryLockError::Error(error)) => Err(error),
     }
 }
 

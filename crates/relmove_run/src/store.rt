@@ -127,7 +127,7 @@ pub trait Store {
     /// lock until the store is dropped.
     fn lock(&mut self) -> io::Result<bool>;
 
-    /// Whether another process has the lock of the root.
+    /// Whether another process has the lock of the root. Where the system has no locks, none has it.
     fn is_locked(&mut self) -> io::Result<bool>;
 }
 
