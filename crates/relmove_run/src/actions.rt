@@ -177,18 +177,30 @@ pub(crate) fn carry<S: Store>(
     Err(Fault::Missing(copy_of(store, from)?))
 }
 
-// Makes a directory, unless something is there.
+// Makes a directory, unless something is there. A directory that is there without its owner's permissions, and empty, is
+// made anew: the run may have been killed before it had them.
 pub(crate) fn make_directory<S: Store>(
     store: &mut S,
     ways: &mut Ways,
     path: &str,
 ) -> Result<(), Fault> {
-    if is_there(store, path)? {
-        return Ok(());
+    if let Some(found) = find(store, path)? {
+        if has_owner_permissions(&found) {
+            return Ok(());
+        }
+        remove_directory(store, ways, path)?;
+        if is_there(store, path)? {
+            return Ok(());
+        }
     }
     need_way(store, ways, path)?;
     let made = store.make_directory(path);
     at(store.alloc(), Call::MakeDirectory, path, made)
+}
+
+// Whether something is no directory, or one whose owner may list it, change it and use its names.
+fn has_owner_permissions(found: &Found) -> bool {
+    found.kind != FoundKind::Directory || found.mode & OWNER_PERMISSIONS == OWNER_PERMISSIONS
 }
 
 // Removes a directory, unless it isn't empty or nothing is there.
