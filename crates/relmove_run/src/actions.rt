@@ -249,13 +249,23 @@ pub(crate) fn remove_file<S: Store>(
 // The digest of the file at a path, or `None` if no regular file is there.
 pub(crate) fn digest_at<S: Store>(store: &mut S, path: &str) -> Result<Option<TextDigest>, Fault> {
     match find(store, path)? {
-        Some(found) if found.kind == FoundKind::File => {
-            let read = store.read(path);
-            let text = at(store.alloc(), Call::Read, path, read)?;
-            Ok(Some(TextDigest::of(text.as_slice())))
-        }
-        _ => Ok(None),
+        Some(found) => digest_found(store, path, &found),
+        None => Ok(None),
     }
+}
+
+// The digest of what was found at a path, or `None` if that is no regular file.
+pub(crate) fn digest_found<S: Store>(
+    store: &mut S,
+    path: &str,
+    found: &Found,
+) -> Result<Option<TextDigest>, Fault> {
+    if found.kind != FoundKind::File {
+        return Ok(None);
+    }
+    let read = store.read(path);
+    let text = at(store.alloc(), Call::Read, path, read)?;
+    Ok(Some(TextDigest::of(text.as_slice())))
 }
 
 // What a page is. Fails if it is no regular file any more.

@@ -1,7 +1,7 @@
 //! Does the work of a run, from any stage on. Each step asks first whether it is done.
 use crate::actions::{
-    OwnFile, Ways, Written, carry, copy_of, digest_at, find_to_remove, is_there, make_directory,
-    need_free, remove_directory, remove_file, unmake_directory, write_text,
+    OwnFile, Ways, Written, carry, copy_of, digest_at, digest_found, find_to_remove, is_there,
+    make_directory, need_free, remove_directory, remove_file, unmake_directory, write_text,
 };
 use crate::fault::Fault;
 use crate::own_files::{OwnFiles, put_first, put_next, remove_all};
@@ -320,10 +320,10 @@ fn remove_text<S: Store>(
     remarks: &mut Vec<Remark>,
 ) -> Result<(), Fault> {
     let path = text.path.as_str();
-    if find_to_remove(store, path)?.is_none() {
+    let Some(found) = find_to_remove(store, path)? else {
         return Ok(());
-    }
-    if digest_at(store, path)? == Some(text.digest) {
+    };
+    if digest_found(store, path, &found)? == Some(text.digest) {
         return remove_file(store, ways, path);
     }
     Ok(remarks.push(Remark::Kept(copy_of(store, path)?))?)
