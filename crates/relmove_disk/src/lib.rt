@@ -1,11 +1,14 @@
 //! A file system in memory, for tests: names, inodes, owners, permissions, a lock, a size, and which changes are on the
 //! disk if the power is lost. A test says which of its calls fails, and how.
 //!
+//! A module uses modules of the layers below, and those to its left in its own layer.
+//!
 //! ```text
-//! what a test uses           site  disk
+//! files for a test           site
 //! files for programs         machine  store
+//! the disk                   disk
 //! calls, and how they fail   calls
-//! what is on the disk        nodes  changes  node
+//! what is on the disk        changes  node  nodes
 //! ```
 #![tactic(auto)]
 

@@ -10,8 +10,8 @@
 //! a stage             stages
 //! single calls        actions
 //! what a journal is   shape  journal
-//! what all share      path  printable  text_digest  work  fault  remark  change
-//! files               store  file_store
+//! what all share      printable  text_digest  work  fault  remark  change
+//! paths and files     path  store  file_store
 //! ```
 #![tactic(auto)]
 
