@@ -36,6 +36,7 @@ impl Place {
     }
 
     // Whether a character is escaped here.
+    #[inline(always)]
     pub(crate) fn escapes(self, character: char) -> bool
         ensures { result ≡ is_escaped self character }
     {
