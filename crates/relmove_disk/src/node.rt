@@ -37,9 +37,7 @@ pub(crate) struct Node {
     pub mode: u32,
     pub owner: Owner,
     pub device: u64,
-    /// How many bytes of a file come after those that it holds, and take no room on the disk.
-    pub hole: u64,
-    /// Whether all its bytes are on the disk. Of a directory: whether it was synced itself.
+    /// Whether all its bytes are on the disk.
     pub is_synced: bool,
 }
 
@@ -57,7 +55,7 @@ impl Node {
         }
     }
 
-    /// How many bytes it has, without its hole.
+    /// How many bytes it has.
     pub fn length(&self) -> u64 {
         match &self.content {
             Content::File(bytes) => bytes.len() as u64,

@@ -1,4 +1,2 @@
 mod ShapeLemmas
 mod OnceLemmas
-mod LoopLemmas
-mod PrintingLemmas

@@ -6,7 +6,7 @@ use std::fmt;
 /// Something that is left when a run has ended. Paths are relative to the root.
 #[derive(Debug, Drop)]
 pub enum Remark {
-    /// A file that isn't as the run left it: another program changed it, or put it there.
+    /// A file with a text that isn't the run's own: somebody changed it during the run.
     Kept(String),
     /// What moved, or was to move, is at neither of two paths.
     Gone {
@@ -24,10 +24,7 @@ impl fmt::Display for Remark {
         match self {
             Remark::Kept(path) => {
                 let path = Printable(path.as_str());
-                write!(
-                    f,
-                    "{path} is kept: another program changed it, or put it there"
-                )
+                write!(f, "{path} is kept: its text was changed during the run")
             }
             Remark::Gone { from, to } => {
                 let (from, to) = (Printable(from.as_str()), Printable(to.as_str()));
