@@ -15,8 +15,9 @@
 //! assert_eq!(page.file_stem(), Some("index"));
 //! ```
 //!
-//! A new path keeps at most 64 bytes of memory more than its text, if memory suffices to move it. A buffer that is lengthened
-//! grows by at least 64 bytes. If memory runs out, the program ends.
+//! A new path keeps the memory that its call asked for: as many bytes as always suffice, such as 601 for `relative` of two
+//! paths of 200 bytes, however short the result is. `into_boxed_relative_path` of a buffer frees what is left. A
+//! buffer that is lengthened grows by at least 64 bytes. If memory runs out, the program ends.
 //!
 //! With the feature `serde`, paths are read and written as strings.
 

@@ -341,30 +341,6 @@ fn end_without_memory(size: usize) -> ! {
     handle_alloc_error(Layout::array::<u8>(size).unwrap_or(Layout::new::<u8>()))
 }
 
-/// How many bytes a text that a call makes keeps beyond its length, at most.
-#[cfg(feature = "alloc")]
-const MOST_SPARE: usize = 64;
-
-/// Moves a text into memory of its length if it has much more. If that memory isn't there, the text stays where it is.
-#[cfg(feature = "alloc")]
-#[inline]
-fn drop_spare(text: &mut String) {
-    if text.capacity() - text.len() > MOST_SPARE {
-        move_to_exact(text);
-    }
-}
-
-/// Moves a text into memory of its length, if that memory is there.
-#[cfg(feature = "alloc")]
-#[cold]
-fn move_to_exact(text: &mut String) {
-    let mut exact = String::new();
-    if exact.try_reserve_exact(text.len()).is_ok() {
-        exact.push_str(text);
-        *text = exact;
-    }
-}
-
 /// Returns the text that a call writes, or the call's status. `room` has to be as many bytes as always suffice for the
 /// call, by its clause `suffices`.
 ///
@@ -378,12 +354,10 @@ unsafe fn text_of(room: usize, call: impl Fn(*mut u8, usize) -> Written) -> Resu
     match written.status {
         DONE => {
             // SAFETY: the call wrote that many bytes, and they are UTF-8 by the word `Writes`.
-            let mut text = unsafe {
+            Ok(unsafe {
                 bytes.set_len(written.len);
                 String::from_utf8_unchecked(bytes)
-            };
-            drop_spare(&mut text);
-            Ok(text)
+            })
         }
         OUT_OF_MEMORY => end_without_memory(room),
         status => Err(status),
@@ -508,14 +482,12 @@ pub(crate) fn normalize(text: &str) -> String {
     let mut bytes = Vec::with_capacity(text.len());
     // SAFETY: a `str` is UTF-8, and the memory is as long as the text, as the call requires. It writes the bytes that it
     // counts, and they are UTF-8 by its clause `utf8`.
-    let mut normal = unsafe {
+    unsafe {
         let out = bytes.as_mut_ptr();
         let len = relative_path_str_normalize(text.as_ptr(), text.len(), out, bytes.capacity());
         bytes.set_len(len);
         String::from_utf8_unchecked(bytes)
-    };
-    drop_spare(&mut normal);
-    normal
+    }
 }
 
 /// Returns the normal path of two paths in turn.

