@@ -41,8 +41,9 @@ item_list-items_of [] = refl
 item_list-items_of (d ∷ ds) = ap (λ es. d ∷ es) (item_list-items_of ds)
 
 -- the files so far, and the file of the next entry
-pub AreFiles-next : (Accepted : List ℕ → Type 0) (base : List Step) (values : List Value) (none : Value) (files : List Buffer) (file : Buffer)
-    (k : ℕ) → k < length values → AreFiles Accepted (map file_text files) base (take k (map view values))
+pub AreFiles-next : (Accepted : List ℕ → Type 0) (base : List Step) (values : List Value) (none : Value)
+    (files : List Buffer) (file : Buffer) (k : ℕ)
+    → k < length values → AreFiles Accepted (map file_text files) base (take k (map view values))
     → IsFileOf Accepted base (view (get_or values k none)) file.text
     → AreFiles Accepted (map file_text (files ++ file ∷ [])) base (take (k + 1) (map view values))
 AreFiles-next Accepted base values none files file k l are is =

@@ -42,7 +42,8 @@ size-plain read p reads (suc n) (b ∷ bs) within all =
 character_read-plain : (syntax : TargetSyntax) (b : ℕ) → is_plain_byte b ≡ true → nat_lt b 128 ≡ true
     → character_read syntax b ≡ b ∷ []
 character_read-plain Markdown b is below = encode_ascii b (grind (arith, nat_tests))
-character_read-plain Attribute b is below = of (b == 9 || b == 10 || b == 13) (b == 92) (grind (arith, nat_tests)) (grind (arith, nat_tests)) where
+character_read-plain Attribute b is below = of (b == 9 || b == 10 || b == 13) (b == 92)
+    (grind (arith, nat_tests)) (grind (arith, nat_tests)) where
   of : (s t : Bool) → s ≡ false → t ≡ false
       → (if s then [] else if t then 47 ∷ [] else encode_utf8 b) ≡ b ∷ []
   of true t is at = absurd (cc)

@@ -30,16 +30,21 @@ loop-byte-preserved c =
             | then-is_apart+then-not-is_empty+in_ok-push v ↦
                 ap (λ f. f.items ++ (low ∷ [])) v.folded-is
                 ∙ ap (λ l. l ++ (low ∷ [])) v.in_ok-push.ensures.items
-                ∙ ap (λ g. items ++ g ++ (low ∷ [])) (sym (with_gap c.loop-byte.folded.len (length items) apart counted v.if-is_apart.true (sym v.if-not-is_empty.ensures)))
+                ∙ ap (λ g. items ++ g ++ (low ∷ [])) (sym (with_gap c.loop-byte.folded.len (length items)
+                  apart counted v.if-is_apart.true (sym v.if-not-is_empty.ensures)))
             | else-is_apart v ↦ elim v.else-is_apart.branch [
               | else-is_apart-via-then-is_apart+else-not-is_empty u ↦
-                  ap (λ f. f.items ++ (low ∷ [])) v.folded-is ∙ no_gap items apart low (at_start (vec_len c.loop-byte.folded) (length items) apart counted (sym u.if-not-is_empty.ensures))
+                  ap (λ f. f.items ++ (low ∷ [])) v.folded-is ∙ no_gap items apart low
+                  (at_start (vec_len c.loop-byte.folded) (length items) apart counted (sym u.if-not-is_empty.ensures))
               | else-is_apart-via-else-is_apart u ↦
-                  ap (λ f. f.items ++ (low ∷ [])) v.folded-is ∙ no_gap items apart low (within_word (length items) apart u.if-is_apart.false)
+                  ap (λ f. f.items ++ (low ∷ [])) v.folded-is ∙ no_gap items apart low
+                  (within_word (length items) apart u.if-is_apart.false)
             ]
           ] in
           subst (λ f. IsSoFar label f.items c.if-is_space.is_apart (k + 1)) (sym w.folded-is)
           (subst (λ a. IsSoFar label w.push-else-is_space.new.self.items a (k + 1)) (sym w.is_apart-is)
           (IsSoFar-byte label items w.push-else-is_space.new.self.items apart k c.loop-byte-test.true
-          (sym w.if-is_space.ensures) (w.in_ok-push-2.ensures.items ∙ ap (λ b. w.if-is_apart.folded.items ++ (b ∷ [])) w.to_ascii_lowercase.ensures.value ∙ spaced) c.loop-byte.invariant))
+          (sym w.if-is_space.ensures)
+          (w.in_ok-push-2.ensures.items ∙ ap (λ b. w.if-is_apart.folded.items ++ (b ∷ [])) w.to_ascii_lowercase.ensures.value ∙ spaced)
+          c.loop-byte.invariant))
     ]

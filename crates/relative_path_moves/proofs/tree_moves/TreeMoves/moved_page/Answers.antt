@@ -13,6 +13,7 @@ returns-in_ok-after-in-Some-clause-after c =
       (
         normal,
         directory-target c.args.self.now (path_components c.args.page) target c.in-Some.path c.in_ok-after-in-Some.after
-            (rw c.in-Some.is at c.in_ok-path.ensures.named) taken normal (rw c.directory-in-Some.ensures.components at c.in_ok-after-in-Some.ensures),
+            (rw c.in-Some.is at c.in_ok-path.ensures.named) taken normal
+            (rw c.directory-in-Some.ensures.components at c.in_ok-after-in-Some.ensures),
       ),
     )
