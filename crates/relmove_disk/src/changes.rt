@@ -12,11 +12,14 @@ pub(crate) enum Change {
     Renamed(String, String, Option<usize>),
 }
 
-// A change, and the directories that have to be synced before it is on the disk.
+// A change, and the directories that have to be synced before it is on the disk. Of a rename from one directory to another
+// these are the old one and then the new one.
 #[derive(Debug, Drop)]
 struct Unsynced {
     change: Change,
     directories: Vec<usize>,
+    // Whether the new directory of a rename was synced, and the old one wasn't.
+    is_half: bool,
 }
 
 /// The changes of names that aren't on the disk yet, the oldest first.
@@ -39,6 +42,7 @@ impl Changes {
         match self.0.push(Unsynced {
             change,
             directories,
+            is_half: false,
         }) {
             Ok(()) => Ok(()),
             Err(_) => Err(io::Error::from(std::alloc::AllocError)),
@@ -51,6 +55,15 @@ impl Changes {
         Some(change)
     }
 
+    /// The old directory of the newest change, if that is a rename whose new directory alone was synced.
+    pub fn half_of_newest(&self) -> Option<usize> {
+        let unsynced = self.0.last()?;
+        if unsynced.is_half {
+            return unsynced.directories.first().copied();
+        }
+        None
+    }
+
     /// Forgets all changes.
     pub fn clear(&mut self) {
         self.0.clear();
@@ -59,6 +72,13 @@ impl Changes {
     /// Puts what was changed in a directory on the disk. A rename from one directory to another needs both.
     pub fn sync(&mut self, directory: usize) {
         for unsynced in self.0.iter_mut() {
+            let is_new = match unsynced.directories.as_slice() {
+                [old, new] => *new == directory && *old != directory,
+                _ => false,
+            };
+            if is_new && matches!(&unsynced.change, Change::Renamed(_, _, None)) {
+                unsynced.is_half = true;
+            }
             unsynced.directories.retain(|other| *other != directory);
         }
         self.0.retain(|unsynced| !unsynced.directories.is_empty());

@@ -8,7 +8,6 @@
 //! what is printed     report  summary
 //! whole pieces        dead_links  moving
 //! the work            tree
-//! files below ROOT    root
 //! what all share      position  arguments  progress
 //! ```
 #![tactic(auto)]
@@ -21,8 +20,7 @@ pub use self::moving::{
 pub use self::position::{Position, position_after};
 pub use self::program::{Status, answer};
 pub use self::progress::{Progress, StoreWithProgress, WithProgress};
-pub use self::root::Root;
-pub use self::tree::{EntryKind, Page, Tree, Unread, read_tree};
+pub use self::tree::{EntryKind, LONGEST_PAGE, Page, Tree, Unread, read_tree};
 
 mod arguments;
 mod dead_links;
@@ -31,6 +29,5 @@ mod position;
 mod program;
 mod progress;
 pub mod report;
-mod root;
 mod summary;
 mod tree;

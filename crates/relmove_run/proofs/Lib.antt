@@ -1,2 +1,4 @@
 mod ShapeLemmas
 mod OnceLemmas
+mod LoopLemmas
+mod PrintingLemmas

@@ -1,1 +1,6 @@
 pub mod Shape
+pub mod Paths
+pub mod Printing
+pub mod Journals
+pub mod Permissions
+pub mod Ends

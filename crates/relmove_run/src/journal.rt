@@ -18,7 +18,10 @@
 //! emptied  docs
 //! end      236  3a41
 //! ```
-ghost use Rattle.std.specs.Prelude.{IfOk};
+ghost use Rattle.std.specs.Prelude.{◌≡◌, ◌↔◌, [], ◌∷◌, ◌++◌, IfOk, IsTrue, OnOk, codes, map, string_bytes};
+ghost use Rattle.std.specs.Fmt.{decimal};
+ghost use Rattle.std.specs.List.{flat_map};
+ghost use Rattle.relmove_run.specs.Journals.{directory_line, end_line, escaped, escaped_character, field_bytes, head_lines, journal_bytes, leftover_line, line_bytes, rename_line, stage_name, text_line, work_bytes};
 ghost use Rattle.relmove_run.specs.Shape.{IsOfRun};
 
 use crate::fault::Fault;
@@ -31,7 +34,9 @@ use std::alloc::{AllocError, Global};
 
 impl Stage {
     // The stage's name.
-    fn name(self) -> &'static str {
+    fn name(self) -> &'static str
+        ensures { result.now ≡ stage_name self }
+    {
         match self {
             Stage::Writing => "writing",
             Stage::Staging => "staging",
@@ -101,51 +106,106 @@ pub fn journal_text(
     origin: Origin,
     stage: Stage,
     work: &Work,
-) -> Result<String, AllocError> {
+) -> Result<String, AllocError>
+    ensures text { IfOk result (λ text. string_bytes text ≡ journal_bytes origin stage work.now) }
+{
     let mut text = String::from_str(alloc, HEAD)?;
-    push_number(alloc, &mut text, "root", origin.root)?;
-    push_number(alloc, &mut text, "file", origin.file)?;
-    push_line(&mut text, "stage", &[stage.name()])?;
-    for written in &work.texts {
-        push_text_file(alloc, &mut text, "text", written)?;
-    }
-    push_renames(&mut text, "staged", &work.staged)?;
-    for path in &work.made {
-        push_line(&mut text, "made", &[path.as_str()])?;
-    }
-    push_renames(&mut text, "placed", &work.placed)?;
-    for leftover in &work.cleaned {
-        push_leftover(alloc, &mut text, leftover)?;
-    }
-    let end = end_line(alloc, text.as_str())?;
+    push_head(alloc, &mut text, origin, stage)?;
+    push_work(alloc, &mut text, work)?;
+    let end = end_of(alloc, text.as_str())?;
     text.push_str(end.as_str())?;
     Ok(text)
 }
 
-// Adds a line with a number.
-fn push_number(
+// Adds the lines that say where the journal is, and how far the run is.
+fn push_head(
     alloc: Global,
     text: &mut String,
-    word: &str,
-    number: u64,
-) -> Result<(), AllocError> {
+    origin: Origin,
+    stage: Stage,
+) -> Result<(), AllocError>
+    ensures { OnOk result (string_bytes text.new ≡ string_bytes text.old ++ head_lines origin stage) }
+{
+    push_number(alloc, text, "root", origin.root)?;
+    push_number(alloc, text, "file", origin.file)?;
+    push_field(text, "stage", stage.name())?;
+    Ok(())
+}
+
+// Adds the lines that say what the run does.
+fn push_work(alloc: Global, text: &mut String, work: &Work) -> Result<(), AllocError>
+    ensures { OnOk result (string_bytes text.new ≡ string_bytes text.old ++ work_bytes work.now) }
+{
+    push_texts(alloc, text, &work.texts)?;
+    push_renames(text, "staged", &work.staged)?;
+    push_made(text, &work.made)?;
+    push_renames(text, "placed", &work.placed)?;
+    push_cleaned(alloc, text, &work.cleaned)?;
+    Ok(())
+}
+
+// Adds a line with a number.
+fn push_number(alloc: Global, text: &mut String, word: &str, number: u64) -> Result<(), AllocError>
+    ensures { OnOk result (string_bytes text.new ≡ string_bytes text.old ++ line_bytes word.now (decimal number ∷ [])) }
+{
     let digits = number.to_string(alloc)?;
-    push_line(text, word, &[digits.as_str()])
+    push_field(text, word, digits.as_str())
+}
+
+// Adds a line with one field.
+fn push_field(text: &mut String, word: &str, field: &str) -> Result<(), AllocError>
+    ensures { OnOk result (string_bytes text.new ≡ string_bytes text.old ++ line_bytes word.now (field.now ∷ [])) }
+{
+    push_line(text, word, &[field])
+}
+
+// Adds a line for each new text.
+fn push_texts(alloc: Global, text: &mut String, files: &[TextFile]) -> Result<(), AllocError>
+    ensures { OnOk result (string_bytes text.new ≡ string_bytes text.old ++ flat_map (text_line (codes "text")) files.now) }
+{
+    for file in files {
+        push_text_file(alloc, text, "text", file)?;
+    }
+    Ok(())
 }
 
 // Adds a line for each rename.
-fn push_renames(text: &mut String, word: &str, renames: &[Rename]) -> Result<(), AllocError> {
+fn push_renames(text: &mut String, word: &str, renames: &[Rename]) -> Result<(), AllocError>
+    ensures { OnOk result (string_bytes text.new ≡ string_bytes text.old ++ flat_map (rename_line word.now) renames.now) }
+{
     for rename in renames {
         push_line(text, word, &[rename.from.as_str(), rename.to.as_str()])?;
     }
     Ok(())
 }
 
+// Adds a line for each directory that is made.
+fn push_made(text: &mut String, paths: &[String]) -> Result<(), AllocError>
+    ensures { OnOk result (string_bytes text.new ≡ string_bytes text.old ++ flat_map (λ path. directory_line (codes "made") (string_bytes path)) paths.now) }
+{
+    for path in paths {
+        push_field(text, "made", path.as_str())?;
+    }
+    Ok(())
+}
+
+// Adds a line for each thing that is removed at the end.
+fn push_cleaned(alloc: Global, text: &mut String, leftovers: &[Leftover]) -> Result<(), AllocError>
+    ensures { OnOk result (string_bytes text.new ≡ string_bytes text.old ++ flat_map leftover_line leftovers.now) }
+{
+    for leftover in leftovers {
+        push_leftover(alloc, text, leftover)?;
+    }
+    Ok(())
+}
+
 // Adds a line for what is removed at the end.
-fn push_leftover(alloc: Global, text: &mut String, leftover: &Leftover) -> Result<(), AllocError> {
+fn push_leftover(alloc: Global, text: &mut String, leftover: &Leftover) -> Result<(), AllocError>
+    ensures { OnOk result (string_bytes text.new ≡ string_bytes text.old ++ leftover_line leftover.now) }
+{
     match leftover {
         Leftover::Text(file) => push_text_file(alloc, text, "removed", file),
-        Leftover::Directory(path) => push_line(text, "emptied", &[path.as_str()]),
+        Leftover::Directory(path) => push_field(text, "emptied", path.as_str()),
     }
 }
 
@@ -155,7 +215,9 @@ fn push_text_file(
     text: &mut String,
     word: &str,
     file: &TextFile,
-) -> Result<(), AllocError> {
+) -> Result<(), AllocError>
+    ensures { OnOk result (string_bytes text.new ≡ string_bytes text.old ++ text_line word.now file.now) }
+{
     let length = file.digest.length.to_string(alloc)?;
     let sha256 = hex::encode(alloc, file.digest.sha256)?;
     push_line(
@@ -166,7 +228,9 @@ fn push_text_file(
 }
 
 // The last line: the digest of all lines before it.
-fn end_line(alloc: Global, lines: &str) -> Result<String, AllocError> {
+fn end_of(alloc: Global, lines: &str) -> Result<String, AllocError>
+    ensures { IfOk result (λ line. string_bytes line ≡ end_line lines.now) }
+{
     let digest = TextDigest::of(lines.as_bytes());
     let length = digest.length.to_string(alloc)?;
     let sha256 = hex::encode(alloc, digest.sha256)?;
@@ -176,26 +240,55 @@ fn end_line(alloc: Global, lines: &str) -> Result<String, AllocError> {
 }
 
 // Adds a line.
-fn push_line(text: &mut String, word: &str, fields: &[&str]) -> Result<(), AllocError> {
+fn push_line(text: &mut String, word: &str, fields: &[&str]) -> Result<(), AllocError>
+    ensures { OnOk result (string_bytes text.new
+        ≡ string_bytes text.old ++ line_bytes word.now (map (λ field. field.now) fields.now)) }
+{
     text.push_str(word)?;
+    push_fields(text, fields)?;
+    text.push('\n')?;
+    Ok(())
+}
+
+// Adds fields, with a tab before each.
+fn push_fields(text: &mut String, fields: &[&str]) -> Result<(), AllocError>
+    ensures { OnOk result (string_bytes text.new
+        ≡ string_bytes text.old ++ flat_map field_bytes (map (λ field. field.now) fields.now)) }
+{
     for field in fields {
-        text.push('\t')?;
-        push_escaped(text, field)?;
+        push_one_field(text, field)?;
     }
-    text.push('\n')
+    Ok(())
+}
+
+// Adds a field, with a tab before it.
+fn push_one_field(text: &mut String, field: &str) -> Result<(), AllocError>
+    ensures { OnOk result (string_bytes text.new ≡ string_bytes text.old ++ field_bytes field.now) }
+{
+    text.push('\t')?;
+    push_escaped(text, field)
 }
 
 // Adds a field. Backslashes, tabs and line feeds are escaped.
-fn push_escaped(text: &mut String, field: &str) -> Result<(), AllocError> {
+fn push_escaped(text: &mut String, field: &str) -> Result<(), AllocError>
+    ensures { OnOk result (string_bytes text.new ≡ string_bytes text.old ++ escaped field.now) }
+{
     for character in field.chars() {
-        match character {
-            '\\' => text.push_str("\\\\")?,
-            '\t' => text.push_str("\\t")?,
-            '\n' => text.push_str("\\n")?,
-            other => text.push(other)?,
-        }
+        push_character(text, character)?;
     }
     Ok(())
+}
+
+// Adds a character of a field.
+fn push_character(text: &mut String, character: char) -> Result<(), AllocError>
+    ensures { OnOk result (string_bytes text.new ≡ string_bytes text.old ++ escaped_character character) }
+{
+    match character {
+        '\\' => text.push_str("\\\\"),
+        '\t' => text.push_str("\\t"),
+        '\n' => text.push_str("\\n"),
+        other => text.push(other),
+    }
 }
 
 /// Reads a journal. Fails with [`Fault::NotAJournal`] if no run writes this text, and with [`Fault::OldJournal`] if the
@@ -204,17 +297,27 @@ fn push_escaped(text: &mut String, field: &str) -> Result<(), AllocError> {
 /// Allocates the journal, and its text once more.
 pub fn journal_of(alloc: Global, text: &str) -> Result<Journal, Fault>
     ensures of_run { IfOk result (λ journal. IsOfRun journal.work) }
+    ensures text { IfOk result (λ journal.
+        text.now ≡ journal_bytes journal.origin journal.stage journal.work) }
 {
     if text.starts_with(OLD_HEAD) {
         return Err(Fault::OldJournal);
     }
     let journal = read_lines(alloc, text)?;
     // Only this tells whether the lines are in order, and whether the last one has their digest.
-    let written = journal_text(alloc, journal.origin, journal.stage, &journal.work)?;
-    if written.as_str() != text || !is_of_run(alloc, &journal.work)? {
+    if !is_text_of(alloc, &journal, text)? || !is_of_run(alloc, &journal.work)? {
         return Err(Fault::NotAJournal);
     }
     Ok(journal)
+}
+
+// Whether a text is the one that is written of a journal.
+fn is_text_of(alloc: Global, journal: &Journal, text: &str) -> Result<bool, AllocError>
+    ensures { IfOk result (λ yes. IsTrue yes
+        ↔ (text.now ≡ journal_bytes journal.now.origin journal.now.stage journal.now.work)) }
+{
+    let written = journal_text(alloc, journal.origin, journal.stage, &journal.work)?;
+    Ok(written.as_str() == text)
 }
 
 // What the lines of a text say, in whatever order they are.

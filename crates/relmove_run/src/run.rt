@@ -1,10 +1,11 @@
 //! A run, its end after a fault, and its undoing.
-use crate::actions::sync_directory;
-use crate::ending::{Change, Way, changes_from, stage_to_end};
+use crate::actions::{find, sync_directory};
+use crate::change::Change;
+use crate::ending::{Way, changes_from, goes_on, stage_to_end};
 use crate::fault::{Call, Fault, at};
 use crate::journal::Journal;
 use crate::near::need_no_journal_near;
-use crate::own_files::{Trust, find_journal, need_no_own_files, none_yet, open_journal};
+use crate::own_files::{JOURNAL, Trust, find_journal, need_no_own_files, none_yet, open_journal};
 use crate::possible::need_possible;
 use crate::remark::Remark;
 use crate::shape::is_of_run;
@@ -22,9 +23,14 @@ use std::collections::BTreeMap;
 pub enum Ended {
     /// All is done: everything is at its new path.
     Done(Vec<Remark>),
-    /// The run was taken back: everything is as before.
-    TakenBack(Vec<Remark>),
-    /// Nothing is changed, or everything was taken back.
+    /// The run was taken back: everything is as before, but for what the remarks say.
+    TakenBack {
+        /// Why the run went back by itself. `None` if it was to go back.
+        cause: Option<Fault>,
+        /// What is left.
+        remarks: Vec<Remark>,
+    },
+    /// Nothing is changed. A file of the run's own may be left, if the run couldn't remove it.
     Refused(Fault),
     /// The call stopped in the middle. What it did stays.
     Stopped {
@@ -35,6 +41,8 @@ pub enum Ended {
         fault: Fault,
         /// Whether the journal was read afterwards.
         has_journal: bool,
+        /// What is left of the stages that ended.
+        remarks: Vec<Remark>,
     },
 }
 
@@ -86,7 +94,9 @@ pub struct PageText<'a> {
 /// its staging name, and so is each page with its old or its new text. Then [`resume`] does the rest, and until
 /// everything is at its new path [`undo`] takes back what was done.
 ///
-/// The call refuses to work if the root has a journal, or one of the directories, or a directory above the root.
+/// The call refuses to work if the root has a journal, or one of the directories, or a directory above the root. It looks
+/// for journals near once, after its own first journal is in its place: a caller looks for them before it plans, by
+/// [`need_no_journal_near`].
 pub fn carry_out<S: Store + Drop>(
     locked: Locked<S>,
     steps: Steps,
@@ -111,7 +121,7 @@ pub fn resume<S: Store + Drop>(locked: Locked<S>, trust: Trust) -> Ended {
 /// Takes back a run that stopped before everything was at its new path.
 pub fn undo<S: Store + Drop>(locked: Locked<S>, trust: Trust) -> Ended {
     match open(locked, trust) {
-        Ok(worker) => turn_back(worker),
+        Ok(worker) => turn_back(worker, None),
         Err(fault) => Ended::Refused(fault),
     }
 }
@@ -132,14 +142,14 @@ pub fn changes_to_end<S: Store + Drop>(
 
 // Ends a run from its stage: goes on, or goes on back.
 fn end_from<S: Store + Drop>(worker: Worker<S>) -> Ended {
-    match worker.stage() {
-        Stage::Staging | Stage::Making | Stage::Placing | Stage::Cleaning => go_on_or_back(worker),
-        _ => go_back(worker),
+    if goes_on(worker.stage()) {
+        return go_on_or_back(worker);
     }
+    go_back(worker, None)
 }
 
-// Takes a run back, unless it is too late.
-fn turn_back<S: Store + Drop>(mut worker: Worker<S>) -> Ended {
+// Takes a run back, unless it is too late. If it goes back by itself, it has a cause.
+fn turn_back<S: Store + Drop>(mut worker: Worker<S>, cause: Option<Fault>) -> Ended {
     let stage = match stage_to_end(Way::Undo, worker.stage()) {
         Ok(stage) => stage,
         Err(fault) => return Ended::Refused(fault),
@@ -149,7 +159,7 @@ fn turn_back<S: Store + Drop>(mut worker: Worker<S>) -> Ended {
     {
         return stop(worker, fault);
     }
-    go_back(worker)
+    go_back(worker, cause)
 }
 
 // Does everything up to the first rename.
@@ -159,7 +169,7 @@ fn begin<S: Store + Drop>(
     pages: &[PageText<'_>],
     directories: &[&str],
 ) -> Result<Worker<S>, Ended> {
-    let (texts, mut worker) = match prepare(locked, steps, pages, directories) {
+    let (texts, mut worker) = match prepare(locked, steps, pages) {
         Ok(prepared) => prepared,
         Err(fault) => return Err(Ended::Refused(fault)),
     };
@@ -177,11 +187,9 @@ fn prepare<S: Store + Drop>(
     locked: Locked<S>,
     steps: Steps,
     pages: &[PageText<'_>],
-    directories: &[&str],
 ) -> Result<(Vec<NewText>, Worker<S>), Fault> {
     let Locked(mut store) = locked;
     let own = none_yet(&mut store)?;
-    need_no_journal_near(&mut store, directories)?;
     need_possible(&mut store, &steps)?;
     let (texts, work) = work_of(store.alloc(), steps, pages)?;
     if !is_of_run(store.alloc(), &work)? {
@@ -276,9 +284,25 @@ fn refuse_staging<S: Store + Drop>(mut worker: Worker<S>, fault: Fault) -> Ended
 
 // Takes back what was done.
 fn refuse<S: Store + Drop>(mut worker: Worker<S>, fault: Fault) -> Ended {
-    match worker.go_back() {
-        Err(_) if worker.may_have_journal() => stop(worker, fault),
-        _ => Ended::Refused(fault),
+    if worker.finish().is_err() && may_have_journal(&mut worker) {
+        return stop(worker, fault);
+    }
+    refused(fault, worker.into_remarks())
+}
+
+// Whether the root may have the run's journal. If it hasn't, the run changed nothing, or all of it is taken back.
+fn may_have_journal<S: Store + Drop>(worker: &mut Worker<S>) -> bool {
+    worker.may_have_journal() && !matches!(&find(worker.store(), JOURNAL), Ok(None))
+}
+
+// How a run ended that did nothing but what was taken back.
+fn refused(fault: Fault, remarks: Vec<Remark>) -> Ended {
+    if remarks.is_empty() {
+        return Ended::Refused(fault);
+    }
+    Ended::TakenBack {
+        cause: Some(fault),
+        remarks,
     }
 }
 
@@ -293,6 +317,7 @@ fn stop<S: Store + Drop>(mut worker: Worker<S>, fault: Fault) -> Ended {
         stage,
         fault,
         has_journal,
+        remarks: worker.into_remarks(),
     }
 }
 
@@ -309,20 +334,20 @@ fn open<S: Store + Drop>(locked: Locked<S>, trust: Trust) -> Result<Worker<S>, F
 
 // Goes on to the end. If a page was changed before it got its staging name, goes back.
 fn go_on_or_back<S: Store + Drop>(mut worker: Worker<S>) -> Ended {
-    match worker.go_on() {
+    match worker.finish() {
         Ok(()) => Ended::Done(worker.into_remarks()),
-        Err(Fault::Changed(page)) => match turn_back(worker) {
-            Ended::TakenBack(_) => Ended::Refused(Fault::Changed(page)),
-            ended => ended,
-        },
+        Err(Fault::Changed(page)) => turn_back(worker, Some(Fault::Changed(page))),
         Err(fault) => stop(worker, fault),
     }
 }
 
 // Goes back to the beginning.
-fn go_back<S: Store + Drop>(mut worker: Worker<S>) -> Ended {
-    match worker.go_back() {
-        Ok(()) => Ended::TakenBack(worker.into_remarks()),
+fn go_back<S: Store + Drop>(mut worker: Worker<S>, cause: Option<Fault>) -> Ended {
+    match worker.finish() {
+        Ok(()) => Ended::TakenBack {
+            cause,
+            remarks: worker.into_remarks(),
+        },
         Err(fault) => stop(worker, fault),
     }
 }

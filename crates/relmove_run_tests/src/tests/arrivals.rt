@@ -1,8 +1,12 @@
 //! Files that come to a path while a run works: they stay, but for those that come between a question and a rename.
 use crate::tests::cases::{self, Case};
-use crate::tests::runs::{calls_of, can_be_undone, loses_nothing, run, run_and_fail};
-use crate::tests::same;
-use relmove_disk::{Way, below_site, disk_of, file_of};
+use crate::tests::runs::{
+    End, calls_of, can_be_undone, end_of, first_call_at, loses_nothing, remarks_of, run,
+    run_and_fail, undo_on,
+};
+use crate::tests::{holds, same};
+use relmove_disk::{Disk, Way, below_site, disk_of, file_of};
+use relmove_run::{Ended, Remark, Stage};
 use std::alloc::Global;
 use std::test::Fail;
 
@@ -59,4 +63,73 @@ fn keeps_what_comes_to_the_names_of_its_own_files(rt: HostRuntime) -> Result<(),
         stay(rt.alloc(), &cases::PAGE_CHANGES, path, 0)?;
     }
     Ok(())
+}
+
+// A run that is killed before its first rename, and then a file at a staging name.
+fn disk_with_file(alloc: Global, case: &Case, path: &str) -> Result<Disk, Fail> {
+    let number = first_call_at(alloc, case, Stage::Staging)?;
+    let (_, disk) = run_and_fail(alloc, case, number, Way::Killed)?;
+    disk.add(below_site(alloc, path)?.as_str(), file_of(alloc, "mine")?)?;
+    Ok(disk)
+}
+
+// Whether the run goes back if a file comes to the staging name of one of its texts. The file stays, and this is said.
+fn goes_back_beside(alloc: Global, path: &str) -> Result<(), Fail> {
+    let case = &cases::PAGE_CHANGES;
+    let disk = disk_with_file(alloc, case, path)?;
+    let ended = undo_on(&disk);
+    same(path, &end_of(&ended), &End::TakenBack)?;
+    let full = below_site(alloc, path)?;
+    let is_said = match remarks_of(&ended) {
+        [Remark::Kept(kept)] => kept.as_str() == path,
+        _ => false,
+    };
+    same("said", &is_said, &true)?;
+    same("it stays", &disk.is_file(full.as_str(), "mine")?, &true)?;
+    disk.remove(full.as_str())?;
+    holds(alloc, "taken back", &disk, case.before)
+}
+
+#[test]
+fn goes_back_beside_a_file_at_a_staging_name(rt: HostRuntime) -> Result<(), Fail> {
+    goes_back_beside(rt.alloc(), ".relmove-1")?;
+    goes_back_beside(rt.alloc(), ".relmove-2")
+}
+
+// The journal doesn't say which of two files is the run's. Whichever is removed or renamed, the other one goes back.
+#[test]
+fn names_both_files_of_a_rename(rt: HostRuntime) -> Result<(), Fail> {
+    let alloc = rt.alloc();
+    let disk = disk_with_file(alloc, &cases::FILE_MOVES, ".relmove-1")?;
+    let words = match &undo_on(&disk) {
+        Ended::Stopped { fault, .. } => format!(in alloc; "{fault}")?,
+        _ => String::new(alloc),
+    };
+    let expected =
+        "can't rename .relmove-1 to a/x.md: something is at both paths. Rename or remove the one that isn't the run's";
+    same("said", &words.as_str(), &expected)?;
+    same("it stays", &disk.is_file("site/.relmove-1", "mine")?, &true)?;
+    disk.remove("site/.relmove-1")?;
+    can_be_undone(alloc, &cases::FILE_MOVES, &disk)
+}
+
+// Puts a file in the place of the journal, before a call of a run. Whether the file stays.
+fn stays_as_journal(alloc: Global, number: u32) -> Result<bool, Fail> {
+    let disk = disk_of(alloc, cases::PAGE_CHANGES.before)?;
+    disk.replace_before(number, "site/.relmove", file_of(alloc, "mine")?)?;
+    run(alloc, &cases::PAGE_CHANGES, &disk)?;
+    Ok(disk.has("site/.relmove")? && disk.is_file("site/.relmove", "mine")?)
+}
+
+// Four times a next journal takes the place of the one before: after the question for that one come the question for the
+// next one and the rename. Once the journal is removed right after the question for it.
+#[test]
+fn keeps_what_comes_in_the_place_of_its_journal(rt: HostRuntime) -> Result<(), Fail> {
+    let mut lost = 0u32;
+    for number in 1..=calls_of(rt.alloc(), &cases::PAGE_CHANGES)? {
+        if !stays_as_journal(rt.alloc(), number)? {
+            lost = lost.saturating_add(1);
+        }
+    }
+    same("files that are lost", &lost, &9)
 }

@@ -79,3 +79,16 @@ fn asks_for_journals_below_again(rt: HostRuntime) -> Result<(), Fail> {
 fn asks_for_journals_above_again(rt: HostRuntime) -> Result<(), Fail> {
     sees_journal_at(rt.alloc(), ".relmove")
 }
+
+// A run looks for journals near once. Its caller has looked for them before.
+#[test]
+fn asks_once(rt: HostRuntime) -> Result<(), Fail> {
+    let (alloc, case) = (rt.alloc(), &cases::FILE_MOVES);
+    for path in [".relmove", "site/a/.relmove"] {
+        let disk = disk_of(alloc, case.before)?;
+        disk.count_questions(path)?;
+        same(path, &end_of(&run(alloc, case, &disk)?), &End::Done)?;
+        same(path, &disk.questions(), &1)?;
+    }
+    Ok(())
+}

@@ -1,8 +1,8 @@
 //! What no run left at the names of a run's own files: each call is refused, and nothing is opened or changed.
 use crate::tests::reasons::gives_reason;
-use crate::tests::runs::{resume_on, run, undo_on};
+use crate::tests::runs::{calls_of, resume_on, run, run_and_fail, undo_on};
 use crate::tests::{cases, same};
-use relmove_disk::{Content, Disk, disk_of, file_of};
+use relmove_disk::{Content, Disk, Way, disk_of, file_of};
 use relmove_run::Fault;
 use std::alloc::{AllocError, Global};
 use std::test::Fail;
@@ -52,6 +52,7 @@ fn reason_of(alloc: Global, stranger: Stranger) -> Result<String, AllocError> {
     let fault = match stranger {
         Stranger::File | Stranger::SecondName => Fault::HasJournal {
             written: SystemTime::UNIX_EPOCH.checked_add(Duration::from_secs(1_000_000_000)),
+            stage: None,
         },
         _ => Fault::OwnName(String::from_str(alloc, ".relmove")?),
     };
@@ -112,4 +113,22 @@ fn opens_no_journal_that_is_there(rt: HostRuntime) -> Result<(), Fail> {
         )?;
     }
     Ok(())
+}
+
+// The name under which the first journal was written is gone before the first new text is there.
+#[test]
+fn gives_its_journal_one_name(rt: HostRuntime) -> Result<(), Fail> {
+    let (alloc, case) = (rt.alloc(), &cases::PAGE_CHANGES);
+    for number in 1..=calls_of(alloc, case)? {
+        let (_, disk) = run_and_fail(alloc, case, number, Way::Killed)?;
+        if disk.has("site/.relmove-9")? {
+            same("a journal", &disk.has("site/.relmove")?, &true)?;
+            return same(
+                "its second name",
+                &disk.has("site/.relmove-journal")?,
+                &false,
+            );
+        }
+    }
+    Err(Fail::new("no text was written"))
 }

@@ -3,11 +3,11 @@
 use crate::tests::cases::{self, Case};
 use crate::tests::runs::{
     Ending, calls_of, can_be_resumed, can_be_undone, is_done, loses_nothing, moments_of, names_on,
-    run, run_and_fail,
+    run, run_and_fail, stopped_at,
 };
 use crate::tests::same;
 use relmove_disk::{Disk, Way, disk_of};
-use relmove_run::Ended;
+use relmove_run::{Ended, Stage};
 use std::alloc::Global;
 use std::test::Fail;
 
@@ -201,4 +201,14 @@ fn a_file_that_moved_into_a_directory_stays(rt: HostRuntime) -> Result<(), Fail>
 #[test]
 fn a_file_that_moved_into_a_directory_comes_back(rt: HostRuntime) -> Result<(), Fail> {
     survives_each_loss_while_it_ends(rt.alloc(), &cases::INTO_A_MOVED_DIRECTORY, Ending::Undo)
+}
+
+// A file system may lose what is in a directory that wasn't synced itself.
+#[test]
+fn a_new_directory_is_synced_before_anything_is_placed(rt: HostRuntime) -> Result<(), Fail> {
+    let disk = stopped_at(rt.alloc(), &cases::FILE_MOVES, Stage::Placing)?;
+    for path in ["site/b", "site/b/c"] {
+        same(path, &disk.is_synced(path)?, &true)?;
+    }
+    Ok(())
 }

@@ -15,7 +15,7 @@ fn fits(alloc: Global, room: u64) -> Result<(), Fail> {
     match ended {
         Ended::Done(remarks) => is_done(alloc, case, &disk, &remarks),
         Ended::Refused(_) => holds(alloc, "refused", &disk, case.before),
-        Ended::TakenBack(_) => Err(Fail::new("the run was taken back")),
+        Ended::TakenBack { .. } => Err(Fail::new("the run was taken back")),
         Ended::Stopped { .. } => {
             same("undone", &end_of(&undo_on(&disk)), &End::TakenBack)?;
             holds(alloc, "undone", &disk, case.before)

@@ -2,10 +2,12 @@
 //! run can be ended and taken back.
 use crate::tests::cases::{self, Case};
 use crate::tests::runs::{
-    Ending, calls_of, can_be_resumed, can_be_undone, loses_nothing, moments_of, resume_on,
-    run_and_fail,
+    Ending, calls_of, can_be_resumed, can_be_undone, first_call_at, is_done, loses_nothing,
+    moments_of, resume_on, run, run_and_fail,
 };
-use relmove_disk::{Disk, Way};
+use crate::tests::same;
+use relmove_disk::{Disk, Way, disk_of};
+use relmove_run::{Ended, Stage};
 use std::alloc::Global;
 use std::test::Fail;
 
@@ -18,22 +20,26 @@ struct Faults {
     way: Way,
 }
 
-// The tree after two faults, and whether the second one came before the end.
-fn disk_after(alloc: Global, case: &Case, faults: Faults) -> Result<(Disk, bool), Fail> {
+// How what ends a run ended after two faults, the tree then, and whether the second fault came before the end.
+fn disk_after(alloc: Global, case: &Case, faults: Faults) -> Result<(Ended, Disk, bool), Fail> {
     let (_, disk) = run_and_fail(alloc, case, faults.first, Way::Killed)?;
     disk.fail_at(faults.second, faults.way);
-    faults.ending.on(&disk);
+    let ended = faults.ending.on(&disk);
     let is_within = disk.calls() >= faults.second;
     disk.fail_at(0, Way::Refused);
-    Ok((disk, is_within))
+    Ok((ended, disk, is_within))
 }
 
 // Whether a run survives two faults. Returns whether the second one came before the end.
 fn survives(alloc: Global, case: &Case, faults: Faults) -> Result<bool, Fail> {
-    let (disk, _) = disk_after(alloc, case, faults)?;
+    let (ended, disk, is_within) = disk_after(alloc, case, faults)?;
     loses_nothing(alloc, case, &disk)?;
+    if let Ended::Done(remarks) = &ended {
+        is_done(alloc, case, &disk, remarks)?;
+        return Ok(is_within);
+    }
     can_be_resumed(alloc, case, &disk)?;
-    let (disk, is_within) = disk_after(alloc, case, faults)?;
+    let (_, disk, _) = disk_after(alloc, case, faults)?;
     can_be_undone(alloc, case, &disk)?;
     Ok(is_within)
 }
@@ -76,6 +82,17 @@ fn two_files_swap_back(rt: HostRuntime) -> Result<(), Fail> {
 }
 
 #[test]
+fn a_file_comes_back(rt: HostRuntime) -> Result<(), Fail> {
+    survives_second_faults(rt.alloc(), &cases::FILE_MOVES, Ending::Undo)
+}
+
+// What stays is said, also if a second fault ends in `Done`.
+#[test]
+fn a_file_moves_on(rt: HostRuntime) -> Result<(), Fail> {
+    survives_second_faults(rt.alloc(), &cases::FILE_MOVES, Ending::Resume)
+}
+
+#[test]
 fn a_page_comes_back(rt: HostRuntime) -> Result<(), Fail> {
     survives_second_faults(rt.alloc(), &cases::PAGE_LEAVES, Ending::Undo)
 }
@@ -105,6 +122,36 @@ fn survives_a_fault_of_its_end(rt: HostRuntime) -> Result<(), Fail> {
             if survives_two(rt.alloc(), case, first, second)? {
                 break;
             }
+        }
+    }
+    Ok(())
+}
+
+// Fails two calls of a run. Whether it stopped, and has no journal, though the last questions for one were answered.
+fn stops_without_journal(alloc: Global, first: u32, second: u32) -> Result<bool, Fail> {
+    let disk = disk_of(alloc, cases::SWAP.before)?;
+    disk.fail_at(first, Way::Refused);
+    disk.refuse_at(second);
+    let ended = run(alloc, &cases::SWAP, &disk)?;
+    let is_answered = disk.calls() > second.saturating_add(1);
+    disk.fail_at(0, Way::Refused);
+    let is_stopped = matches!(&ended, Ended::Stopped { .. });
+    Ok(is_stopped && is_answered && !disk.has("site/.relmove")?)
+}
+
+// A run that left nothing but the next journal didn't stop in the middle.
+#[test]
+fn stops_only_with_a_journal(rt: HostRuntime) -> Result<(), Fail> {
+    let alloc = rt.alloc();
+    let last = first_call_at(alloc, &cases::SWAP, Stage::Staging)?;
+    for first in 1..last {
+        for more in 1..12u32 {
+            let second = first.saturating_add(more);
+            same(
+                "a stop",
+                &stops_without_journal(alloc, first, second)?,
+                &false,
+            )?;
         }
     }
     Ok(())

@@ -312,7 +312,7 @@ const SPECIAL: [Row<'static>; 4] = [
         keeps_journal: true,
         status: Status::Refused,
         printed: "",
-        errors: "relmove: site: the journal .relmove wasn't written in this folder: it came with a copy or from elsewhere. Remove it, or add --trust-journal to see what it asks for\n",
+        errors: "relmove: site: the journal .relmove wasn't written in this folder: it came with a copy or from elsewhere. Add --trust-journal to see what it asks for. If you remove it, what has a name that begins with .relmove- keeps this name, and nothing says where it belongs\n",
     },
 ];
 
@@ -370,4 +370,30 @@ fn refuses_without_a_journal(rt: HostRuntime) -> Result<(), Fail> {
     answers(rt.alloc(), &disk, &["--resume", "site"], expected)?;
     answers(rt.alloc(), &disk, &["--undo", "site"], expected)?;
     holds(rt.alloc(), "no journal", &disk, OLD)
+}
+
+// Refuses a run beside a journal, and says which calls end its run.
+fn says_calls(alloc: Global, journal: &str, calls: &str) -> Result<(), Fail> {
+    let disk = disk_of(alloc, OLD)?;
+    add_journal(alloc, &disk, journal)?;
+    let before = disk.listing()?;
+    let errors = format!(in alloc;
+        "relmove: site: a run before this one didn't end; its journal .relmove was written on Sun, 09 Sep 2001 01:46:40 GMT. If it was your run, call {calls}. If the folder came from elsewhere, the journal may have come with it: then remove it\n"
+    )?;
+    answers(
+        alloc,
+        &disk,
+        &["--write", "site", "a.md", "c.md"],
+        (Status::Refused, "", errors.as_str()),
+    )?;
+    same(journal, &disk.listing()?, &before)
+}
+
+#[test]
+fn says_what_a_stage_allows(rt: HostRuntime) -> Result<(), Fail> {
+    let both = "relmove --resume ROOT or relmove --undo ROOT";
+    for journal in [STAGING, MAKING, PLACING, UNPLACING, ERASING] {
+        says_calls(rt.alloc(), journal, both)?;
+    }
+    says_calls(rt.alloc(), CLEANING, "relmove --resume ROOT")
 }
