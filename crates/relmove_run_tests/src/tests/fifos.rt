@@ -28,8 +28,11 @@ fn work(alloc: Global) -> Result<Work, AllocError> {
     work.staged
         .push(rename(alloc, "f/.relmove-9", ".relmove-2")?)?;
     work.made.push(String::from_str(alloc, "f/d")?)?;
-    work.placed.push(rename(alloc, ".relmove-1", "f/b")?)?;
-    work.placed.push(rename(alloc, ".relmove-2", "f/c")?)?;
+    work.placed.push(rename(alloc, ".relmove-2", "f/b")?)?;
+    work.cleaned.push(Leftover::Text(TextFile {
+        path: String::from_str(alloc, ".relmove-1")?,
+        digest: TextDigest::of(b"aa"),
+    }))?;
     work.cleaned
         .push(Leftover::Directory(String::from_str(alloc, "f/e")?))?;
     Ok(work)
