@@ -1,5 +1,5 @@
-//! What the program `relmove` does: it moves files and directories below a root, and writes pages anew, so that no fault
-//! loses a byte. It also finds the links of pages that lead to nothing.
+//! What the program `relmove` does: it moves files and directories below a root, and writes pages anew. It also finds the
+//! links of pages that lead to nothing.
 //!
 //! A module uses modules of the layers below, and those to its left in its own layer.
 //!
