@@ -11,8 +11,8 @@ use crate::summary::{
 };
 use crate::tree::{Tree, has_reserved_name, read_tree};
 use relmove_run::{
-    Call, Ended, Fault, Locked, Machine, PageText, Printable, Remark, Store, Trust, Way, carry_out,
-    changes_to_end, fault_of, need_no_journal_below, need_no_journal_near, need_no_own_files,
+    Call, Ended, Fault, Locked, Machine, PageText, Printable, Remark, StoppedRun, Store, Trust,
+    Way, carry_out, fault_of, need_no_journal_below, need_no_journal_near, need_no_own_files,
     need_possible, need_rest, resume, undo,
 };
 use std::alloc::{AllocError, Global};
@@ -442,49 +442,52 @@ fn end_run<R: Machine, O: Write, E: Write>(
     errors: &mut E,
 ) -> Status {
     let ended = match trust {
-        None => end_trusting(runtime, root, way, Trust::ThisFolder),
-        Some(effect) => {
-            if let Err(fault) = print_what_ends(runtime, root, way, out) {
-                return refuse(root, &fault, errors);
-            }
-            if effect == Effect::Print {
-                return print_status(Ok(()), Status::Kept, out);
-            }
-            end_trusting(runtime, root, way, Trust::AnyFolder)
-        }
+        None => end_of_this_folder(runtime, root, way),
+        Some(effect) => match end_of_any_folder(runtime, root, way, effect, out) {
+            Ok(Some(ended)) => Ok(ended),
+            Ok(None) => return print_status(Ok(()), Status::Kept, out),
+            Err(fault) => Err(fault),
+        },
     };
-    end(ended, root, out, errors)
+    match ended {
+        Ok(ended) => end(ended, root, out, errors),
+        Err(fault) => refuse(root, &fault, errors),
+    }
 }
 
-// Ends a run that stopped, if its journal is believed.
-fn end_trusting<R: Machine>(runtime: &R, root: &str, way: Way, trust: Trust) -> Ended {
-    match lock(runtime, root) {
-        Ok(locked) => match way {
-            Way::Resume => resume(locked, trust),
-            Way::Undo => undo(locked, trust),
-        },
-        Err(fault) => Ended::Refused(fault),
+// Ends a run that stopped, if its journal was written in this folder.
+fn end_of_this_folder<R: Machine>(runtime: &R, root: &str, way: Way) -> Result<Ended, Fault> {
+    let locked = lock(runtime, root)?;
+    Ok(match way {
+        Way::Resume => resume(locked, Trust::ThisFolder),
+        Way::Undo => undo(locked, Trust::ThisFolder),
+    })
+}
+
+// Prints the changes that the end of a run makes, wherever its journal was written, and makes them, if the call is to.
+fn end_of_any_folder<R: Machine, O: Write>(
+    runtime: &R,
+    root: &str,
+    way: Way,
+    effect: Effect,
+    out: &mut O,
+) -> Result<Option<Ended>, Fault> {
+    let mut locked = lock(runtime, root)?;
+    let run = StoppedRun::read(&mut locked, Trust::AnyFolder)?;
+    let changes = run.changes(runtime.alloc(), way)?;
+    // A call that can't print them must not make them.
+    if let Err(error) = print_changes(out, root, &changes) {
+        return Err(fault_of(runtime.alloc(), Call::Write, "the output", &error));
+    }
+    match effect {
+        Effect::Print => Ok(None),
+        Effect::Write => Ok(Some(run.end(locked, way))),
     }
 }
 
 // Takes the lock of a root.
 fn lock<R: Machine>(runtime: &R, root: &str) -> Result<Locked<R::Store>, Fault> {
     Locked::new(runtime.store_at(root)?)
-}
-
-// Prints the changes that the end of a run makes.
-fn print_what_ends<R: Machine, O: Write>(
-    runtime: &R,
-    root: &str,
-    way: Way,
-    out: &mut O,
-) -> Result<(), Fault> {
-    let changes = changes_to_end(&mut lock(runtime, root)?, way)?;
-    // A call that can't print them must not make them.
-    match print_changes(out, root, &changes) {
-        Ok(()) => Ok(()),
-        Err(error) => Err(fault_of(runtime.alloc(), Call::Write, "the output", &error)),
-    }
 }
 
 // Prints how a run ended.

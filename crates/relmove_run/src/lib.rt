@@ -1,5 +1,5 @@
-//! A run of `relmove`: it carries out the steps of a plan on the files below a root, so that no fault loses a byte, and it
-//! ends or takes back a run that stopped.
+//! A run of `relmove`: it carries out the steps of a plan on the files below a root, keeps a journal of it, and ends or
+//! takes back a run that stopped.
 //!
 //! A module uses modules of the layers below, and those to its left in its own layer.
 //!
@@ -26,7 +26,7 @@ pub use self::path::{directory_of, join, name_of};
 pub use self::possible::{LONGEST_PATH, need_possible, need_short};
 pub use self::printable::Printable;
 pub use self::remark::Remark;
-pub use self::run::{Ended, Locked, PageText, carry_out, changes_to_end, need_rest, resume, undo};
+pub use self::run::{Ended, Locked, PageText, StoppedRun, carry_out, need_rest, resume, undo};
 pub use self::shape::{STAGING, is_of_run};
 pub use self::store::{Found, FoundKind, Machine, Names, Store};
 pub use self::text_digest::TextDigest;

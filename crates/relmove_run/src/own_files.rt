@@ -119,35 +119,45 @@ fn inode_of_root<S: Store>(store: &mut S) -> Result<u64, Fault> {
     }
 }
 
-// Opens the journal of a run that didn't end. Removes what a kill left of the run's other files.
-pub(crate) fn open_journal<S: Store>(
+// Finds the journal of a run that didn't end, and reads it.
+pub(crate) fn find_journal<S: Store>(
     store: &mut S,
     trust: Trust,
-) -> Result<(OwnFiles, Journal), Fault> {
+) -> Result<(Found, Journal), Fault> {
     let Some(found) = find(store, JOURNAL)? else {
-        remove_leftover(store, NEW_JOURNAL, None)?;
-        remove_leftover(store, SPARE, None)?;
         return Err(Fault::NoJournal);
     };
     let journal = read_journal(store, &found)?;
-    let root = inode_of_root(store)?;
     if trust == Trust::ThisFolder {
         need_one_name(store, &found)?;
-        let file = found.inode;
+        let (root, file) = (inode_of_root(store)?, found.inode);
         if journal.origin != (Origin { root, file }) {
             return Err(Fault::ForeignJournal);
         }
     }
-    remove_leftover(store, NEW_JOURNAL, Some(&found))?;
-    remove_leftover(store, SPARE, None)?;
-    let own = OwnFiles {
+    Ok((found, journal))
+}
+
+// Takes over the own files of a run whose journal was found. Removes what a kill left of the others.
+pub(crate) fn own_files_of<S: Store>(store: &mut S, found: &Found) -> Result<OwnFiles, Fault> {
+    let root = inode_of_root(store)?;
+    remove_leftovers(store, Some(found))?;
+    Ok(OwnFiles {
         root,
         journal: OwnFile::Inode(found.inode),
         next: OwnFile::None,
         spare: OwnFile::None,
         may_have_journal: true,
-    };
-    Ok((own, journal))
+    })
+}
+
+// Removes what a kill left of a run's files beside its journal, if it has one.
+pub(crate) fn remove_leftovers<S: Store>(
+    store: &mut S,
+    journal: Option<&Found>,
+) -> Result<(), Fault> {
+    remove_leftover(store, NEW_JOURNAL, journal)?;
+    remove_leftover(store, SPARE, None)
 }
 
 // Fails if a journal has a name outside the root. A run that is killed may leave it the name of the next journal too.
@@ -162,14 +172,6 @@ fn need_one_name<S: Store>(store: &mut S, found: &Found) -> Result<(), Fault> {
         return Ok(());
     }
     Err(Fault::LinkedJournal)
-}
-
-// Finds the journal of a run that didn't end, wherever it was written, and reads it.
-pub(crate) fn find_journal<S: Store>(store: &mut S) -> Result<Journal, Fault> {
-    match find(store, JOURNAL)? {
-        Some(found) => read_journal(store, &found),
-        None => Err(Fault::NoJournal),
-    }
 }
 
 // Reads the journal that was found.

@@ -1,7 +1,7 @@
 //! Asks the system whether it can have the paths of a run, before the run begins.
 use crate::actions::copy_of;
 use crate::fault::{Call, Fault, at};
-use crate::path::join;
+use crate::path::{directory_of, join};
 use crate::store::{Found, FoundKind, Store};
 use relmove_actions::Steps;
 use std::alloc::Global;
@@ -57,8 +57,19 @@ pub fn need_short(alloc: Global, root: &str, path: &str) -> Result<(), Fault> {
 
 // Fails if what is at a path is on another file system than the root.
 fn need_on_device<S: Store>(store: &mut S, path: &str, root: &Found) -> Result<(), Fault> {
+    need_directory_on_device(store, directory_of(path), root)?;
+    need_directory_on_device(store, path, root)
+}
+
+// Fails if a directory is on another file system than the root. Of files this isn't asked: where a file system lies over two
+// others, a file can have the device of one of them.
+fn need_directory_on_device<S: Store>(
+    store: &mut S,
+    path: &str,
+    root: &Found,
+) -> Result<(), Fault> {
     match find_at(store, path)? {
-        Some(found) if found.device != root.device => {
+        Some(found) if found.kind == FoundKind::Directory && found.device != root.device => {
             Err(Fault::OtherDevice(copy_of(store, path)?))
         }
         _ => Ok(()),

@@ -5,11 +5,13 @@ use crate::ending::{Way, changes_from, goes_on, stage_to_end};
 use crate::fault::{Call, Fault, at};
 use crate::journal::Journal;
 use crate::near::need_no_journal_near;
-use crate::own_files::{JOURNAL, Trust, find_journal, need_no_own_files, none_yet, open_journal};
+use crate::own_files::{
+    JOURNAL, Trust, find_journal, need_no_own_files, none_yet, own_files_of, remove_leftovers,
+};
 use crate::possible::need_possible;
 use crate::remark::Remark;
 use crate::shape::is_of_run;
-use crate::store::Store;
+use crate::store::{Found, Store};
 use crate::text_digest::TextDigest;
 use crate::ways::need_ways;
 use crate::work::{Leftover, Stage, TextFile, Work};
@@ -112,32 +114,62 @@ pub fn carry_out<S: Store + Drop>(
 /// Ends a run that stopped: goes on to the end, or, if the run was going back, to the beginning. If a page that changes
 /// was changed before it got its staging name, the run is taken back.
 pub fn resume<S: Store + Drop>(locked: Locked<S>, trust: Trust) -> Ended {
-    match open(locked, trust) {
-        Ok(worker) => end_from(worker),
-        Err(fault) => Ended::Refused(fault),
-    }
+    end_stopped(locked, trust, Way::Resume)
 }
 
 /// Takes back a run that stopped before everything was at its new path.
 pub fn undo<S: Store + Drop>(locked: Locked<S>, trust: Trust) -> Ended {
-    match open(locked, trust) {
-        Ok(worker) => turn_back(worker, None),
-        Err(fault) => Ended::Refused(fault),
+    end_stopped(locked, trust, Way::Undo)
+}
+
+/// A run that stopped, as its journal said when it was read. So what [`StoppedRun::changes`] returns is what
+/// [`StoppedRun::end`] does, whatever comes to the journal's place in between.
+#[derive(Drop)]
+pub struct StoppedRun {
+    found: Found,
+    journal: Journal,
+}
+
+impl StoppedRun {
+    /// Reads the journal of a run that stopped. Changes nothing.
+    ///
+    /// Allocates the journal.
+    pub fn read<S: Store + Drop>(
+        locked: &mut Locked<S>,
+        trust: Trust,
+    ) -> Result<StoppedRun, Fault> {
+        let (found, journal) = find_journal(locked.store(), trust)?;
+        Ok(StoppedRun { found, journal })
+    }
+
+    /// Returns the changes that the end of the run makes. Some of them may be made already.
+    ///
+    /// Allocates them.
+    pub fn changes(&self, alloc: Global, way: Way) -> Result<Vec<Change>, Fault> {
+        let stage = stage_to_end(way, self.journal.stage)?;
+        Ok(changes_from(alloc, &self.journal.work, stage)?)
+    }
+
+    /// Ends the run, as [`resume`] or [`undo`] does.
+    pub fn end<S: Store + Drop>(self, locked: Locked<S>, way: Way) -> Ended {
+        match (open(locked, self), way) {
+            (Ok(worker), Way::Resume) => end_from(worker),
+            (Ok(worker), Way::Undo) => turn_back(worker, None),
+            (Err(fault), _) => Ended::Refused(fault),
+        }
     }
 }
 
-/// Returns the changes that [`resume`] or [`undo`] would make, wherever the journal was written. Some of them may be made
-/// already. Changes nothing.
-///
-/// Allocates them.
-pub fn changes_to_end<S: Store + Drop>(
-    locked: &mut Locked<S>,
-    way: Way,
-) -> Result<Vec<Change>, Fault> {
-    let store = locked.store();
-    let journal = find_journal(store)?;
-    let stage = stage_to_end(way, journal.stage)?;
-    Ok(changes_from(store.alloc(), &journal.work, stage)?)
+// Ends a run that stopped. Without a journal, removes what a kill left of the run's other files.
+fn end_stopped<S: Store + Drop>(mut locked: Locked<S>, trust: Trust, way: Way) -> Ended {
+    match StoppedRun::read(&mut locked, trust) {
+        Ok(run) => run.end(locked, way),
+        Err(Fault::NoJournal) => match remove_leftovers(locked.store(), None) {
+            Ok(()) => Ended::Refused(Fault::NoJournal),
+            Err(fault) => Ended::Refused(fault),
+        },
+        Err(fault) => Ended::Refused(fault),
+    }
 }
 
 // Ends a run from its stage: goes on, or goes on back.
@@ -309,8 +341,8 @@ fn refused(fault: Fault, remarks: Vec<Remark>) -> Ended {
 // The run stopped. A call that put a journal in its place may have been reported as failed, so the journal is read again.
 fn stop<S: Store + Drop>(mut worker: Worker<S>, fault: Fault) -> Ended {
     let known = worker.stage();
-    let (stage, has_journal) = match &find_journal(worker.store()) {
-        Ok(journal) => (journal.stage, true),
+    let (stage, has_journal) = match &find_journal(worker.store(), Trust::AnyFolder) {
+        Ok((_, journal)) => (journal.stage, true),
         Err(_) => (known, false),
     };
     Ended::Stopped {
@@ -321,10 +353,11 @@ fn stop<S: Store + Drop>(mut worker: Worker<S>, fault: Fault) -> Ended {
     }
 }
 
-// The run that the journal is of.
-fn open<S: Store + Drop>(locked: Locked<S>, trust: Trust) -> Result<Worker<S>, Fault> {
+// The run that goes on from where it stopped.
+fn open<S: Store + Drop>(locked: Locked<S>, run: StoppedRun) -> Result<Worker<S>, Fault> {
     let Locked(mut store) = locked;
-    let (own, journal) = open_journal(&mut store, trust)?;
+    let StoppedRun { found, journal } = run;
+    let own = own_files_of(&mut store, &found)?;
     // A run may have been killed before the journal's name was on the disk. Nothing that comes now may be there without it.
     sync_directory(&mut store, "")?;
     let Journal { stage, work, .. } = journal;

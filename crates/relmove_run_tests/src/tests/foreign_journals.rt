@@ -3,7 +3,7 @@ use crate::tests::reasons::gives_reason;
 use crate::tests::runs::{End, end_of, lock, resume_on, stopped_at, undo_on};
 use crate::tests::{cases, holds, same};
 use relmove_disk::{Content, Disk, file_of};
-use relmove_run::{Stage, Trust, Way, changes_to_end, undo};
+use relmove_run::{Stage, StoppedRun, Trust, Way, undo};
 use std::alloc::Global;
 use std::test::Fail;
 
@@ -60,7 +60,8 @@ fn is_linked(alloc: Global, case: &str, disk: &Disk) -> Result<(), Fail> {
     gives_reason(alloc, &resume_on(disk), "LinkedJournal")?;
     gives_reason(alloc, &undo_on(disk), "LinkedJournal")?;
     same(case, &disk.listing()?, &before)?;
-    let changes = changes_to_end(&mut lock(disk)?, Way::Undo)?;
+    let run = StoppedRun::read(&mut lock(disk)?, Trust::AnyFolder)?;
+    let changes = run.changes(alloc, Way::Undo)?;
     same(case, &changes.is_empty(), &false)?;
     let ended = undo(lock(disk)?, Trust::AnyFolder);
     same(case, &end_of(&ended), &End::TakenBack)?;

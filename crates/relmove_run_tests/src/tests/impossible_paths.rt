@@ -39,13 +39,19 @@ fn no_steps(alloc: Global) -> Steps {
     }
 }
 
-// Steps that give a file a new path.
-fn steps_to(alloc: Global, path: &str) -> Result<Steps, AllocError> {
+// Steps that give a file a staging name.
+fn steps_from(alloc: Global, path: &str) -> Result<Steps, AllocError> {
     let mut steps = no_steps(alloc);
     steps.apart.push(Rename {
-        from: String::from_str(alloc, "a")?,
+        from: String::from_str(alloc, path)?,
         to: String::from_str(alloc, ".relmove-1")?,
     })?;
+    Ok(steps)
+}
+
+// Steps that give a file a new path.
+fn steps_to(alloc: Global, path: &str) -> Result<Steps, AllocError> {
+    let mut steps = steps_from(alloc, "a")?;
     steps.together.push(Rename {
         from: String::from_str(alloc, ".relmove-1")?,
         to: String::from_str(alloc, path)?,
@@ -148,10 +154,15 @@ fn asks_for_other_devices(rt: HostRuntime) -> Result<(), Fail> {
     let found = words_of(alloc, &disk, &steps_to(alloc, "d/e/x")?)?;
     let words = "d/e is on another file system than ROOT";
     same("a new path", &found.as_str(), &words)?;
+    let words = "d/e is on another file system than ROOT";
+    for from in ["d/e", "d/e/a"] {
+        let found = words_of(alloc, &disk, &steps_from(alloc, from)?)?;
+        same(from, &found.as_str(), &words)?;
+    }
+    // the device of a file isn't asked for
     disk.set_device("site/a", 2)?;
     let found = words_of(alloc, &disk, &steps_to(alloc, "d/x")?)?;
-    let words = "a is on another file system than ROOT";
-    same("an old path", &found.as_str(), &words)
+    same("an old path", &found.as_str(), &"")
 }
 
 #[test]
