@@ -208,5 +208,10 @@ module _ (text : List ℕ) (width : ℕ) (few : length text < 64) (least : width
 
   pub ended-some : ended ≢ 0
   ended-some none =
-      omega (arith, none, le_or_r both (1 * 2 ^ length text % 2 ^ 64), one_shl (length text) 64 (omega (arith, few, most)),
-      pow_pos (length text))
+      omega (
+        arith,
+        none,
+        le_or_r both (1 * 2 ^ length text % 2 ^ 64),
+        one_shl (length text) 64 (omega (arith, few, most)),
+        pow_pos (length text),
+      )

@@ -243,7 +243,7 @@ HasNoSlash-from_solid [] non_slash = tt
 HasNoSlash-from_solid (b ∷ bs) non_slash =
     ⊎_elim
     (λ e. absurd (let h = rw (cond-true (is_slash b) (solid_len bs) (suc (solid_len bs)) e) at non_slash in
-      omega (arith, h, solid_len_le bs)))
+    omega (arith, h, solid_len_le bs)))
     (λ e. (
       e,
       HasNoSlash-from_solid bs

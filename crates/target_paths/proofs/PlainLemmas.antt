@@ -44,11 +44,11 @@ character_read-plain : (syntax : TargetSyntax) (b : ℕ) → is_plain_byte b ≡
 character_read-plain Markdown b is below = encode_ascii b (grind (arith, nat_tests))
 character_read-plain Attribute b is below = of (b == 9 || b == 10 || b == 13) (b == 92)
     (grind (arith, nat_tests)) (grind (arith, nat_tests)) where
-  of : (s t : Bool) → s ≡ false → t ≡ false
-      → (if s then [] else if t then 47 ∷ [] else encode_utf8 b) ≡ b ∷ []
-  of true t is at = absurd (cc)
-  of false true is at = absurd (cc)
-  of false false is at = encode_ascii b (grind (arith, nat_tests))
+      of : (s t : Bool) → s ≡ false → t ≡ false
+          → (if s then [] else if t then 47 ∷ [] else encode_utf8 b) ≡ b ∷ []
+      of true t is at = absurd (cc)
+      of false true is at = absurd (cc)
+      of false false is at = encode_ascii b (grind (arith, nat_tests))
 
 byte_read-plain : (syntax : TargetSyntax) (b : ℕ) → is_plain_byte b ≡ true → byte_read syntax b ≡ b ∷ []
 byte_read-plain syntax b is = of (b == 0) (nat_lt b 128) (grind (arith, nat_tests)) refl where

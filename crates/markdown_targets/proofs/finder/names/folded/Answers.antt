@@ -31,7 +31,7 @@ loop-byte-preserved c =
                 ap (λ f. f.items ++ (low ∷ [])) v.folded-is
                 ∙ ap (λ l. l ++ (low ∷ [])) v.in_ok-push.ensures.items
                 ∙ ap (λ g. items ++ g ++ (low ∷ [])) (sym (with_gap c.loop-byte.folded.len (length items)
-                  apart counted v.if-is_apart.true (sym v.if-not-is_empty.ensures)))
+                apart counted v.if-is_apart.true (sym v.if-not-is_empty.ensures)))
             | else-is_apart v ↦ elim v.else-is_apart.branch [
               | else-is_apart-via-then-is_apart+else-not-is_empty u ↦
                   ap (λ f. f.items ++ (low ∷ [])) v.folded-is ∙ no_gap items apart low
