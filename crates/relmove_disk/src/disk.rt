@@ -177,12 +177,6 @@ impl Disk {
         Ok(())
     }
 
-    /// From now on the process works as this user and group. The user 0 may do everything but give files away.
-    pub fn work_as(&self, user: u32, group: u32) -> io::Result<()> {
-        self.nodes.try_borrow_mut()?.process = Owner { user, group };
-        Ok(())
-    }
-
     /// Says whether the process may give files to other users.
     pub fn allow_giving(&self, is_allowed: bool) {
         self.gives_away.set(is_allowed);

@@ -65,7 +65,7 @@ impl Node {
         }
     }
 
-    /// Fails unless a process of this owner has a permission here. The user 0 has each one.
+    /// Fails unless a process of this owner has a permission here.
     pub fn need_permission(&self, process: Owner, permission: u32) -> io::Result<()> {
         let shift = if self.owner.user == process.user {
             6
@@ -74,7 +74,7 @@ impl Node {
         } else {
             0
         };
-        if process.user == 0 || (self.mode >> shift) & permission == permission {
+        if (self.mode >> shift) & permission == permission {
             return Ok(());
         }
         Err(io::Error::from(ErrorKind::PermissionDenied))
