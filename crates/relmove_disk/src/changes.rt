@@ -49,19 +49,20 @@ impl Changes {
         }
     }
 
-    /// Takes the newest change away.
-    pub fn pop(&mut self) -> Option<Change> {
-        let Unsynced { change, .. } = self.0.pop()?;
-        Some(change)
-    }
-
-    /// The old directory of the newest change, if that is a rename whose new directory alone was synced.
-    pub fn half_of_newest(&self) -> Option<usize> {
-        let unsynced = self.0.last()?;
-        if unsynced.is_half {
-            return unsynced.directories.first().copied();
-        }
-        None
+    /// Takes the newest change away. If that is a rename whose new directory alone was synced, returns its old directory
+    /// too.
+    pub fn pop(&mut self) -> Option<(Change, Option<usize>)> {
+        let Unsynced {
+            change,
+            directories,
+            is_half,
+        } = self.0.pop()?;
+        let half = if is_half {
+            directories.first().copied()
+        } else {
+            None
+        };
+        Some((change, half))
     }
 
     /// Forgets all changes.

@@ -310,7 +310,7 @@ impl Nodes {
     pub fn lose_power(&mut self, kept: usize) -> io::Result<()> {
         let lost = self.changes.len().saturating_sub(kept);
         for _ in 0..lost {
-            if let Some(change) = self.changes.pop() {
+            if let Some((change, _)) = self.changes.pop() {
                 self.take_back(&change)?;
             }
         }
@@ -331,8 +331,7 @@ impl Nodes {
         let mut has_both = false;
         let lost = self.changes.len().saturating_sub(kept);
         for _ in 0..lost {
-            let half = self.changes.half_of_newest();
-            if let Some(change) = self.changes.pop() {
+            if let Some((change, half)) = self.changes.pop() {
                 if self.keep_both_names(&change, half)? {
                     has_both = true;
                 } else {
