@@ -74,7 +74,8 @@ def plot_of(page):
     ]
     for mark in MARKS:
         x = LEFT + round(UNIT * mark)
-        lines += [upright("mark", x, bottom, "stroke-width='1'"), words("faint", x, TOP - 12, 13, f"{mark:g}", " text-anchor='middle'")]
+        name = words("faint", x, TOP - 12, 13, f"{mark:g}", " text-anchor='middle'")
+        lines += [upright("mark", x, bottom, "stroke-width='1'"), name]
     for number, (name, ratio) in enumerate(rows):
         y, length = TOP + ROW * number, round(UNIT * ratio)
         bar = f"x='{LEFT}' y='{y + (ROW - BAR) // 2}' width='{length}' height='{BAR}'"
@@ -83,8 +84,8 @@ def plot_of(page):
             drawn("rect", "slower" if ratio > 1 else "faster", bar),
             words("words", LEFT + length + 6, y + 17, 14, f"{ratio:.2f}"),
         ]
-    same = LEFT + UNIT
-    lines += [upright("same", same, bottom, "stroke-width='2'"), words("words", same, TOP - 12, 14, "1.0: the original", " text-anchor='middle'")]
+    name = words("words", LEFT + UNIT, TOP - 12, 14, "1.0: the original", " text-anchor='middle'")
+    lines += [upright("same", LEFT + UNIT, bottom, "stroke-width='2'"), name]
     return "\n".join([*lines, "</svg>", ""])
 
 
