@@ -18,8 +18,9 @@ loop-line-init c = record {
 pub returns-in_err-read_line : goal.returns-in_err-read_line
 returns-in_err-read_line c = λ origin stage work run.
     let all : Content = record { origin = origin; stage = stage; work = parts_of work } in
-    let found = Some (c.in-Some-split_once.line, c.in-Some-split_once.rest) in
-    let next = IsLeft-next c.loop-line.left.now (content_of c.loop-line.journal) all found
+    let next =
+    IsLeft-next c.loop-line.left.now (content_of c.loop-line.journal) all
+    (Some (c.in-Some-split_once.line, c.in-Some-split_once.rest))
     c.in-Some-split_once.ensures.cases (c.loop-line.invariant.lines origin stage work run) in
     let fault = c.in_err-read_line.ensures next.said next.is next.written in search rules
 
@@ -28,8 +29,9 @@ loop-line-preserved c = record {
   utf8 = search rules;
   lines = λ origin stage work run.
       let all : Content = record { origin = origin; stage = stage; work = parts_of work } in
-      let found = Some (c.in-Some-split_once.line, c.in-Some-split_once.rest) in
-      let next = IsLeft-next c.loop-line.left.now (content_of c.loop-line.journal) all found
+      let next =
+      IsLeft-next c.loop-line.left.now (content_of c.loop-line.journal) all
+      (Some (c.in-Some-split_once.line, c.in-Some-split_once.rest))
       c.in-Some-split_once.ensures.cases (c.loop-line.invariant.lines origin stage work run) in
       next.others _ (c.in_ok-read_line.ensures next.said next.is next.written);
 }
