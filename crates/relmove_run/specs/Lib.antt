@@ -4,3 +4,4 @@ pub mod Printing
 pub mod Journals
 pub mod Permissions
 pub mod Ends
+pub mod Reading

@@ -1,4 +1,7 @@
 //! Why a call fails.
+ghost use Rattle.std.specs.Prelude.{◌≡◌};
+ghost use Rattle.relmove_run.specs.declared.fault.Fault.TheVariants.{OutOfMemory};
+
 use crate::printable::Printable;
 use crate::work::Stage;
 use httpdate::{HttpDate, fmt_http_date};
@@ -242,12 +245,16 @@ fn words_alone(fault: &Fault) -> &'static str {
 impl Error for Fault {}
 
 impl From<AllocError> for Fault {
+    ghost from_gives = { λ _ fault. fault ≡ OutOfMemory };
+
     fn from(_: AllocError) -> Fault {
         Fault::OutOfMemory
     }
 }
 
 impl<T: Drop> From<AllocFailed<T>> for Fault {
+    ghost from_gives = { λ _ fault. fault ≡ OutOfMemory };
+
     fn from(_: AllocFailed<T>) -> Fault {
         Fault::OutOfMemory
     }

@@ -18,10 +18,18 @@
 //! emptied  docs
 //! end      236  3a41
 //! ```
-ghost use Rattle.std.specs.Prelude.{◌≡◌, ◌↔◌, [], ◌∷◌, ◌++◌, IfOk, IsTrue, OnOk, codes, map, string_bytes};
+ghost use Rattle.std.specs.Prelude.{◌≡◌, ◌≢◌, ◌↔◌, ℕ, ◌<◌, ◌^◌, List, [], ◌∷◌, ◌++◌, All, IfOk, IsOkAnd, IsTrue, Ok, OnOk, Some, codes, length, map, string_bytes};
 ghost use Rattle.std.specs.Fmt.{decimal};
 ghost use Rattle.std.specs.List.{flat_map};
-ghost use Rattle.relmove_run.specs.Journals.{directory_line, end_line, escaped, escaped_character, field_bytes, head_lines, journal_bytes, leftover_line, line_bytes, rename_line, stage_name, text_line, work_bytes};
+ghost use Rattle.std.specs.Str.{IsUtf8};
+ghost use Rattle.hex.specs.Hex.{IsBytes, encode_lower};
+ghost use Rattle.relmove_run.specs.declared.journal.Origin.{Origin};
+ghost use Rattle.relmove_run.specs.declared.text_digest.TextDigest.{TextDigest};
+ghost use Rattle.relmove_run.specs.declared.work.Stage.{Stage};
+ghost use Rattle.relmove_run.specs.declared.work.Work.{Work};
+ghost use Rattle.relmove_run.specs.Journals.{digest_fields, directory_line, end_line, escaped, escaped_character, field_bytes, head_lines, journal_bytes, leftover_line, line_bytes, rename_line, stage_name, text_line, work_bytes};
+ghost use Rattle.relmove_run.specs.Reading.LeftoverParts.{Emptied, Removed};
+ghost use Rattle.relmove_run.specs.Reading.{GivenMemory, IsDigest, IsLine, IsRenameParts, IsTextOfRun, IsTextParts, IsWorkLine, Line, Says, WorkLine, content_of, fields_text, leftover_parts, line_fields, line_text, line_word, parts_of, rename_fields, rename_parts, text_fields, text_parts, with_line, with_work_line, work_fields, work_word};
 ghost use Rattle.relmove_run.specs.Shape.{IsOfRun};
 
 use crate::fault::Fault;
@@ -51,7 +59,9 @@ impl Stage {
     }
 
     // The stage of this name.
-    fn of_name(name: &str) -> Option<Stage> {
+    fn of_name(name: &str) -> Option<Stage>
+        ensures { (stage : Stage) → name.now ≡ stage_name stage → result ≡ Some stage }
+    {
         match name {
             "writing" => Some(Stage::Writing),
             "staging" => Some(Stage::Staging),
@@ -291,24 +301,41 @@ fn push_character(text: &mut String, character: char) -> Result<(), AllocError>
     }
 }
 
-/// Reads a journal. Fails with [`Fault::NotAJournal`] if no run writes this text, and with [`Fault::OldJournal`] if the
-/// first version of the program wrote it.
+/// Reads a journal: the one of which [`journal_text`] writes this text. Each text that is written of a run is read, if
+/// there is memory. Otherwise fails with [`Fault::OldJournal`] if the text begins as a journal of the first version, and
+/// with [`Fault::NotAJournal`] if it doesn't.
 ///
 /// Allocates the journal, and its text once more.
 pub fn journal_of(alloc: Global, text: &str) -> Result<Journal, Fault>
     ensures of_run { IfOk result (λ journal. IsOfRun journal.work) }
     ensures text { IfOk result (λ journal.
         text.now ≡ journal_bytes journal.origin journal.stage journal.work) }
+    ensures read { (origin : Origin) (stage : Stage) (work : Work) → IsTextOfRun text.now origin stage work
+        → GivenMemory result (λ journal. Says journal origin stage work) }
 {
     if text.starts_with(OLD_HEAD) {
         return Err(Fault::OldJournal);
     }
     let journal = read_lines(alloc, text)?;
-    // Only this tells whether the lines are in order, and whether the last one has their digest.
-    if !is_text_of(alloc, &journal, text)? || !is_of_run(alloc, &journal.work)? {
+    if !is_from_run(alloc, &journal, text)? {
         return Err(Fault::NotAJournal);
     }
     Ok(journal)
+}
+
+// Whether a run writes this text of a journal. Only this tells whether the lines are in order, and whether the last one
+// has their digest.
+fn is_from_run(alloc: Global, journal: &Journal, text: &str) -> Result<bool, AllocError>
+    ensures of_run { IfOk result (λ yes. IsTrue yes → IsOfRun journal.now.work) }
+    ensures text { IfOk result (λ yes. IsTrue yes
+        → text.now ≡ journal_bytes journal.now.origin journal.now.stage journal.now.work) }
+    ensures read { (origin : Origin) (stage : Stage) (work : Work) → IsTextOfRun text.now origin stage work
+        → Says journal.now origin stage work → IfOk result (λ yes. IsTrue yes) }
+{
+    if !is_text_of(alloc, journal, text)? {
+        return Ok(false);
+    }
+    is_of_run(alloc, &journal.work)
 }
 
 // Whether a text is the one that is written of a journal.
@@ -320,63 +347,163 @@ fn is_text_of(alloc: Global, journal: &Journal, text: &str) -> Result<bool, Allo
     Ok(written.as_str() == text)
 }
 
-// What the lines of a text say, in whatever order they are.
-fn read_lines(alloc: Global, text: &str) -> Result<Journal, Fault> {
+// What the lines of a text say, in whatever order they are. The first line isn't read.
+fn read_lines(alloc: Global, text: &str) -> Result<Journal, Fault>
+    ensures { (origin : Origin) (stage : Stage) (work : Work) → IsTextOfRun text.now origin stage work
+        → GivenMemory result (λ journal. Says journal origin stage work) }
+{
     let mut journal = Journal {
         origin: Origin { root: 0, file: 0 },
         stage: Stage::Writing,
         work: Work::new(alloc),
     };
-    for line in text.split('\n') {
-        if let Some((word, fields)) = line.split_once('\t') {
-            read_line(alloc, &mut journal, word, fields)?;
-        }
+    let Some((_, mut left)) = text.split_once('\n') else {
+        return Err(Fault::NotAJournal);
+    };
+    while let Some((line, rest)) = left.split_once('\n') {
+        read_line(alloc, &mut journal, line)?;
+        left = rest;
     }
     Ok(journal)
 }
 
-// Adds what a line says to a journal.
-fn read_line(alloc: Global, journal: &mut Journal, word: &str, fields: &str) -> Result<(), Fault> {
-    match word {
-        "root" => journal.origin.root = number_of(fields)?,
-        "file" => journal.origin.file = number_of(fields)?,
-        "stage" => journal.stage = Stage::of_name(fields).ok_or(Fault::NotAJournal)?,
-        END => {}
-        _ => read_action(alloc, &mut journal.work, word, fields)?,
+// Adds what a line says to a journal. A line without a tab says nothing.
+fn read_line(alloc: Global, journal: &mut Journal, line: &str) -> Result<(), Fault>
+    ensures { (said : Line) → IsLine said → line.now ≡ line_text said
+        → GivenMemory result (λ _. content_of journal.new ≡ with_line (content_of journal.old) said) }
+{
+    match line.split_once('\t') {
+        Some((word, fields)) => read_fields(alloc, journal, word, fields),
+        None => Ok(()),
     }
+}
+
+// Adds what the word and the fields of a line say to a journal.
+fn read_fields(alloc: Global, journal: &mut Journal, word: &str, fields: &str) -> Result<(), Fault>
+    ensures { (said : Line) → IsLine said → word.now ≡ line_word said → fields.now ≡ fields_text (line_fields said)
+        → GivenMemory result (λ _. content_of journal.new ≡ with_line (content_of journal.old) said) }
+{
+    match word {
+        "root" => set_number(&mut journal.origin.root, fields),
+        "file" => set_number(&mut journal.origin.file, fields),
+        "stage" => set_stage(&mut journal.stage, fields),
+        END => Ok(()),
+        _ => read_action(alloc, &mut journal.work, word, fields),
+    }
+}
+
+// Sets a number to that of a field.
+fn set_number(number: &mut u64, field: &str) -> Result<(), Fault>
+    ensures { (n : ℕ) → n < 2 ^ 64 → field.now ≡ decimal n → GivenMemory result (λ _. number.new ≡ n) }
+{
+    *number = number_of(field)?;
+    Ok(())
+}
+
+// Sets a stage to that of a field.
+fn set_stage(stage: &mut Stage, field: &str) -> Result<(), Fault>
+    ensures { (said : Stage) → field.now ≡ stage_name said → GivenMemory result (λ _. stage.new ≡ said) }
+{
+    *stage = Stage::of_name(field).ok_or(Fault::NotAJournal)?;
     Ok(())
 }
 
 // Adds what a line says to the work of a run.
-fn read_action(alloc: Global, work: &mut Work, word: &str, fields: &str) -> Result<(), Fault> {
+fn read_action(alloc: Global, work: &mut Work, word: &str, fields: &str) -> Result<(), Fault>
+    ensures { (said : WorkLine) → IsWorkLine said → word.now ≡ work_word said → fields.now ≡ fields_text (work_fields said)
+        → GivenMemory result (λ _. parts_of work.new ≡ with_work_line (parts_of work.old) said) }
+{
     match word {
-        "text" => work.texts.push(text_file_of(alloc, fields)?)?,
-        "staged" => work.staged.push(rename_of(alloc, fields)?)?,
-        "made" => work.made.push(path_of(alloc, fields)?)?,
-        "placed" => work.placed.push(rename_of(alloc, fields)?)?,
-        "removed" => work
-            .cleaned
-            .push(Leftover::Text(text_file_of(alloc, fields)?))?,
-        "emptied" => work
-            .cleaned
-            .push(Leftover::Directory(path_of(alloc, fields)?))?,
-        _ => return Err(Fault::NotAJournal),
+        "text" => add_text(alloc, &mut work.texts, fields),
+        "staged" => add_rename(alloc, &mut work.staged, fields),
+        "made" => add_directory(alloc, &mut work.made, fields),
+        "placed" => add_rename(alloc, &mut work.placed, fields),
+        "removed" => add_removed(alloc, &mut work.cleaned, fields),
+        "emptied" => add_emptied(alloc, &mut work.cleaned, fields),
+        _ => Err(Fault::NotAJournal),
     }
+}
+
+// Adds the text of three fields.
+fn add_text(alloc: Global, texts: &mut Vec<TextFile>, fields: &str) -> Result<(), Fault>
+    ensures { (text : List ℕ × TextDigest) → IsTextParts text → fields.now ≡ fields_text (text_fields text)
+        → GivenMemory result (λ _. map text_parts texts.new.items ≡ map text_parts texts.old.items ++ text ∷ []) }
+{
+    texts.push(text_file_of(alloc, fields)?)?;
+    Ok(())
+}
+
+// Adds the rename of two fields.
+fn add_rename(alloc: Global, renames: &mut Vec<Rename>, fields: &str) -> Result<(), Fault>
+    ensures { (rename : List ℕ × List ℕ) → IsRenameParts rename → fields.now ≡ fields_text (rename_fields rename)
+        → GivenMemory result (λ _. map rename_parts renames.new.items ≡ map rename_parts renames.old.items ++ rename ∷ []) }
+{
+    renames.push(rename_of(alloc, fields)?)?;
+    Ok(())
+}
+
+// Adds the path of a field.
+fn add_directory(alloc: Global, paths: &mut Vec<String>, field: &str) -> Result<(), Fault>
+    ensures { (path : List ℕ) → IsUtf8 path → field.now ≡ escaped path
+        → GivenMemory result (λ _. map string_bytes paths.new.items ≡ map string_bytes paths.old.items ++ path ∷ []) }
+{
+    paths.push(path_of(alloc, field)?)?;
+    Ok(())
+}
+
+// Adds the text of three fields to what is removed.
+fn add_removed(alloc: Global, leftovers: &mut Vec<Leftover>, fields: &str) -> Result<(), Fault>
+    ensures { (text : List ℕ × TextDigest) → IsTextParts text → fields.now ≡ fields_text (text_fields text)
+        → GivenMemory result (λ _. map leftover_parts leftovers.new.items
+        ≡ map leftover_parts leftovers.old.items ++ Removed text ∷ []) }
+{
+    leftovers.push(Leftover::Text(text_file_of(alloc, fields)?))?;
+    Ok(())
+}
+
+// Adds the directory of a field to what is removed.
+fn add_emptied(alloc: Global, leftovers: &mut Vec<Leftover>, field: &str) -> Result<(), Fault>
+    ensures { (path : List ℕ) → IsUtf8 path → field.now ≡ escaped path
+        → GivenMemory result (λ _. map leftover_parts leftovers.new.items
+        ≡ map leftover_parts leftovers.old.items ++ Emptied path ∷ []) }
+{
+    leftovers.push(Leftover::Directory(path_of(alloc, field)?))?;
     Ok(())
 }
 
 // The number of a field.
-fn number_of(field: &str) -> Result<u64, Fault> {
-    field.parse::<u64>().map_err(|_| Fault::NotAJournal)
+fn number_of(field: &str) -> Result<u64, Fault>
+    ensures { (n : ℕ) → n < 2 ^ 64 → field.now ≡ decimal n → result ≡ Ok n }
+{
+    match field.parse::<u64>() {
+        Ok(number) => Ok(number),
+        Err(_) => Err(Fault::NotAJournal),
+    }
+}
+
+// The SHA-256 of a field.
+fn sha256_of(field: &str) -> Result<[u8; 32], Fault>
+    ensures { (bytes : List ℕ) → length bytes ≡ 32 → IsBytes bytes → field.now ≡ encode_lower bytes → result ≡ Ok bytes }
+{
+    match <[u8; 32] as FromHex>::from_hex(field) {
+        Ok(bytes) => Ok(bytes),
+        Err(_) => Err(Fault::NotAJournal),
+    }
 }
 
 // The two parts of fields at the first tab.
-fn cut_at_tab(fields: &str) -> Result<(&str, &str), Fault> {
+fn cut_at_tab(fields: &str) -> Result<(&str, &str), Fault>
+    ensures { (front back : List ℕ) → All (λ b. b ≢ 9) front → fields.now ≡ front ++ 9 ∷ back
+        → IsOkAnd result (λ parts. (parts.0.now ≡ front) × (parts.1.now ≡ back)) }
+{
     fields.split_once('\t').ok_or(Fault::NotAJournal)
 }
 
 // The rename of two fields.
-fn rename_of(alloc: Global, fields: &str) -> Result<Rename, Fault> {
+fn rename_of(alloc: Global, fields: &str) -> Result<Rename, Fault>
+    ensures { (rename : List ℕ × List ℕ) → IsRenameParts rename → fields.now ≡ fields_text (rename_fields rename)
+        → GivenMemory result (λ r. rename_parts r ≡ rename) }
+{
     let (from, to) = cut_at_tab(fields)?;
     Ok(Rename {
         from: path_of(alloc, from)?,
@@ -385,20 +512,32 @@ fn rename_of(alloc: Global, fields: &str) -> Result<Rename, Fault> {
 }
 
 // The text in a file of three fields.
-fn text_file_of(alloc: Global, fields: &str) -> Result<TextFile, Fault> {
+fn text_file_of(alloc: Global, fields: &str) -> Result<TextFile, Fault>
+    ensures { (text : List ℕ × TextDigest) → IsTextParts text → fields.now ≡ fields_text (text_fields text)
+        → GivenMemory result (λ file. text_parts file ≡ text) }
+{
     let (path, digest) = cut_at_tab(fields)?;
-    let (length, sha256) = cut_at_tab(digest)?;
     Ok(TextFile {
         path: path_of(alloc, path)?,
-        digest: TextDigest {
-            length: number_of(length)?,
-            sha256: <[u8; 32] as FromHex>::from_hex(sha256).map_err(|_| Fault::NotAJournal)?,
-        },
+        digest: text_digest_of(digest)?,
+    })
+}
+
+// The digest of two fields.
+fn text_digest_of(fields: &str) -> Result<TextDigest, Fault>
+    ensures { (digest : TextDigest) → IsDigest digest → fields.now ≡ fields_text (digest_fields digest) → result ≡ Ok digest }
+{
+    let (length, sha256) = cut_at_tab(fields)?;
+    Ok(TextDigest {
+        length: number_of(length)?,
+        sha256: sha256_of(sha256)?,
     })
 }
 
 // The path of a field: it without its escapes.
-fn path_of(alloc: Global, field: &str) -> Result<String, Fault> {
+fn path_of(alloc: Global, field: &str) -> Result<String, Fault>
+    ensures { (path : List ℕ) → IsUtf8 path → field.now ≡ escaped path → GivenMemory result (λ p. string_bytes p ≡ path) }
+{
     let mut path = String::new(alloc);
     let mut is_escaped = false;
     for character in field.chars() {
@@ -418,7 +557,11 @@ fn path_of(alloc: Global, field: &str) -> Result<String, Fault> {
 }
 
 // The character that a backslash and this one stand for.
-fn unescape(character: char) -> Result<char, Fault> {
+fn unescape(character: char) -> Result<char, Fault>
+    ensures backslash { character ≡ 92 → result ≡ Ok 92 }
+    ensures tab { character ≡ 116 → result ≡ Ok 9 }
+    ensures line_feed { character ≡ 110 → result ≡ Ok 10 }
+{
     match character {
         '\\' => Ok('\\'),
         't' => Ok('\t'),
