@@ -92,3 +92,22 @@ fn asks_once(rt: HostRuntime) -> Result<(), Fail> {
     }
     Ok(())
 }
+
+#[test]
+fn sees_a_journal_in_each_directory(rt: HostRuntime) -> Result<(), Fail> {
+    let (alloc, case) = (rt.alloc(), &cases::DIRECTORY_MOVES);
+    let disk = disk_of(alloc, case.before)?;
+    disk.add("site/a/b/.relmove", file_of(alloc, "jj")?)?;
+    is_refused(alloc, case, &disk, "JournalNear(\"a/b/.relmove\")")
+}
+
+// In a directory that can't be searched no journal can be looked up.
+#[test]
+fn passes_over_a_directory_that_cannot_be_searched(rt: HostRuntime) -> Result<(), Fail> {
+    let alloc = rt.alloc();
+    let disk = disk_of(alloc, &[("a", None), ("a/.relmove", Some("jj"))])?;
+    disk.set_mode("site/a", 0o600)?;
+    let mut store = DiskStore::new(&disk, "site")?;
+    let asked = need_no_journal_near(&mut store, &["a"]);
+    same("no journal", &asked.is_ok(), &true)
+}

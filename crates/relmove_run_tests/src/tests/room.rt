@@ -1,7 +1,7 @@
 //! A run on a disk that gets full.
-use crate::tests::runs::{End, end_of, is_done, run, undo_on};
+use crate::tests::runs::{End, end_of, first_call_with, is_done, run, run_and_fail, undo_on};
 use crate::tests::{cases, holds, same};
-use relmove_disk::disk_of;
+use relmove_disk::{Way, disk_of};
 use relmove_run::Ended;
 use std::alloc::Global;
 use std::test::Fail;
@@ -29,4 +29,14 @@ fn goes_back_on_a_full_disk(rt: HostRuntime) -> Result<(), Fail> {
         fits(rt.alloc(), room.saturating_mul(9))?;
     }
     Ok(())
+}
+
+// A run goes on if its spare journal can't be made.
+#[test]
+fn goes_on_without_a_spare_journal(rt: HostRuntime) -> Result<(), Fail> {
+    let (alloc, case) = (rt.alloc(), &cases::FILE_MOVES);
+    let number = first_call_with(alloc, case, "site/.relmove-spare")?.saturating_sub(1);
+    let (ended, disk) = run_and_fail(alloc, case, number, Way::Refused)?;
+    same("done", &end_of(&ended), &End::Done)?;
+    holds(alloc, "done", &disk, case.after)
 }
