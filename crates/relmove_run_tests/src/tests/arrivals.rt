@@ -1,5 +1,6 @@
 //! Files that come to a path while a run works: they stay, but for those that come between a question and a rename.
 use crate::tests::cases::{self, Case};
+use crate::tests::reasons::{gives_reason, stops_with};
 use crate::tests::runs::{
     End, calls_of, can_be_undone, end_of, first_call_at, first_call_with, loses_nothing,
     remarks_of, run, run_and_fail, undo_on,
@@ -203,4 +204,36 @@ fn tells_a_journal_that_comes(rt: HostRuntime) -> Result<(), Fail> {
         }
     }
     Err(Fail::new("no journal was there"))
+}
+
+// A run whose next journal is gone, or isn't the one that it wrote, says so.
+#[test]
+fn names_its_next_journal(rt: HostRuntime) -> Result<(), Fail> {
+    let (alloc, case) = (rt.alloc(), &cases::SWAP);
+    // The question for the next journal comes right before its rename, and that three calls before the first call at a stage.
+    let number = first_call_at(alloc, case, Stage::Staging)?.saturating_sub(4);
+    let disk = disk_of(alloc, case.before)?;
+    disk.remove_before(number, "site/.relmove-journal")?;
+    let ended = run(alloc, case, &disk)?;
+    gives_reason(alloc, &ended, "Missing(\".relmove-journal\")")?;
+    let disk = disk_of(alloc, case.before)?;
+    disk.replace_before(number, "site/.relmove-journal", file_of(alloc, "mine")?)?;
+    let words =
+        ".relmove-journal has a name of relmove's own, and relmove didn't leave it: remove or rename it";
+    stops_with(alloc, &run(alloc, case, &disk)?, words)
+}
+
+// The call that makes the first journal is done and reported as failed: the file may be the run's own.
+#[test]
+fn removes_what_may_be_its_own_journal(rt: HostRuntime) -> Result<(), Fail> {
+    let (alloc, case) = (rt.alloc(), &cases::SWAP);
+    let path = "site/.relmove-journal";
+    let number = first_call_with(alloc, case, path)?.saturating_sub(1);
+    let (_, disk) = run_and_fail(alloc, case, number, Way::DoneAndFailed)?;
+    holds(alloc, "its own", &disk, case.before)?;
+    let disk = disk_of(alloc, case.before)?;
+    disk.fail_at(number, Way::DoneAndFailed);
+    disk.replace_before(number.saturating_add(1), path, file_of(alloc, "mine")?)?;
+    run(alloc, case, &disk)?;
+    same("another file", &disk.is_file(path, "mine")?, &true)
 }

@@ -3,7 +3,7 @@ use crate::tests::reasons::is_refused;
 use crate::tests::runs::{End, calls_of, end_of, run, run_and_fail};
 use crate::tests::{cases, holds, same};
 use relmove_disk::{Content, DiskStore, Way, disk_of, file_of};
-use relmove_run::need_no_journal_near;
+use relmove_run::{need_no_journal_near, need_rest};
 use std::alloc::Global;
 use std::test::Fail;
 
@@ -110,4 +110,19 @@ fn passes_over_a_directory_that_cannot_be_searched(rt: HostRuntime) -> Result<()
     let mut store = DiskStore::new(&disk, "site")?;
     let asked = need_no_journal_near(&mut store, &["a"]);
     same("no journal", &asked.is_ok(), &true)
+}
+
+// A call that changes nothing looks for a journal above the root too.
+#[test]
+fn rests_only_without_a_journal_above(rt: HostRuntime) -> Result<(), Fail> {
+    let alloc = rt.alloc();
+    let disk = disk_of(alloc, cases::SWAP.before)?;
+    disk.add(".relmove", file_of(alloc, "jj")?)?;
+    let asked = need_rest(&mut DiskStore::new(&disk, "site")?);
+    let found = format!(in alloc; "{asked:?}")?;
+    same(
+        "above",
+        &found.as_str(),
+        &"Err(JournalNear(\"../.relmove\"))",
+    )
 }
