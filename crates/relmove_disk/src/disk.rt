@@ -42,6 +42,8 @@ pub struct Disk {
     pub(crate) gives_away: Cell<bool>,
     // Why a file can't have a second name, if it can't.
     pub(crate) no_links: Cell<Option<ErrorKind>>,
+    // Why a directory can't be synced, if it can't.
+    pub(crate) no_syncs: Cell<Option<ErrorKind>>,
     // The permissions that a new file or directory doesn't get.
     mask: Cell<u32>,
     // Whether a process has the lock of a directory.
@@ -65,6 +67,7 @@ impl Disk {
             size: Cell::new(u64::MAX),
             gives_away: Cell::new(false),
             no_links: Cell::new(None),
+            no_syncs: Cell::new(None),
             mask: Cell::new(0),
             is_locked: Cell::new(false),
             time: Cell::new(0),
@@ -185,6 +188,11 @@ impl Disk {
     /// From now on the process can't give a file a second name: that fails with this error.
     pub fn refuse_links(&self, why: ErrorKind) {
         self.no_links.set(Some(why));
+    }
+
+    /// From now on the process can't sync a directory: that fails with this error.
+    pub fn refuse_directory_syncs(&self, why: ErrorKind) {
+        self.no_syncs.set(Some(why));
     }
 
     /// From now on a new file or directory doesn't get these permissions.

@@ -244,6 +244,9 @@ impl Store for DiskStore<'_> {
 
     fn sync_directory(&mut self, path: &str) -> io::Result<()> {
         let turn = self.disk.turn()?;
+        if let Some(why) = self.disk.no_syncs.get() {
+            return Err(io::Error::from(why));
+        }
         let path = self.resolve(path)?;
         self.disk
             .nodes

@@ -1,10 +1,11 @@
 //! A loss of power after which a file that was renamed has both names: what ends the run removes the name that is to be left.
 use crate::tests::cases::{self, Case};
 use crate::tests::runs::{
-    calls_of, can_be_resumed, can_be_undone, first_call_at, loses_nothing, run_and_fail, undo_on,
+    End, calls_of, can_be_resumed, can_be_undone, end_of, first_call_at, loses_nothing, resume_on,
+    run_and_fail, stopped_at, undo_on,
 };
 use crate::tests::same;
-use relmove_disk::{Disk, Way};
+use relmove_disk::{Disk, Way, file_of};
 use relmove_run::Stage;
 use std::alloc::Global;
 use std::test::Fail;
@@ -102,4 +103,59 @@ fn a_page_comes_back_into_a_directory_that_moved(rt: HostRuntime) -> Result<(), 
         }
     }
     same("a file has both names", &(count > 0), &true)
+}
+
+// Two files with two names each, one at each path of a rename: neither is a name of the other.
+#[test]
+fn keeps_two_files_that_have_two_names(rt: HostRuntime) -> Result<(), Fail> {
+    let alloc = rt.alloc();
+    let disk = stopped_at(alloc, &cases::FILE_MOVES, Stage::Staging)?;
+    disk.add_link("site/a/x.md", "o")?;
+    disk.add("p", file_of(alloc, "mine")?)?;
+    disk.add_link("p", "site/.relmove-1")?;
+    same(
+        "both",
+        &end_of(&resume_on(&disk)),
+        &End::Stopped(Stage::Staging),
+    )?;
+    same("the old path", &disk.is_file("site/a/x.md", "xx")?, &true)?;
+    same("the name", &disk.is_file("site/.relmove-1", "mine")?, &true)
+}
+
+// A file with two names is taken back beside another file at its new path.
+#[test]
+fn keeps_a_file_at_the_new_path_of_one_with_two_names(rt: HostRuntime) -> Result<(), Fail> {
+    let alloc = rt.alloc();
+    let disk = stopped_at(alloc, &cases::FILE_MOVES, Stage::Placing)?;
+    disk.add_link("site/.relmove-1", "o")?;
+    disk.add("site/b/c/z.md", file_of(alloc, "mine")?)?;
+    same("back", &end_of(&undo_on(&disk)), &End::TakenBack)?;
+    same("it stays", &disk.is_file("site/b/c/z.md", "mine")?, &true)?;
+    same("the old path", &disk.is_file("site/a/x.md", "xx")?, &true)
+}
+
+// Ends a run whose file has both names, and puts another file at the old path before a call. Whether that file stays.
+fn keeps_arrival(alloc: Global, first: u32, number: u32) -> Result<bool, Fail> {
+    let (_, disk) = run_and_fail(alloc, &cases::FILE_MOVES, first, Way::Killed)?;
+    disk.add("site/a/n", file_of(alloc, "nn")?)?;
+    disk.add_link("site/a/x.md", "site/.relmove-1")?;
+    disk.replace_before(number, "site/a/x.md", file_of(alloc, "mine")?)?;
+    resume_on(&disk);
+    if disk.calls() < number {
+        return Ok(true);
+    }
+    Ok(disk.has("site/a/x.md")? && disk.is_file("site/a/x.md", "mine")?)
+}
+
+// The old name is compared right before it is removed.
+#[test]
+fn keeps_what_comes_to_the_old_name(rt: HostRuntime) -> Result<(), Fail> {
+    let first = first_call_at(rt.alloc(), &cases::FILE_MOVES, Stage::Staging)?;
+    let mut lost = 0u32;
+    for number in 1..100u32 {
+        if !keeps_arrival(rt.alloc(), first, number)? {
+            lost = lost.saturating_add(1);
+        }
+    }
+    same("files that are lost", &lost, &1)
 }

@@ -1,10 +1,11 @@
 //! What another process does to the files of a run: no byte that it wrote is lost.
+use crate::tests::reasons::is_refused;
 use crate::tests::runs::{
-    End, Ending, calls_of, end_of, first_call_at, is_changed, remarks_of, resume_on, run,
-    run_and_fail, stopped_at, undo_on,
+    End, Ending, calls_of, end_of, first_call_at, first_call_with, is_changed, remarks_of,
+    resume_on, run, run_and_fail, stopped_at, undo_on,
 };
 use crate::tests::{cases, holds, same};
-use relmove_disk::{Disk, Way, disk_of, file_of};
+use relmove_disk::{Content, Disk, Way, disk_of, file_of};
 use relmove_run::{Ended, Fault, Remark, Stage};
 use std::alloc::Global;
 use std::test::Fail;
@@ -58,8 +59,8 @@ fn takes_a_run_back_if_a_page_was_edited(rt: HostRuntime) -> Result<(), Fail> {
     holds(alloc, "taken back", &disk, &after)
 }
 
-// Edits a new text before a call of a run, and fails the run's call of this number. Whether the run went back since it
-// failed. If the text was whole then, the edit has to be there, and this has to be said.
+// Edits a whole new text before a call of a run, and fails the run's call of this number. The edit has to be there. Whether
+// the run went back since it failed: then it says that it kept the edit.
 fn keeps_edit_of_a_text(alloc: Global, number: u32, failed: u32) -> Result<bool, Fail> {
     let disk = disk_of(alloc, cases::PAGE_CHANGES.before)?;
     disk.add_before(number, "site/.relmove-9", file_of(alloc, "edited")?)?;
@@ -75,8 +76,8 @@ fn keeps_edit_of_a_text(alloc: Global, number: u32, failed: u32) -> Result<bool,
     if is_cause {
         let is_said = matches!(remarks_of(&ended), [Remark::Kept(_)]);
         same("said", &is_said, &true)?;
-        same("the edit", &is_somewhere(&disk, "edited")?, &true)?;
     }
+    same("the edit", &is_somewhere(&disk, "edited")?, &true)?;
     Ok(is_cause)
 }
 
@@ -228,4 +229,97 @@ fn tells_what_is_gone_if_it_stops(rt: HostRuntime) -> Result<(), Fail> {
         }
     }
     same("some stop", &(stops > 0), &true)
+}
+
+// Edits a new text after a kill, and fails a call of what takes the run back. The edit has as many bytes as the text.
+fn keeps_edit_after_fault(alloc: Global, first: u32, number: u32) -> Result<(), Fail> {
+    let (_, disk) = run_and_fail(alloc, &cases::PAGE_CHANGES, first, Way::Killed)?;
+    disk.add("site/.relmove-9", file_of(alloc, "[x](y/x.md) mine")?)?;
+    disk.fail_at(number, Way::Refused);
+    undo_on(&disk);
+    let is_kept = disk.is_file("site/.relmove-9", "[x](y/x.md) mine")?;
+    same("the edit", &is_kept, &true)
+}
+
+// A text that can't be read for another reason than its permissions may be whole.
+#[test]
+fn keeps_a_text_that_cannot_be_read(rt: HostRuntime) -> Result<(), Fail> {
+    let first = first_whole(rt.alloc())?;
+    for number in 1..60u32 {
+        keeps_edit_after_fault(rt.alloc(), first, number)?;
+    }
+    Ok(())
+}
+
+// Puts another file in the place of a new text before the call that writes the text's end, which fails. The run goes back.
+#[test]
+fn keeps_a_file_in_the_place_of_a_text(rt: HostRuntime) -> Result<(), Fail> {
+    let (alloc, case) = (rt.alloc(), &cases::PAGE_CHANGES);
+    let number = first_whole(alloc)?.saturating_sub(1);
+    let disk = disk_of(alloc, case.before)?;
+    disk.replace_before(number, "site/.relmove-9", file_of(alloc, "mine")?)?;
+    disk.fail_at(number, Way::Refused);
+    let ended = run(alloc, case, &disk)?;
+    let is_said = matches!(remarks_of(&ended), [Remark::Kept(_)]);
+    same("said", &is_said, &true)?;
+    same("it stays", &disk.is_file("site/.relmove-9", "mine")?, &true)
+}
+
+// Takes a run back that was killed while it wrote a text, at whose name something else is then. It stays, and this is said.
+fn keeps_stranger(disk: &Disk) -> Result<(), Fail> {
+    let ended = undo_on(disk);
+    same("back", &end_of(&ended), &End::TakenBack)?;
+    let is_said = matches!(remarks_of(&ended), [Remark::Kept(_)]);
+    same("said", &is_said, &true)?;
+    same("it stays", &disk.has("site/.relmove-9")?, &true)
+}
+
+// A part of a text is a regular file with one name.
+#[test]
+fn keeps_what_is_no_part_of_a_text(rt: HostRuntime) -> Result<(), Fail> {
+    let (alloc, case) = (rt.alloc(), &cases::PAGE_CHANGES);
+    let number = first_call_with(alloc, case, "site/.relmove-9")?;
+    let (_, disk) = run_and_fail(alloc, case, number, Way::Killed)?;
+    let target = String::from_str(alloc, "../o")?;
+    disk.add("site/.relmove-9", Content::Symlink(target))?;
+    keeps_stranger(&disk)?;
+    let (_, disk) = run_and_fail(alloc, case, number, Way::Killed)?;
+    disk.remove("site/.relmove-9")?;
+    disk.add("o", file_of(alloc, "mine")?)?;
+    disk.add_link("o", "site/.relmove-9")?;
+    keeps_stranger(&disk)
+}
+
+// A page that is gone, or is no regular file any more, refuses the run.
+#[test]
+fn needs_its_pages(rt: HostRuntime) -> Result<(), Fail> {
+    let (alloc, case) = (rt.alloc(), &cases::PAGE_CHANGES);
+    let disk = disk_of(alloc, case.before)?;
+    disk.remove("site/a.md")?;
+    is_refused(alloc, case, &disk, "Missing(\"a.md\")")?;
+    disk.add("site/a.md", Content::Directory)?;
+    is_refused(alloc, case, &disk, "Changed(\"a.md\")")
+}
+
+// Whether a change of this page is why a run went back.
+fn is_cause(ended: &Ended, page: &str) -> bool {
+    match ended {
+        Ended::TakenBack {
+            cause: Some(Fault::Changed(changed)),
+            ..
+        } => changed.as_str() == page,
+        _ => false,
+    }
+}
+
+// Of two pages the second one was edited after it was read.
+#[test]
+fn names_the_page_that_was_edited(rt: HostRuntime) -> Result<(), Fail> {
+    let (alloc, case) = (rt.alloc(), &cases::TWO_PAGES_CHANGE);
+    let disk = disk_of(alloc, case.before)?;
+    disk.add("site/b.md", file_of(alloc, "edited")?)?;
+    let ended = run(alloc, case, &disk)?;
+    same("its page", &is_cause(&ended, "b.md"), &true)?;
+    let after = [("a.md", Some("aa")), ("b.md", Some("edited"))];
+    holds(alloc, "taken back", &disk, &after)
 }

@@ -1,7 +1,9 @@
 //! Owners and permissions of the files that a run makes.
-use crate::tests::runs::{End, calls_of, can_be_resumed, can_be_undone, end_of, resume_on, run};
+use crate::tests::runs::{
+    End, calls_of, can_be_resumed, can_be_undone, end_of, resume_on, run, stopped_at,
+};
 use crate::tests::{cases, holds, same};
-use relmove_disk::{Disk, Way, disk_of};
+use relmove_disk::{Content, Disk, Way, disk_of, file_of};
 use relmove_run::{Ended, Stage};
 use std::alloc::Global;
 use std::test::Fail;
@@ -140,4 +142,16 @@ fn makes_directories_for_their_owner(rt: HostRuntime) -> Result<(), Fail> {
         makes_directories(rt.alloc(), *mask)?;
     }
     Ok(())
+}
+
+// A directory that is there and isn't empty isn't made anew, whatever its permissions.
+#[test]
+fn makes_no_directory_anew_that_is_in_use(rt: HostRuntime) -> Result<(), Fail> {
+    let alloc = rt.alloc();
+    let disk = stopped_at(alloc, &cases::PAGE_CHANGES, Stage::Making)?;
+    disk.add("site/y", Content::Directory)?;
+    disk.add("site/y/n", file_of(alloc, "mine")?)?;
+    disk.set_mode("site/y", 0o300)?;
+    same("done", &end_of(&resume_on(&disk)), &End::Done)?;
+    same("it stays", &disk.is_file("site/y/n", "mine")?, &true)
 }

@@ -1,8 +1,10 @@
 //! A run on a disk that gets full.
-use crate::tests::runs::{End, end_of, is_done, run, undo_on};
+use crate::tests::runs::{
+    End, end_of, first_call_with, is_done, run, run_and_fail, stopped_at, undo_on,
+};
 use crate::tests::{cases, holds, same};
-use relmove_disk::disk_of;
-use relmove_run::Ended;
+use relmove_disk::{Way, disk_of};
+use relmove_run::{Ended, Stage};
 use std::alloc::Global;
 use std::test::Fail;
 
@@ -29,4 +31,27 @@ fn goes_back_on_a_full_disk(rt: HostRuntime) -> Result<(), Fail> {
         fits(rt.alloc(), room.saturating_mul(9))?;
     }
     Ok(())
+}
+
+// A run goes on if its spare journal can't be made.
+#[test]
+fn goes_on_without_a_spare_journal(rt: HostRuntime) -> Result<(), Fail> {
+    let (alloc, case) = (rt.alloc(), &cases::FILE_MOVES);
+    let number = first_call_with(alloc, case, "site/.relmove-spare")?.saturating_sub(1);
+    let (ended, disk) = run_and_fail(alloc, case, number, Way::Refused)?;
+    same("done", &end_of(&ended), &End::Done)?;
+    holds(alloc, "done", &disk, case.after)
+}
+
+// On a disk with room for the first journal and the spare one, the spare one makes room for each later journal.
+#[test]
+fn ends_on_a_disk_that_its_journals_fill(rt: HostRuntime) -> Result<(), Fail> {
+    let (alloc, case) = (rt.alloc(), &cases::SWAP);
+    let disk = stopped_at(alloc, case, Stage::Staging)?;
+    let journal = disk.text_at("site/.relmove")?.len() as u64;
+    let spare = disk.text_at("site/.relmove-spare")?.len() as u64;
+    let disk = disk_of(alloc, case.before)?;
+    disk.leave_room(journal.saturating_add(spare))?;
+    same("done", &end_of(&run(alloc, case, &disk)?), &End::Done)?;
+    holds(alloc, "done", &disk, case.after)
 }

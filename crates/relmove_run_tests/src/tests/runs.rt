@@ -225,6 +225,17 @@ pub fn first_call_at(alloc: Global, case: &Case, wanted: Stage) -> Result<u32, F
     Err(Fail::new("no run stopped"))
 }
 
+/// The first call of a run before which something is at a path.
+pub fn first_call_with(alloc: Global, case: &Case, path: &str) -> Result<u32, Fail> {
+    for number in 1..=calls_of(alloc, case)? {
+        let (_, disk) = run_and_fail(alloc, case, number, Way::Killed)?;
+        if disk.has(path)? {
+            return Ok(number);
+        }
+    }
+    Err(Fail::new("nothing came to the path"))
+}
+
 /// The tree after a run that was killed before its first call at a stage.
 pub fn stopped_at(alloc: Global, case: &Case, wanted: Stage) -> Result<Disk, Fail> {
     let number = first_call_at(alloc, case, wanted)?;

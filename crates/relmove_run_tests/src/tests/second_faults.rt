@@ -1,12 +1,13 @@
 //! A run is killed, and then each call of its end, or of its undoing, fails in turn. After both no byte is lost, and the
 //! run can be ended and taken back.
 use crate::tests::cases::{self, Case};
+use crate::tests::reasons::stops_with;
 use crate::tests::runs::{
-    Ending, calls_of, can_be_resumed, can_be_undone, first_call_at, is_done, loses_nothing,
-    moments_of, resume_on, run, run_and_fail,
+    End, Ending, calls_of, can_be_resumed, can_be_undone, end_of, first_call_at, is_done,
+    loses_nothing, moments_of, resume_on, run, run_and_fail, stopped_at,
 };
-use crate::tests::same;
-use relmove_disk::{Disk, Way, disk_of};
+use crate::tests::{holds, same};
+use relmove_disk::{Disk, Way, disk_of, file_of};
 use relmove_run::{Ended, Stage};
 use std::alloc::Global;
 use std::test::Fail;
@@ -153,6 +154,84 @@ fn stops_only_with_a_journal(rt: HostRuntime) -> Result<(), Fail> {
                 &false,
             )?;
         }
+    }
+    Ok(())
+}
+
+// What ends a run names the path at which it stops.
+#[test]
+fn names_where_it_stops(rt: HostRuntime) -> Result<(), Fail> {
+    let (alloc, case) = (rt.alloc(), &cases::FILE_MOVES);
+    let disk = stopped_at(alloc, case, Stage::Placing)?;
+    disk.remove("site/b")?;
+    stops_with(alloc, &resume_on(&disk), "b isn't there")?;
+    disk.remove("site/.relmove-1")?;
+    stops_with(alloc, &resume_on(&disk), ".relmove-1 isn't there")?;
+    let disk = stopped_at(alloc, case, Stage::Making)?;
+    disk.add("site/b", file_of(alloc, "mine")?)?;
+    let words = "b is no directory: a symbolic link or a file is there";
+    stops_with(alloc, &resume_on(&disk), words)
+}
+
+// Fails two calls of a run: the first one is done, and reported as failed. The run can be ended and taken back.
+fn survives_report(alloc: Global, first: u32, second: u32) -> Result<(), Fail> {
+    let case = &cases::PAGE_CHANGES;
+    let disk = disk_of(alloc, case.before)?;
+    disk.fail_at(first, Way::DoneAndFailed);
+    disk.refuse_at(second);
+    run(alloc, case, &disk)?;
+    disk.fail_at(0, Way::Refused);
+    loses_nothing(alloc, case, &disk)?;
+    can_be_undone(alloc, case, &disk)
+}
+
+// The journal says that things get staging names, though the call that put it there was reported as failed. A run that goes
+// back says so in its journal before it removes a text.
+#[test]
+fn goes_back_from_a_journal_that_was_reported_as_failed(rt: HostRuntime) -> Result<(), Fail> {
+    let (alloc, case) = (rt.alloc(), &cases::PAGE_CHANGES);
+    // The question for the root and its sync come between the rename of the journal and the first call at a stage.
+    let first = first_call_at(alloc, case, Stage::Staging)?.saturating_sub(3);
+    let (ended, disk) = run_and_fail(alloc, case, first, Way::DoneAndFailed)?;
+    same("refused", &end_of(&ended), &End::Refused)?;
+    holds(alloc, "refused", &disk, case.before)?;
+    for more in 1..100u32 {
+        survives_report(alloc, first, first.saturating_add(more))?;
+    }
+    Ok(())
+}
+
+// A run that can't say in its journal that it goes back stops, with all texts.
+#[test]
+fn stops_if_it_cannot_say_that_it_goes_back(rt: HostRuntime) -> Result<(), Fail> {
+    let (alloc, case) = (rt.alloc(), &cases::PAGE_CHANGES);
+    let first = first_call_at(alloc, case, Stage::Staging)?.saturating_sub(3);
+    let disk = disk_of(alloc, case.before)?;
+    disk.fail_at(first, Way::DoneAndFailed);
+    disk.refuse_at(first.saturating_add(1));
+    let ended = run(alloc, case, &disk)?;
+    disk.fail_at(0, Way::Refused);
+    same("stopped", &end_of(&ended), &End::Stopped(Stage::Staging))?;
+    same("a text", &disk.has("site/.relmove-9")?, &true)?;
+    can_be_undone(alloc, case, &disk)
+}
+
+// The last call of a run, the removal of its journal, is done and reported as failed.
+#[test]
+fn is_done_without_its_journal(rt: HostRuntime) -> Result<(), Fail> {
+    let (alloc, case) = (rt.alloc(), &cases::FILE_MOVES);
+    let last = calls_of(alloc, case)?;
+    let (ended, disk) = run_and_fail(alloc, case, last, Way::DoneAndFailed)?;
+    same("done", &end_of(&ended), &End::Done)?;
+    holds(alloc, "done", &disk, case.after)
+}
+
+// A question of what ends a run says once that nothing is there: nothing is left without a word.
+#[test]
+fn an_end_has_a_wrong_answer(rt: HostRuntime) -> Result<(), Fail> {
+    let (alloc, case) = (rt.alloc(), &cases::PAGE_CHANGES);
+    for first in moments_of(alloc, case)? {
+        survives_from(alloc, case, first, Ending::Resume, Way::NotThere)?;
     }
     Ok(())
 }

@@ -202,3 +202,25 @@ fn reads_the_longest_page(rt: HostRuntime) -> Result<(), Fail> {
     let expected = (Status::Refused, "", printed);
     answers(rt.alloc(), &disk, &["--check", "site"], expected)
 }
+
+#[test]
+fn refuses_a_root_that_it_cannot_list(rt: HostRuntime) -> Result<(), Fail> {
+    let disk = disk_of(rt.alloc(), &[("a.md", Some("aa"))])?;
+    disk.set_mode("site", 0o300)?;
+    let errors = "relmove: site: can't list site: permission denied\n";
+    let expected = (Status::Refused, "", errors);
+    answers(rt.alloc(), &disk, &["--check", "site"], expected)
+}
+
+// The names in a directory that can be listed and not searched.
+const UNSEARCHED: &str =
+    "relmove: d/x isn't read: permission denied\nrelmove: d/y isn't read: permission denied\nrelmove: a name in the directory d can't be read, or isn't UTF-8\n";
+
+#[test]
+fn names_what_it_cannot_look_up(rt: HostRuntime) -> Result<(), Fail> {
+    let places: &[Place] = &[("d", None), ("d/x", Some("xx")), ("d/y", Some("yy"))];
+    let disk = disk_of(rt.alloc(), places)?;
+    disk.set_mode("site/d", 0o400)?;
+    let expected = (Status::Kept, "", UNSEARCHED);
+    answers(rt.alloc(), &disk, &["--check", "site"], expected)
+}

@@ -203,7 +203,7 @@ fn refuses(alloc: Global, moves: &[&str], printed: &str) -> Result<(), Fail> {
     holds(alloc, printed, &disk, TREE)
 }
 
-const REFUSED_PATHS: [(&[&str], &str); 8] = [
+const REFUSED_PATHS: [(&[&str], &str); 10] = [
     (
         &[".", "x"],
         "relmove: . to x: a path is the root, or ends in ..\n",
@@ -231,6 +231,14 @@ const REFUSED_PATHS: [(&[&str], &str); 8] = [
     (
         &["a.md", ".d/a.md"],
         "relmove: a.md to .d/a.md: a path is in a directory whose name begins with a dot; such directories aren't read\n",
+    ),
+    (
+        &["a.md", "d/.e/a.md"],
+        "relmove: a.md to d/.e/a.md: a path is in a directory whose name begins with a dot; such directories aren't read\n",
+    ),
+    (
+        &[".g/config", "x"],
+        "relmove: .g/config to x: a path is in a directory whose name begins with a dot; such directories aren't read\n",
     ),
     (
         &["b.md", "x.md", "a.md", "e/"],
@@ -466,14 +474,19 @@ fn stops_in_the_middle(rt: HostRuntime) -> Result<(), Fail> {
     same("some are refused", &(refused > 0), &true)
 }
 
+/// What a call of [`WRITE`] prints before it moves anything.
+pub const PLANNED: &str = "site/n.md, from site/guide/o.md: 1 link\nsite/index.md: 2 links\n";
+
 // Removes a page before a call of the run, once it has its staging name. Whether the run went back by itself and said so.
 fn says_what_is_gone(alloc: Global, number: u32) -> Result<bool, Fail> {
     let disk = disk_of(alloc, SITE)?;
     disk.remove_before(number, "site/.relmove-1")?;
-    let status = written(alloc, &disk);
+    let (mut out, mut errors) = (Vec::new(alloc), Vec::new(alloc));
+    let status = answer(&DiskMachine(&disk), WRITE, &mut out, &mut errors);
     if status != Status::LinksLeft {
         return Ok(false);
     }
+    same("the plan alone", &out.as_slice(), &PLANNED.as_bytes())?;
     let (one, other) = (disk.has("site/index.md")?, disk.has("site/guide/o.md")?);
     same("one page is gone", &(one != other), &true)?;
     same("no journal", &disk.has("site/.relmove")?, &false)?;
@@ -502,4 +515,23 @@ fn asks_twice_for_journals_near(rt: HostRuntime) -> Result<(), Fail> {
         same(path, &disk.questions(), &2)?;
     }
     Ok(())
+}
+
+// A call without `--write` asks the system whether it can have the new paths.
+#[test]
+fn asks_for_paths_without_write(rt: HostRuntime) -> Result<(), Fail> {
+    let alloc = rt.alloc();
+    let mut name = String::new(alloc);
+    for _ in 0..256u32 {
+        name.push('n')?;
+    }
+    let name = name.as_str();
+    let errors = format!(in alloc; "relmove: site: {name} is too long, or a name in it is\n")?;
+    let expected = (Status::Refused, "", errors.as_str());
+    answers(
+        alloc,
+        &disk_of(alloc, TREE)?,
+        &["site", "b.md", name],
+        expected,
+    )
 }

@@ -164,3 +164,17 @@ fn names_the_root(rt: HostRuntime) -> Result<(), Fail> {
     let expected = "relmove: d/: can't sync ROOT: no room\n";
     same("the root", &out.as_slice(), &expected.as_bytes())
 }
+
+#[test]
+fn says_only_why_a_run_went_back_that_left_nothing(rt: HostRuntime) -> Result<(), Fail> {
+    let alloc = rt.alloc();
+    let ended = Ended::TakenBack {
+        cause: Some(Fault::Changed(String::from_str(alloc, "a.md")?)),
+        remarks: Vec::new(alloc),
+    };
+    let mut out = Vec::new(alloc);
+    print_end(&mut out, "d/", &ended)?;
+    let expected =
+        "relmove: d/: a.md was changed while the run worked, so the run was taken back\n";
+    same("went back", &out.as_slice(), &expected.as_bytes())
+}

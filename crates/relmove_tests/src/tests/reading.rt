@@ -115,6 +115,28 @@ fn fails_if_a_call_fails(rt: HostRuntime) -> Result<(), Fail> {
     Ok(())
 }
 
+// Whether a tree is read while a page goes, or becomes a FIFO, before a call.
+fn reads_while_a_page_goes(alloc: Global, number: u32) -> Result<(), Fail> {
+    let disk = site(alloc)?;
+    disk.remove_before(number, "site/a.md")?;
+    let read = read_tree(&mut DiskMachine(&disk).store_at("site")?);
+    same("a page goes", &read.is_ok(), &true)?;
+    let disk = site(alloc)?;
+    disk.replace_before(number, "site/a.md", Content::Other)?;
+    let read = read_tree(&mut DiskMachine(&disk).store_at("site")?);
+    same("a page becomes a FIFO", &read.is_ok(), &true)
+}
+
+#[test]
+fn leaves_out_a_page_that_goes(rt: HostRuntime) -> Result<(), Fail> {
+    let disk = site(rt.alloc())?;
+    read_tree(&mut DiskMachine(&disk).store_at("site")?)?;
+    for number in 1..=disk.calls() {
+        reads_while_a_page_goes(rt.alloc(), number)?;
+    }
+    Ok(())
+}
+
 const PRINTED: &str =
     "site/guide/i.markdown:2:6: i.png: nothing is there\nsite/index.md:3:21: b.md: nothing is there\nsite/index.md:4:5: ../c: it leads above the root\nsite/index.md:4:26: ../site/a.md: it leads above the root\nsite/index.md:5:14: t/f: nothing is there\nsite/no-base.md:1:23: a.md/: nothing is there\nsite/no-base.md:1:48: a.md/.: nothing is there\nsite/no-base.md:1:60: z: nothing is there\n";
 
