@@ -234,15 +234,16 @@ def faults_of_words(ended, tree):
         yield f"it names a journal that isn't there: {said!r}"
 
 
-def report_calls(_options, program, folder, counts, faults):
-    """Makes each call of each list fail."""
+def report_calls(options, program, folder, counts, faults):
+    """Makes each call of each list fail. Of all runs, one in `--one-of` is made, from the one that the seed says."""
     caller = Caller(program, folder)
     for name, case in LISTS.items():
         failing = Failing(caller, folder / "R", case)
         counts["lists"] += 1
         counts["calls"] += failing.number
         faults += [Fault("ANOTHER TREE", name, it, case.moves) for it in failing.faults_of_whole]
-        for number, (way, and_on), word in itertools.product(range(1, failing.number + 1), WAYS, ("--resume", "--undo")):
+        runs = itertools.product(range(1, failing.number + 1), WAYS, ("--resume", "--undo"))
+        for number, (way, and_on), word in itertools.islice(runs, options.seed % options.one_of, None, options.one_of):
             counts["runs"] += 1
             what = f"{name}, call {number}{' and all after it' * and_on}, ended by {word}"
             faults += [Fault(way, what, it, case.moves) for it in failing.judge(number, way, and_on, word)]
