@@ -18,9 +18,9 @@ use Rattle.relative_path.specs.declared.path.RelativePath.{RelativePath}
 use Rattle.relative_path_moves.specs.Moves.{Move, move_at, moves_of}
 use Rattle.relative_path_moves.specs.PlaceIndex.{Indexes, IsFoundAt, IsNoneAt, path_at}
 use Rattle.relative_path_moves.specs.declared.place_index.PlaceIndex.{PlaceIndex}
+use Rattle.relmove_checks.specs.Moves.{EachMove}
+use Rattle.relmove_checks.proofs.ForCallers.{length-moves_of, move_at-moves_of}
 use Rattle.relmove_plan.specs.declared.pages.ChangedPage.{ChangedPage}
-use Rattle.relmove_plan.specs.Moves.{EachMove}
-use Rattle.relmove_plan.proofs.MovesLemmas.{length-moves_of, move_at-moves_of}
 use Rattle.relmove_plan.specs.Steps.{StepTexts, with_text, with_carried, with_removed, AreAmong, Carries, Removes, RemovesAt, RemovesMoved, DoesMove, changed_paths, old_paths, ReplacesPage, ReplacesPages}
 
 -- ---- more renames

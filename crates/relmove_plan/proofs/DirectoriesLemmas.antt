@@ -26,13 +26,12 @@ use Rattle.relative_path.proofs.ForCallers.{IsSame-refl, last_name-name}
 use Rattle.relative_path_moves.specs.Moves.{Move, move_at, moves_of, AreApart, AreNamed}
 use Rattle.relative_path_moves.specs.PlaceIndex.{IsFoundAt, IsNoneAt}
 use Rattle.relative_path_moves.specs.TreeMoves.{AtTreePath}
+use Rattle.relmove_checks.specs.Moves.{move_of}
+use Rattle.relmove_checks.specs.Refusals.{turned}
+use Rattle.relmove_checks.proofs.ForCallers.{length-moves_of, move_at-moves_of, same_front, some_long}
 use Rattle.relmove_plan.specs.BetweenNames.{IsNumbered, numbered_name}
 use Rattle.relmove_plan.specs.Directories.{AreMissing, AreMissingTexts, HasDirectory, HaveTextOf, IsAbove, IsLeftByMove, IsMissingText, IsTakenTo, LeavesTo, LeaveToNames, moves_to_names}
-use Rattle.relmove_plan.specs.Moves.{move_of}
-use Rattle.relmove_plan.specs.Refusals.{turned}
 use Rattle.relmove_plan.specs.Steps.{AboveFirst, AreAmong, StepTexts, with_carried, with_removed}
-use Rattle.relmove_plan.proofs.AboveLemmas.{same_front, some_long}
-use Rattle.relmove_plan.proofs.MovesLemmas.{length-moves_of, move_at-moves_of}
 use Rattle.relmove_plan.proofs.NewFilesLemmas.{components-numbered_name}
 use Rattle.relmove_plan.proofs.OrderLemmas.{nat_cmp-self}
 

@@ -1,9 +1,4 @@
-pub mod MovesLemmas
-pub mod TreesLemmas
-pub mod AboveLemmas
-pub mod ForeignLemmas
 pub mod PagesLemmas
-pub mod PlanLemmas
 pub mod OrderLemmas
 pub mod StepsLemmas
 pub mod CarryLemmas

@@ -21,11 +21,11 @@ use Rattle.relative_path.proofs.OnLiterals.{relative_path_on_literals}
 use Rattle.relative_path_moves.specs.Places.{directory}
 use Rattle.relative_path_moves.specs.PlaceIndex.{Indexes, IsNoneAt, path_at}
 use Rattle.relative_path_moves.specs.declared.place_index.PlaceIndex.{PlaceIndex}
+use Rattle.relmove_checks.proofs.ForCallers.{components-nil}
 use Rattle.relmove_plan.specs.declared.between.FreeNames.{FreeNames}
 use Rattle.relmove_plan.specs.BetweenNames.{numbered_name, IsNumbered, AreDrawn, AreFreeNames, IsDrawn, IsDrawnIn}
 use Rattle.relmove_plan.specs.NewFiles.{IsOneOf, IsNextTo, HaveOwnFiles, EndsBelow, AreFilesDrawn}
 use Rattle.relmove_plan.specs.Steps.{StepTexts, WritesPage, WritesPages, with_text, names_left, pages_written}
-use Rattle.relmove_plan.proofs.AboveLemmas.{components-nil}
 use Rattle.relmove_plan.proofs.NamesLemmas.{bytes_eq-false, numbered_name-other}
 
 -- ---- a numbered name is one component

@@ -18,14 +18,14 @@ use Rattle.relative_path_links.specs.declared.site.MovedSitePage.{MovedSitePage}
 use Rattle.relative_path_links.specs.declared.site.SitePage.{SitePage}
 use Rattle.relative_path_moves.specs.Moves.{Move, move_at, AreApart}
 use Rattle.relative_path_moves.specs.PlaceIndex.{IsNoneAt, path_at}
-use Rattle.relmove_plan.specs.declared.entry.Entry.{Entry}
+use Rattle.relmove_checks.specs.declared.entry.Entry.{Entry}
+use Rattle.relmove_checks.specs.Plan.{IsAccepted}
+use Rattle.relmove_checks.specs.Trees.{AreDistinct, entry_paths}
 use Rattle.relmove_plan.specs.declared.pages.ChangedPage.{ChangedPage}
 use Rattle.relmove_plan.specs.BetweenNames.{numbered_name}
 use Rattle.relmove_plan.specs.NewFiles.{LeaveOnce, EndsBelow, StaysThere, LeavesToo, LeaveFromEntries}
 use Rattle.relmove_plan.specs.Pages.{changed_from, page_paths}
-use Rattle.relmove_plan.specs.Plan.{IsAccepted}
 use Rattle.relmove_plan.specs.Steps.{StepTexts, with_carried, with_removed, LeavesFrom, of_move, of_page, of_text, OnlyTheseLeave, changed_paths, old_paths}
-use Rattle.relmove_plan.specs.Trees.{AreDistinct, entry_paths}
 use Rattle.relmove_plan.specs.WholeTrees.{LeadsToFile, IsWhole}
 use Rattle.relmove_plan.proofs.NamesLemmas.{bytes_eq-flips}
 use Rattle.relmove_plan.proofs.NewFilesLemmas.{EndsBelow-other}

@@ -1,9 +1,11 @@
 -- The names in between, to which things are renamed before they come to their new paths, and the names of new files.
-use Rattle.std.specs.Prelude.{◌≡◌, ◌≢◌, ◌<◌, ◌≤◌, ℕ, ◌+◌, ◌^◌, List, ◌++◌, All, AllPairs, codes, decimal}
+use Rattle.std.specs.Prelude.{◌≡◌, ◌≢◌, ◌<◌, ◌≤◌, ℕ, ◌+◌, ◌^◌, List, ◌++◌, All, AllPairs, codes, decimal, ⊤}
 use Rattle.relative_path.specs.Steps.{Step, components}
 use Rattle.relative_path.specs.Normalizing.{IsNormalTextOf}
 use Rattle.relative_path_moves.specs.PlaceIndex.{Indexes, IsNoneAt}
 use Rattle.relative_path_moves.specs.declared.place_index.PlaceIndex.{PlaceIndex}
+use Rattle.relmove_checks.specs.declared.refusal.Refusal.{Refusal}
+use Rattle.relmove_checks.specs.declared.refusal.Refusal.TheVariants.{NoFileName, LeavesRoot, IntoItself, NotPlain, OwnName, SameOld, NotThere, ForeignName, SameNew, Taken, Collision, BelowFile, BelowUnread, NoFreeName, OutOfMemory}
 use Rattle.relmove_plan.specs.declared.between.FreeNames.{FreeNames}
 
 -- the name with this number
@@ -49,3 +51,21 @@ pub record IsDrawnIn (cs : List Step) (before after : FreeNames) (file : List �
   pub next : after.next ≡ number + 1
   pub file_of : IsNormalTextOf (cs ++ components (numbered_name number)) file
   pub unused : (paths : List (List Step)) → Indexes paths before.entries.now → IsNoneAt paths (components file)
+
+-- no name is free, or an allocation failed
+abbrev pub IsStepsRefusal : Refusal → Type 0
+IsStepsRefusal (NoFileName j) = ⊥
+IsStepsRefusal (LeavesRoot j) = ⊥
+IsStepsRefusal (IntoItself j) = ⊥
+IsStepsRefusal (NotPlain j) = ⊥
+IsStepsRefusal (OwnName j) = ⊥
+IsStepsRefusal (SameOld i j) = ⊥
+IsStepsRefusal (NotThere j) = ⊥
+IsStepsRefusal (ForeignName j) = ⊥
+IsStepsRefusal (SameNew i j) = ⊥
+IsStepsRefusal (Taken j) = ⊥
+IsStepsRefusal (Collision d e) = ⊥
+IsStepsRefusal (BelowFile j) = ⊥
+IsStepsRefusal (BelowUnread j) = ⊥
+IsStepsRefusal NoFreeName = ⊤
+IsStepsRefusal OutOfMemory = ⊤

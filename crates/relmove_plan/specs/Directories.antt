@@ -7,7 +7,7 @@ use Rattle.relative_path.specs.Normalizing.{IsNormalTextOf}
 use Rattle.relative_path_moves.specs.Moves.{Move, move_at, AreApart}
 use Rattle.relative_path_moves.specs.PlaceIndex.{IsNoneAt}
 use Rattle.relative_path_moves.specs.TreeMoves.{AtTreePath}
-use Rattle.relmove_plan.specs.Moves.{move_of}
+use Rattle.relmove_checks.specs.Moves.{move_of}
 use Rattle.relmove_plan.specs.Steps.{AboveFirst, StepTexts}
 
 -- the components begin with this front, which is neither empty nor all of them

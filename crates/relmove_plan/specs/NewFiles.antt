@@ -6,11 +6,11 @@ use Rattle.relative_path_moves.specs.Moves.{Move, AreApart}
 use Rattle.relative_path_moves.specs.Places.{directory}
 use Rattle.relative_path_moves.specs.PlaceIndex.{Indexes, IsNoneAt, path_at}
 use Rattle.relative_path_moves.specs.declared.place_index.PlaceIndex.{PlaceIndex}
+use Rattle.relmove_checks.specs.Moves.{EachMove}
+use Rattle.relmove_checks.specs.Trees.{AreDistinct}
 use Rattle.relmove_plan.specs.declared.between.FreeNames.{FreeNames}
 use Rattle.relmove_plan.specs.BetweenNames.{numbered_name}
-use Rattle.relmove_plan.specs.Moves.{EachMove}
 use Rattle.relmove_plan.specs.Steps.{StepTexts, names_left}
-use Rattle.relmove_plan.specs.Trees.{AreDistinct}
 
 -- the text is the normal text of one of the paths
 abbrev pub IsOneOf : List (List Step) → List ℕ → Type 0

@@ -1,13 +1,12 @@
 //! Names for what moves, while it moves.
 ghost use Rattle.std.specs.Prelude.{IfErr, IfOk, [], string_bytes};
 ghost use Rattle.relative_path.specs.RelativePath.{path_components};
-ghost use Rattle.relmove_plan.specs.Refusals.{IsStepsRefusal};
-ghost use Rattle.relmove_plan.specs.BetweenNames.{AreDrawn, IsDrawn, IsDrawnIn};
+ghost use Rattle.relmove_plan.specs.BetweenNames.{AreDrawn, IsDrawn, IsDrawnIn, IsStepsRefusal};
 
-use crate::refusal::Refusal;
 use relative_path::RelativePath;
 use relative_path_moves::{NormalPath, PlaceIndex};
 use relmove_actions::STAGING;
+use relmove_checks::Refusal;
 use std::alloc::Global;
 
 // Free names, each with a greater number than those before it.

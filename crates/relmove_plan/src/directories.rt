@@ -1,5 +1,6 @@
 //! The directories that a run makes, and those that it may empty.
-ghost use Rattle.std.specs.Prelude.{◌≡◌, ◌<◌, ℕ, List, Contains, IfOk, OnOk, length, map, string_bytes};
+ghost use Rattle.std.specs.Prelude.{◌≡◌, ◌<◌, ℕ, All, List, Contains, IfOk, OnOk, length, map, string_bytes};
+ghost use Rattle.std.specs.List.{Any};
 ghost use mathlib.Core.List.{reverse};
 ghost use Rattle.relative_path.specs.Normalizing.{IsNormalText, IsNormalTextOf};
 ghost use Rattle.relative_path.specs.RelativePath.{path_components, path_text};
@@ -9,10 +10,10 @@ ghost use Rattle.relative_path_moves.specs.PlaceIndex.{Indexes, IsNoneAt};
 ghost use Rattle.relmove_plan.specs.Directories.{AreLeftByMoves, AreMissingTexts, AreTaken, HasDirectory, HaveTextOf};
 ghost use Rattle.relmove_plan.specs.Steps.{BelowFirst};
 
-use crate::above::directories_above;
 use relative_path::RelativePath;
 use relative_path_links::{SitePage, Target};
 use relative_path_moves::{NormalPath, PlaceIndex, TreeMoves, directory};
+use relmove_checks::directory_above;
 use std::alloc::{AllocError, Global};
 use std::collections::BTreeSet;
 use target_paths::{TargetReading, path_of_target};
@@ -157,4 +158,25 @@ fn place_after(
     };
     let place = directory(page.path).join(alloc, RelativePath::new(path.as_str()))?;
     Ok(Some(tree.path_after(alloc, place.as_relative_path())?))
+}
+
+// Returns the paths of the directories above a path, without the root: the nearest first.
+fn directories_above<'a>(
+    alloc: Global,
+    path: RelativePath<'a>,
+) -> Result<Vec<RelativePath<'a>>, AllocError>
+    ensures above { IfOk result (λ directories. All (λ directory. HasDirectory (path_components path.entry)
+        (path_components directory)) directories.items) }
+    ensures all { IfOk result (λ directories. (front : List Step) → HasDirectory (path_components path.entry) front
+        → Any (λ directory. path_components directory ≡ front) directories.items) }
+    ensures normal { IfOk result (λ directories. IsNormalText (path_text path.entry)
+        → All (λ directory. IsNormalText (path_text directory)) directories.items) }
+{
+    let mut directories = Vec::new(alloc);
+    let mut left = path;
+    while let Some(directory) = directory_above(left) {
+        directories.push(directory)?;
+        left = directory;
+    }
+    Ok(directories)
 }

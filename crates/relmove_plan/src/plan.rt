@@ -5,32 +5,29 @@ ghost use Rattle.relative_path.specs.Steps.{Step, components};
 ghost use Rattle.relative_path_moves.specs.Moves.{AreApart, AreNamed, moves_of};
 ghost use Rattle.relative_path_moves.specs.PlaceIndex.{Indexes};
 ghost use Rattle.relative_path_moves.specs.declared.place_index.PlaceIndex.{PlaceIndex};
+ghost use Rattle.relmove_checks.specs.Plan.{IsAccepted, IsRefused};
+ghost use Rattle.relmove_checks.specs.Refusals.{turned};
+ghost use Rattle.relmove_checks.specs.Moves.{EachMove};
+ghost use Rattle.relmove_checks.specs.Trees.{AreAfter, entry_paths};
 ghost use Rattle.relmove_plan.specs.NewFiles.{AreFilesDrawn, HaveOwnFiles, LeaveFromEntries, LeaveOnce};
 ghost use Rattle.relmove_plan.specs.Pages.{changed_from, page_paths};
-ghost use Rattle.relmove_plan.specs.Plan.{IsAccepted, IsRefused};
-ghost use Rattle.relmove_plan.specs.Refusals.{IsStepsRefusal, turned};
-ghost use Rattle.relmove_plan.specs.Moves.{EachMove};
 ghost use Rattle.relmove_plan.specs.Directories.{AreLeftByMoves, AreMade, LeaveToNames, MakesMissing, moves_to_names};
-ghost use Rattle.relmove_plan.specs.Trees.{AreAfter, entry_paths};
 ghost use Rattle.relmove_plan.specs.Steps.{AboveFirst, BelowFirst, DoesMove, LosesNothing, OnlyTheseLeave, RemovesAt, ReplacesPages, WritesPages, changed_paths, names_left, rename_texts, step_texts};
-ghost use Rattle.relmove_plan.specs.BetweenNames.{AreDrawn, AreFreeNames};
+ghost use Rattle.relmove_plan.specs.BetweenNames.{AreDrawn, AreFreeNames, IsStepsRefusal};
 ghost use Rattle.relmove_plan.specs.Runs.{CanBeMade, CanCome, EntriesArrive, MakesDirectories, NothingInTheWay, TextsArrive};
 ghost use Rattle.relmove_plan.specs.WholeTrees.{IsWhole};
 
-use crate::after::entry_index;
-use crate::allowed::{coming_index, leaving_table};
 use crate::between::FreeNames;
 use crate::directories::{directories_emptied, directories_to_make};
-use crate::entry::Entry;
 use crate::order::{above_first, below_first};
 use crate::pages::{ChangedPage, changed_index, changed_pages};
-use crate::refusal::Refusal;
 use crate::renames::{Renames, add_moves, add_pages, names_between, news_between, old_index};
 use crate::symbolic::{LinkNotice, link_notices};
 use relative_path::RelativePath;
 use relative_path_links::{MovedSitePage, SitePage, rewrite_site};
 use relative_path_moves::{MoveTableError, PlaceIndex, TreeMoves};
 use relmove_actions::Steps;
+use relmove_checks::{Entry, Refusal, coming_index, entry_index, leaving_table};
 use std::alloc::{AllocError, Global};
 
 /// A tree of files, and the pages among them.

@@ -7,20 +7,19 @@ ghost use Rattle.relative_path.specs.Normalizing.{IsNormalTextOf};
 ghost use Rattle.relative_path_moves.specs.Moves.{AreApart, Move, move_at, moves_of};
 ghost use Rattle.relative_path_moves.specs.PlaceIndex.{Indexes, IsNoneAt, path_at};
 ghost use Rattle.relative_path_moves.specs.declared.place_index.PlaceIndex.{PlaceIndex};
-ghost use Rattle.relmove_plan.specs.Moves.{EachMove, move_of};
-ghost use Rattle.relmove_plan.specs.Refusals.{IsStepsRefusal};
+ghost use Rattle.relmove_checks.specs.Moves.{EachMove, move_of};
 ghost use Rattle.relmove_plan.specs.Steps.{AreAmong, DoesMove, LosesNothing, RemovesAt, RemovesMoved, ReplacesPage, ReplacesPages, OnlyTheseLeave, WritesPage, WritesPages, changed_paths, names_left, old_paths, rename_texts, with_carried, with_removed, with_text};
-ghost use Rattle.relmove_plan.specs.BetweenNames.{AreDrawn};
+ghost use Rattle.relmove_plan.specs.BetweenNames.{AreDrawn, IsStepsRefusal};
 ghost use Rattle.relmove_plan.specs.NewFiles.{AreFilesDrawn, DoNothingYet, LeaveFromEntries, LeaveOnce, LeavesToo, StaysThere};
 ghost use Rattle.relmove_plan.specs.Directories.{LeavesTo, LeaveToNames, moves_to_names};
 
 use crate::between::FreeNames;
 use crate::pages::ChangedPage;
-use crate::refusal::Refusal;
 use relative_path::RelativePath;
 use relative_path_links::{MovedSitePage, SitePage};
 use relative_path_moves::{NormalPath, PlaceIndex};
 use relmove_actions::{NewText, Rename};
+use relmove_checks::Refusal;
 use std::alloc::{AllocError, Global};
 
 // Returns a name in between for each move.

@@ -2,9 +2,9 @@
 use Rattle.std.proofs.Common.{ap, string_bytes}
 use Rattle.std.proofs.lemmas.Result.{IfOk-weaker}
 use Rattle.relative_path_moves.specs.Moves.{moves_of}
+use Rattle.relmove_checks.proofs.ForCallers.{length-moves_of, move_at-moves_of}
 use Rattle.relmove_plan.specs.Directories.{IsLeftByMove}
 use Rattle.relmove_plan.proofs.DirectoriesLemmas.{All-reverse}
-use Rattle.relmove_plan.proofs.MovesLemmas.{length-moves_of, move_at-moves_of}
 use Rattle.relmove_plan.proofs.directories.directories_emptied.Goals as goal
 
 pub loop-old-preserved : goal.loop-old-preserved

@@ -7,9 +7,9 @@ use Rattle.relative_path.specs.Normalizing.{IsNormalTextOf}
 use Rattle.relative_path.specs.Steps.{Step}
 use Rattle.relative_path_moves.specs.Moves.{move_at, moves_of}
 use Rattle.relative_path_moves.specs.PlaceIndex.{IsNoneAt}
+use Rattle.relmove_checks.proofs.ForCallers.{length-moves_of, move_at-moves_of}
 use Rattle.relmove_plan.specs.Directories.{HaveTextOf, IsAbove, IsTakenTo}
 use Rattle.relmove_plan.proofs.DirectoriesLemmas.{AllZip-IsTakenTo-next, AreMissing-ordered, HasDirectory-normal, HaveTextOf-more, IsTakenTo-here}
-use Rattle.relmove_plan.proofs.MovesLemmas.{length-moves_of, move_at-moves_of}
 use borrow.Author.Count.{below_more}
 use Rattle.relmove_plan.proofs.directories.directories_to_make.Goals as goal
 

@@ -3,7 +3,7 @@ use Rattle.std.proofs.Common.{sym, ap, subst, string_bytes, ◌∙◌}
 use Rattle.std.proofs.lemmas.Result.{on_ok_weaker}
 use Rattle.relative_path.specs.Normalizing.{IsNormalTextOf}
 use Rattle.relative_path.specs.RelativePath.{path_components}
-use Rattle.relmove_plan.specs.Moves.{move_of}
+use Rattle.relmove_checks.specs.Moves.{move_of}
 use Rattle.relmove_plan.specs.Steps.{AreAmong, DoesMove, LosesNothing, OnlyTheseLeave, StepTexts, of_move, names_left, rename_texts}
 use Rattle.relmove_plan.specs.NewFiles.{LeaveOnce}
 use Rattle.relmove_plan.proofs.StepsLemmas.{LosesNothing-with_carried, LosesNothing-with_removed, names_left-push}

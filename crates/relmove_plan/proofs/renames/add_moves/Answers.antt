@@ -2,9 +2,9 @@
 use Rattle.std.proofs.Common.{◌<◌, ◌+◌, [], Global, get_or, length, map, take, string_bytes, subst, sym, ◌∙◌, arith}
 use Rattle.std.proofs.lemmas.List.{length-map}
 use Rattle.relative_path_moves.specs.Moves.{Move, moves_of, move_at}
+use Rattle.relmove_checks.proofs.ForCallers.{EachMove-next, length-moves_of, move_at-moves_of}
 use Rattle.relmove_plan.specs.NewFiles.{StaysThere}
 use Rattle.relmove_plan.specs.Steps.{DoesMove, names_left, rename_texts}
-use Rattle.relmove_plan.proofs.MovesLemmas.{EachMove-next, length-moves_of, move_at-moves_of}
 use Rattle.relmove_plan.proofs.CarryLemmas.{DoesMove-among}
 use Rattle.relmove_plan.proofs.NamesLemmas.{names_left-all, names_left-next}
 use Rattle.relmove_plan.proofs.OnceLemmas.{OnlyTheseLeave-more_moves, StaysThere-move, count_more, move_at-take_more}

@@ -4,7 +4,7 @@ use Rattle.relative_path.specs.Steps.{Step}
 use Rattle.relative_path_moves.specs.Moves.{Move}
 use Rattle.relative_path_moves.specs.PlaceIndex.{Indexes}
 use Rattle.relative_path_moves.specs.declared.place_index.PlaceIndex.{PlaceIndex}
-use Rattle.relmove_plan.specs.Moves.{EachMove}
+use Rattle.relmove_checks.specs.Moves.{EachMove}
 use Rattle.relmove_plan.specs.Steps.{AreAmong, DoesMove, LosesNothing, OnlyTheseLeave, RemovesAt, ReplacesPages, WritesPages, changed_paths, names_left, old_paths, rename_texts}
 use Rattle.relmove_plan.specs.BetweenNames.{AreDrawn}
 use Rattle.relmove_plan.specs.NewFiles.{AreFilesDrawn, LeaveFromEntries, LeaveOnce}

@@ -5,9 +5,9 @@ use Rattle.std.proofs.lemmas.Slice.Zip.{zip_end, zip_turn}
 use Rattle.std.specs.Iterator.Adapters.{zip_first, zip_second}
 use Rattle.std.specs.Slice.Iter.{iter_rest}
 use Rattle.relative_path_moves.specs.Moves.{moves_of}
+use Rattle.relmove_checks.proofs.ForCallers.{length-moves_of}
 use Rattle.relmove_plan.specs.Directories.{moves_to_names}
 use Rattle.relmove_plan.proofs.DirectoriesLemmas.{length-moves_to_names, moves_to_names-next}
-use Rattle.relmove_plan.proofs.MovesLemmas.{length-moves_of}
 use Rattle.relmove_plan.proofs.renames.news_between.Goals as goal
 
 pub loop-new-preserved : goal.loop-new-preserved
