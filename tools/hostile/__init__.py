@@ -38,6 +38,7 @@ ROWS = [
     pages.edits_after_a_kill_stay,
     pages.edits_while_it_works_stay,
     disks.power_may_go,
+    disks.power_may_go_from_a_directory,
     disks.power_may_go_on_ext4,
     odd_files.emptied_directories_may_stay,
     own_files.own_names_do_not_move,

@@ -11,19 +11,32 @@ from hostile.bench import MOVE, PAIR, PAIR_MOVED, has_only, mounted, need_root, 
 from journals import stage_of
 from trees import tree_of, write_site
 
+# The files before moves, what moves, and the files afterwards.
+PAIR_MOVES = PAIR, MOVE[2:], PAIR_MOVED
+
+# The same for a file that leaves a directory for another one.
+LEAVING_MOVES = {"img/x.png": "x\n", "y.md": "y\n"}, ["img/x.png", "pic/x.png"], {"pic/x.png": "x\n", "y.md": "y\n"}
+
+
 def power_may_go(at):
     """8: After a loss of power on btrfs, at each call and after the end, --resume and --undo end the run."""
     need_tool("mkfs.btrfs")
-    yield from lose_power(at, ["mkfs.btrfs", "-q"], "btrfs")
+    yield from lose_power(at, ["mkfs.btrfs", "-q"], "btrfs", PAIR_MOVES)
+
+
+def power_may_go_from_a_directory(at):
+    """8: The same on btrfs, where a file leaves a directory that isn't ROOT: it keeps no second name."""
+    need_tool("mkfs.btrfs")
+    yield from lose_power(at, ["mkfs.btrfs", "-q"], "btrfs", LEAVING_MOVES)
 
 
 def power_may_go_on_ext4(at):
     """8: The same on ext4."""
     need_tool("mkfs.ext4")
-    yield from lose_power(at, ["mkfs.ext4", "-q"], "ext4")
+    yield from lose_power(at, ["mkfs.ext4", "-q"], "ext4", PAIR_MOVES)
 
 
-def lose_power(at, make, kind):
+def lose_power(at, make, kind, moves):
     """Copies the image of a file system while a run in it is held at each of its calls, and ends the run in each copy."""
     need_root()
     image, place = at.folder / "image", at.folder / "mounted"
@@ -31,9 +44,10 @@ def lose_power(at, make, kind):
     with open(image, "wb") as file:
         file.truncate(128 << 20)
     subprocess.run([*make, str(image)], check=True, capture_output=True)
-    words = ["--write", str(top), *MOVE[2:]]
+    files, moved = moves[:2]
+    words = ["--write", str(top), *moved]
     with mounted(place, "-o", "loop", "-t", kind, str(image)):
-        write_site(top, as_bytes(PAIR))
+        write_site(top, as_bytes(files))
         os.sync()
         call = at.caller.start(words, "held-after", "1..")
         while call.is_held():
@@ -44,7 +58,7 @@ def lose_power(at, make, kind):
     if ended.status != 0:
         yield told(ended)
     for copy, what in copies:
-        yield from (f"power lost after {what}: {it}" for it in ends_after_loss(at, copy, kind))
+        yield from (f"power lost after {what}: {it}" for it in ends_after_loss(at, copy, kind, moves))
         os.unlink(copy)
     image.unlink()
 
@@ -56,7 +70,7 @@ def copy_image(image, what):
     return copy, what
 
 
-def ends_after_loss(at, copy, kind):
+def ends_after_loss(at, copy, kind, moves):
     """The faults of the ends of a run in a copy of an image."""
     for word in ("--resume", "--undo"):
         tried = f"{copy}-{word}"
@@ -68,7 +82,7 @@ def ends_after_loss(at, copy, kind):
             if stage_of(top) == "cleaning" and word == "--undo":
                 done = at.caller.run(["--resume", str(top)])
             texts = {path: content.decode(errors="replace") for path, (_, content) in tree_of(top).items() if content is not None}
-            yield from (f"{word}: {it}; {told(done)}" for it in has_only(texts, PAIR, PAIR_MOVED))
+            yield from (f"{word}: {it}; {told(done)}" for it in has_only(texts, moves[0], moves[2]))
         os.unlink(tried)
 
 

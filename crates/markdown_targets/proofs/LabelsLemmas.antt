@@ -105,7 +105,8 @@ pub no_gap : (items : List ℕ) (apart : Bool) (low : ℕ) → gap (not (length 
 no_gap items apart low none =
     ap (λ l. l ++ (low ∷ [])) (sym (append-nil items)) ∙ ap (λ l. items ++ l ++ (low ∷ [])) (sym none)
 
-pub with_gap : (len n : ℕ) (apart : Bool) → len ≡ n → apart ≡ true → (len == 0) ≡ false → gap (not (n == 0)) apart ≡ 32 ∷ []
+pub with_gap : (len n : ℕ) (apart : Bool) → len ≡ n → apart ≡ true → (len == 0) ≡ false
+    → gap (not (n == 0)) apart ≡ 32 ∷ []
 with_gap len n apart counted is some =
     ap₂ (λ t a. gap (not t) a) (ap (λ m. m == 0) (sym counted) ∙ some) is
 

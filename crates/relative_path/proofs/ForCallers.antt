@@ -135,7 +135,8 @@ IsShortestText-same from to way = relating.IsShortestText-same _ _ _ _ _ (IsSame
 
 -- from names to names that begin with the same front, and then with different names: the shortest way is `..` for each
 -- name after the front, and then the other names after it
-pub IsShortest-apart : (front ms ns : List (List ℕ)) → ((n : List ℕ) (ms' ns' : List (List ℕ)) → ms ≡ n ∷ ms' → ns ≡ n ∷ ns' → ⊥)
+pub IsShortest-apart : (front ms ns : List (List ℕ))
+    → ((n : List ℕ) (ms' ns' : List (List ℕ)) → ms ≡ n ∷ ms' → ns ≡ n ∷ ns' → ⊥)
     → IsShortest (map name (front ++ ms)) (replicate (length ms) up ++ map name ns) (map name (front ++ ns))
 IsShortest-apart = relating.IsShortest-apart
 

@@ -385,7 +385,8 @@ IsShortest-common ups ms ns =
     subst (λ r. IsShortest (ups_then_names ups ms) r (ups_then_names ups ns)) (way-common ms ns) (IsShortest-level ups ms ns)
 
 -- from names to names that begin with the same front, and then with different names
-pub IsShortest-apart : (front ms ns : List (List ℕ)) → ((n : List ℕ) (ms' ns' : List (List ℕ)) → ms ≡ n ∷ ms' → ns ≡ n ∷ ns' → ⊥)
+pub IsShortest-apart : (front ms ns : List (List ℕ))
+    → ((n : List ℕ) (ms' ns' : List (List ℕ)) → ms ≡ n ∷ ms' → ns ≡ n ∷ ns' → ⊥)
     → IsShortest (map name (front ++ ms)) (replicate (length ms) up ++ map name ns) (map name (front ++ ns))
 IsShortest-apart front ms ns apart =
     subst (λ r. IsShortest (map name (front ++ ms)) r (map name (front ++ ns)))

@@ -111,7 +111,8 @@ pub SpellThemselves-ups : (n : ℕ) → SpellThemselves (replicate n up)
 SpellThemselves-ups zero = tt
 SpellThemselves-ups (suc n) = (SpellsItself-up, SpellThemselves-ups n)
 
-pub SpellThemselves-names : (names : List (List ℕ)) → AllByRecursion (λ n. SpellsItself (name n)) names → SpellThemselves (map name names)
+pub SpellThemselves-names : (names : List (List ℕ)) → AllByRecursion (λ n. SpellsItself (name n)) names
+    → SpellThemselves (map name names)
 SpellThemselves-names [] proper = tt
 SpellThemselves-names (n ∷ ns) proper = (proper.0, SpellThemselves-names ns proper.1)
 

@@ -77,8 +77,8 @@ moved_to moves page now = record { moves = moves; before = directory page; after
 
 -- P holds of a page: of its text, its targets, its new text and its unchanged targets, as it moves from its path to its
 -- new path
-abbrev pub ForMovedPage : (Moving → List ℕ → List Target → List ℕ → List (ℕ × Unchanged) → Type 0) → List Move → SitePage
-    → MovedSitePage → Type 0
+abbrev pub ForMovedPage : (Moving → List ℕ → List Target → List ℕ → List (ℕ × Unchanged) → Type 0) → List Move
+    → SitePage → MovedSitePage → Type 0
 ForMovedPage P moves page new = AtTreePath moves (path_components page.path) (λ now. IsNormalTextOf now new.path
     × P (moved_to moves (path_components page.path) now) page.text.now page.targets.now (string_bytes new.page.text)
     new.page.unchanged.items)

@@ -430,8 +430,8 @@ StaysBelow-refl cs ds same = StaysBelow-names cs ds [] (rw (append-nil cs) (IsSa
 
 -- a path that collides with another is one of a pair
 IsOfPair-found : (paths : List (List Step)) (index : PlaceIndex)
-    → ((k : ℕ) → k < length paths → (text : List ℕ) × IsNormalTextOf (path_at paths k) text) → Indexes paths index → (a : ℕ)
-    → CollidesWithAnother paths a → IsOfPair paths (length paths) a
+    → ((k : ℕ) → k < length paths → (text : List ℕ) × IsNormalTextOf (path_at paths k) text) → Indexes paths index
+    → (a : ℕ) → CollidesWithAnother paths a → IsOfPair paths (length paths) a
 IsOfPair-found paths index textual indexes a is =
     let (text, normal) = textual a is.within in
     let (first, is_first) = first_of paths index a text indexes is.within normal in

@@ -13,6 +13,8 @@ pub enum Way {
     Killed,
     /// It does what it is to do, and every call after it fails.
     DoneAndKilled,
+    /// A question what is at a path says that nothing is there. Any other call does what it is to do.
+    NotThere,
 }
 
 /// Whether a call that is done says so.
@@ -20,13 +22,15 @@ pub enum Way {
 pub(crate) enum Turn {
     Succeeds,
     Fails,
+    // A question says that nothing is there.
+    Hides,
 }
 
 impl Turn {
     /// Fails if the call that is done has to say that it failed.
     pub fn end(self) -> io::Result<()> {
         match self {
-            Turn::Succeeds => Ok(()),
+            Turn::Succeeds | Turn::Hides => Ok(()),
             Turn::Fails => Err(io::Error::from(ErrorKind::Other)),
         }
     }
@@ -91,6 +95,8 @@ impl Calls {
             Way::Killed => Err(io::Error::from(ErrorKind::Other)),
             Way::DoneAndKilled if is_first => Ok(Turn::Fails),
             Way::DoneAndKilled => Err(io::Error::from(ErrorKind::Other)),
+            Way::NotThere if is_first => Ok(Turn::Hides),
+            Way::NotThere => Ok(Turn::Succeeds),
         }
     }
 }

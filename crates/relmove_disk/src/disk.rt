@@ -6,12 +6,23 @@ use std::alloc::{AllocError, Global};
 use std::cell::{Cell, RefCell};
 use std::io::{self, ErrorKind};
 
-// What another process puts somewhere, and before which call.
+// What another process does at a path.
+#[derive(Drop)]
+enum Deed {
+    // It puts something there. A file that is there stays the same file.
+    Put(Content),
+    // It removes what is there.
+    Removed,
+    // It removes what is there, and puts something else there.
+    Replaced(Content),
+}
+
+// What another process does, and before which call.
 #[derive(Drop)]
 struct Surprise {
     number: u32,
     path: String,
-    content: Content,
+    deed: Deed,
 }
 
 /// A disk, and the process that works on it: its user and group, 1000 at first, the number of its calls, and those that
@@ -22,13 +33,18 @@ pub struct Disk {
     pub(crate) nodes: RefCell<Nodes>,
     calls: Calls,
     surprises: RefCell<Vec<Surprise>>,
+    // A path, and how often it was asked what is there.
+    asked_for: RefCell<String>,
+    asked: Cell<u32>,
     // How many bytes all files may have.
     size: Cell<u64>,
     // Whether the process may give a file to another user.
     pub(crate) gives_away: Cell<bool>,
-    // Whether a file can have a second name.
-    pub(crate) has_links: Cell<bool>,
-    // The permissions that a new file doesn't get.
+    // Why a file can't have a second name, if it can't.
+    pub(crate) no_links: Cell<Option<ErrorKind>>,
+    // Why a directory can't be synced, if it can't.
+    pub(crate) no_syncs: Cell<Option<ErrorKind>>,
+    // The permissions that a new file or directory doesn't get.
     mask: Cell<u32>,
     // Whether a process has the lock of a directory.
     pub(crate) is_locked: Cell<bool>,
@@ -46,9 +62,12 @@ impl Disk {
             nodes: RefCell::new(nodes),
             calls: Calls::new(),
             surprises: RefCell::new(Vec::new(alloc)),
+            asked_for: RefCell::new(String::new(alloc)),
+            asked: Cell::new(0),
             size: Cell::new(u64::MAX),
             gives_away: Cell::new(false),
-            has_links: Cell::new(true),
+            no_links: Cell::new(None),
+            no_syncs: Cell::new(None),
             mask: Cell::new(0),
             is_locked: Cell::new(false),
             time: Cell::new(0),
@@ -81,12 +100,23 @@ impl Disk {
 
     /// Puts something at a path, as [`Disk::add`] does, before the call of this number.
     pub fn add_before(&self, number: u32, path: &str, content: Content) -> io::Result<()> {
+        self.surprise_before(number, path, Deed::Put(content))
+    }
+
+    /// Removes a path and all below it, as [`Disk::remove`] does, before the call of this number.
+    pub fn remove_before(&self, number: u32, path: &str) -> io::Result<()> {
+        self.surprise_before(number, path, Deed::Removed)
+    }
+
+    /// Puts something else at a path, before the call of this number. What is there is removed, with all below it.
+    pub fn replace_before(&self, number: u32, path: &str, content: Content) -> io::Result<()> {
+        self.surprise_before(number, path, Deed::Replaced(content))
+    }
+
+    // Notes what another process does before the call of this number.
+    fn surprise_before(&self, number: u32, path: &str, deed: Deed) -> io::Result<()> {
         let path = String::from_str(self.alloc, path)?;
-        let surprise = Surprise {
-            number,
-            path,
-            content,
-        };
+        let surprise = Surprise { number, path, deed };
         match self.surprises.try_borrow_mut()?.push(surprise) {
             Ok(()) => Ok(()),
             Err(_) => Err(io::Error::from(AllocError)),
@@ -142,9 +172,11 @@ impl Disk {
         Ok(())
     }
 
-    /// From now on the process works as this user and group. The user 0 may do everything but give files away.
-    pub fn work_as(&self, user: u32, group: u32) -> io::Result<()> {
-        self.nodes.try_borrow_mut()?.process = Owner { user, group };
+    /// Gives a file a hole of so many bytes at its end. No process has memory for it.
+    pub fn add_hole(&self, path: &str, bytes: u64) -> io::Result<()> {
+        let mut nodes = self.nodes.try_borrow_mut()?;
+        let number = number_at(&nodes, path)?;
+        nodes.node_mut(number)?.hole = bytes;
         Ok(())
     }
 
@@ -153,12 +185,17 @@ impl Disk {
         self.gives_away.set(is_allowed);
     }
 
-    /// Says whether the process can give files second names.
-    pub fn allow_links(&self, is_allowed: bool) {
-        self.has_links.set(is_allowed);
+    /// From now on the process can't give a file a second name: that fails with this error.
+    pub fn refuse_links(&self, why: ErrorKind) {
+        self.no_links.set(Some(why));
     }
 
-    /// From now on a new file doesn't get these permissions.
+    /// From now on the process can't sync a directory: that fails with this error.
+    pub fn refuse_directory_syncs(&self, why: ErrorKind) {
+        self.no_syncs.set(Some(why));
+    }
+
+    /// From now on a new file or directory doesn't get these permissions.
     pub fn set_mask(&self, mask: u32) {
         self.mask.set(mask);
     }
@@ -190,6 +227,32 @@ impl Disk {
         self.calls.count()
     }
 
+    /// Whether the bytes of a file are on the disk, or a directory was synced itself.
+    pub fn is_synced(&self, path: &str) -> io::Result<bool> {
+        let nodes = self.nodes.try_borrow()?;
+        Ok(nodes.node(number_at(&nodes, path)?)?.is_synced)
+    }
+
+    /// From now on the disk counts how often it is asked what is at a path.
+    pub fn count_questions(&self, path: &str) -> io::Result<()> {
+        *self.asked_for.try_borrow_mut()? = String::from_str(self.alloc, path)?;
+        self.asked.set(0);
+        Ok(())
+    }
+
+    /// How often it was asked what is at that path.
+    pub fn questions(&self) -> u32 {
+        self.asked.get()
+    }
+
+    // Notes a question what is at a path.
+    pub(crate) fn note_question(&self, path: &str) -> io::Result<()> {
+        if self.asked_for.try_borrow()?.as_str() == path {
+            self.asked.set(self.asked.get().saturating_add(1));
+        }
+        Ok(())
+    }
+
     /// How many changes of names aren't on the disk yet.
     pub fn unsynced(&self) -> io::Result<usize> {
         Ok(self.nodes.try_borrow()?.unsynced())
@@ -200,6 +263,13 @@ impl Disk {
     pub fn lose_power(&self, kept: usize) -> io::Result<()> {
         self.is_locked.set(false);
         self.nodes.try_borrow_mut()?.lose_power(kept)
+    }
+
+    /// Turns the power off and on, as [`Disk::lose_power`] does. But of a file whose rename is on the disk in its new
+    /// directory alone, both names stay. Returns whether a file has both names.
+    pub fn lose_power_and_keep_names(&self, kept: usize) -> io::Result<bool> {
+        self.is_locked.set(false);
+        self.nodes.try_borrow_mut()?.lose_power_and_keep_names(kept)
     }
 
     /// Whether exactly this was printed on standard error.
@@ -286,10 +356,22 @@ impl Disk {
             }
         };
         if let Some(surprise) = surprise {
-            let Surprise { path, content, .. } = surprise;
-            self.add(path.as_str(), content)?;
+            let Surprise { path, deed, .. } = surprise;
+            self.happen(path.as_str(), deed)?;
         }
         turn
+    }
+
+    // Does what another process does at a path.
+    fn happen(&self, path: &str, deed: Deed) -> io::Result<()> {
+        match deed {
+            Deed::Put(content) => self.add(path, content),
+            Deed::Removed => self.remove(path),
+            Deed::Replaced(content) => {
+                self.remove(path)?;
+                self.add(path, content)
+            }
+        }
     }
 
     // Fails unless so many more bytes have room.
@@ -307,6 +389,13 @@ impl Disk {
         let content = Content::File(Vec::new(self.alloc));
         let mode = mode & !self.mask.get();
         self.nodes.try_borrow_mut()?.make(path, content, mode)
+    }
+
+    // Makes a directory where nothing is. Returns its permissions too.
+    pub(crate) fn make_directory(&self, path: &str) -> io::Result<(usize, u32)> {
+        let mode = 0o755 & !self.mask.get();
+        let mut nodes = self.nodes.try_borrow_mut()?;
+        Ok((nodes.make(path, Content::Directory, mode)?, mode))
     }
 
     // Adds bytes to a file.

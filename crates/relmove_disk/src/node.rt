@@ -37,7 +37,9 @@ pub(crate) struct Node {
     pub mode: u32,
     pub owner: Owner,
     pub device: u64,
-    /// Whether all its bytes are on the disk.
+    /// How many bytes of a file come after those that it holds, and take no room on the disk.
+    pub hole: u64,
+    /// Whether all its bytes are on the disk. Of a directory: whether it was synced itself.
     pub is_synced: bool,
 }
 
@@ -55,7 +57,7 @@ impl Node {
         }
     }
 
-    /// How many bytes it has.
+    /// How many bytes it has, without its hole.
     pub fn length(&self) -> u64 {
         match &self.content {
             Content::File(bytes) => bytes.len() as u64,
@@ -63,7 +65,7 @@ impl Node {
         }
     }
 
-    /// Fails unless a process of this owner has a permission here. The user 0 has each one.
+    /// Fails unless a process of this owner has a permission here.
     pub fn need_permission(&self, process: Owner, permission: u32) -> io::Result<()> {
         let shift = if self.owner.user == process.user {
             6
@@ -72,7 +74,7 @@ impl Node {
         } else {
             0
         };
-        if process.user == 0 || (self.mode >> shift) & permission == permission {
+        if (self.mode >> shift) & permission == permission {
             return Ok(());
         }
         Err(io::Error::from(ErrorKind::PermissionDenied))

@@ -1,6 +1,7 @@
 //! What is on a disk: nodes, and the names that lead to them.
 use crate::changes::{Change, Changes};
 use crate::node::{Content, Node, Owner, READ, SEARCH, WRITE};
+use relmove_run::{directory_of, join, name_of};
 use std::alloc::{AllocError, Global};
 use std::io::{self, ErrorKind};
 
@@ -146,6 +147,9 @@ impl Nodes {
     /// The names in a directory.
     pub fn names_in(&self, directory: &str) -> io::Result<Vec<String>> {
         let node = self.node(self.need_number(directory)?)?;
+        if !node.is_directory() {
+            return Err(io::Error::from(ErrorKind::NotADirectory));
+        }
         node.need_permission(self.process, READ)?;
         let mut names = Vec::new(self.alloc);
         for name in &self.names {
@@ -191,6 +195,7 @@ impl Nodes {
             mode,
             owner: self.process,
             device,
+            hole: 0,
             is_synced: false,
         };
         if self.nodes.push(node).is_err() {
@@ -272,14 +277,17 @@ impl Nodes {
             .retain(|name| !is_at_or_below(name.path.as_str(), path));
     }
 
-    /// Puts the changes of the names in a directory on the disk.
+    /// Puts the changes of the names in a directory on the disk. A FIFO would make the call wait: here it fails.
     pub fn sync_directory(&mut self, path: &str) -> io::Result<()> {
         let number = self.need_number(path)?;
         let node = self.node(number)?;
-        if !node.is_directory() {
-            return Err(io::Error::from(ErrorKind::NotADirectory));
+        match &node.content {
+            Content::Directory => {}
+            Content::Other => return Err(io::Error::from(ErrorKind::TimedOut)),
+            _ => return Err(io::Error::from(ErrorKind::NotADirectory)),
         }
         node.need_permission(self.process, READ)?;
+        self.node_mut(number)?.is_synced = true;
         self.changes.sync(number);
         Ok(())
     }
@@ -302,7 +310,7 @@ impl Nodes {
     pub fn lose_power(&mut self, kept: usize) -> io::Result<()> {
         let lost = self.changes.len().saturating_sub(kept);
         for _ in 0..lost {
-            if let Some(change) = self.changes.pop() {
+            if let Some((change, _)) = self.changes.pop() {
                 self.take_back(&change)?;
             }
         }
@@ -315,6 +323,47 @@ impl Nodes {
         }
         self.sync_all();
         Ok(())
+    }
+
+    /// Does what [`Nodes::lose_power`] does, but of a file whose rename is on the disk in its new directory alone, both
+    /// names stay. Returns whether a file has both names.
+    pub fn lose_power_and_keep_names(&mut self, kept: usize) -> io::Result<bool> {
+        let mut has_both = false;
+        let lost = self.changes.len().saturating_sub(kept);
+        for _ in 0..lost {
+            if let Some((change, half)) = self.changes.pop() {
+                if self.keep_both_names(&change, half)? {
+                    has_both = true;
+                } else {
+                    self.take_back(&change)?;
+                }
+            }
+        }
+        self.lose_power(self.changes.len())?;
+        Ok(has_both)
+    }
+
+    // Gives a file that was renamed its old name too, in the directory in which that name was, wherever that is now.
+    fn keep_both_names(&mut self, change: &Change, half: Option<usize>) -> io::Result<bool> {
+        let (Change::Renamed(from, to, None), Some(directory)) = (change, half) else {
+            return Ok(false);
+        };
+        let (Some(number), Some(directory)) = (self.number_at(to.as_str()), self.path_of(directory))
+        else {
+            return Ok(false);
+        };
+        let path = join(self.alloc, directory, name_of(from.as_str()))?;
+        if self.node(number)?.is_directory() || self.number_at(path.as_str()).is_some() {
+            return Ok(false);
+        }
+        self.add_name(path.as_str(), number)?;
+        Ok(true)
+    }
+
+    // A path of a node.
+    fn path_of(&self, number: usize) -> Option<&str> {
+        let name = self.names.iter().find(|name| name.node == number)?;
+        Some(name.path.as_str())
     }
 
     // Takes back a change of a name.
@@ -417,32 +466,6 @@ impl Nodes {
 // The error that nothing is there.
 fn absence() -> io::Error {
     io::Error::from(ErrorKind::NotFound)
-}
-
-// The path of a name in a directory.
-fn join(alloc: Global, directory: &str, name: &str) -> Result<String, AllocError> {
-    let mut path = String::from_str(alloc, directory)?;
-    if !directory.is_empty() {
-        path.push('/')?;
-    }
-    path.push_str(name)?;
-    Ok(path)
-}
-
-// The directory in which a path is.
-fn directory_of(path: &str) -> &str {
-    match path.rsplit_once('/') {
-        Some((directory, _)) => directory,
-        None => "",
-    }
-}
-
-// The last name of a path.
-fn name_of(path: &str) -> &str {
-    match path.rsplit_once('/') {
-        Some((_, name)) => name,
-        None => path,
-    }
 }
 
 // Whether a path is directly in a directory.

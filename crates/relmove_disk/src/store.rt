@@ -1,14 +1,21 @@
 //! A disk as the files of a run.
+use crate::calls::Turn;
 use crate::disk::Disk;
-use crate::files::DiskMachine;
+use crate::machine::DiskMachine;
 use crate::node::{Content, Node, Owner, READ};
-use relmove_run::{Found, FoundKind, Machine, Store};
+use relmove_run::{Found, FoundKind, Machine, Names, Store, is_absence, join};
 use std::alloc::{AllocError, Global};
 use std::io::{self, ErrorKind};
 use std::time::{Duration, SystemTime};
 
 // The most bytes that one call writes.
 const MOST_WRITTEN: usize = 9;
+
+// What the owner of a directory may do there.
+const OWNER_PERMISSIONS: u32 = 0o700;
+
+// A name, or a path in a symbolic link, that stands for one that isn't UTF-8.
+const NOT_UTF_8: &str = "NOT-UTF-8";
 
 // When everything on a disk was written, in seconds since 1970.
 const WRITTEN: u64 = 1_000_000_000;
@@ -50,12 +57,30 @@ impl<'a> DiskStore<'a> {
 
     // The name at a path below the root. The root itself may be a symbolic link.
     fn resolve(&self, path: &str) -> io::Result<String> {
+        self.resolve_to(path, path.is_empty())
+    }
+
+    // The name at a path below the root, also without the symbolic link at its end if `follows`.
+    fn resolve_to(&self, path: &str, follows: bool) -> io::Result<String> {
+        let full = join(self.disk.alloc, self.root.as_str(), path)?;
         let nodes = self.disk.nodes.try_borrow()?;
-        if path.is_empty() {
-            return nodes.resolve(self.root.as_str(), true);
+        nodes.resolve(full.as_str(), follows)
+    }
+
+    // What is at a path, also where the symbolic link at its end leads if `follows`.
+    fn found_at(&self, path: &str, follows: bool) -> io::Result<Option<Found>> {
+        let number = match self.resolve_to(path, follows) {
+            Ok(path) => {
+                self.disk.note_question(path.as_str())?;
+                self.disk.nodes.try_borrow()?.number_at(path.as_str())
+            }
+            Err(error) if is_absence(error.kind()) => None,
+            Err(error) => return Err(error),
+        };
+        match number {
+            Some(number) => Ok(Some(self.found_of(number)?)),
+            None => Ok(None),
         }
-        let full = format!(in self.disk.alloc; "{}/{path}", self.root.as_str())?;
-        nodes.resolve(full.as_str(), false)
     }
 
     // What a node is.
@@ -67,7 +92,7 @@ impl<'a> DiskStore<'a> {
             device: node.device,
             inode: (number as u64).saturating_add(1),
             links: nodes.links(number),
-            length: node.length(),
+            length: node.length().saturating_add(node.hole),
             mode: node.mode,
             owner: node.owner.user,
             group: node.owner.group,
@@ -86,9 +111,14 @@ fn kind_of(node: &Node) -> FoundKind {
     }
 }
 
-// Whether an error says that nothing is at a path.
-fn is_absence(kind: ErrorKind) -> bool {
-    matches!(kind, ErrorKind::NotFound | ErrorKind::NotADirectory)
+// Returns the names in a directory, without the one that stands for a name that isn't UTF-8.
+fn names_of(mut texts: Vec<String>) -> Names {
+    let count = texts.len();
+    texts.retain(|name| name.as_str() != NOT_UTF_8);
+    Names {
+        has_other: texts.len() < count,
+        texts,
+    }
 }
 
 impl Store for DiskStore<'_> {
@@ -104,15 +134,41 @@ impl Store for DiskStore<'_> {
 
     fn find(&mut self, path: &str) -> io::Result<Option<Found>> {
         let turn = self.disk.turn()?;
+        if turn == Turn::Hides {
+            return Ok(None);
+        }
         turn.end()?;
-        let number = match self.resolve(path) {
-            Ok(path) => self.disk.nodes.try_borrow()?.number_at(path.as_str()),
-            Err(error) if is_absence(error.kind()) => None,
-            Err(error) => return Err(error),
+        self.found_at(path, path.is_empty())
+    }
+
+    fn follow(&mut self, path: &str) -> io::Result<Option<Found>> {
+        let turn = self.disk.turn()?;
+        turn.end()?;
+        self.found_at(path, true)
+    }
+
+    fn list(&mut self, path: &str) -> io::Result<Names> {
+        let turn = self.disk.turn()?;
+        turn.end()?;
+        let path = self.resolve(path)?;
+        let nodes = self.disk.nodes.try_borrow()?;
+        Ok(names_of(nodes.names_in(path.as_str())?))
+    }
+
+    fn read_link(&mut self, path: &str) -> io::Result<Option<String>> {
+        let turn = self.disk.turn()?;
+        turn.end()?;
+        let path = self.resolve(path)?;
+        let nodes = self.disk.nodes.try_borrow()?;
+        let Some(number) = nodes.number_at(path.as_str()) else {
+            return Err(io::Error::from(ErrorKind::NotFound));
         };
-        match number {
-            Some(number) => Ok(Some(self.found_of(number)?)),
-            None => Ok(None),
+        match &nodes.node(number)?.content {
+            Content::Symlink(target) if target.as_str() == NOT_UTF_8 => Ok(None),
+            Content::Symlink(target) => {
+                Ok(Some(String::from_str(self.disk.alloc, target.as_str())?))
+            }
+            _ => Err(io::Error::from(ErrorKind::InvalidInput)),
         }
     }
 
@@ -126,6 +182,7 @@ impl Store for DiskStore<'_> {
         };
         let node = nodes.node(number)?;
         match &node.content {
+            Content::File(_) if node.hole > 0 => Err(io::Error::from(ErrorKind::OutOfMemory)),
             Content::File(bytes) => {
                 node.need_permission(nodes.process, READ)?;
                 Ok(Vec::from_slice(self.disk.alloc, bytes.as_slice())?)
@@ -187,6 +244,9 @@ impl Store for DiskStore<'_> {
 
     fn sync_directory(&mut self, path: &str) -> io::Result<()> {
         let turn = self.disk.turn()?;
+        if let Some(why) = self.disk.no_syncs.get() {
+            return Err(io::Error::from(why));
+        }
         let path = self.resolve(path)?;
         self.disk
             .nodes
@@ -207,8 +267,8 @@ impl Store for DiskStore<'_> {
 
     fn link(&mut self, from: &str, to: &str) -> io::Result<()> {
         let turn = self.disk.turn()?;
-        if !self.disk.has_links.get() {
-            return Err(io::Error::from(ErrorKind::Unsupported));
+        if let Some(why) = self.disk.no_links.get() {
+            return Err(io::Error::from(why));
         }
         let (from, to) = (self.resolve(from)?, self.resolve(to)?);
         self.disk
@@ -221,11 +281,13 @@ impl Store for DiskStore<'_> {
     fn make_directory(&mut self, path: &str) -> io::Result<()> {
         let turn = self.disk.turn()?;
         let path = self.resolve(path)?;
-        let content = Content::Directory;
-        self.disk
-            .nodes
-            .try_borrow_mut()?
-            .make(path.as_str(), content, 0o755)?;
+        let (number, mode) = self.disk.make_directory(path.as_str())?;
+        turn.end()?;
+        if mode & OWNER_PERMISSIONS == OWNER_PERMISSIONS {
+            return Ok(());
+        }
+        let turn = self.disk.turn()?;
+        self.disk.nodes.try_borrow_mut()?.node_mut(number)?.mode = mode | OWNER_PERMISSIONS;
         turn.end()
     }
 

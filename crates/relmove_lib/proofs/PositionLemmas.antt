@@ -5,7 +5,8 @@ use Rattle.std.proofs.lemmas.List.{drop_more, get_or-drop, get_or-reverse, lengt
 use Rattle.std.proofs.lemmas.List.Sums.{fold-append, prefix_len_passes, prefix_len_stops, suffix_len_is, suffix_len-le-length, sum_by-append, sum_by-cons}
 use Rattle.std.proofs.lemmas.Simd.{chunk-drop}
 use Rattle.std.specs.List.{after_last, suffix_len}
-use Rattle.relmove_lib.specs.Position.{after_byte, is_first_byte, is_line_end, next, place_after}
+use Rattle.markdown_targets.specs.Classes.{begins_character}
+use Rattle.relmove_lib.specs.Position.{after_byte, is_line_end, next, place_after}
 use Rattle.relmove_lib.specs.declared.position.Position.{Position}
 
 count_by-cons : (p : ℕ → Bool) (x : ℕ) (xs : List ℕ) (t : Bool) → p x ≡ t
@@ -17,36 +18,36 @@ count_by-cons p x xs t is =
 pub place_after_no_line_end : (text : List ℕ) (here : Position) → here.column < 2 ^ 64
     → count_by is_line_end text ≡ 0
     → place_after here text
-    ≡ record { line = here.line; column = min (here.column + count_by is_first_byte text) (2 ^ 64 - 1) }
+    ≡ record { line = here.line; column = min (here.column + count_by begins_character text) (2 ^ 64 - 1) }
 place_after_no_line_end [] here fits none =
     let same : here.column ≡ min (here.column + 0) (2 ^ 64 - 1) = omega (arith, fits) in
     ap (λ n. record { line = here.line; column = n }) same
 place_after_no_line_end (b ∷ bs) here fits none =
-    of (is_line_end b) (is_first_byte b) refl refl (place_after_no_line_end bs) where
-      of : (ends first : Bool) → is_line_end b ≡ ends → is_first_byte b ≡ first
+    of (is_line_end b) (begins_character b) refl refl (place_after_no_line_end bs) where
+      of : (ends first : Bool) → is_line_end b ≡ ends → begins_character b ≡ first
           → ((there : Position) → there.column < 2 ^ 64 → count_by is_line_end bs ≡ 0
           → place_after there bs
-          ≡ record { line = there.line; column = min (there.column + count_by is_first_byte bs) (2 ^ 64 - 1) })
+          ≡ record { line = there.line; column = min (there.column + count_by begins_character bs) (2 ^ 64 - 1) })
           → place_after (cond ends (record { line = next here.line; column = 1 })
           (cond first (record { line = here.line; column = next here.column }) here)) bs
-          ≡ record { line = here.line; column = min (here.column + count_by is_first_byte (b ∷ bs)) (2 ^ 64 - 1) }
+          ≡ record { line = here.line; column = min (here.column + count_by begins_character (b ∷ bs)) (2 ^ 64 - 1) }
       of true first is _ _ = absurd (omega (arith, none, count_by-cons is_line_end b bs true is))
       of false true is first others =
           let rest : count_by is_line_end bs ≡ 0 = omega (arith, none, count_by-cons is_line_end b bs false is) in
           others (record { line = here.line; column = next here.column }) (omega (arith, fits)) rest
           ∙ ap (λ n. record { line = here.line; column = n })
-          (omega (arith, fits, count_by-cons is_first_byte b bs true first))
+          (omega (arith, fits, count_by-cons begins_character b bs true first))
       of false false is later others =
           let rest : count_by is_line_end bs ≡ 0 = omega (arith, none, count_by-cons is_line_end b bs false is) in
           others here fits rest
           ∙ ap (λ n. record { line = here.line; column = n })
-          (omega (arith, fits, count_by-cons is_first_byte b bs false later))
+          (omega (arith, fits, count_by-cons begins_character b bs false later))
 
 -- each line end adds a line
 line-place_after : (text : List ℕ) (here : Position) → here.line < 2 ^ 64
     → (place_after here text).line ≡ min (here.line + count_by is_line_end text) (2 ^ 64 - 1)
 line-place_after [] here fits = omega (arith, fits)
-line-place_after (b ∷ bs) here fits = of (is_line_end b) (is_first_byte b) refl (line-place_after bs) where
+line-place_after (b ∷ bs) here fits = of (is_line_end b) (begins_character b) refl (line-place_after bs) where
   of : (ends first : Bool) → is_line_end b ≡ ends
       → ((there : Position) → there.line < 2 ^ 64
       → (place_after there bs).line ≡ min (there.line + count_by is_line_end bs) (2 ^ 64 - 1))
@@ -124,7 +125,7 @@ pub place_after_line_ends : (text : List ℕ) (here : Position) → here.line < 
     → place_after here text
     ≡ record {
       line = min (here.line + count_by is_line_end text) (2 ^ 64 - 1);
-      column = min (count_by is_first_byte (after_last is_line_end text) + 1) (2 ^ 64 - 1);
+      column = min (count_by begins_character (after_last is_line_end text) + 1) (2 ^ 64 - 1);
     }
 place_after_line_ends text here fits some =
     let cut = cut_at_last is_line_end text some in

@@ -1,15 +1,12 @@
 -- Lines and columns of a text. Both begin at 1, columns count characters, and the greatest `usize` stays as it is.
-use Rattle.std.specs.Prelude.{ℕ, ◌+◌, ◌-◌, ◌^◌, min, Bool, ◌==◌, ◌||◌, nat_lt, nat_le, if◌then◌else◌, List}
+use Rattle.std.specs.Prelude.{ℕ, ◌+◌, ◌-◌, ◌^◌, min, Bool, ◌==◌, if◌then◌else◌, List}
 use Rattle.std.specs.List.{fold}
+use Rattle.markdown_targets.specs.Classes.{begins_character}
 use Rattle.relmove_lib.specs.declared.position.Position.{Position}
 
 -- the byte ends a line
 abbrev pub is_line_end : ℕ → Bool
 is_line_end byte = byte == 10
-
--- the byte is the first one of a character
-abbrev pub is_first_byte : ℕ → Bool
-is_first_byte byte = nat_lt byte 128 || nat_le 192 byte
 
 -- the number after this one
 abbrev pub next : ℕ → ℕ
@@ -23,7 +20,7 @@ first_place = record { line = 1; column = 1 }
 abbrev pub after_byte : Position → ℕ → Position
 after_byte here byte =
     if is_line_end byte then record { line = next here.line; column = 1 }
-    else if is_first_byte byte then record { line = here.line; column = next here.column }
+    else if begins_character byte then record { line = here.line; column = next here.column }
     else here
 
 -- the place after a text that begins here

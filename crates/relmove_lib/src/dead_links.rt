@@ -1,12 +1,11 @@
 //! Finds the links of pages that lead to nothing.
 use crate::position::{Position, Positions};
-use crate::root::Root;
 use crate::tree::{EntryKind, Page, Tree};
 use relative_path::RelativePath;
 use relative_path_links::{Target, targets};
-use relmove_run::Fault;
-use std::fs;
-use std::rt::Files;
+use relmove_run::{Fault, Store};
+use std::alloc::AllocError;
+use std::io::ErrorKind;
 use target_paths::{TargetReading, path_of_target};
 
 /// Why a link is dead.
@@ -45,28 +44,25 @@ pub struct DeadLink {
 ///
 /// What isn't in the tree is asked for: files in directories whose names begin with a dot, and what symbolic links lead
 /// to. Queries and fragments have no influence, and neither has a target whose meaning isn't known.
-pub fn dead_links_of<R: Files + AllocGlobal>(
-    root: &Root<'_, R>,
-    tree: &Tree,
-) -> Result<Vec<DeadLink>, Fault> {
-    let mut dead = Vec::new(root.runtime().alloc());
+pub fn dead_links_of<S: Store>(store: &mut S, tree: &Tree) -> Result<Vec<DeadLink>, Fault> {
+    let mut dead = Vec::new(store.alloc());
     for page in &tree.pages {
-        add_dead_links(root, tree, page, &mut dead)?;
+        add_dead_links(store, tree, page, &mut dead)?;
     }
     Ok(dead)
 }
 
 // Adds the dead links of a page.
-fn add_dead_links<R: Files + AllocGlobal>(
-    root: &Root<'_, R>,
+fn add_dead_links<S: Store>(
+    store: &mut S,
     tree: &Tree,
     page: &Page,
     dead: &mut Vec<DeadLink>,
 ) -> Result<(), Fault> {
-    let found = targets(root.runtime().alloc(), page.text.as_str())?;
+    let found = targets(store.alloc(), page.text.as_str())?;
     let mut positions = Positions::new(page.text.as_str());
     for target in &found {
-        if let Some(link) = dead_link(root, tree, page, *target, &mut positions)? {
+        if let Some(link) = dead_link(store, tree, page, *target, &mut positions)? {
             dead.push(link)?;
         }
     }
@@ -74,41 +70,37 @@ fn add_dead_links<R: Files + AllocGlobal>(
 }
 
 // The link of a target, if it is dead.
-fn dead_link<R: Files + AllocGlobal>(
-    root: &Root<'_, R>,
+fn dead_link<S: Store>(
+    store: &mut S,
     tree: &Tree,
     page: &Page,
     target: Target,
     positions: &mut Positions<'_>,
 ) -> Result<Option<DeadLink>, Fault> {
+    let alloc = store.alloc();
     let Some(written) = page.text.get(target.start..target.end) else {
         return Ok(None);
     };
-    let TargetReading::Path { path, .. } = path_of_target(
-        root.runtime().alloc(),
-        target.syntax,
-        written,
-    )?
-    else {
+    let TargetReading::Path { path, .. } = path_of_target(alloc, target.syntax, written)? else {
         return Ok(None);
     };
-    let Some(why) = why_dead(root, tree, page.path.as_str(), path.as_str())? else {
+    let Some(why) = why_dead(store, tree, page.path.as_str(), path.as_str())? else {
         return Ok(None);
     };
     let Some(position) = positions.at(target.start) else {
         return Ok(None);
     };
     Ok(Some(DeadLink {
-        page: root.copy(page.path.as_str())?,
+        page: String::from_str(alloc, page.path.as_str())?,
         position,
-        target: root.copy(written)?,
+        target: String::from_str(alloc, written)?,
         why,
     }))
 }
 
 // Why a link with this path is dead, if it is.
-fn why_dead<R: Files + AllocGlobal>(
-    root: &Root<'_, R>,
+fn why_dead<S: Store>(
+    store: &mut S,
     tree: &Tree,
     page: &str,
     path: &str,
@@ -116,7 +108,7 @@ fn why_dead<R: Files + AllocGlobal>(
     let directory = RelativePath::new(page)
         .parent()
         .unwrap_or(RelativePath::new(""));
-    let file = directory.join_normalized(root.runtime().alloc(), RelativePath::new(path))?;
+    let file = directory.join_normalized(store.alloc(), RelativePath::new(path))?;
     if file.as_relative_path().climb() > 0 {
         return Ok(Some(WhyDead::AboveRoot));
     }
@@ -124,8 +116,8 @@ fn why_dead<R: Files + AllocGlobal>(
     let is_there = match tree.entries.get(file) {
         Some(EntryKind::File | EntryKind::Other) => !is_of_directory(path),
         Some(EntryKind::Directory) => true,
-        Some(EntryKind::Link(_)) => leads_somewhere(root, file)?,
-        None => file.is_empty() || leads_somewhere(root, file)?,
+        Some(EntryKind::Link(_)) => leads_somewhere(store, file)?,
+        None => file.is_empty() || leads_somewhere(store, file)?,
     };
     Ok(if is_there {
         None
@@ -139,11 +131,11 @@ fn is_of_directory(path: &str) -> bool {
     path.ends_with('/') || path.ends_with("/.")
 }
 
-// Whether something is at a path, where symbolic links are followed.
-pub(crate) fn leads_somewhere<R: Files + AllocGlobal>(
-    root: &Root<'_, R>,
-    path: &str,
-) -> Result<bool, Fault> {
-    let full = root.full(path)?;
-    Ok(fs::metadata(root.runtime(), full.as_str()).is_ok())
+// Whether something is at a path, where symbolic links are followed. What can't be looked up isn't there.
+pub(crate) fn leads_somewhere<S: Store>(store: &mut S, path: &str) -> Result<bool, AllocError> {
+    match store.follow(path) {
+        Ok(found) => Ok(found.is_some()),
+        Err(error) if error.kind() == ErrorKind::OutOfMemory => Err(AllocError),
+        Err(_) => Ok(false),
+    }
 }

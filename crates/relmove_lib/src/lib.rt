@@ -1,5 +1,5 @@
-//! What the program `relmove` does: it moves files and directories below a root, and writes pages anew, so that no fault
-//! loses a byte. It also finds the links of pages that lead to nothing.
+//! What the program `relmove` does: it moves files and directories below a root, and writes pages anew. It also finds the
+//! links of pages that lead to nothing.
 //!
 //! A module uses modules of the layers below, and those to its left in its own layer.
 //!
@@ -8,7 +8,6 @@
 //! what is printed     report  summary
 //! whole pieces        dead_links  moving
 //! the work            tree
-//! files below ROOT    root
 //! what all share      position  arguments  progress
 //! ```
 #![tactic(auto)]
@@ -21,8 +20,7 @@ pub use self::moving::{
 pub use self::position::{Position, position_after};
 pub use self::program::{Status, answer};
 pub use self::progress::{Progress, StoreWithProgress, WithProgress};
-pub use self::root::Root;
-pub use self::tree::{EntryKind, Page, Tree, Unread, read_tree};
+pub use self::tree::{EntryKind, LONGEST_PAGE, Page, Tree, Unread, read_tree};
 
 mod arguments;
 mod dead_links;
@@ -31,6 +29,5 @@ mod position;
 mod program;
 mod progress;
 pub mod report;
-mod root;
 mod summary;
 mod tree;

@@ -1,20 +1,22 @@
 //! Plans moves in a tree that was read, and finds the links that the plan leaves or changes.
+ghost use Rattle.std.specs.Prelude.{IfOk, string_bytes};
 ghost use Rattle.relative_path_links.specs.Site.{HaveTargets};
-ghost use Rattle.std.specs.Prelude.{IsTrue};
+ghost use Rattle.relmove_lib.specs.Pages.{AreTargetsOf};
 
 use crate::dead_links::leads_somewhere;
 use crate::position::{Position, Positions};
-use crate::root::Root;
-use crate::tree::{EntryKind, Page, Tree};
+use crate::tree::{EntryKind, Page, Tree, cannot_read};
 use relative_path::RelativePath;
 use relative_path_links::{
     MovedSitePage, SitePage, Target, Unchanged, are_in_order, rewrite_links, targets,
 };
-use relative_path_moves::{MovedPage, TreeMoves};
+use relative_path_moves::{MoveTableError, MovedPage, TreeMoves};
 use relmove_plan::{Entry, Kind, Plan, Refusal, make_plan};
-use relmove_run::{Fault, LONGEST_PATH, need_short};
+use relmove_run::{
+    Call, Fault, FoundKind, LONGEST_PATH, Store, at, is_absence, join, name_of, need_short,
+};
 use std::alloc::{AllocError, AllocFailed, Global};
-use std::rt::Files;
+use std::io::ErrorKind;
 use target_paths::{TargetReading, path_of_target};
 
 /// Why moves are refused. Moves are numbered from 0.
@@ -51,6 +53,18 @@ impl From<Fault> for WhyRefused {
 impl From<Refusal> for WhyRefused {
     fn from(refusal: Refusal) -> WhyRefused {
         WhyRefused::Plan(refusal)
+    }
+}
+
+impl From<MoveTableError> for WhyRefused {
+    fn from(error: MoveTableError) -> WhyRefused {
+        match error {
+            MoveTableError::NoFileName(number) => WhyRefused::Plan(Refusal::NoFileName(number)),
+            MoveTableError::SameOld(first, second) => {
+                WhyRefused::Plan(Refusal::SameOld(first, second))
+            }
+            MoveTableError::OutOfMemory => WhyRefused::Fault(Fault::OutOfMemory),
+        }
     }
 }
 
@@ -96,39 +110,42 @@ pub struct Moving<'a> {
 /// Plans the moves of a tree: each OLD with its NEW. Nothing is changed. Fails with [`Fault::TooLong`] if something in the
 /// tree gets a path that is too long for the system.
 ///
-/// Asks the system only whether what the links that stay lead to is there. What is above the root isn't asked for.
-pub fn moving_of<'a, R: Files + AllocGlobal + Clone + Drop>(
-    root: &Root<'_, R>,
+/// Asks the system whether what the links that stay lead to is there, and for the names in directories that aren't read
+/// and get longer paths. What is above the root isn't asked for.
+pub fn moving_of<'a, S: Store>(
+    store: &mut S,
     tree: &'a Tree,
     moves: &[(&str, &str)],
     any_name: bool,
 ) -> Result<Moving<'a>, WhyRefused> {
-    let alloc = root.runtime().alloc();
+    let alloc = store.alloc();
     need_read_directories(alloc, moves)?;
     let pairs = pairs_of(alloc, moves)?;
     let found = found_targets(alloc, &tree.pages)?;
     let plan = plan_of(alloc, tree, &found, &pairs, any_name)?;
     need_directories(alloc, tree, moves)?;
-    need_short_paths(root, tree, &pairs)?;
-    let left = left_links(root, &tree.pages, &found, &plan.pages)?;
+    need_short_paths(store, tree, &pairs)?;
+    let left = left_links(store, &tree.pages, &found, &plan.pages)?;
     Ok(Moving { plan, left, found })
 }
 
 /// Returns the links that moves change: those of a plan that [`moving_of`] made of the same moves in the same tree.
 ///
-/// The plan has the new texts of the pages. This call writes each new target once more.
+/// The plan has the new texts of the pages. This call writes each new target once more. Of other moves, which no plan
+/// accepts, no link changes.
 pub fn changed_links_of<'a>(
     alloc: Global,
     tree: &'a Tree,
     moves: &[(&str, &str)],
     moving: &Moving<'_>,
 ) -> Result<Vec<ChangedLink<'a>>, AllocError> {
-    let pairs = pairs_of(alloc, moves)?;
-    // The plan has accepted the moves.
-    let Ok(table) = TreeMoves::new(alloc, &pairs) else {
-        return Err(AllocError);
-    };
     let mut changed = Vec::new(alloc);
+    let pairs = pairs_of(alloc, moves)?;
+    let table = match TreeMoves::new(alloc, &pairs) {
+        Ok(table) => table,
+        Err(MoveTableError::OutOfMemory) => return Err(AllocError),
+        Err(MoveTableError::NoFileName(_) | MoveTableError::SameOld(..)) => return Ok(changed),
+    };
     for change in &moving.plan.changed {
         if let (Some(page), Some(targets)) = (
             tree.pages.get(change.number),
@@ -186,21 +203,23 @@ fn need_directories(alloc: Global, tree: &Tree, moves: &[(&str, &str)]) -> Resul
 }
 
 // Fails if something in the tree gets a path that is too long, since a directory above it moves.
-fn need_short_paths<R: Files + AllocGlobal>(
-    root: &Root<'_, R>,
+fn need_short_paths<S: Store>(
+    store: &mut S,
     tree: &Tree,
     moves: &[(RelativePath<'_>, RelativePath<'_>)],
 ) -> Result<(), WhyRefused> {
-    let alloc = root.runtime().alloc();
-    // The plan has accepted the moves.
-    let Ok(table) = TreeMoves::new(alloc, moves) else {
-        return Err(WhyRefused::Fault(Fault::OutOfMemory));
-    };
-    let most = most_added(root.path(), moves);
-    for path in tree.entries.keys() {
+    let alloc = store.alloc();
+    let table = TreeMoves::new(alloc, moves)?;
+    let most = most_added(store.root(), moves);
+    for (path, kind) in &tree.entries {
+        let path = path.as_str();
         if path.len().saturating_add(most) > LONGEST_PATH {
-            let after = table.path_after(alloc, RelativePath::new(path.as_str()))?;
-            need_short(alloc, root.path(), after.as_relative_path().as_str())?;
+            let after = table.path_after(alloc, RelativePath::new(path))?;
+            need_short(alloc, store.root(), after.as_relative_path().as_str())?;
+        }
+        if *kind == EntryKind::Directory && has_dot_name(path) {
+            let after = table.path_after(alloc, RelativePath::new(path))?;
+            need_short_below(store, path, after.as_relative_path().as_str())?;
         }
     }
     Ok(())
@@ -215,6 +234,63 @@ fn most_added(root: &str, moves: &[(RelativePath<'_>, RelativePath<'_>)]) -> usi
     root.len().saturating_add(1).saturating_add(longest)
 }
 
+// Fails if something below a directory that isn't read gets a path that is too long, since the directory gets another
+// one. Asks for names and kinds alone. What can't be listed isn't asked for.
+fn need_short_below<S: Store>(store: &mut S, old: &str, new: &str) -> Result<(), Fault> {
+    if new.len() <= old.len() {
+        return Ok(());
+    }
+    let alloc = store.alloc();
+    let mut directories = Vec::new(alloc);
+    directories.push((String::from_str(alloc, old)?, String::from_str(alloc, new)?))?;
+    let mut next = 0;
+    while let Some((old, new)) = directories.get(next) {
+        let more = need_short_in(store, old.as_str(), new.as_str())?;
+        directories.extend(more)?;
+        next += 1;
+    }
+    Ok(())
+}
+
+// Fails if something in a directory gets a path that is too long. Returns the directories in it, each with its new path.
+fn need_short_in<S: Store>(
+    store: &mut S,
+    old: &str,
+    new: &str,
+) -> Result<Vec<(String, String)>, Fault> {
+    let alloc = store.alloc();
+    let mut directories = Vec::new(alloc);
+    let names = match store.list(old) {
+        Err(error) if cannot_ask(error.kind()) => return Ok(directories),
+        listed => at(alloc, Call::List, old, listed)?,
+    };
+    for name in &names.texts {
+        let new = join(alloc, new, name.as_str())?;
+        need_short(alloc, store.root(), new.as_str())?;
+        let old = join(alloc, old, name.as_str())?;
+        if is_directory_at(store, old.as_str())? {
+            directories.push((old, new))?;
+        }
+    }
+    Ok(directories)
+}
+
+// Whether a directory is at a path. What can't be looked up is none.
+fn is_directory_at<S: Store>(store: &mut S, path: &str) -> Result<bool, Fault> {
+    match store.find(path) {
+        Err(error) if cannot_ask(error.kind()) => Ok(false),
+        asked => match at(store.alloc(), Call::Ask, path, asked)? {
+            Some(found) => Ok(found.kind == FoundKind::Directory),
+            None => Ok(false),
+        },
+    }
+}
+
+// Whether an error says that something can't be read, or is gone.
+fn cannot_ask(kind: ErrorKind) -> bool {
+    cannot_read(kind) || is_absence(kind)
+}
+
 /// Whether a directory is at a path of a tree.
 pub fn is_directory(alloc: Global, tree: &Tree, path: &str) -> Result<bool, AllocError> {
     let normal = RelativePath::new("").join_normalized(alloc, RelativePath::new(path))?;
@@ -224,8 +300,10 @@ pub fn is_directory(alloc: Global, tree: &Tree, path: &str) -> Result<bool, Allo
     }
 }
 
-// The targets of each page.
-fn found_targets(alloc: Global, pages: &[Page]) -> Result<Vec<Vec<Target>>, AllocError> {
+// Returns the targets of each page.
+fn found_targets(alloc: Global, pages: &[Page]) -> Result<Vec<Vec<Target>>, AllocError>
+    ensures { IfOk result (λ found. AreTargetsOf (λ page. string_bytes page.text) pages.now found.items) }
+{
     let mut found = Vec::with_capacity(alloc, pages.len())?;
     for page in pages {
         found.push(targets(alloc, page.text.as_str())?)?;
@@ -240,13 +318,11 @@ fn plan_of(
     found: &[Vec<Target>],
     moves: &[(RelativePath<'_>, RelativePath<'_>)],
     any_name: bool,
-) -> Result<Plan, Refusal> {
+) -> Result<Plan, Refusal>
+    requires { AreTargetsOf (λ page. string_bytes page.text) tree.now.pages.items found.now }
+{
     let entries = entries_of(alloc, tree)?;
     let pages = site_pages(alloc, &tree.pages, found)?;
-    // The finder returns the targets in order.
-    if !have_targets(&pages) {
-        return Err(Refusal::OutOfMemory);
-    }
     let tree = relmove_plan::Tree {
         entries: &entries,
         pages: &pages,
@@ -261,7 +337,7 @@ fn entries_of<'a>(alloc: Global, tree: &'a Tree) -> Result<Vec<Entry<'a>>, Alloc
         let kind = match kind {
             EntryKind::File => Kind::File,
             EntryKind::Other => Kind::File,
-            EntryKind::Directory => directory_of(tree, path.as_str()),
+            EntryKind::Directory => directory_kind(tree, path.as_str()),
             EntryKind::Link(Some(target)) => link_of(target.as_str()),
             EntryKind::Link(None) => Kind::Link { target: None },
         };
@@ -272,10 +348,10 @@ fn entries_of<'a>(alloc: Global, tree: &'a Tree) -> Result<Vec<Entry<'a>>, Alloc
 }
 
 // Returns the directory at a path of a tree.
-fn directory_of<'a>(tree: &Tree, path: &str) -> Kind<'a> {
+fn directory_kind<'a>(tree: &Tree, path: &str) -> Kind<'a> {
     Kind::Directory {
         has_foreign_name: has_path(&tree.unreadable_names, path),
-        is_read: !file_name(path).starts_with('.') && !has_path(&tree.unlisted, path),
+        is_read: !has_dot_name(path) && !has_path(&tree.unlisted, path),
     }
 }
 
@@ -286,12 +362,9 @@ fn has_path(paths: &[String], path: &str) -> bool {
         .is_ok()
 }
 
-// Returns the last name of a path.
-fn file_name(path: &str) -> &str {
-    match path.rsplit_once('/') {
-        Some((_, name)) => name,
-        None => path,
-    }
+// Whether the name at the end of a path begins with a dot.
+fn has_dot_name(path: &str) -> bool {
+    name_of(path).starts_with('.')
 }
 
 // The symbolic link with this target.
@@ -305,52 +378,47 @@ fn link_of<'a>(target: &'a str) -> Kind<'a> {
     }
 }
 
-// The pages, as the plan takes them.
+// Returns the pages with their targets, as the plan takes them.
 fn site_pages<'a>(
     alloc: Global,
     pages: &'a [Page],
     found: &'a [Vec<Target>],
-) -> Result<Vec<SitePage<'a>>, AllocError> {
+) -> Result<Vec<SitePage<'a>>, AllocError>
+    requires { AreTargetsOf (λ page. string_bytes page.text) pages.now found.now }
+    ensures { IfOk result (λ site. HaveTargets site.items) }
+{
     let mut site = Vec::with_capacity(alloc, pages.len())?;
-    for (page, targets) in pages.iter().zip(found) {
+    let (mut pages, mut found) = (pages, found);
+    while let Some((page, other_pages)) = pages.split_first()
+        && let Some((targets, other_found)) = found.split_first()
+    {
         site.push(SitePage {
             path: RelativePath::new(page.path.as_str()),
             text: page.text.as_str(),
             targets: targets.as_slice(),
         })?;
+        (pages, found) = (other_pages, other_found);
     }
     Ok(site)
 }
 
-// Whether the targets of each page are in order.
-fn have_targets(pages: &[SitePage<'_>]) -> bool
-    ensures { IsTrue result → HaveTargets pages.now }
-{
-    for page in pages {
-        if !are_in_order(page.text, page.targets) {
-            return false;
-        }
-    }
-    true
-}
-
 // The links that stay, and no longer lead to their file, or may not.
-fn left_links<'a, R: Files + AllocGlobal + Clone + Drop>(
-    root: &Root<'_, R>,
+fn left_links<'a, S: Store>(
+    store: &mut S,
     pages: &'a [Page],
     found: &[Vec<Target>],
     news: &[MovedSitePage],
 ) -> Result<Vec<LeftLink<'a>>, Fault> {
-    let mut left = Vec::new(root.runtime().alloc());
+    let mut left = Vec::new(store.alloc());
     for ((page, targets), new) in pages.iter().zip(found).zip(news) {
-        add_left_links(root, page, targets, new, &mut left)?;
+        add_left_links(store, page, targets, new, &mut left)?;
     }
     Ok(left)
 }
 
 // Adds the links of a page that stay.
-fn add_left_links<'a, R: Files + AllocGlobal + Clone + Drop>(
-    root: &Root<'_, R>,
+fn add_left_links<'a, S: Store>(
+    store: &mut S,
     page: &'a Page,
     targets: &[Target],
     new: &MovedSitePage,
@@ -361,7 +429,7 @@ fn add_left_links<'a, R: Files + AllocGlobal + Clone + Drop>(
     let mut rest = targets.iter();
     for (start, why) in &new.page.unchanged {
         if let Some(target) = rest.find(|target| target.start == *start)
-            && let Some(link) = left_link(root, page, *target, *why, &mut positions)?
+            && let Some(link) = left_link(store, page, *target, *why, &mut positions)?
         {
             left.push(link)?;
         }
@@ -370,8 +438,8 @@ fn add_left_links<'a, R: Files + AllocGlobal + Clone + Drop>(
 }
 
 // The link of a target that stays.
-fn left_link<'a, R: Files + AllocGlobal + Clone + Drop>(
-    root: &Root<'_, R>,
+fn left_link<'a, S: Store>(
+    store: &mut S,
     page: &'a Page,
     target: Target,
     why: Unchanged,
@@ -380,7 +448,7 @@ fn left_link<'a, R: Files + AllocGlobal + Clone + Drop>(
     let Some((position, written)) = place_of(page, target, positions) else {
         return Ok(None);
     };
-    let leads = may_lead(root, page.path.as_str(), target, written)?;
+    let leads = may_lead(store, page.path.as_str(), target, written)?;
     Ok(Some(LeftLink {
         page: page.path.as_str(),
         position,
@@ -401,13 +469,13 @@ fn place_of<'a>(
 }
 
 // Whether a target of a page leads to a file, or may.
-fn may_lead<R: Files + AllocGlobal + Clone + Drop>(
-    root: &Root<'_, R>,
+fn may_lead<S: Store>(
+    store: &mut S,
     page: &str,
     target: Target,
     written: &str,
 ) -> Result<bool, Fault> {
-    let alloc = root.runtime().alloc();
+    let alloc = store.alloc();
     match path_of_target(alloc, target.syntax, written)? {
         TargetReading::NotRelative => Ok(false),
         TargetReading::Unknown(_) => Ok(true),
@@ -418,7 +486,7 @@ fn may_lead<R: Files + AllocGlobal + Clone + Drop>(
             let file = directory.join_normalized(alloc, RelativePath::new(path.as_str()))?;
             let file = file.as_relative_path();
             // What is above the root isn't looked at.
-            Ok(file.climb() > 0 || leads_somewhere(root, file.as_str())?)
+            Ok(file.climb() > 0 || leads_somewhere(store, file.as_str())?)
         }
     }
 }

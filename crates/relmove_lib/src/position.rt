@@ -1,7 +1,8 @@
 //! Lines and columns of a page.
 ghost use Rattle.std.specs.Prelude.{◌≡◌};
 ghost use Rattle.std.specs.List.{after_last, count_by};
-ghost use Rattle.relmove_lib.specs.Position.{is_line_end, is_first_byte, first_place, place_after};
+ghost use Rattle.markdown_targets.specs.Classes.{begins_character};
+ghost use Rattle.relmove_lib.specs.Position.{is_line_end, first_place, place_after};
 
 use std::simd::prelude::*;
 
@@ -125,14 +126,14 @@ fn last_line(text: &[u8]) -> &[u8]
 
 // How many characters a text has.
 fn character_count(text: &[u8]) -> usize
-    ensures { result ≡ count_by is_first_byte text.now }
+    ensures { result ≡ count_by begins_character text.now }
 {
-    text.iter().filter(|&&byte| is_first_byte(byte)).count()
+    text.iter().filter(|&&byte| begins_character(byte)).count()
 }
 
 // Whether a byte is the first one of a character.
-fn is_first_byte(byte: u8) -> bool
-    ensures { result ≡ is_first_byte byte }
+fn begins_character(byte: u8) -> bool
+    ensures { result ≡ begins_character byte }
 {
     byte < 128 || 192 <= byte
 }

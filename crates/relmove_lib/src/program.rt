@@ -4,16 +4,16 @@ use crate::dead_links::{DeadLink, dead_links_of};
 use crate::moving::{Moving, moving_of};
 use crate::report::{
     HELP, USAGE, print_changes, print_dead_link, print_dead_link_as_json, print_end,
+    print_remarks_as_json,
 };
-use crate::root::Root;
 use crate::summary::{
     Counts, counts_of, print_did, print_moving, print_moving_as_json, print_refused, print_would,
 };
-use crate::tree::{Tree, is_staging_name, read_tree};
+use crate::tree::{Tree, has_reserved_name, read_tree};
 use relmove_run::{
-    Call, Ended, Fault, Locked, Machine, PageText, Printable, Trust, Way, carry_out,
-    changes_to_end, fault_of, need_no_journal_near, need_no_own_files, need_possible, need_rest,
-    resume, undo,
+    Call, Ended, Fault, Locked, Machine, PageText, Printable, Remark, StoppedRun, Store, Trust,
+    Way, carry_out, fault_of, need_no_journal_below, need_no_journal_near, need_no_own_files,
+    need_possible, need_rest, resume, undo,
 };
 use std::alloc::{AllocError, Global};
 use std::io::{self, Write};
@@ -78,10 +78,8 @@ fn obey<R: Machine, O: Write, E: Write>(
             let outcome = write!(out, "{VERSION}");
             print_status(outcome, Status::Kept, out)
         }
-        Command::Check { root, json } => check(Root::new(runtime, root), json, out, errors),
-        Command::End { root, way, trust } => {
-            end_run(Root::new(runtime, root), way, trust, out, errors)
-        }
+        Command::Check { root, json } => check(runtime, root, json, out, errors),
+        Command::End { root, way, trust } => end_run(runtime, root, (way, trust), out, errors),
         Command::Move {
             root,
             moves,
@@ -94,7 +92,7 @@ fn obey<R: Machine, O: Write, E: Write>(
                 json,
                 any_name,
             };
-            move_below(Root::new(runtime, root), &moves, options, out, errors)
+            move_below(runtime, root, &moves, options, out, errors)
         }
     }
 }
@@ -109,20 +107,21 @@ struct MoveOptions {
 
 // Moves files below a root, or prints what would change.
 fn move_below<R: Machine, O: Write, E: Write>(
-    root: Root<'_, R>,
+    runtime: &R,
+    root: &str,
     moves: &[(&str, &str)],
     options: MoveOptions,
     out: &mut O,
     errors: &mut E,
 ) -> Status {
     let moved = if options.write {
-        move_and_write(&root, moves, options, out, errors)
+        move_and_write(runtime, root, moves, options, out, errors)
     } else {
-        move_and_print(&root, moves, options, out, errors)
+        move_and_print(runtime, root, moves, options, out, errors)
     };
     match moved {
         Ok(status) | Err(CallEnd::Status(status)) => status,
-        Err(CallEnd::Fault(fault)) => refuse(&root, &fault, errors),
+        Err(CallEnd::Fault(fault)) => refuse(root, &fault, errors),
     }
 }
 
@@ -149,16 +148,17 @@ impl From<AllocError> for CallEnd {
 
 // Prints what moves would change.
 fn move_and_print<R: Machine, O: Write, E: Write>(
-    root: &Root<'_, R>,
+    runtime: &R,
+    root: &str,
     moves: &[(&str, &str)],
     options: MoveOptions,
     out: &mut O,
     errors: &mut E,
 ) -> Result<Status, CallEnd> {
-    let mut store = root.runtime().store_at(root.path())?;
+    let mut store = runtime.store_at(root)?;
     need_rest(&mut store)?;
-    let tree = read_whole(root, &mut store, errors)?;
-    let (moving, counts, status) = plan(root, &tree, moves, options, out, errors)?;
+    let tree = read_whole(&mut store, errors)?;
+    let (moving, counts, status) = plan(&mut store, &tree, moves, options, out, errors)?;
     need_possible(&mut store, &moving.plan.steps)?;
     let outcome = if options.json {
         Ok(())
@@ -170,44 +170,45 @@ fn move_and_print<R: Machine, O: Write, E: Write>(
 
 // Moves files.
 fn move_and_write<R: Machine, O: Write, E: Write>(
-    root: &Root<'_, R>,
+    runtime: &R,
+    root: &str,
     moves: &[(&str, &str)],
     options: MoveOptions,
     out: &mut O,
     errors: &mut E,
 ) -> Result<Status, CallEnd> {
-    let mut locked = Locked::new(root.runtime().store_at(root.path())?)?;
+    let mut locked = lock(runtime, root)?;
     need_no_own_files(locked.store())?;
     need_no_journal_near(locked.store(), &[])?;
-    let tree = read_whole(root, locked.store(), errors)?;
-    let (moving, counts, status) = plan(root, &tree, moves, options, out, errors)?;
-    let alloc = root.runtime().alloc();
+    let tree = read_whole(locked.store(), errors)?;
+    let (moving, counts, status) = plan(locked.store(), &tree, moves, options, out, errors)?;
+    let alloc = runtime.alloc();
     let directories = directories_of(alloc, &tree)?;
     let texts = old_texts(alloc, &tree, &moving)?;
     let ended = carry_out(locked, moving.plan.steps, &texts, &directories);
     let done = (counts, status);
-    Ok(print_run(root.path(), ended, done, options, out, errors))
+    Ok(print_run(alloc, root, ended, done, options, out, errors))
 }
 
 // Plans moves, and prints what they do. Returns the plan, what is counted of it, and the status of a run that does all of
 // it.
-fn plan<'a, R: Machine, O: Write, E: Write>(
-    root: &Root<'_, R>,
+fn plan<'a, S: Store, O: Write, E: Write>(
+    store: &mut S,
     tree: &'a Tree,
     moves: &[(&str, &str)],
     options: MoveOptions,
     out: &mut O,
     errors: &mut E,
 ) -> Result<(Moving<'a>, Counts, Status), CallEnd> {
-    let moving = match moving_of(root, tree, moves, options.any_name) {
+    let moving = match moving_of(store, tree, moves, options.any_name) {
         Ok(moving) => moving,
         Err(why) => {
-            let _ = print_refused(errors, root.path(), tree, moves, &why);
+            let _ = print_refused(errors, store.root(), tree, moves, &why);
             return Err(CallEnd::Status(Status::Refused));
         }
     };
-    let counts = counts_of(root.runtime().alloc(), tree, moves, &moving)?;
-    if print_plan(root, tree, moves, &moving, options, out).is_err() {
+    let counts = counts_of(store.alloc(), tree, moves, &moving)?;
+    if print_plan(store, tree, moves, &moving, options, out).is_err() {
         return Err(CallEnd::Status(Status::Refused));
     }
     let status = status_of_moving(&moving);
@@ -242,9 +243,9 @@ fn old_texts<'a>(
 }
 
 // Prints why a call is refused.
-fn refuse<R: Machine, E: Write>(root: &Root<'_, R>, fault: &Fault, errors: &mut E) -> Status {
-    let path = Printable(root.path());
-    let _ = writeln!(errors, "relmove: {path}: {fault}");
+fn refuse<E: Write>(root: &str, fault: &Fault, errors: &mut E) -> Status {
+    let root = Printable(root);
+    let _ = writeln!(errors, "relmove: {root}: {fault}");
     Status::Refused
 }
 
@@ -258,8 +259,8 @@ fn status_of_moving(moving: &Moving<'_>) -> Status {
 }
 
 // Prints what moves do.
-fn print_plan<R: Machine, O: Write>(
-    root: &Root<'_, R>,
+fn print_plan<S: Store, O: Write>(
+    store: &S,
     tree: &Tree,
     moves: &[(&str, &str)],
     moving: &Moving<'_>,
@@ -267,15 +268,16 @@ fn print_plan<R: Machine, O: Write>(
     out: &mut O,
 ) -> io::Result<()> {
     if options.json {
-        print_moving_as_json(root.runtime().alloc(), out, tree, moves, moving)?;
+        print_moving_as_json(store.alloc(), out, tree, moves, moving)?;
     } else {
-        print_moving(out, root.path(), tree, moving)?;
+        print_moving(out, store.root(), tree, moving)?;
     }
     out.flush()
 }
 
 // Prints how a run ended: how many files it moved, if it did all of its plan. Returns the status of the call.
 fn print_run<O: Write, E: Write>(
+    alloc: Global,
     root: &str,
     ended: Ended,
     (counts, status): (Counts, Status),
@@ -283,15 +285,35 @@ fn print_run<O: Write, E: Write>(
     out: &mut O,
     errors: &mut E,
 ) -> Status {
+    if options.json
+        && let Ended::Done(remarks) = &ended
+    {
+        return print_left_as_json(alloc, remarks, status, out);
+    }
     if !is_done_whole(&ended) {
         return end(ended, root, out, errors);
     }
     // The work is done, whether this is printed or not.
-    if !options.json {
-        let _ = print_did(out, counts);
-    }
+    let _ = print_did(out, counts);
     let _ = out.flush();
     status
+}
+
+// Prints in JSON what a run left that did all of its plan. Returns the status of the call.
+fn print_left_as_json<O: Write>(
+    alloc: Global,
+    remarks: &[Remark],
+    status: Status,
+    out: &mut O,
+) -> Status {
+    // The work is done, whether this is printed or not.
+    let _ = print_remarks_as_json(alloc, out, remarks);
+    let _ = out.flush();
+    if remarks.is_empty() {
+        status
+    } else {
+        Status::LinksLeft
+    }
 }
 
 // Whether a run did all of its plan, and has nothing to say.
@@ -303,14 +325,11 @@ fn is_done_whole(ended: &Ended) -> bool {
 }
 
 // The tree below a root. Fails if a directory in it has a journal: names that begin with `.relmove-` belong to its run.
-fn read_whole<R: Machine, E: Write>(
-    root: &Root<'_, R>,
-    store: &mut R::Store,
-    errors: &mut E,
-) -> Result<Tree, Fault> {
-    let tree = read_tree(root)?;
-    need_no_journal_near(store, &directories_of(root.runtime().alloc(), &tree)?)?;
-    print_unread(root.path(), &tree, errors);
+fn read_whole<S: Store, E: Write>(store: &mut S, errors: &mut E) -> Result<Tree, Fault> {
+    let alloc = store.alloc();
+    let tree = read_tree(store)?;
+    need_no_journal_below(store, &directories_of(alloc, &tree)?)?;
+    print_unread(store.root(), &tree, errors);
     Ok(tree)
 }
 
@@ -324,17 +343,18 @@ fn print_status<O: Write>(outcome: io::Result<()>, status: Status, out: &mut O) 
 
 // Prints the dead links.
 fn check<R: Machine, O: Write, E: Write>(
-    root: Root<'_, R>,
+    runtime: &R,
+    root: &str,
     json: bool,
     out: &mut O,
     errors: &mut E,
 ) -> Status {
-    match find_dead_links(&root, errors) {
+    match find_dead_links(runtime, root, errors) {
         Ok(links) => {
-            let outcome = print_links(root.runtime().alloc(), root.path(), json, &links, out);
+            let outcome = print_links(runtime.alloc(), root, json, &links, out);
             print_status(outcome, status_of_links(&links), out)
         }
-        Err(fault) => refuse(&root, &fault, errors),
+        Err(fault) => refuse(root, &fault, errors),
     }
 }
 
@@ -349,13 +369,14 @@ fn status_of_links(links: &[DeadLink]) -> Status {
 
 // The dead links below a root.
 fn find_dead_links<R: Machine, E: Write>(
-    root: &Root<'_, R>,
+    runtime: &R,
+    root: &str,
     errors: &mut E,
 ) -> Result<Vec<DeadLink>, Fault> {
-    let mut store = root.runtime().store_at(root.path())?;
+    let mut store = runtime.store_at(root)?;
     need_rest(&mut store)?;
-    let tree = read_whole(root, &mut store, errors)?;
-    dead_links_of(root, &tree)
+    let tree = read_whole(&mut store, errors)?;
+    dead_links_of(&mut store, &tree)
 }
 
 // Prints what isn't read.
@@ -384,7 +405,7 @@ fn print_unread<E: Write>(root: &str, tree: &Tree, errors: &mut E) {
         );
     }
     for path in tree.entries.keys() {
-        if is_staging_name(path.as_str()) {
+        if has_reserved_name(path.as_str()) {
             let path = Printable(path.as_str());
             let _ = writeln!(
                 errors,
@@ -414,80 +435,103 @@ fn print_links<O: Write>(
 
 // Ends a run that stopped.
 fn end_run<R: Machine, O: Write, E: Write>(
-    root: Root<'_, R>,
-    way: Way,
-    trust: Option<Effect>,
+    runtime: &R,
+    root: &str,
+    (way, trust): (Way, Option<Effect>),
     out: &mut O,
     errors: &mut E,
 ) -> Status {
     let ended = match trust {
-        None => end_trusting(&root, way, Trust::ThisFolder),
-        Some(effect) => {
-            if let Err(fault) = print_what_ends(&root, way, out) {
-                return refuse(&root, &fault, errors);
-            }
-            if effect == Effect::Print {
-                return print_status(Ok(()), Status::Kept, out);
-            }
-            end_trusting(&root, way, Trust::AnyFolder)
-        }
+        None => end_of_this_folder(runtime, root, way),
+        Some(effect) => match end_of_any_folder(runtime, root, way, effect, out) {
+            Ok(Some(ended)) => Ok(ended),
+            Ok(None) => return print_status(Ok(()), Status::Kept, out),
+            Err(fault) => Err(fault),
+        },
     };
-    end(ended, root.path(), out, errors)
+    match ended {
+        Ok(ended) => end(ended, root, out, errors),
+        Err(fault) => refuse(root, &fault, errors),
+    }
 }
 
-// Ends a run that stopped, if its journal is believed.
-fn end_trusting<R: Machine>(root: &Root<'_, R>, way: Way, trust: Trust) -> Ended {
-    match lock(root) {
-        Ok(locked) => match way {
-            Way::Resume => resume(locked, trust),
-            Way::Undo => undo(locked, trust),
-        },
-        Err(fault) => Ended::Refused(fault),
+// Ends a run that stopped, if its journal was written in this folder.
+fn end_of_this_folder<R: Machine>(runtime: &R, root: &str, way: Way) -> Result<Ended, Fault> {
+    let locked = lock(runtime, root)?;
+    Ok(match way {
+        Way::Resume => resume(locked, Trust::ThisFolder),
+        Way::Undo => undo(locked, Trust::ThisFolder),
+    })
+}
+
+// Prints the changes that the end of a run makes, wherever its journal was written, and makes them, if the call is to.
+fn end_of_any_folder<R: Machine, O: Write>(
+    runtime: &R,
+    root: &str,
+    way: Way,
+    effect: Effect,
+    out: &mut O,
+) -> Result<Option<Ended>, Fault> {
+    let mut locked = lock(runtime, root)?;
+    let run = StoppedRun::read(&mut locked, Trust::AnyFolder)?;
+    let changes = run.changes(runtime.alloc(), way)?;
+    // A call that can't print them must not make them.
+    if let Err(error) = print_changes(out, root, &changes) {
+        return Err(fault_of(runtime.alloc(), Call::Write, "the output", &error));
+    }
+    match effect {
+        Effect::Print => Ok(None),
+        Effect::Write => Ok(Some(run.end(locked, way))),
     }
 }
 
 // Takes the lock of a root.
-fn lock<R: Machine>(root: &Root<'_, R>) -> Result<Locked<R::Store>, Fault> {
-    Locked::new(root.runtime().store_at(root.path())?)
-}
-
-// Prints the changes that the end of a run makes.
-fn print_what_ends<R: Machine, O: Write>(
-    root: &Root<'_, R>,
-    way: Way,
-    out: &mut O,
-) -> Result<(), Fault> {
-    let changes = changes_to_end(&mut lock(root)?, way)?;
-    // A call that can't print them must not make them.
-    match print_changes(out, root.path(), &changes) {
-        Ok(()) => Ok(()),
-        Err(error) => Err(fault_of(root.runtime().alloc(), Call::Write, "the output", &error)),
-    }
+fn lock<R: Machine>(runtime: &R, root: &str) -> Result<Locked<R::Store>, Fault> {
+    Locked::new(runtime.store_at(root)?)
 }
 
 // Prints how a run ended.
 fn end<O: Write, E: Write>(ended: Ended, root: &str, out: &mut O, errors: &mut E) -> Status {
     let status = status_of(&ended);
     // The work is done or not, whether this is printed or not.
-    let _ = match status {
-        Status::Kept | Status::LinksLeft => print_end(out, root, &ended),
-        Status::Refused | Status::Stopped => print_end(errors, root, &ended),
+    let _ = if has_fault(&ended) {
+        print_end(errors, root, &ended)
+    } else {
+        print_end(out, root, &ended)
     };
     let _ = out.flush();
     status
 }
 
+// Whether a run didn't end as it was to.
+fn has_fault(ended: &Ended) -> bool {
+    match ended {
+        Ended::Done(_) => false,
+        Ended::TakenBack { cause, .. } => cause.is_some(),
+        Ended::Refused(_) => true,
+        Ended::Stopped { .. } => true,
+    }
+}
+
 // The status of a run.
 fn status_of(ended: &Ended) -> Status {
     match ended {
-        Ended::Done(remarks) | Ended::TakenBack(remarks) => {
-            if remarks.is_empty() {
-                Status::Kept
-            } else {
-                Status::LinksLeft
-            }
-        }
+        Ended::Done(remarks) => status_without_fault(remarks),
+        Ended::TakenBack {
+            cause: Some(_),
+            remarks,
+        } if remarks.is_empty() => Status::Refused,
+        Ended::TakenBack { remarks, .. } => status_without_fault(remarks),
         Ended::Refused(_) => Status::Refused,
         Ended::Stopped { .. } => Status::Stopped,
+    }
+}
+
+// The status of a run that ended, with these remarks.
+fn status_without_fault(remarks: &[Remark]) -> Status {
+    if remarks.is_empty() {
+        Status::Kept
+    } else {
+        Status::LinksLeft
     }
 }

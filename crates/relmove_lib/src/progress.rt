@@ -1,11 +1,9 @@
 //! The progress of a long call: a runtime that prints how many files the call has opened, and how many renames it made.
-use relmove_run::{Found, Machine, Store};
-use std::alloc::{Alloc, AllocError, Allocator, Global};
+use relmove_run::{Found, Machine, Names, Store};
+use std::alloc::{Alloc, AllocError, Global};
 use std::cell::Cell;
-use std::fs::{Metadata, OpenOptions};
 use std::io::{self, Eprint};
-use std::path::PathBuf;
-use std::rt::{Clock, Files};
+use std::rt::Clock;
 use std::time::{Duration, Instant};
 
 // How many milliseconds a call works before each line of progress.
@@ -42,11 +40,10 @@ impl Progress {
     }
 }
 
-/// A runtime that passes the library's calls on to another one. It counts the files that are opened and renamed, also
-/// those of a run. While that goes on, it prints the two numbers on standard error each half second.
+/// A runtime whose files are those of another one. It counts the files that are opened and renamed. While that goes on,
+/// it prints the two numbers on standard error each half second.
 ///
-/// It passes on only the calls that this library makes. Each other call fails with `Unsupported`. Nothing is printed if
-/// the clock can't be read. A line that can't be printed is left out.
+/// Nothing is printed if the clock can't be read. A line that can't be printed is left out.
 #[derive(Clone, Copy)]
 pub struct WithProgress<'a, R> {
     runtime: &'a R,
@@ -94,58 +91,6 @@ impl<R: AllocGlobal> Alloc for WithProgress<'_, R> {
     }
 }
 
-impl<R: Files + Clock + Eprint> Files for WithProgress<'_, R> {
-    type File = R::File;
-
-    type Dir = R::Dir;
-
-    fn open_file(&self, how: &OpenOptions, path: &str) -> io::Result<R::File> {
-        self.count_opened();
-        self.runtime.open_file(how, path)
-    }
-
-    fn open_dir(&self, path: &str) -> io::Result<R::Dir> {
-        self.runtime.open_dir(path)
-    }
-
-    fn metadata(&self, path: &str) -> io::Result<Metadata> {
-        self.runtime.metadata(path)
-    }
-
-    fn symlink_metadata(&self, path: &str) -> io::Result<Metadata> {
-        self.runtime.symlink_metadata(path)
-    }
-
-    fn copy(&self, from: &str, to: &str) -> io::Result<u64> {
-        self.runtime.copy(from, to)
-    }
-
-    fn rename(&self, from: &str, to: &str) -> io::Result<()> {
-        self.count_renamed();
-        self.runtime.rename(from, to)
-    }
-
-    fn remove_file(&self, path: &str) -> io::Result<()> {
-        self.runtime.remove_file(path)
-    }
-
-    fn create_dir(&self, path: &str) -> io::Result<()> {
-        self.runtime.create_dir(path)
-    }
-
-    fn remove_dir(&self, path: &str) -> io::Result<()> {
-        self.runtime.remove_dir(path)
-    }
-
-    fn remove_dir_all<B: Allocator>(&self, alloc: B, path: &str) -> io::Result<()> {
-        self.runtime.remove_dir_all(alloc, path)
-    }
-
-    fn read_link<B: Allocator>(&self, alloc: B, path: &str) -> io::Result<PathBuf<B>> {
-        self.runtime.read_link(alloc, path)
-    }
-}
-
 impl<'a, R: Machine + Clock + Eprint> Machine for WithProgress<'a, R> {
     type Store = StoreWithProgress<'a, R, R::Store>;
 
@@ -160,7 +105,7 @@ impl<'a, R: Machine + Clock + Eprint> Machine for WithProgress<'a, R> {
     }
 }
 
-/// The files below a root, by another store. What the run opens and renames is counted, and printed as by
+/// The files below a root, by another store. What is opened and renamed is counted, and printed as by
 /// [`WithProgress`].
 #[derive(Drop)]
 pub struct StoreWithProgress<'a, R, S: Drop> {
@@ -181,6 +126,18 @@ impl<R: Clock + Eprint, S: Store + Drop> Store for StoreWithProgress<'_, R, S> {
 
     fn find(&mut self, path: &str) -> io::Result<Option<Found>> {
         self.store.find(path)
+    }
+
+    fn follow(&mut self, path: &str) -> io::Result<Option<Found>> {
+        self.store.follow(path)
+    }
+
+    fn list(&mut self, path: &str) -> io::Result<Names> {
+        self.store.list(path)
+    }
+
+    fn read_link(&mut self, path: &str) -> io::Result<Option<String>> {
+        self.store.read_link(path)
     }
 
     fn read(&mut self, path: &str) -> io::Result<Vec<u8>> {

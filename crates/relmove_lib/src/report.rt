@@ -1,7 +1,7 @@
 //! What a call prints.
 use crate::dead_links::DeadLink;
 use crate::position::Position;
-use relmove_run::{Change, Ended, Printable, Remark, Stage};
+use relmove_run::{Change, Ended, Fault, Printable, Remark, Stage};
 use serde_json::json;
 use std::alloc::Global;
 use std::io::{self, Write};
@@ -46,8 +46,9 @@ program that puts a file at a path while relmove renames a file to it. A text th
 kept, and printed.
 
 Exit status: 0 if all is done, 1 if a link is left that led to a file, or may have, or if a symbolic link moves or
-leads to what moves, or if a text is kept that was changed during the run (with --check: if a link is dead), 2 if the
-call was wrong or failed and nothing was changed, 3 if a run stopped in the middle.
+leads to what moves, or if a run left something to look at, such as a text that was changed during the run (with
+--check: if a link is dead), 2 if the call was wrong or failed and nothing was changed, 3 if a run stopped in the
+middle.
 ";
 
 /// Prints a dead link: page, line, column and target.
@@ -112,23 +113,30 @@ pub fn print_end<W: Write>(out: &mut W, root: &str, ended: &Ended) -> io::Result
             let root = Printable(root);
             writeln!(out, "{root}: everything is at its new path")
         }
-        Ended::TakenBack(remarks) => {
-            print_remarks(out, root, remarks)?;
-            let root = Printable(root);
-            let state = state_before(remarks);
-            writeln!(out, "{root}: the run was taken back, {state}")
+        Ended::TakenBack {
+            cause: None,
+            remarks,
+        } => print_taken_back(out, root, remarks),
+        Ended::TakenBack {
+            cause: Some(cause),
+            remarks,
+        } => {
+            print_fault(out, root, cause)?;
+            if remarks.is_empty() {
+                return Ok(());
+            }
+            print_taken_back(out, root, remarks)
         }
-        Ended::Refused(fault) => {
-            let root = Printable(root);
-            writeln!(out, "relmove: {root}: {fault}")
-        }
+        Ended::Refused(fault) => print_fault(out, root, fault),
         Ended::Stopped {
             stage,
             fault,
             has_journal,
+            remarks,
         } => {
+            print_fault(out, root, fault)?;
+            print_remarks(out, root, remarks)?;
             let root = Printable(root);
-            writeln!(out, "relmove: {root}: {fault}")?;
             if *has_journal {
                 print_stopped(out, root, *stage)
             } else {
@@ -139,6 +147,20 @@ pub fn print_end<W: Write>(out: &mut W, root: &str, ended: &Ended) -> io::Result
             }
         }
     }
+}
+
+// Prints why a run failed.
+fn print_fault<W: Write>(out: &mut W, root: &str, fault: &Fault) -> io::Result<()> {
+    let root = Printable(root);
+    writeln!(out, "relmove: {root}: {fault}")
+}
+
+// Prints what a run that was taken back left.
+fn print_taken_back<W: Write>(out: &mut W, root: &str, remarks: &[Remark]) -> io::Result<()> {
+    print_remarks(out, root, remarks)?;
+    let root = Printable(root);
+    let state = state_before(remarks);
+    writeln!(out, "{root}: the run was taken back, {state}")
 }
 
 // Prints what is known of a run that stopped, whose journal says this stage.
@@ -159,6 +181,22 @@ fn print_remarks<W: Write>(out: &mut W, root: &str, remarks: &[Remark]) -> io::R
     let root = Printable(root);
     for remark in remarks {
         writeln!(out, "{root}: {remark}")?;
+    }
+    Ok(())
+}
+
+// Prints what a run left, an object of JSON on each line.
+pub(crate) fn print_remarks_as_json<W: Write>(
+    alloc: Global,
+    out: &mut W,
+    remarks: &[Remark],
+) -> io::Result<()> {
+    for remark in remarks {
+        let words = remark.to_string(alloc)?;
+        let words = words.as_str();
+        let object = json!(in alloc; { "remark": words })?;
+        let text = object.to_string(alloc)?;
+        writeln!(out, "{text}")?;
     }
     Ok(())
 }

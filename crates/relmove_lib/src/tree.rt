@@ -1,12 +1,9 @@
 //! Reads what is below the root: directories, files, links, and the texts of pages.
-use crate::root::Root;
 use markdown_targets::link_targets;
-use relmove_run::{Call, Fault, at, join, read_regular};
+use relmove_run::{Call, Fault, Found, FoundKind, STAGING, Store, at, join, name_of};
 use std::alloc::{AllocError, Global};
-use std::collections::BTreeMap;
-use std::fs::{self, DirEntry, FileType};
+use std::collections::{BTreeMap, BTreeSet};
 use std::io::{self, ErrorKind};
-use std::rt::Files;
 
 /// What is at a path.
 #[derive(Debug, PartialEq, Eq, Drop)]
@@ -57,193 +54,241 @@ pub struct Tree {
     pub unlisted: Vec<String>,
     /// The directories that are read. The root is the empty path.
     pub directories: Vec<String>,
-    /// What can't be read, or isn't a regular file although it has the name of a page.
+    /// What can't be read, and what has the name of a page and isn't a regular file, or is longer than [`LONGEST_PAGE`].
     pub unread: Vec<Unread>,
 }
 
-/// Reads what is below the root. No symbolic link is followed, and only regular files are opened. What can't be read is
-/// left out, and named.
+/// Reads what is below the root of a store. No symbolic link is followed, and only regular files are opened. What can't
+/// be read is left out, and named. So is a page that is longer than [`LONGEST_PAGE`].
 ///
 /// Allocates a path for each file, and the texts of the pages.
-pub fn read_tree<R: Files + AllocGlobal + Clone + Drop>(root: &Root<'_, R>) -> Result<Tree, Fault> {
-    let alloc = root.runtime().alloc();
-    let mut tree = Tree {
-        entries: BTreeMap::new(alloc),
-        pages: Vec::new(alloc),
-        not_text: Vec::new(alloc),
-        with_base: Vec::new(alloc),
-        unreadable_names: Vec::new(alloc),
-        unlisted: Vec::new(alloc),
-        directories: Vec::new(alloc),
-        unread: Vec::new(alloc),
-    };
+pub fn read_tree<S: Store>(store: &mut S) -> Result<Tree, Fault> {
+    let alloc = store.alloc();
+    let mut walk = Walk::new(alloc);
     let mut waiting = Vec::new(alloc);
     waiting.push(String::new(alloc))?;
-    for _ in 0..u64::MAX {
-        let Some(directory) = waiting.pop() else {
-            break;
-        };
-        list(root, directory.as_str(), &mut tree, &mut waiting)?;
-        tree.directories.push(directory)?;
+    let mut directories = Vec::new(alloc);
+    while let Some(directory) = waiting.pop() {
+        walk.add_directory(store, directory.as_str(), &mut waiting)?;
+        directories.push(directory)?;
     }
-    tree.unreadable_names.sort()?;
-    tree.unreadable_names.dedup();
-    tree.unlisted.sort()?;
-    read_pages(root, &mut tree)?;
-    Ok(tree)
+    walk.into_tree(store, directories)
 }
 
-// Adds what is in a directory to the tree, and the directories in it to those that wait.
-fn list<R: Files + AllocGlobal + Clone + Drop>(
-    root: &Root<'_, R>,
-    directory: &str,
-    tree: &mut Tree,
-    waiting: &mut Vec<String>,
-) -> Result<(), Fault> {
-    let alloc = root.runtime().alloc();
-    let entries = match fs::read_dir(root.runtime(), root.full(directory)?.as_str()) {
-        Err(error) if !directory.is_empty() && cannot_read(error.kind()) => {
-            add_unread(root, directory, &error, tree)?;
-            tree.unreadable_names.push(root.copy(directory)?)?;
-            tree.unlisted.push(root.copy(directory)?)?;
-            return Ok(());
-        }
-        listed => at(alloc, Call::List, shown(root, directory), listed)?,
-    };
-    for entry in entries {
-        match entry {
-            Ok(entry) => add(root, directory, &entry, tree, waiting)?,
-            Err(error) if error.kind() == ErrorKind::InvalidFilename => {
-                tree.unreadable_names.push(root.copy(directory)?)?;
-            }
-            failed => {
-                at(alloc, Call::List, shown(root, directory), failed)?;
-            }
+/// How many bytes a page may have that is read: 64 MiB.
+pub const LONGEST_PAGE: u64 = 64 << 20;
+
+// What was found so far.
+#[derive(Drop)]
+struct Walk {
+    entries: BTreeMap<String, EntryKind>,
+    unreadable_names: Vec<String>,
+    unlisted: Vec<String>,
+    unread: Vec<Unread>,
+    // The files that are too long for a page.
+    long_files: BTreeSet<String>,
+}
+
+impl Walk {
+    // Nothing.
+    fn new(alloc: Global) -> Walk {
+        Walk {
+            entries: BTreeMap::new(alloc),
+            unreadable_names: Vec::new(alloc),
+            unlisted: Vec::new(alloc),
+            unread: Vec::new(alloc),
+            long_files: BTreeSet::new(alloc),
         }
     }
-    Ok(())
+
+    // Adds what is in a directory, and the directories in it to those that wait.
+    fn add_directory<S: Store>(
+        &mut self,
+        store: &mut S,
+        directory: &str,
+        waiting: &mut Vec<String>,
+    ) -> Result<(), Fault> {
+        let alloc = store.alloc();
+        let names = match store.list(directory) {
+            Err(error) if !directory.is_empty() && cannot_read(error.kind()) => {
+                return self.add_unlisted(alloc, directory, &error);
+            }
+            listed => at(alloc, Call::List, shown(store.root(), directory), listed)?,
+        };
+        if names.has_other {
+            self.add_unreadable_name(alloc, directory)?;
+        }
+        for name in &names.texts {
+            self.add_name(store, directory, name.as_str(), waiting)?;
+        }
+        Ok(())
+    }
+
+    // Notes a directory that can't be listed.
+    fn add_unlisted(
+        &mut self,
+        alloc: Global,
+        directory: &str,
+        error: &io::Error,
+    ) -> Result<(), Fault> {
+        self.add_unread(alloc, directory, error)?;
+        self.add_unreadable_name(alloc, directory)?;
+        self.unlisted.push(String::from_str(alloc, directory)?)?;
+        Ok(())
+    }
+
+    // Notes a directory in which a name can't be read.
+    fn add_unreadable_name(&mut self, alloc: Global, directory: &str) -> Result<(), Fault> {
+        self.unreadable_names
+            .push(String::from_str(alloc, directory)?)?;
+        Ok(())
+    }
+
+    // Notes what can't be read.
+    fn add_unread(&mut self, alloc: Global, path: &str, error: &io::Error) -> Result<(), Fault> {
+        self.unread.push(Unread {
+            path: String::from_str(alloc, path)?,
+            why: error.to_string(alloc)?,
+        })?;
+        Ok(())
+    }
+
+    // Adds a name in a directory. A directory whose name doesn't begin with a dot is one to list. What can't be asked
+    // for is named, and what is gone is left out.
+    fn add_name<S: Store>(
+        &mut self,
+        store: &mut S,
+        directory: &str,
+        name: &str,
+        waiting: &mut Vec<String>,
+    ) -> Result<(), Fault> {
+        let alloc = store.alloc();
+        let path = join(alloc, directory, name)?;
+        let asked = match store.find(path.as_str()) {
+            Ok(None) => return Ok(()),
+            Err(error) if cannot_read(error.kind()) => {
+                self.add_unread(alloc, path.as_str(), &error)?;
+                return self.add_unreadable_name(alloc, directory);
+            }
+            asked => at(alloc, Call::Ask, path.as_str(), asked)?,
+        };
+        let Some(found) = asked else {
+            return Ok(());
+        };
+        if found.kind == FoundKind::Directory && !name.starts_with('.') {
+            waiting.push(String::from_str(alloc, path.as_str())?)?;
+        }
+        self.add_entry(store, path, &found)
+    }
+
+    // Adds what was found at a path.
+    fn add_entry<S: Store>(
+        &mut self,
+        store: &mut S,
+        path: String,
+        found: &Found,
+    ) -> Result<(), Fault> {
+        let alloc = store.alloc();
+        let kind = kind_of(store, path.as_str(), found.kind)?;
+        if kind == EntryKind::Link(None) {
+            self.unread.push(Unread {
+                path: String::from_str(alloc, path.as_str())?,
+                why: String::from_str(alloc, NO_TEXT)?,
+            })?;
+        }
+        if kind == EntryKind::File && found.length > LONGEST_PAGE {
+            self.long_files
+                .insert(String::from_str(alloc, path.as_str())?)?;
+        }
+        self.entries.insert(path, kind)?;
+        Ok(())
+    }
+
+    // Reads the pages, and returns the tree.
+    fn into_tree<S: Store>(self, store: &mut S, directories: Vec<String>) -> Result<Tree, Fault> {
+        let Walk {
+            entries,
+            mut unreadable_names,
+            mut unlisted,
+            mut unread,
+            long_files,
+        } = self;
+        unreadable_names.sort()?;
+        unreadable_names.dedup();
+        unlisted.sort()?;
+        let mut reading = read_pages(store, &entries, &long_files)?;
+        unread.append(&mut reading.unread)?;
+        Ok(Tree {
+            entries,
+            pages: reading.pages,
+            not_text: reading.not_text,
+            with_base: reading.with_base,
+            unreadable_names,
+            unlisted,
+            directories,
+            unread,
+        })
+    }
 }
 
 // Whether an error says that the system doesn't let this program read something, or that its path is too long.
-fn cannot_read(kind: ErrorKind) -> bool {
+pub(crate) fn cannot_read(kind: ErrorKind) -> bool {
     matches!(
         kind,
         ErrorKind::PermissionDenied | ErrorKind::InvalidFilename
     )
 }
 
-// Notes what can't be read.
-fn add_unread<R: Files + AllocGlobal>(
-    root: &Root<'_, R>,
-    path: &str,
-    error: &io::Error,
-    tree: &mut Tree,
-) -> Result<(), Fault> {
-    tree.unread.push(Unread {
-        path: root.copy(path)?,
-        why: error.to_string(root.runtime().alloc())?,
-    })?;
-    Ok(())
-}
-
 // The path of a directory in a fault. The root has the path that it was given.
-fn shown<'a, R: Files + AllocGlobal>(root: &Root<'a, R>, directory: &'a str) -> &'a str {
+fn shown<'a>(root: &'a str, directory: &'a str) -> &'a str {
     if directory.is_empty() {
-        root.path()
+        root
     } else {
         directory
     }
 }
 
-// Adds an entry of a directory to the tree. A directory whose name doesn't begin with a dot is one to list. What can't
-// be asked for is named, and what is gone is left out.
-fn add<R: Files + AllocGlobal>(
-    root: &Root<'_, R>,
-    directory: &str,
-    entry: &DirEntry<R>,
-    tree: &mut Tree,
-    waiting: &mut Vec<String>,
-) -> Result<(), Fault> {
-    let name = entry.file_name();
-    let path = path_in(root, directory, name)?;
-    let asked = match entry.file_type() {
-        Err(error) if error.kind() == ErrorKind::NotFound => return Ok(()),
-        Err(error) if cannot_read(error.kind()) => {
-            add_unread(root, path.as_str(), &error, tree)?;
-            tree.unreadable_names.push(root.copy(directory)?)?;
-            return Ok(());
-        }
-        asked => at(root.runtime().alloc(), Call::Ask, path.as_str(), asked)?,
-    };
-    let kind = kind_of(root, path.as_str(), asked)?;
-    match &kind {
-        EntryKind::Directory if !name.starts_with('.') => {
-            waiting.push(root.copy(path.as_str())?)?
-        }
-        EntryKind::Link(None) => tree.unread.push(Unread {
-            path: root.copy(path.as_str())?,
-            why: root.copy(NO_TEXT)?,
-        })?,
-        _ => {}
-    }
-    tree.entries.insert(path, kind)?;
-    Ok(())
-}
-
 // Why a symbolic link isn't read.
 const NO_TEXT: &str = "where this symbolic link leads isn't UTF-8";
 
-// The path of a name in a directory.
-fn path_in<R: Files + AllocGlobal>(
-    root: &Root<'_, R>,
-    directory: &str,
-    name: &str,
-) -> Result<String, Fault> {
-    Ok(join(root.runtime().alloc(), directory, name)?)
-}
-
-// What is at a path, by what the system says.
-fn kind_of<R: Files + AllocGlobal>(
-    root: &Root<'_, R>,
-    path: &str,
-    kind: FileType,
-) -> Result<EntryKind, Fault> {
-    if kind.is_dir() {
-        return Ok(EntryKind::Directory);
-    }
-    if kind.is_file() {
-        return Ok(EntryKind::File);
-    }
-    if !kind.is_symlink() {
-        return Ok(EntryKind::Other);
-    }
-    match fs::read_link(root.runtime(), root.full(path)?.as_str()) {
-        Err(error) if error.kind() == ErrorKind::InvalidFilename => Ok(EntryKind::Link(None)),
-        read => {
-            let target = at(root.runtime().alloc(), Call::ReadLink, path, read)?;
-            Ok(EntryKind::Link(Some(root.copy(target.as_str())?)))
+// What is at a path where this was found.
+fn kind_of<S: Store>(store: &mut S, path: &str, found: FoundKind) -> Result<EntryKind, Fault> {
+    Ok(match found {
+        FoundKind::Directory => EntryKind::Directory,
+        FoundKind::File => EntryKind::File,
+        FoundKind::Other => EntryKind::Other,
+        FoundKind::Symlink => {
+            let read = store.read_link(path);
+            EntryKind::Link(at(store.alloc(), Call::ReadLink, path, read)?)
         }
-    }
+    })
 }
 
-// Reads the pages.
-fn read_pages<R: Files + AllocGlobal>(root: &Root<'_, R>, tree: &mut Tree) -> Result<(), Fault> {
-    let mut reading = Reading::new(root.runtime().alloc());
-    for (path, kind) in &tree.entries {
+// Reads the pages among the entries, but for those that are too long.
+fn read_pages<S: Store>(
+    store: &mut S,
+    entries: &BTreeMap<String, EntryKind>,
+    long_files: &BTreeSet<String>,
+) -> Result<Reading, Fault> {
+    let alloc = store.alloc();
+    let mut reading = Reading::new(alloc);
+    for (path, kind) in entries {
         if is_page(path.as_str()) {
             match kind {
-                EntryKind::File => reading.add(root, path.as_str())?,
-                EntryKind::Other => reading.leave_out(root, path.as_str(), NO_FILE)?,
+                EntryKind::File if long_files.contains(path.as_str()) => {
+                    reading.leave_out(alloc, path.as_str(), TOO_LONG)?
+                }
+                EntryKind::File => reading.add(store, path.as_str())?,
+                EntryKind::Other => reading.leave_out(alloc, path.as_str(), NO_FILE)?,
                 EntryKind::Directory | EntryKind::Link(_) => {}
             }
         }
     }
-    tree.pages = reading.pages;
-    tree.not_text = reading.not_text;
-    tree.with_base = reading.with_base;
-    tree.unread.append(&mut reading.unread)?;
-    Ok(())
+    Ok(reading)
 }
+
+// Why a page above the limit isn't read.
+const TOO_LONG: &str = "longer than 64 MiB";
 
 // Why a FIFO, a socket or a device isn't read.
 const NO_FILE: &str = "not a regular file";
@@ -269,37 +314,33 @@ impl Reading {
     }
 
     // Reads the page at a path.
-    fn add<R: Files + AllocGlobal>(&mut self, root: &Root<'_, R>, path: &str) -> Result<(), Fault> {
-        let alloc = root.runtime().alloc();
-        let bytes = match read_regular(root.runtime(), root.full(path)?.as_str()) {
+    fn add<S: Store>(&mut self, store: &mut S, path: &str) -> Result<(), Fault> {
+        let alloc = store.alloc();
+        let bytes = match store.read(path) {
             Err(error) if is_left_out(error.kind()) => {
                 let why = error.to_string(alloc)?;
-                return self.leave_out(root, path, why.as_str());
+                return self.leave_out(alloc, path, why.as_str());
             }
             read => at(alloc, Call::Read, path, read)?,
         };
+        let path = String::from_str(alloc, path)?;
         let Ok(text) = String::from_utf8(bytes) else {
-            self.not_text.push(root.copy(path)?)?;
+            self.not_text.push(path)?;
             return Ok(());
         };
         if has_base(alloc, text.as_str())? {
-            self.with_base.push(root.copy(path)?)?;
+            self.with_base
+                .push(String::from_str(alloc, path.as_str())?)?;
         }
-        let path = root.copy(path)?;
         self.pages.push(Page { path, text })?;
         Ok(())
     }
 
     // Notes that the page at a path isn't read.
-    fn leave_out<R: Files + AllocGlobal>(
-        &mut self,
-        root: &Root<'_, R>,
-        path: &str,
-        why: &str,
-    ) -> Result<(), Fault> {
+    fn leave_out(&mut self, alloc: Global, path: &str, why: &str) -> Result<(), Fault> {
         self.unread.push(Unread {
-            path: root.copy(path)?,
-            why: root.copy(why)?,
+            path: String::from_str(alloc, path)?,
+            why: String::from_str(alloc, why)?,
         })?;
         Ok(())
     }
@@ -319,17 +360,9 @@ fn has_base(alloc: Global, text: &str) -> Result<bool, AllocError> {
     Ok(may_have && link_targets(alloc, text)?.has_base)
 }
 
-// Whether a path has a name that a run gives to what moves, or to a new text.
-pub(crate) fn is_staging_name(path: &str) -> bool {
-    name_of(path).starts_with(".relmove-")
-}
-
-// The name at the end of a path.
-fn name_of(path: &str) -> &str {
-    match path.rsplit_once('/') {
-        Some((_, name)) => name,
-        None => path,
-    }
+// Whether a path has a reserved name: one that a run may give to what moves, or to a new text.
+pub(crate) fn has_reserved_name(path: &str) -> bool {
+    name_of(path).starts_with(STAGING)
 }
 
 // Whether a file at a path is a page.

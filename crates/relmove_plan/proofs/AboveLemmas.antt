@@ -118,8 +118,8 @@ AllZip-at R (a ∷ xs) [] k x y zipped within = absurd zipped
 AllZip-at R (a ∷ xs) (b ∷ ys) zero x y zipped within = zipped.0
 AllZip-at R (a ∷ xs) (b ∷ ys) (suc k) x y zipped within = AllZip-at R xs ys k x y zipped.1 (omega (arith, within))
 
-module _ (is_kind : Kind → Bool) (moves : List Move) (entries : List Entry) (index : PlaceIndex) (known : IndexesAfter moves entries index)
-    (cs : List Step)
+module _ (is_kind : Kind → Bool) (moves : List Move) (entries : List Entry) (index : PlaceIndex)
+    (known : IndexesAfter moves entries index) (cs : List Step)
   where
     count : length known.after ≡ length entries
     count = AllZip-long (IsAfter moves) entries known.after known.are_after

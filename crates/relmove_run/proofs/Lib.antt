@@ -1,2 +1,8 @@
 mod ShapeLemmas
 mod OnceLemmas
+mod LoopLemmas
+mod PrintingLemmas
+mod ReadingLemmas
+mod FieldLemmas
+mod LinesLemmas
+mod PartsLemmas

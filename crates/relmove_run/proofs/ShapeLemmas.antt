@@ -1,5 +1,5 @@
 -- Lemmas on the names and paths of a run's work.
-use Rattle.std.proofs.Common.{◌≡◌, ◌≢◌, ℕ, ◌<◌, Bool, true, false, not, ◌&&◌, ◌||◌, ◌==◌, List, [], ◌∷◌, ◌++◌, All, Option, Some, None, Bor, length, take, drop, nat_eq, refl, sym, take-append-drop, ap, ap₂, ◌∙◌, true≢false, lit<}
+use Rattle.std.proofs.Common.{◌≡◌, ◌≢◌, ℕ, ◌<◌, Bool, true, false, not, ◌&&◌, ◌||◌, ◌==◌, List, [], ◌∷◌, ◌++◌, All, Option, Some, None, Bor, length, take, drop, nat_eq, refl, sym, take-append-drop, ap, ap₂, subst, ◌∙◌, true≢false, lit<}
 use Rattle.std.specs.Prelude.{codes}
 use Rattle.std.specs.Bool.{MatchBool}
 use Rattle.std.specs.Char.{is_ascii_digit}
@@ -85,7 +85,8 @@ list_all-names path =
 
 -- a path without a slash is one name
 pub names-one : (path : List ℕ) → All (λ b. b ≢ 47) path → names path ≡ path ∷ []
-names-one path none = slice_split_none is_slash path (All-weaker (λ b. b ≢ 47) (λ b. is_slash b ≡ false) (λ b. ne_eqb b 47) path none)
+names-one path none =
+    slice_split_none is_slash path (All-weaker (λ b. b ≢ 47) (λ b. is_slash b ≡ false) (λ b. ne_eqb b 47) path none)
 
 -- the names of two paths with a slash between them are those of both
 names-slash : (front back : List ℕ) → names (front ++ 47 ∷ back) ≡ names front ++ names back
@@ -98,21 +99,33 @@ names-slash (b ∷ bs) back =
     step true is some more = rw is (ap (λ l. [] ∷ l) more)
     step false is some more = rw (is, more, some.are)
 
--- what `rsplit_once` returns at a slash: where a way leads that it cuts before the last name
+-- what `rsplit_once` returns at a slash: the text before the last slash, and a name without one
+pub rsplit-parts : (text : List ℕ) (r : Option (Bor (List ℕ) × Bor (List ℕ)))
+    → MatchOption r (RFindsChar 47 text None) (λ x. SplitsAroundMatch (RFindsChar 47) text x.0.now x.1.now)
+    → MatchOption r (All (λ b. b ≢ 47) text) (λ x. (text ≡ x.0.now ++ 47 ∷ x.1.now) × All (λ b. b ≢ 47) x.1.now)
+rsplit-parts text None found =
+    All-from_get_or (λ b. b ≢ 47) text 0 (λ i h. NoCharPasses-char 47 text i found (lit< tt) h)
+rsplit-parts text (Some parts) (i, j, found, front, back, _, _, _) = (
+  sym (take-append-drop i text)
+      ∙ ap (λ x. take i text ++ x) (drop_at_char 47 text i j found.1 (lit< tt))
+      ∙ ap₂ (λ x y. x ++ 47 ∷ y) (sym front) (sym back),
+  subst (All (λ b. b ≢ 47)) (sym back)
+      (All-from_get_or (λ b. b ≢ 47) (drop j text) 0 (λ k h. NoCharPasses-char 47 (drop j text) k found.0 (lit< tt) h)),
+)
+
+-- the same: where a way leads that is cut before the last name
 pub leads_to-rsplit : (test : List ℕ → Bool) (text : List ℕ) (r : Option (Bor (List ℕ) × Bor (List ℕ)))
     → MatchOption r (RFindsChar 47 text None) (λ x. SplitsAroundMatch (RFindsChar 47) text x.0.now x.1.now)
     → MatchOption r (leads_to test (names text) ≡ test text)
     (λ x. leads_to test (names text) ≡ (leads_to is_directory_name (names x.0.now) && test x.1.now))
-leads_to-rsplit test text None found =
-    rw (names-one text (All-from_get_or (λ b. b ≢ 47) text 0 (λ i h. NoCharPasses-char 47 text i found (lit< tt) h)))
-leads_to-rsplit test text (Some parts) (i, j, found, front, back, _, _, _) =
-    let joined : text ≡ take i text ++ 47 ∷ drop j text =
-    sym (take-append-drop i text) ∙ ap (λ x. take i text ++ x) (drop_at_char 47 text i j found.1 (lit< tt)) in
-    let none = All-from_get_or (λ b. b ≢ 47) (drop j text) 0 (λ k h. NoCharPasses-char 47 (drop j text) k found.0 (lit< tt) h) in
+leads_to-rsplit test text None found = rw (names-one text (rsplit-parts text None found))
+leads_to-rsplit test text (Some parts) found =
+    let (joined, none) = rsplit-parts text (Some parts) found in
     ap (λ x. leads_to test (names x)) joined
-    ∙ ap (leads_to test) (names-slash (take i text) (drop j text) ∙ ap (λ x. names (take i text) ++ x) (names-one (drop j text) none))
-    ∙ leads_to-append test (names (take i text)) (drop j text)
-    ∙ ap₂ ◌&&◌ (list_all-names (take i text) ∙ ap (λ x. leads_to is_directory_name (names x)) (sym front)) (ap test (sym back))
+    ∙ ap (leads_to test)
+    (names-slash parts.0.now parts.1.now ∙ ap (λ x. names parts.0.now ++ x) (names-one parts.1.now none))
+    ∙ leads_to-append test (names parts.0.now) parts.1.now
+    ∙ ap (λ b. b && test parts.1.now) (list_all-names parts.0.now)
 
 -- where a way leads is tested at its last name, if its directories were tested
 pub leads_to-tested : (whole first last r : Bool) → whole ≡ (first && last) → r ≡ first → r ≡ true → last ≡ whole

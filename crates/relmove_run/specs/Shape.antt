@@ -1,5 +1,5 @@
 -- Which work can be a run's: the paths in its lists, and how the lists fit together.
-use Rattle.std.specs.Prelude.{◌≢◌, ℕ, nat_eq, Bool, true, false, not, ◌&&◌, ◌||◌, ◌==◌, List, [], ◌∷◌, ◌++◌, AllPairs, IsPermutation, IsTrue, codes, drop, filter, map, string_bytes}
+use Rattle.std.specs.Prelude.{◌≡◌, ◌≢◌, ℕ, nat_eq, Bool, true, false, not, ◌&&◌, ◌||◌, ◌==◌, List, [], ◌∷◌, ◌++◌, AllPairs, IsPermutation, IsTrue, codes, drop, filter, length, map, string_bytes}
 use Rattle.std.specs.List.{list_all, list_any, slice_split, starts_with}
 use Rattle.std.specs.List.Sorted.{IsStrictlySortedBy}
 use Rattle.std.specs.Cmp.Lexicographic.{slice_cmp}
@@ -138,9 +138,13 @@ abbrev pub StagesItsTexts : Work → Type 0
 StagesItsTexts work = HaveSameOnce (text_paths work.texts.items) (filter is_text_path (old_paths work.staged.items))
 
 -- each staging name is given once, and what gets one is placed or removed, once
-abbrev pub LosesNothing : Work → Type 0
-LosesNothing work = HaveSameOnce (new_paths work.staged.items)
+abbrev pub PlacesOrRemoves : Work → Type 0
+PlacesOrRemoves work = HaveSameOnce (new_paths work.staged.items)
     (old_paths work.placed.items ++ removed_paths work.cleaned.items)
+
+-- as many texts are removed as new texts come
+abbrev pub RemovesAsManyTexts : Work → Type 0
+RemovesAsManyTexts work = length (removed_paths work.cleaned.items) ≡ length work.texts.items
 
 -- nothing gets two staging names, and no two things get one new path
 abbrev pub GoesOnce : Work → Type 0
@@ -150,5 +154,6 @@ GoesOnce work = AreDifferent (old_paths work.staged.items) × AreDifferent (new_
 pub record IsOfRun (work : Work) : Type 0 where
   pub paths : IsTrue (has_paths_of_run work)
   pub texts : StagesItsTexts work
-  pub names : LosesNothing work
+  pub names : PlacesOrRemoves work
+  pub removed : RemovesAsManyTexts work
   pub once : GoesOnce work

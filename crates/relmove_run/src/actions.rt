@@ -1,10 +1,14 @@
 //! The calls of a run on the files below a root. Each asks before it changes something.
-use crate::fault::{Call, Fault, at};
+ghost use Rattle.std.specs.Prelude.{◌≡◌, ◌<◌};
+ghost use Rattle.relmove_run.specs.Permissions.{allowed_permissions, permissions};
+
+use crate::fault::{Call, Fault, at, fault_of};
 use crate::file_store::is_absence;
 use crate::store::{Found, FoundKind, Store};
 use crate::text_digest::TextDigest;
 use relmove_actions::NewText;
-use std::alloc::AllocError;
+use std::alloc::{AllocError, Global};
+use std::collections::BTreeMap;
 use std::io::ErrorKind;
 
 // A copy of a path.
@@ -17,6 +21,15 @@ pub(crate) fn find<S: Store>(store: &mut S, path: &str) -> Result<Option<Found>,
     match store.find(path) {
         Err(error) if error.kind() == ErrorKind::InvalidFilename => Ok(None),
         asked => at(store.alloc(), Call::Ask, path, asked),
+    }
+}
+
+// What is at a path from which something is to be removed. That nothing is there is asked twice: a file system that says so
+// wrongly once would leave the thing there, and nobody would know.
+pub(crate) fn find_to_remove<S: Store>(store: &mut S, path: &str) -> Result<Option<Found>, Fault> {
+    match find(store, path)? {
+        Some(found) => Ok(Some(found)),
+        None => find(store, path),
     }
 }
 
@@ -33,38 +46,130 @@ pub(crate) fn need_free<S: Store>(store: &mut S, path: &str) -> Result<(), Fault
     Ok(())
 }
 
-// Fails unless whatever is on the way to a path is a directory.
-pub(crate) fn need_way<S: Store>(store: &mut S, path: &str) -> Result<(), Fault> {
+// The directories that were on the ways to paths, and to which directories above them no symbolic link led.
+#[derive(Drop)]
+pub(crate) struct Ways(BTreeMap<String, Found>);
+
+impl Ways {
+    // None. Allocates nothing.
+    pub(crate) fn new(alloc: Global) -> Ways {
+        Ways(BTreeMap::new(alloc))
+    }
+
+    // The longest directory above a path that was asked for, and how many bytes its path has.
+    fn nearest(&self, path: &str) -> Option<(usize, Found)> {
+        for (slash, _) in path.rmatch_indices('/') {
+            if let Some(directory) = path.get(..slash)
+                && let Some(found) = self.0.get(directory)
+            {
+                return Some((slash, *found));
+            }
+        }
+        None
+    }
+}
+
+// Fails unless whatever is on the way to a path is a directory. If the longest directory on it that was asked for before is
+// still the same one, the directories above that one aren't asked for again.
+pub(crate) fn need_way<S: Store>(store: &mut S, ways: &mut Ways, path: &str) -> Result<(), Fault> {
+    let known = known_way(store, ways, path)?;
     for (slash, _) in path.match_indices('/') {
-        if let Some(directory) = path.get(..slash) {
-            need_directory(store, directory)?;
+        if slash > known
+            && let Some(directory) = path.get(..slash)
+        {
+            let found = need_directory(store, directory)?;
+            ways.0.insert(copy_of(store, directory)?, found)?;
         }
     }
     Ok(())
 }
 
-// Fails unless a directory is at a path.
-fn need_directory<S: Store>(store: &mut S, path: &str) -> Result<(), Fault> {
+// How many bytes of a path lead to a directory to which no symbolic link leads.
+fn known_way<S: Store>(store: &mut S, ways: &Ways, path: &str) -> Result<usize, Fault> {
+    let Some((length, known)) = ways.nearest(path) else {
+        return Ok(0);
+    };
+    match find(store, path.get(..length).unwrap_or(""))? {
+        Some(found) if found.kind == FoundKind::Directory && found.is_same(&known) => Ok(length),
+        _ => Ok(0),
+    }
+}
+
+// What is at a path. Fails unless that is a directory.
+fn need_directory<S: Store>(store: &mut S, path: &str) -> Result<Found, Fault> {
     match find(store, path)? {
-        Some(found) if found.kind == FoundKind::Directory => Ok(()),
+        Some(found) if found.kind == FoundKind::Directory => Ok(found),
         Some(_) => Err(Fault::NotADirectory(copy_of(store, path)?)),
         None => Err(Fault::Missing(copy_of(store, path)?)),
     }
 }
 
-// Renames a file or directory to a path that is free.
-fn rename<S: Store>(store: &mut S, from: &str, to: &str) -> Result<(), Fault> {
-    need_way(store, from)?;
-    need_way(store, to)?;
-    need_free(store, to)?;
-    let renamed = store.rename(from, to);
-    at(store.alloc(), Call::Rename, from, renamed)
+// Renames what was found to a path that is free. If both paths are names of one file, the old one is removed.
+fn rename<S: Store>(
+    store: &mut S,
+    ways: &mut Ways,
+    from: &str,
+    to: &str,
+    found: &Found,
+) -> Result<(), Fault> {
+    need_way(store, ways, from)?;
+    need_way(store, ways, to)?;
+    match find(store, to)? {
+        None => {
+            let renamed = store.rename(from, to);
+            at(store.alloc(), Call::Rename, from, renamed)
+        }
+        Some(other) if are_names_of_one_file(found, &other) => remove_name(store, from, &other),
+        Some(_) => {
+            let (from, to) = (copy_of(store, from)?, copy_of(store, to)?);
+            Err(Fault::Both { from, to })
+        }
+    }
+}
+
+// Whether two paths are names of one file. A loss of power can keep both names of a file that was renamed.
+fn are_names_of_one_file(one: &Found, other: &Found) -> bool {
+    one.is_same(other) && one.links > 1 && one.kind != FoundKind::Directory
+}
+
+// Removes a path, if it is a name of the file that was found at another path.
+fn remove_name<S: Store>(store: &mut S, path: &str, other: &Found) -> Result<(), Fault> {
+    match find(store, path)? {
+        Some(found) if are_names_of_one_file(&found, other) => {
+            let removed = store.remove_file(path);
+            at(store.alloc(), Call::RemoveFile, path, removed)
+        }
+        _ => Ok(()),
+    }
+}
+
+// Removes a path, if it is a second name of what is at another path.
+pub(crate) fn remove_second_name<S: Store>(
+    store: &mut S,
+    ways: &mut Ways,
+    path: &str,
+    kept: &str,
+) -> Result<(), Fault> {
+    if let Some(other) = find(store, kept)?
+        && other.links > 1
+        && let Some(found) = find(store, path)?
+        && are_names_of_one_file(&found, &other)
+    {
+        need_way(store, ways, path)?;
+        return remove_name(store, path, &other);
+    }
+    Ok(())
 }
 
 // Renames a file or directory, unless that is done.
-pub(crate) fn carry<S: Store>(store: &mut S, from: &str, to: &str) -> Result<(), Fault> {
-    if is_there(store, from)? {
-        return rename(store, from, to);
+pub(crate) fn carry<S: Store>(
+    store: &mut S,
+    ways: &mut Ways,
+    from: &str,
+    to: &str,
+) -> Result<(), Fault> {
+    if let Some(found) = find(store, from)? {
+        return rename(store, ways, from, to, &found);
     }
     if is_there(store, to)? {
         return Ok(());
@@ -72,34 +177,71 @@ pub(crate) fn carry<S: Store>(store: &mut S, from: &str, to: &str) -> Result<(),
     Err(Fault::Missing(copy_of(store, from)?))
 }
 
-// Makes a directory, unless something is there.
-pub(crate) fn make_directory<S: Store>(store: &mut S, path: &str) -> Result<(), Fault> {
-    if is_there(store, path)? {
-        return Ok(());
+// Makes a directory, unless something is there. A directory that is there without its owner's permissions, and empty, is
+// made anew: the run may have been killed before it had them.
+pub(crate) fn make_directory<S: Store>(
+    store: &mut S,
+    ways: &mut Ways,
+    path: &str,
+) -> Result<(), Fault> {
+    if let Some(found) = find(store, path)? {
+        if has_owner_permissions(&found) {
+            return Ok(());
+        }
+        remove_directory(store, ways, path)?;
+        if is_there(store, path)? {
+            return Ok(());
+        }
     }
-    need_way(store, path)?;
+    need_way(store, ways, path)?;
     let made = store.make_directory(path);
     at(store.alloc(), Call::MakeDirectory, path, made)
 }
 
+// Whether something is no directory, or one whose owner may list it, change it and use its names.
+fn has_owner_permissions(found: &Found) -> bool {
+    found.kind != FoundKind::Directory || found.mode & OWNER_PERMISSIONS == OWNER_PERMISSIONS
+}
+
 // Removes a directory, unless it isn't empty or nothing is there.
-pub(crate) fn remove_directory<S: Store>(store: &mut S, path: &str) -> Result<(), Fault> {
-    if !is_there(store, path)? {
+pub(crate) fn remove_directory<S: Store>(
+    store: &mut S,
+    ways: &mut Ways,
+    path: &str,
+) -> Result<(), Fault> {
+    if find_to_remove(store, path)?.is_none() {
         return Ok(());
     }
-    need_way(store, path)?;
+    need_way(store, ways, path)?;
     match store.remove_directory(path) {
         Err(error) if error.kind() == ErrorKind::DirectoryNotEmpty => Ok(()),
         removed => at(store.alloc(), Call::RemoveDirectory, path, removed),
     }
 }
 
+// Removes a directory that a run made, unless it isn't empty or nothing is there. What its directory forbids to look up was
+// never made: the run may have been killed before that directory had its permissions.
+pub(crate) fn unmake_directory<S: Store>(
+    store: &mut S,
+    ways: &mut Ways,
+    path: &str,
+) -> Result<(), Fault> {
+    match store.find(path) {
+        Err(error) if error.kind() == ErrorKind::PermissionDenied => Ok(()),
+        _ => remove_directory(store, ways, path),
+    }
+}
+
 // Removes a file, unless nothing is there.
-pub(crate) fn remove_file<S: Store>(store: &mut S, path: &str) -> Result<(), Fault> {
-    if !is_there(store, path)? {
+pub(crate) fn remove_file<S: Store>(
+    store: &mut S,
+    ways: &mut Ways,
+    path: &str,
+) -> Result<(), Fault> {
+    if find_to_remove(store, path)?.is_none() {
         return Ok(());
     }
-    need_way(store, path)?;
+    need_way(store, ways, path)?;
     let removed = store.remove_file(path);
     at(store.alloc(), Call::RemoveFile, path, removed)
 }
@@ -107,13 +249,23 @@ pub(crate) fn remove_file<S: Store>(store: &mut S, path: &str) -> Result<(), Fau
 // The digest of the file at a path, or `None` if no regular file is there.
 pub(crate) fn digest_at<S: Store>(store: &mut S, path: &str) -> Result<Option<TextDigest>, Fault> {
     match find(store, path)? {
-        Some(found) if found.kind == FoundKind::File => {
-            let read = store.read(path);
-            let text = at(store.alloc(), Call::Read, path, read)?;
-            Ok(Some(TextDigest::of(text.as_slice())))
-        }
-        _ => Ok(None),
+        Some(found) => digest_found(store, path, &found),
+        None => Ok(None),
     }
+}
+
+// The digest of what was found at a path, or `None` if that is no regular file.
+pub(crate) fn digest_found<S: Store>(
+    store: &mut S,
+    path: &str,
+    found: &Found,
+) -> Result<Option<TextDigest>, Fault> {
+    if found.kind != FoundKind::File {
+        return Ok(None);
+    }
+    let read = store.read(path);
+    let text = at(store.alloc(), Call::Read, path, read)?;
+    Ok(Some(TextDigest::of(text.as_slice())))
 }
 
 // What a page is. Fails if it is no regular file any more.
@@ -128,11 +280,12 @@ fn find_page<S: Store>(store: &mut S, page: &str) -> Result<Found, Fault> {
 // Makes a file with at most these permissions, and notes which one it is.
 pub(crate) fn create<S: Store>(
     store: &mut S,
+    ways: &mut Ways,
     path: &str,
     mode: u32,
     own: &mut OwnFile,
 ) -> Result<S::NewFile, Fault> {
-    need_way(store, path)?;
+    need_way(store, ways, path)?;
     let created = store.create(path, mode);
     *own = match &created {
         Err(error) if error.kind() == ErrorKind::AlreadyExists => OwnFile::None,
@@ -166,17 +319,49 @@ impl OwnFile {
     }
 }
 
+// The file of a new text.
+#[derive(Clone, Copy)]
+pub(crate) struct Written {
+    // Which file it is.
+    pub(crate) own: OwnFile,
+    // Whether the whole text was written to it.
+    pub(crate) is_whole: bool,
+}
+
+impl Written {
+    // No file.
+    pub(crate) const NONE: Written = Written {
+        own: OwnFile::None,
+        is_whole: false,
+    };
+
+    // A file that a killed run may have made.
+    pub(crate) const UNKNOWN: Written = Written {
+        own: OwnFile::Unknown,
+        is_whole: false,
+    };
+}
+
 // Writes the new text of a page whole to a new file, and syncs it. The file gets the permissions of the page, and its
-// owner, if the system allows that. Only its owner can read it before it has its group. Notes which file it is.
+// owner, if the system allows that. Only its owner can read it before it has its group. Notes which file it is, and when
+// it is whole.
 pub(crate) fn write_text<S: Store>(
     store: &mut S,
+    ways: &mut Ways,
     new: &NewText,
-    own: &mut OwnFile,
+    written: &mut Written,
 ) -> Result<(), Fault> {
     let (page, path) = (new.page.as_str(), new.file.as_str());
     let old = find_page(store, page)?;
-    let mut file = create(store, path, old.mode & OWNER_PERMISSIONS, own)?;
+    let mut file = create(
+        store,
+        ways,
+        path,
+        old.mode & OWNER_PERMISSIONS,
+        &mut written.own,
+    )?;
     write_whole(store, &mut file, path, new.text.as_bytes())?;
+    written.is_whole = true;
     let mode = give_to_owner(store, &file, path, &old)?;
     let set = store.set_mode(&file, mode);
     at(store.alloc(), Call::SetPermissions, path, set)?;
@@ -203,9 +388,6 @@ pub(crate) fn sync<S: Store>(store: &mut S, file: &S::NewFile, path: &str) -> Re
 // The permissions of a file's owner.
 const OWNER_PERMISSIONS: u32 = 0o700;
 
-// The permissions of owner, group and others.
-const PLAIN_PERMISSIONS: u32 = 0o777;
-
 // Gives a new file to the owner and the group of the old one, if the system allows it. Returns the permissions that the
 // new file may have.
 fn give_to_owner<S: Store>(
@@ -228,20 +410,38 @@ fn give_to_owner<S: Store>(
 
 // The permissions of an old file that a new one may have. Without the old owner it doesn't run as its owner or its
 // group, and without the old group its group may do only what others may do.
-fn allowed_mode(old: &Found, new: &Found) -> u32 {
+fn allowed_mode(old: &Found, new: &Found) -> u32
+    ensures { result ≡ allowed_permissions old.now new.now }
+{
     if new.owner == old.owner && new.group == old.group {
         return old.mode;
     }
-    let mode = old.mode & PLAIN_PERMISSIONS;
+    let (owner, group, others) = (old.mode / 64 % 8, old.mode / 8 % 8, old.mode % 8);
     if new.group == old.group {
-        return mode;
+        return permissions(owner, group, others);
     }
-    mode & (OWNER_PERMISSIONS | 0o007 | ((mode & 0o007) << 3))
+    permissions(owner, group & others, others)
+}
+
+// The permissions with these rights of owner, group and others.
+fn permissions(owner: u32, group: u32, others: u32) -> u32
+    requires owner { owner < 8 }
+    requires group { group < 8 }
+    requires others { others < 8 }
+    ensures { result ≡ permissions owner group others }
+{
+    owner * 64 + group * 8 + others
 }
 
 // Waits until the names in a directory are on the disk. A directory that can't be opened, or whose file system can't
-// wait, is left out.
+// wait, is left out. Nothing but a directory is opened: a FIFO would make the call wait.
 pub(crate) fn sync_directory<S: Store>(store: &mut S, path: &str) -> Result<(), Fault> {
+    match store.find(path) {
+        Ok(Some(found)) if found.kind == FoundKind::Directory => {}
+        Ok(_) => return Ok(()),
+        Err(error) if cannot_sync(error.kind()) => return Ok(()),
+        Err(error) => return Err(fault_of(store.alloc(), Call::Ask, path, &error)),
+    }
     match store.sync_directory(path) {
         Err(error) if cannot_sync(error.kind()) => Ok(()),
         synced => at(store.alloc(), Call::Sync, path, synced),

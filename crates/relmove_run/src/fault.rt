@@ -1,5 +1,9 @@
 //! Why a call fails.
+ghost use Rattle.std.specs.Prelude.{◌≡◌};
+ghost use Rattle.relmove_run.specs.declared.fault.Fault.TheVariants.{OutOfMemory};
+
 use crate::printable::Printable;
+use crate::work::Stage;
 use httpdate::{HttpDate, fmt_http_date};
 use std::alloc::{AllocError, AllocFailed, Global};
 use std::error::Error;
@@ -74,6 +78,13 @@ pub enum Fault {
     },
     /// Something is at a path that has to be free.
     Taken(String),
+    /// Something is at both paths of a rename.
+    Both {
+        /// The path before.
+        from: String,
+        /// The path after.
+        to: String,
+    },
     /// Nothing is at a path that the run needs.
     Missing(String),
     /// A path on the way to another one is no directory, but a symbolic link or a file.
@@ -90,6 +101,8 @@ pub enum Fault {
     HasJournal {
         /// When the journal was written, if this is known.
         written: Option<SystemTime>,
+        /// The stage that the journal says, if it can be read.
+        stage: Option<Stage>,
     },
     /// A directory below the root or above it has the journal of a run that didn't end.
     JournalNear(String),
@@ -101,6 +114,8 @@ pub enum Fault {
     OldJournal,
     /// The journal wasn't written in this folder: it came with a copy, a clone or an archive.
     ForeignJournal,
+    /// The journal's file has another name too.
+    LinkedJournal,
     /// Something has a name of the run's own, and no run left it.
     OwnName(String),
     /// A run that was killed before it changed anything left a file of its own.
@@ -116,13 +131,20 @@ impl fmt::Display for Fault {
         match self {
             Fault::System { call, path, why } => {
                 let words = call.words();
-                let path = Printable(path.as_str());
+                let path = Printable(named(path.as_str()));
                 write!(f, "can't {words} {path}: {why}")
             }
-            Fault::HasJournal { written } => write_has_journal(f, *written),
+            Fault::Both { from, to } => {
+                let (from, to) = (Printable(from.as_str()), Printable(to.as_str()));
+                write!(
+                    f,
+                    "can't rename {from} to {to}: something is at both paths. Rename or remove the one that isn't the run's"
+                )
+            }
+            Fault::HasJournal { written, stage } => write_has_journal(f, *written, *stage),
             other => match words_with_path(other) {
                 Some((path, words)) => {
-                    let path = Printable(path);
+                    let path = Printable(named(path));
                     write!(f, "{path} {words}")
                 }
                 None => f.write_str(words_alone(other)),
@@ -131,10 +153,16 @@ impl fmt::Display for Fault {
     }
 }
 
+// A path as it is printed. The root has the empty path.
+fn named(path: &str) -> &str {
+    if path.is_empty() { "ROOT" } else { path }
+}
+
 // Writes that the root has a journal.
 fn write_has_journal<W: fmt::Write>(
     f: &mut fmt::Formatter<W>,
     written: Option<SystemTime>,
+    stage: Option<Stage>,
 ) -> fmt::Result {
     f.write_str("a run before this one didn't end")?;
     if let Some(written) = written
@@ -142,9 +170,19 @@ fn write_has_journal<W: fmt::Write>(
     {
         write!(f, "; its journal .relmove was written on {date}")?;
     }
-    f.write_str(
-        ". If it was your run, call relmove --resume ROOT or relmove --undo ROOT. If the folder came from elsewhere, the journal may have come with it: then remove it",
+    let commands = commands_at(stage);
+    write!(
+        f,
+        ". If it was your run, call {commands}. If the folder came from elsewhere, the journal may have come with it: then remove it"
     )
+}
+
+// The calls that end a run, if its journal says this stage.
+fn commands_at(stage: Option<Stage>) -> &'static str {
+    match stage {
+        Some(Stage::Cleaning) => "relmove --resume ROOT",
+        _ => "relmove --resume ROOT or relmove --undo ROOT",
+    }
 }
 
 // The path of a fault, and the words that follow it.
@@ -191,7 +229,10 @@ fn words_alone(fault: &Fault) -> &'static str {
             "the journal .relmove is of an older relmove. Rename by hand what it lists: from the names that begin with .relmove- to the old paths (lines apart) or to the new ones (lines together)"
         }
         Fault::ForeignJournal => {
-            "the journal .relmove wasn't written in this folder: it came with a copy or from elsewhere. Remove it, or add --trust-journal to see what it asks for"
+            "the journal .relmove wasn't written in this folder: it came with a copy or from elsewhere. Add --trust-journal to see what it asks for. If you remove it, what has a name that begins with .relmove- keeps this name, and nothing says where it belongs"
+        }
+        Fault::LinkedJournal => {
+            "the journal .relmove has another name too, as cp -al and some backups give to a file. Add --trust-journal to see what it asks for"
         }
         Fault::NotAPlan => "the steps aren't those of a plan",
         Fault::TooLate => {
@@ -204,12 +245,16 @@ fn words_alone(fault: &Fault) -> &'static str {
 impl Error for Fault {}
 
 impl From<AllocError> for Fault {
+    ghost from_gives = { λ _ fault. fault ≡ OutOfMemory };
+
     fn from(_: AllocError) -> Fault {
         Fault::OutOfMemory
     }
 }
 
 impl<T: Drop> From<AllocFailed<T>> for Fault {
+    ghost from_gives = { λ _ fault. fault ≡ OutOfMemory };
+
     fn from(_: AllocFailed<T>) -> Fault {
         Fault::OutOfMemory
     }

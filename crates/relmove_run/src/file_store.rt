@@ -1,17 +1,24 @@
 //! The files of the system below a root.
 //!
 //! Nothing is proved of what they hold. This module is thin: each call is a call of the system or two.
+ghost use Rattle.std.specs.Prelude.{◌≡◌, ◌↔◌, ◌⊎◌, IsTrue};
+ghost use Rattle.std.specs.declared.io.ErrorKind.TheVariants.{NotADirectory, NotFound};
+
 use crate::path::join;
-use crate::store::{Found, FoundKind, Machine, Store};
+use crate::store::{Found, FoundKind, Machine, Names, Store};
 use std::alloc::{AllocError, Global};
 use std::fs::{self, File, FileType, Metadata, OpenFile, OpenOptions, Permissions, TryLockError};
 use std::io::{self, ErrorKind, Read, Write};
 use std::os::fd::AsFd;
 use std::os::unix::fs::{MetadataExt, OpenOptionsExt, PermissionsExt, fchown};
-use std::rt::Files;
+use std::thread;
+use std::time::Duration;
 
 // The bits of a mode that are permissions.
 const PERMISSIONS: u32 = 0o7777;
+
+// What the owner of a directory that a run made may do there, whatever the process takes from new files.
+const OWNER_PERMISSIONS: u32 = 0o700;
 
 /// The files of the system below a root.
 #[derive(Drop)]
@@ -67,6 +74,40 @@ impl Store for FileStore {
         }
     }
 
+    fn follow(&mut self, path: &str) -> io::Result<Option<Found>> {
+        match fs::metadata(&self.runtime, self.full(path)?.as_str()) {
+            Ok(metadata) => Ok(Some(found_of(&metadata))),
+            Err(error) if is_absence(error.kind()) => Ok(None),
+            Err(error) => Err(error),
+        }
+    }
+
+    fn list(&mut self, path: &str) -> io::Result<Names> {
+        let mut names = Names {
+            texts: Vec::new(self.runtime.alloc()),
+            has_other: false,
+        };
+        for entry in fs::read_dir(&self.runtime, self.full(path)?.as_str())? {
+            match entry {
+                Ok(entry) => {
+                    let name = String::from_str(self.runtime.alloc(), entry.file_name())?;
+                    names.texts.push(name)?;
+                }
+                Err(error) if error.kind() == ErrorKind::InvalidFilename => names.has_other = true,
+                Err(error) => return Err(error),
+            }
+        }
+        Ok(names)
+    }
+
+    fn read_link(&mut self, path: &str) -> io::Result<Option<String>> {
+        match fs::read_link(&self.runtime, self.full(path)?.as_str()) {
+            Ok(target) => Ok(Some(String::from_str(self.runtime.alloc(), target.as_str())?)),
+            Err(error) if error.kind() == ErrorKind::InvalidFilename => Ok(None),
+            Err(error) => Err(error),
+        }
+    }
+
     fn read(&mut self, path: &str) -> io::Result<Vec<u8>> {
         read_regular(&self.runtime, self.full(path)?.as_str())
     }
@@ -112,7 +153,14 @@ impl Store for FileStore {
     }
 
     fn make_directory(&mut self, path: &str) -> io::Result<()> {
-        fs::create_dir(&self.runtime, self.full(path)?.as_str())
+        let path = self.full(path)?;
+        fs::create_dir(&self.runtime, path.as_str())?;
+        let mode = fs::symlink_metadata(&self.runtime, path.as_str())?.mode() & PERMISSIONS;
+        if mode & OWNER_PERMISSIONS == OWNER_PERMISSIONS {
+            return Ok(());
+        }
+        let permissions = Permissions::from_mode(mode | OWNER_PERMISSIONS);
+        fs::set_permissions(&self.runtime, path.as_str(), permissions)
     }
 
     fn remove_file(&mut self, path: &str) -> io::Result<()> {
@@ -125,22 +173,45 @@ impl Store for FileStore {
 
     fn lock(&mut self) -> io::Result<bool> {
         let root = self.open_root()?;
-        match root.try_lock() {
-            Ok(()) => {
-                self.lock = Some(root);
-                Ok(true)
+        for _ in 0..MOST_TRIES {
+            match root.try_lock() {
+                Ok(()) => {
+                    self.lock = Some(root);
+                    return Ok(true);
+                }
+                Err(TryLockError::WouldBlock) if is_locked(&root)? => return Ok(false),
+                Err(TryLockError::WouldBlock) => {
+                    thread::sleep(&self.runtime, Duration::from_millis(PAUSE))
+                }
+                Err(TryLockError::Error(error)) => return Err(error),
             }
-            Err(TryLockError::WouldBlock) => Ok(false),
-            Err(TryLockError::Error(error)) => Err(error),
         }
+        Ok(false)
     }
 
     fn is_locked(&mut self) -> io::Result<bool> {
-        match self.open_root()?.try_lock_shared() {
-            Ok(()) => Ok(false),
-            Err(TryLockError::WouldBlock) => Ok(true),
-            Err(TryLockError::Error(error)) => Err(error),
+        let root = self.open_root()?;
+        // Where the system has no locks, nobody has one.
+        Ok(is_locked(&root).unwrap_or(false))
+    }
+}
+
+// How often a call tries to lock the root while another call asks whether it is locked.
+const MOST_TRIES: u32 = 1000;
+
+// How many milliseconds it waits before it tries again.
+const PAUSE: u64 = 1;
+
+// Whether another process has the lock of a root, and doesn't only ask for it. Takes a lock that others may have too, and
+// gives it back.
+fn is_locked(root: &File) -> io::Result<bool> {
+    match root.try_lock_shared() {
+        Ok(()) => {
+            root.unlock()?;
+            Ok(false)
         }
+        Err(TryLockError::WouldBlock) => Ok(true),
+        Err(TryLockError::Error(error)) => Err(error),
     }
 }
 
@@ -152,11 +223,9 @@ impl Machine for HostRuntime {
     }
 }
 
-/// Reads a regular file. Whatever else is there isn't opened. If something else comes there before the file is opened,
-/// the call fails after it opened that; the call may wait then, if that is a FIFO.
-///
-/// Allocates the bytes.
-pub fn read_regular<R: Files + AllocGlobal>(runtime: &R, path: &str) -> io::Result<Vec<u8>> {
+// Reads a regular file. Whatever else is there isn't opened. If something else comes there before the file is opened,
+// the call fails after it opened that; the call may wait then, if that is a FIFO.
+fn read_regular(runtime: &HostRuntime, path: &str) -> io::Result<Vec<u8>> {
     need_file(fs::symlink_metadata(runtime, path)?.file_type())?;
     let mut file = fs::open(runtime, path)?;
     need_file(file.metadata()?.file_type())?;
@@ -202,7 +271,9 @@ fn kind_of(kind: FileType) -> FoundKind {
 }
 
 /// Whether an error says that nothing is at a path.
-pub fn is_absence(kind: ErrorKind) -> bool {
+pub fn is_absence(kind: ErrorKind) -> bool
+    ensures absence { IsTrue result ↔ ((kind ≡ NotFound) ⊎ (kind ≡ NotADirectory)) }
+{
     match kind {
         ErrorKind::NotFound => true,
         ErrorKind::NotADirectory => true,

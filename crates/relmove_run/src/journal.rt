@@ -18,7 +18,18 @@
 //! emptied  docs
 //! end      236  3a41
 //! ```
-ghost use Rattle.std.specs.Prelude.{IfOk};
+ghost use Rattle.std.specs.Prelude.{◌≡◌, ◌≢◌, ◌↔◌, ℕ, ◌<◌, ◌^◌, List, [], ◌∷◌, ◌++◌, All, IfOk, IsOkAnd, IsTrue, Ok, OnOk, Some, codes, length, map, string_bytes};
+ghost use Rattle.std.specs.Fmt.{decimal};
+ghost use Rattle.std.specs.List.{flat_map};
+ghost use Rattle.std.specs.Str.{IsUtf8};
+ghost use Rattle.hex.specs.Hex.{IsBytes, encode_lower};
+ghost use Rattle.relmove_run.specs.declared.journal.Origin.{Origin};
+ghost use Rattle.relmove_run.specs.declared.text_digest.TextDigest.{TextDigest};
+ghost use Rattle.relmove_run.specs.declared.work.Stage.{Stage};
+ghost use Rattle.relmove_run.specs.declared.work.Work.{Work};
+ghost use Rattle.relmove_run.specs.Journals.{digest_fields, directory_line, end_line, escaped, escaped_character, field_bytes, head_lines, journal_bytes, leftover_line, line_bytes, rename_line, stage_name, text_line, work_bytes};
+ghost use Rattle.relmove_run.specs.Reading.LeftoverParts.{Emptied, Removed};
+ghost use Rattle.relmove_run.specs.Reading.{GivenMemory, IsDigest, IsLine, IsRenameParts, IsTextOfRun, IsTextParts, IsWorkLine, Line, Says, WorkLine, content_of, fields_text, leftover_parts, line_fields, line_text, line_word, parts_of, rename_fields, rename_parts, text_fields, text_parts, with_line, with_work_line, work_fields, work_word};
 ghost use Rattle.relmove_run.specs.Shape.{IsOfRun};
 
 use crate::fault::Fault;
@@ -31,7 +42,9 @@ use std::alloc::{AllocError, Global};
 
 impl Stage {
     // The stage's name.
-    fn name(self) -> &'static str {
+    fn name(self) -> &'static str
+        ensures { result.now ≡ stage_name self }
+    {
         match self {
             Stage::Writing => "writing",
             Stage::Staging => "staging",
@@ -46,7 +59,9 @@ impl Stage {
     }
 
     // The stage of this name.
-    fn of_name(name: &str) -> Option<Stage> {
+    fn of_name(name: &str) -> Option<Stage>
+        ensures { (stage : Stage) → name.now ≡ stage_name stage → result ≡ Some stage }
+    {
         match name {
             "writing" => Some(Stage::Writing),
             "staging" => Some(Stage::Staging),
@@ -101,51 +116,106 @@ pub fn journal_text(
     origin: Origin,
     stage: Stage,
     work: &Work,
-) -> Result<String, AllocError> {
+) -> Result<String, AllocError>
+    ensures text { IfOk result (λ text. string_bytes text ≡ journal_bytes origin stage work.now) }
+{
     let mut text = String::from_str(alloc, HEAD)?;
-    push_number(alloc, &mut text, "root", origin.root)?;
-    push_number(alloc, &mut text, "file", origin.file)?;
-    push_line(&mut text, "stage", &[stage.name()])?;
-    for written in &work.texts {
-        push_text_file(alloc, &mut text, "text", written)?;
-    }
-    push_renames(&mut text, "staged", &work.staged)?;
-    for path in &work.made {
-        push_line(&mut text, "made", &[path.as_str()])?;
-    }
-    push_renames(&mut text, "placed", &work.placed)?;
-    for leftover in &work.cleaned {
-        push_leftover(alloc, &mut text, leftover)?;
-    }
-    let end = end_line(alloc, text.as_str())?;
+    push_head(alloc, &mut text, origin, stage)?;
+    push_work(alloc, &mut text, work)?;
+    let end = end_of(alloc, text.as_str())?;
     text.push_str(end.as_str())?;
     Ok(text)
 }
 
-// Adds a line with a number.
-fn push_number(
+// Adds the lines that say where the journal is, and how far the run is.
+fn push_head(
     alloc: Global,
     text: &mut String,
-    word: &str,
-    number: u64,
-) -> Result<(), AllocError> {
+    origin: Origin,
+    stage: Stage,
+) -> Result<(), AllocError>
+    ensures { OnOk result (string_bytes text.new ≡ string_bytes text.old ++ head_lines origin stage) }
+{
+    push_number(alloc, text, "root", origin.root)?;
+    push_number(alloc, text, "file", origin.file)?;
+    push_field(text, "stage", stage.name())?;
+    Ok(())
+}
+
+// Adds the lines that say what the run does.
+fn push_work(alloc: Global, text: &mut String, work: &Work) -> Result<(), AllocError>
+    ensures { OnOk result (string_bytes text.new ≡ string_bytes text.old ++ work_bytes work.now) }
+{
+    push_texts(alloc, text, &work.texts)?;
+    push_renames(text, "staged", &work.staged)?;
+    push_made(text, &work.made)?;
+    push_renames(text, "placed", &work.placed)?;
+    push_cleaned(alloc, text, &work.cleaned)?;
+    Ok(())
+}
+
+// Adds a line with a number.
+fn push_number(alloc: Global, text: &mut String, word: &str, number: u64) -> Result<(), AllocError>
+    ensures { OnOk result (string_bytes text.new ≡ string_bytes text.old ++ line_bytes word.now (decimal number ∷ [])) }
+{
     let digits = number.to_string(alloc)?;
-    push_line(text, word, &[digits.as_str()])
+    push_field(text, word, digits.as_str())
+}
+
+// Adds a line with one field.
+fn push_field(text: &mut String, word: &str, field: &str) -> Result<(), AllocError>
+    ensures { OnOk result (string_bytes text.new ≡ string_bytes text.old ++ line_bytes word.now (field.now ∷ [])) }
+{
+    push_line(text, word, &[field])
+}
+
+// Adds a line for each new text.
+fn push_texts(alloc: Global, text: &mut String, files: &[TextFile]) -> Result<(), AllocError>
+    ensures { OnOk result (string_bytes text.new ≡ string_bytes text.old ++ flat_map (text_line (codes "text")) files.now) }
+{
+    for file in files {
+        push_text_file(alloc, text, "text", file)?;
+    }
+    Ok(())
 }
 
 // Adds a line for each rename.
-fn push_renames(text: &mut String, word: &str, renames: &[Rename]) -> Result<(), AllocError> {
+fn push_renames(text: &mut String, word: &str, renames: &[Rename]) -> Result<(), AllocError>
+    ensures { OnOk result (string_bytes text.new ≡ string_bytes text.old ++ flat_map (rename_line word.now) renames.now) }
+{
     for rename in renames {
         push_line(text, word, &[rename.from.as_str(), rename.to.as_str()])?;
     }
     Ok(())
 }
 
+// Adds a line for each directory that is made.
+fn push_made(text: &mut String, paths: &[String]) -> Result<(), AllocError>
+    ensures { OnOk result (string_bytes text.new ≡ string_bytes text.old ++ flat_map (λ path. directory_line (codes "made") (string_bytes path)) paths.now) }
+{
+    for path in paths {
+        push_field(text, "made", path.as_str())?;
+    }
+    Ok(())
+}
+
+// Adds a line for each thing that is removed at the end.
+fn push_cleaned(alloc: Global, text: &mut String, leftovers: &[Leftover]) -> Result<(), AllocError>
+    ensures { OnOk result (string_bytes text.new ≡ string_bytes text.old ++ flat_map leftover_line leftovers.now) }
+{
+    for leftover in leftovers {
+        push_leftover(alloc, text, leftover)?;
+    }
+    Ok(())
+}
+
 // Adds a line for what is removed at the end.
-fn push_leftover(alloc: Global, text: &mut String, leftover: &Leftover) -> Result<(), AllocError> {
+fn push_leftover(alloc: Global, text: &mut String, leftover: &Leftover) -> Result<(), AllocError>
+    ensures { OnOk result (string_bytes text.new ≡ string_bytes text.old ++ leftover_line leftover.now) }
+{
     match leftover {
         Leftover::Text(file) => push_text_file(alloc, text, "removed", file),
-        Leftover::Directory(path) => push_line(text, "emptied", &[path.as_str()]),
+        Leftover::Directory(path) => push_field(text, "emptied", path.as_str()),
     }
 }
 
@@ -155,7 +225,9 @@ fn push_text_file(
     text: &mut String,
     word: &str,
     file: &TextFile,
-) -> Result<(), AllocError> {
+) -> Result<(), AllocError>
+    ensures { OnOk result (string_bytes text.new ≡ string_bytes text.old ++ text_line word.now file.now) }
+{
     let length = file.digest.length.to_string(alloc)?;
     let sha256 = hex::encode(alloc, file.digest.sha256)?;
     push_line(
@@ -166,7 +238,9 @@ fn push_text_file(
 }
 
 // The last line: the digest of all lines before it.
-fn end_line(alloc: Global, lines: &str) -> Result<String, AllocError> {
+fn end_of(alloc: Global, lines: &str) -> Result<String, AllocError>
+    ensures { IfOk result (λ line. string_bytes line ≡ end_line lines.now) }
+{
     let digest = TextDigest::of(lines.as_bytes());
     let length = digest.length.to_string(alloc)?;
     let sha256 = hex::encode(alloc, digest.sha256)?;
@@ -176,104 +250,260 @@ fn end_line(alloc: Global, lines: &str) -> Result<String, AllocError> {
 }
 
 // Adds a line.
-fn push_line(text: &mut String, word: &str, fields: &[&str]) -> Result<(), AllocError> {
+fn push_line(text: &mut String, word: &str, fields: &[&str]) -> Result<(), AllocError>
+    ensures { OnOk result (string_bytes text.new
+        ≡ string_bytes text.old ++ line_bytes word.now (map (λ field. field.now) fields.now)) }
+{
     text.push_str(word)?;
-    for field in fields {
-        text.push('\t')?;
-        push_escaped(text, field)?;
-    }
-    text.push('\n')
+    push_fields(text, fields)?;
+    text.push('\n')?;
+    Ok(())
 }
 
-// Adds a field. Backslashes, tabs and line feeds are escaped.
-fn push_escaped(text: &mut String, field: &str) -> Result<(), AllocError> {
-    for character in field.chars() {
-        match character {
-            '\\' => text.push_str("\\\\")?,
-            '\t' => text.push_str("\\t")?,
-            '\n' => text.push_str("\\n")?,
-            other => text.push(other)?,
-        }
+// Adds fields, with a tab before each.
+fn push_fields(text: &mut String, fields: &[&str]) -> Result<(), AllocError>
+    ensures { OnOk result (string_bytes text.new
+        ≡ string_bytes text.old ++ flat_map field_bytes (map (λ field. field.now) fields.now)) }
+{
+    for field in fields {
+        push_one_field(text, field)?;
     }
     Ok(())
 }
 
-/// Reads a journal. Fails with [`Fault::NotAJournal`] if no run writes this text, and with [`Fault::OldJournal`] if the
-/// first version of the program wrote it.
+// Adds a field, with a tab before it.
+fn push_one_field(text: &mut String, field: &str) -> Result<(), AllocError>
+    ensures { OnOk result (string_bytes text.new ≡ string_bytes text.old ++ field_bytes field.now) }
+{
+    text.push('\t')?;
+    push_escaped(text, field)
+}
+
+// Adds a field. Backslashes, tabs and line feeds are escaped.
+fn push_escaped(text: &mut String, field: &str) -> Result<(), AllocError>
+    ensures { OnOk result (string_bytes text.new ≡ string_bytes text.old ++ escaped field.now) }
+{
+    for character in field.chars() {
+        push_character(text, character)?;
+    }
+    Ok(())
+}
+
+// Adds a character of a field.
+fn push_character(text: &mut String, character: char) -> Result<(), AllocError>
+    ensures { OnOk result (string_bytes text.new ≡ string_bytes text.old ++ escaped_character character) }
+{
+    match character {
+        '\\' => text.push_str("\\\\"),
+        '\t' => text.push_str("\\t"),
+        '\n' => text.push_str("\\n"),
+        other => text.push(other),
+    }
+}
+
+/// Reads a journal: the one of which [`journal_text`] writes this text. Each text that is written of a run is read, if
+/// there is memory. Otherwise fails with [`Fault::OldJournal`] if the text begins as a journal of the first version, and
+/// with [`Fault::NotAJournal`] if it doesn't.
 ///
 /// Allocates the journal, and its text once more.
 pub fn journal_of(alloc: Global, text: &str) -> Result<Journal, Fault>
     ensures of_run { IfOk result (λ journal. IsOfRun journal.work) }
+    ensures text { IfOk result (λ journal.
+        text.now ≡ journal_bytes journal.origin journal.stage journal.work) }
+    ensures read { (origin : Origin) (stage : Stage) (work : Work) → IsTextOfRun text.now origin stage work
+        → GivenMemory result (λ journal. Says journal origin stage work) }
 {
     if text.starts_with(OLD_HEAD) {
         return Err(Fault::OldJournal);
     }
     let journal = read_lines(alloc, text)?;
-    // Only this tells whether the lines are in order, and whether the last one has their digest.
-    let written = journal_text(alloc, journal.origin, journal.stage, &journal.work)?;
-    if written.as_str() != text || !is_of_run(alloc, &journal.work)? {
+    if !is_from_run(alloc, &journal, text)? {
         return Err(Fault::NotAJournal);
     }
     Ok(journal)
 }
 
-// What the lines of a text say, in whatever order they are.
-fn read_lines(alloc: Global, text: &str) -> Result<Journal, Fault> {
+// Whether a run writes this text of a journal. Only this tells whether the lines are in order, and whether the last one
+// has their digest.
+fn is_from_run(alloc: Global, journal: &Journal, text: &str) -> Result<bool, AllocError>
+    ensures of_run { IfOk result (λ yes. IsTrue yes → IsOfRun journal.now.work) }
+    ensures text { IfOk result (λ yes. IsTrue yes
+        → text.now ≡ journal_bytes journal.now.origin journal.now.stage journal.now.work) }
+    ensures read { (origin : Origin) (stage : Stage) (work : Work) → IsTextOfRun text.now origin stage work
+        → Says journal.now origin stage work → IfOk result (λ yes. IsTrue yes) }
+{
+    if !is_text_of(alloc, journal, text)? {
+        return Ok(false);
+    }
+    is_of_run(alloc, &journal.work)
+}
+
+// Whether a text is the one that is written of a journal.
+fn is_text_of(alloc: Global, journal: &Journal, text: &str) -> Result<bool, AllocError>
+    ensures { IfOk result (λ yes. IsTrue yes
+        ↔ (text.now ≡ journal_bytes journal.now.origin journal.now.stage journal.now.work)) }
+{
+    let written = journal_text(alloc, journal.origin, journal.stage, &journal.work)?;
+    Ok(written.as_str() == text)
+}
+
+// What the lines of a text say, in whatever order they are. The first line isn't read.
+fn read_lines(alloc: Global, text: &str) -> Result<Journal, Fault>
+    ensures { (origin : Origin) (stage : Stage) (work : Work) → IsTextOfRun text.now origin stage work
+        → GivenMemory result (λ journal. Says journal origin stage work) }
+{
     let mut journal = Journal {
         origin: Origin { root: 0, file: 0 },
         stage: Stage::Writing,
         work: Work::new(alloc),
     };
-    for line in text.split('\n') {
-        if let Some((word, fields)) = line.split_once('\t') {
-            read_line(alloc, &mut journal, word, fields)?;
-        }
+    let Some((_, mut left)) = text.split_once('\n') else {
+        return Err(Fault::NotAJournal);
+    };
+    while let Some((line, rest)) = left.split_once('\n') {
+        read_line(alloc, &mut journal, line)?;
+        left = rest;
     }
     Ok(journal)
 }
 
-// Adds what a line says to a journal.
-fn read_line(alloc: Global, journal: &mut Journal, word: &str, fields: &str) -> Result<(), Fault> {
-    match word {
-        "root" => journal.origin.root = number_of(fields)?,
-        "file" => journal.origin.file = number_of(fields)?,
-        "stage" => journal.stage = Stage::of_name(fields).ok_or(Fault::NotAJournal)?,
-        END => {}
-        _ => read_action(alloc, &mut journal.work, word, fields)?,
+// Adds what a line says to a journal. A line without a tab says nothing.
+fn read_line(alloc: Global, journal: &mut Journal, line: &str) -> Result<(), Fault>
+    ensures { (said : Line) → IsLine said → line.now ≡ line_text said
+        → GivenMemory result (λ _. content_of journal.new ≡ with_line (content_of journal.old) said) }
+{
+    match line.split_once('\t') {
+        Some((word, fields)) => read_fields(alloc, journal, word, fields),
+        None => Ok(()),
     }
+}
+
+// Adds what the word and the fields of a line say to a journal.
+fn read_fields(alloc: Global, journal: &mut Journal, word: &str, fields: &str) -> Result<(), Fault>
+    ensures { (said : Line) → IsLine said → word.now ≡ line_word said → fields.now ≡ fields_text (line_fields said)
+        → GivenMemory result (λ _. content_of journal.new ≡ with_line (content_of journal.old) said) }
+{
+    match word {
+        "root" => set_number(&mut journal.origin.root, fields),
+        "file" => set_number(&mut journal.origin.file, fields),
+        "stage" => set_stage(&mut journal.stage, fields),
+        END => Ok(()),
+        _ => read_action(alloc, &mut journal.work, word, fields),
+    }
+}
+
+// Sets a number to that of a field.
+fn set_number(number: &mut u64, field: &str) -> Result<(), Fault>
+    ensures { (n : ℕ) → n < 2 ^ 64 → field.now ≡ decimal n → GivenMemory result (λ _. number.new ≡ n) }
+{
+    *number = number_of(field)?;
+    Ok(())
+}
+
+// Sets a stage to that of a field.
+fn set_stage(stage: &mut Stage, field: &str) -> Result<(), Fault>
+    ensures { (said : Stage) → field.now ≡ stage_name said → GivenMemory result (λ _. stage.new ≡ said) }
+{
+    *stage = Stage::of_name(field).ok_or(Fault::NotAJournal)?;
     Ok(())
 }
 
 // Adds what a line says to the work of a run.
-fn read_action(alloc: Global, work: &mut Work, word: &str, fields: &str) -> Result<(), Fault> {
+fn read_action(alloc: Global, work: &mut Work, word: &str, fields: &str) -> Result<(), Fault>
+    ensures { (said : WorkLine) → IsWorkLine said → word.now ≡ work_word said → fields.now ≡ fields_text (work_fields said)
+        → GivenMemory result (λ _. parts_of work.new ≡ with_work_line (parts_of work.old) said) }
+{
     match word {
-        "text" => work.texts.push(text_file_of(alloc, fields)?)?,
-        "staged" => work.staged.push(rename_of(alloc, fields)?)?,
-        "made" => work.made.push(path_of(alloc, fields)?)?,
-        "placed" => work.placed.push(rename_of(alloc, fields)?)?,
-        "removed" => work
-            .cleaned
-            .push(Leftover::Text(text_file_of(alloc, fields)?))?,
-        "emptied" => work
-            .cleaned
-            .push(Leftover::Directory(path_of(alloc, fields)?))?,
-        _ => return Err(Fault::NotAJournal),
+        "text" => add_text(alloc, &mut work.texts, fields),
+        "staged" => add_rename(alloc, &mut work.staged, fields),
+        "made" => add_directory(alloc, &mut work.made, fields),
+        "placed" => add_rename(alloc, &mut work.placed, fields),
+        "removed" => add_removed(alloc, &mut work.cleaned, fields),
+        "emptied" => add_emptied(alloc, &mut work.cleaned, fields),
+        _ => Err(Fault::NotAJournal),
     }
+}
+
+// Adds the text of three fields.
+fn add_text(alloc: Global, texts: &mut Vec<TextFile>, fields: &str) -> Result<(), Fault>
+    ensures { (text : List ℕ × TextDigest) → IsTextParts text → fields.now ≡ fields_text (text_fields text)
+        → GivenMemory result (λ _. map text_parts texts.new.items ≡ map text_parts texts.old.items ++ text ∷ []) }
+{
+    texts.push(text_file_of(alloc, fields)?)?;
+    Ok(())
+}
+
+// Adds the rename of two fields.
+fn add_rename(alloc: Global, renames: &mut Vec<Rename>, fields: &str) -> Result<(), Fault>
+    ensures { (rename : List ℕ × List ℕ) → IsRenameParts rename → fields.now ≡ fields_text (rename_fields rename)
+        → GivenMemory result (λ _. map rename_parts renames.new.items ≡ map rename_parts renames.old.items ++ rename ∷ []) }
+{
+    renames.push(rename_of(alloc, fields)?)?;
+    Ok(())
+}
+
+// Adds the path of a field.
+fn add_directory(alloc: Global, paths: &mut Vec<String>, field: &str) -> Result<(), Fault>
+    ensures { (path : List ℕ) → IsUtf8 path → field.now ≡ escaped path
+        → GivenMemory result (λ _. map string_bytes paths.new.items ≡ map string_bytes paths.old.items ++ path ∷ []) }
+{
+    paths.push(path_of(alloc, field)?)?;
+    Ok(())
+}
+
+// Adds the text of three fields to what is removed.
+fn add_removed(alloc: Global, leftovers: &mut Vec<Leftover>, fields: &str) -> Result<(), Fault>
+    ensures { (text : List ℕ × TextDigest) → IsTextParts text → fields.now ≡ fields_text (text_fields text)
+        → GivenMemory result (λ _. map leftover_parts leftovers.new.items
+        ≡ map leftover_parts leftovers.old.items ++ Removed text ∷ []) }
+{
+    leftovers.push(Leftover::Text(text_file_of(alloc, fields)?))?;
+    Ok(())
+}
+
+// Adds the directory of a field to what is removed.
+fn add_emptied(alloc: Global, leftovers: &mut Vec<Leftover>, field: &str) -> Result<(), Fault>
+    ensures { (path : List ℕ) → IsUtf8 path → field.now ≡ escaped path
+        → GivenMemory result (λ _. map leftover_parts leftovers.new.items
+        ≡ map leftover_parts leftovers.old.items ++ Emptied path ∷ []) }
+{
+    leftovers.push(Leftover::Directory(path_of(alloc, field)?))?;
     Ok(())
 }
 
 // The number of a field.
-fn number_of(field: &str) -> Result<u64, Fault> {
-    field.parse::<u64>().map_err(|_| Fault::NotAJournal)
+fn number_of(field: &str) -> Result<u64, Fault>
+    ensures { (n : ℕ) → n < 2 ^ 64 → field.now ≡ decimal n → result ≡ Ok n }
+{
+    match field.parse::<u64>() {
+        Ok(number) => Ok(number),
+        Err(_) => Err(Fault::NotAJournal),
+    }
+}
+
+// The SHA-256 of a field.
+fn sha256_of(field: &str) -> Result<[u8; 32], Fault>
+    ensures { (bytes : List ℕ) → length bytes ≡ 32 → IsBytes bytes → field.now ≡ encode_lower bytes → result ≡ Ok bytes }
+{
+    match <[u8; 32] as FromHex>::from_hex(field) {
+        Ok(bytes) => Ok(bytes),
+        Err(_) => Err(Fault::NotAJournal),
+    }
 }
 
 // The two parts of fields at the first tab.
-fn cut_at_tab(fields: &str) -> Result<(&str, &str), Fault> {
+fn cut_at_tab(fields: &str) -> Result<(&str, &str), Fault>
+    ensures { (front back : List ℕ) → All (λ b. b ≢ 9) front → fields.now ≡ front ++ 9 ∷ back
+        → IsOkAnd result (λ parts. (parts.0.now ≡ front) × (parts.1.now ≡ back)) }
+{
     fields.split_once('\t').ok_or(Fault::NotAJournal)
 }
 
 // The rename of two fields.
-fn rename_of(alloc: Global, fields: &str) -> Result<Rename, Fault> {
+fn rename_of(alloc: Global, fields: &str) -> Result<Rename, Fault>
+    ensures { (rename : List ℕ × List ℕ) → IsRenameParts rename → fields.now ≡ fields_text (rename_fields rename)
+        → GivenMemory result (λ r. rename_parts r ≡ rename) }
+{
     let (from, to) = cut_at_tab(fields)?;
     Ok(Rename {
         from: path_of(alloc, from)?,
@@ -282,20 +512,32 @@ fn rename_of(alloc: Global, fields: &str) -> Result<Rename, Fault> {
 }
 
 // The text in a file of three fields.
-fn text_file_of(alloc: Global, fields: &str) -> Result<TextFile, Fault> {
+fn text_file_of(alloc: Global, fields: &str) -> Result<TextFile, Fault>
+    ensures { (text : List ℕ × TextDigest) → IsTextParts text → fields.now ≡ fields_text (text_fields text)
+        → GivenMemory result (λ file. text_parts file ≡ text) }
+{
     let (path, digest) = cut_at_tab(fields)?;
-    let (length, sha256) = cut_at_tab(digest)?;
     Ok(TextFile {
         path: path_of(alloc, path)?,
-        digest: TextDigest {
-            length: number_of(length)?,
-            sha256: <[u8; 32] as FromHex>::from_hex(sha256).map_err(|_| Fault::NotAJournal)?,
-        },
+        digest: text_digest_of(digest)?,
+    })
+}
+
+// The digest of two fields.
+fn text_digest_of(fields: &str) -> Result<TextDigest, Fault>
+    ensures { (digest : TextDigest) → IsDigest digest → fields.now ≡ fields_text (digest_fields digest) → result ≡ Ok digest }
+{
+    let (length, sha256) = cut_at_tab(fields)?;
+    Ok(TextDigest {
+        length: number_of(length)?,
+        sha256: sha256_of(sha256)?,
     })
 }
 
 // The path of a field: it without its escapes.
-fn path_of(alloc: Global, field: &str) -> Result<String, Fault> {
+fn path_of(alloc: Global, field: &str) -> Result<String, Fault>
+    ensures { (path : List ℕ) → IsUtf8 path → field.now ≡ escaped path → GivenMemory result (λ p. string_bytes p ≡ path) }
+{
     let mut path = String::new(alloc);
     let mut is_escaped = false;
     for character in field.chars() {
@@ -315,7 +557,11 @@ fn path_of(alloc: Global, field: &str) -> Result<String, Fault> {
 }
 
 // The character that a backslash and this one stand for.
-fn unescape(character: char) -> Result<char, Fault> {
+fn unescape(character: char) -> Result<char, Fault>
+    ensures backslash { character ≡ 92 → result ≡ Ok 92 }
+    ensures tab { character ≡ 116 → result ≡ Ok 9 }
+    ensures line_feed { character ≡ 110 → result ≡ Ok 10 }
+{
     match character {
         '\\' => Ok('\\'),
         't' => Ok('\t'),

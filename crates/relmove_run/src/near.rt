@@ -11,12 +11,18 @@ const MOST_ABOVE: usize = 4096;
 /// Fails if a directory above the root, or one of these directories below it, has a journal. What can't be looked up
 /// counts as no journal.
 pub fn need_no_journal_near<S: Store>(store: &mut S, directories: &[&str]) -> Result<(), Fault> {
+    need_no_journal_below(store, directories)?;
+    need_no_journal_above(store)
+}
+
+/// Fails if one of these directories below the root has a journal. What can't be looked up counts as no journal.
+pub fn need_no_journal_below<S: Store>(store: &mut S, directories: &[&str]) -> Result<(), Fault> {
     for directory in directories {
         if !directory.is_empty() {
             need_no_journal_in(store, directory)?;
         }
     }
-    need_no_journal_above(store)
+    Ok(())
 }
 
 // Fails if a directory has a journal.

@@ -4,7 +4,8 @@
 //! first one is put where nothing is, and each later one replaces the one before. The spare one is there for its room: on
 //! a disk that is full, it makes way for the next journal.
 use crate::actions::{
-    OwnFile, copy_of, create, find, remove_file, sync, sync_directory, write_whole,
+    OwnFile, Ways, copy_of, create, find, find_to_remove, remove_file, sync, sync_directory,
+    write_whole,
 };
 use crate::fault::{Call, Fault, at};
 use crate::journal::{Journal, Origin, begins_as_journal, journal_of, journal_text};
@@ -29,7 +30,7 @@ const PRIVATE: u32 = 0o600;
 pub enum Trust {
     /// Those that were written in this folder.
     ThisFolder,
-    /// Also those that came with a copy of another folder.
+    /// Also those that came with a copy of another folder, and those that have other names too.
     AnyFolder,
 }
 
@@ -82,9 +83,19 @@ fn need_no_journal<S: Store>(store: &mut S) -> Result<(), Fault> {
     match find(store, JOURNAL)? {
         Some(found) if found.kind == FoundKind::File => Err(Fault::HasJournal {
             written: found.modified,
+            stage: stage_said(store, &found)?,
         }),
         Some(_) => Err(Fault::OwnName(copy_of(store, JOURNAL)?)),
         None => Ok(()),
+    }
+}
+
+// The stage that the journal that was found says, if it can be read.
+fn stage_said<S: Store>(store: &mut S, found: &Found) -> Result<Option<Stage>, Fault> {
+    match &read_journal(store, found) {
+        Ok(journal) => Ok(Some(journal.stage)),
+        Err(Fault::OutOfMemory) => Err(Fault::OutOfMemory),
+        Err(_) => Ok(None),
     }
 }
 
@@ -108,65 +119,66 @@ fn inode_of_root<S: Store>(store: &mut S) -> Result<u64, Fault> {
     }
 }
 
-// Opens the journal of a run that didn't end. Removes what a kill left of the run's other files.
-pub(crate) fn open_journal<S: Store>(
+// Finds the journal of a run that didn't end, and reads it.
+pub(crate) fn find_journal<S: Store>(
     store: &mut S,
     trust: Trust,
-) -> Result<(OwnFiles, Journal), Fault> {
+) -> Result<(Found, Journal), Fault> {
     let Some(found) = find(store, JOURNAL)? else {
-        remove_leftover(store, NEW_JOURNAL, None)?;
-        remove_leftover(store, SPARE, None)?;
         return Err(Fault::NoJournal);
     };
     let journal = read_journal(store, &found)?;
-    let root = inode_of_root(store)?;
-    let is_of_folder = journal.origin
-        == Origin {
-            root,
-            file: found.inode,
-        };
-    if trust == Trust::ThisFolder && !is_of_folder {
-        return Err(Fault::ForeignJournal);
+    if trust == Trust::ThisFolder {
+        need_one_name(store, &found)?;
+        let (root, file) = (inode_of_root(store)?, found.inode);
+        if journal.origin != (Origin { root, file }) {
+            return Err(Fault::ForeignJournal);
+        }
     }
-    remove_leftover(store, NEW_JOURNAL, Some(&found))?;
-    remove_leftover(store, SPARE, None)?;
-    let own = OwnFiles {
+    Ok((found, journal))
+}
+
+// Takes over the own files of a run whose journal was found. Removes what a kill left of the others.
+pub(crate) fn own_files_of<S: Store>(store: &mut S, found: &Found) -> Result<OwnFiles, Fault> {
+    let root = inode_of_root(store)?;
+    remove_leftovers(store, Some(found))?;
+    Ok(OwnFiles {
         root,
         journal: OwnFile::Inode(found.inode),
         next: OwnFile::None,
         spare: OwnFile::None,
         may_have_journal: true,
-    };
-    Ok((own, journal))
+    })
 }
 
-// Fails unless a regular file with one name is at the journal's path. A run that is killed may leave it the name of the
-// next journal too.
+// Removes what a kill left of a run's files beside its journal, if it has one.
+pub(crate) fn remove_leftovers<S: Store>(
+    store: &mut S,
+    journal: Option<&Found>,
+) -> Result<(), Fault> {
+    remove_leftover(store, NEW_JOURNAL, journal)?;
+    remove_leftover(store, SPARE, None)
+}
+
+// Fails if a journal has a name outside the root. A run that is killed may leave it the name of the next journal too.
 fn need_one_name<S: Store>(store: &mut S, found: &Found) -> Result<(), Fault> {
-    if found.kind == FoundKind::File && found.links == 1 {
+    if found.links == 1 {
         return Ok(());
     }
-    if found.kind == FoundKind::File
-        && found.links == 2
+    if found.links == 2
         && let Some(next) = find(store, NEW_JOURNAL)?
         && next.is_same(found)
     {
         return Ok(());
     }
-    Err(Fault::NotAJournal)
-}
-
-// Finds the journal of a run that didn't end, wherever it was written, and reads it.
-pub(crate) fn find_journal<S: Store>(store: &mut S) -> Result<Journal, Fault> {
-    match find(store, JOURNAL)? {
-        Some(found) => read_journal(store, &found),
-        None => Err(Fault::NoJournal),
-    }
+    Err(Fault::LinkedJournal)
 }
 
 // Reads the journal that was found.
 fn read_journal<S: Store>(store: &mut S, found: &Found) -> Result<Journal, Fault> {
-    need_one_name(store, found)?;
+    if found.kind != FoundKind::File {
+        return Err(Fault::NotAJournal);
+    }
     let read = store.read(JOURNAL);
     let bytes = at(store.alloc(), Call::Read, JOURNAL, read)?;
     match std::str::from_utf8(bytes.as_slice()) {
@@ -182,7 +194,7 @@ fn remove_leftover<S: Store>(
     path: &str,
     journal: Option<&Found>,
 ) -> Result<(), Fault> {
-    let Some(found) = find(store, path)? else {
+    let Some(found) = find_to_remove(store, path)? else {
         return Ok(());
     };
     let is_journal = match journal {
@@ -190,7 +202,8 @@ fn remove_leftover<S: Store>(
         None => false,
     };
     if is_journal || is_beginning(store, path, &found)? {
-        return remove_file(store, path);
+        let mut ways = Ways::new(store.alloc());
+        return remove_file(store, &mut ways, path);
     }
     Err(Fault::OwnName(copy_of(store, path)?))
 }
@@ -244,9 +257,16 @@ fn link_next<S: Store>(store: &mut S) -> io::Result<()> {
     }
 }
 
-// Whether an error says that a file system has no second names.
+// Whether an error says that a file system has no second names, or not here.
 fn has_no_links(kind: ErrorKind) -> bool {
-    matches!(kind, ErrorKind::PermissionDenied | ErrorKind::Unsupported)
+    matches!(
+        kind,
+        ErrorKind::PermissionDenied
+            | ErrorKind::Unsupported
+            | ErrorKind::CrossesDevices
+            | ErrorKind::TooManyLinks
+            | ErrorKind::InvalidInput
+    )
 }
 
 // Makes the spare journal: that of the stage with the longest name. Without room there is none.
@@ -264,7 +284,7 @@ fn remove_own<S: Store>(store: &mut S, path: &str, own: &mut OwnFile) -> Result<
     if *own == OwnFile::None {
         return Ok(());
     }
-    if let Some(found) = find(store, path)? {
+    if let Some(found) = find_to_remove(store, path)? {
         let is_own = match own {
             OwnFile::Unknown => is_beginning(store, path, &found)?,
             _ => own.is(&found),
@@ -272,7 +292,8 @@ fn remove_own<S: Store>(store: &mut S, path: &str, own: &mut OwnFile) -> Result<
         if !is_own {
             return Err(Fault::OwnName(copy_of(store, path)?));
         }
-        remove_file(store, path)?;
+        let mut ways = Ways::new(store.alloc());
+        remove_file(store, &mut ways, path)?;
     }
     *own = OwnFile::None;
     Ok(())
@@ -342,7 +363,8 @@ fn write_journal<S: Store>(
     (stage, work): (Stage, &Work),
     own: &mut OwnFile,
 ) -> Result<(), Fault> {
-    let mut file = create(store, path, PRIVATE, own)?;
+    let mut ways = Ways::new(store.alloc());
+    let mut file = create(store, &mut ways, path, PRIVATE, own)?;
     let file_inode = match own {
         OwnFile::Inode(inode) => *inode,
         _ => 0,
@@ -365,7 +387,7 @@ pub(crate) fn remove_all<S: Store>(store: &mut S, own: &mut OwnFiles) -> Result<
     if !own.may_have_journal {
         return Ok(());
     }
-    match find(store, JOURNAL)? {
+    match find_to_remove(store, JOURNAL)? {
         None => Ok(()),
         Some(found) if own.has(&found) => remove_journal(store),
         Some(_) => Err(Fault::NotAJournal),

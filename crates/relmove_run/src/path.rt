@@ -1,10 +1,15 @@
 //! Paths below a root.
+ghost use Rattle.std.specs.Prelude.{◌≡◌, IfOk, string_bytes};
+ghost use Rattle.relmove_run.specs.Paths.{IsDirectoryOf, IsNameOf, path_below};
+
 use std::alloc::{AllocError, Global};
 
 /// A path below a directory: the directory's path, a slash and the path.
 ///
 /// Allocates it.
-pub fn join(alloc: Global, directory: &str, path: &str) -> Result<String, AllocError> {
+pub fn join(alloc: Global, directory: &str, path: &str) -> Result<String, AllocError>
+    ensures path { IfOk result (λ full. string_bytes full ≡ path_below directory.now path.now) }
+{
     let mut full = String::from_str(alloc, directory)?;
     if !directory.is_empty() && !directory.ends_with('/') && !path.is_empty() {
         full.push('/')?;
@@ -14,9 +19,21 @@ pub fn join(alloc: Global, directory: &str, path: &str) -> Result<String, AllocE
 }
 
 /// The directory in which a path is. The root is the empty path.
-pub fn directory_of(path: &str) -> &str {
+pub fn directory_of(path: &str) -> &str
+    ensures directory { IsDirectoryOf result.now path.now }
+{
     match path.rsplit_once('/') {
         Some((directory, _)) => directory,
         None => "",
+    }
+}
+
+/// The name at the end of a path.
+pub fn name_of(path: &str) -> &str
+    ensures name { IsNameOf result.now path.now }
+{
+    match path.rsplit_once('/') {
+        Some((_, name)) => name,
+        None => path,
     }
 }

@@ -1,10 +1,11 @@
 //! Asks the system whether it can have the paths of a run, before the run begins.
 use crate::actions::copy_of;
 use crate::fault::{Call, Fault, at};
-use crate::path::join;
+use crate::path::{directory_of, join};
 use crate::store::{Found, FoundKind, Store};
 use relmove_actions::Steps;
 use std::alloc::Global;
+use std::collections::BTreeMap;
 use std::io::ErrorKind;
 
 /// How many bytes a path may have. The system counts a NUL at its end.
@@ -18,8 +19,9 @@ pub fn need_possible<S: Store>(store: &mut S, steps: &Steps) -> Result<(), Fault
     let Some(root) = find_at(store, "")? else {
         return Err(Fault::Missing(copy_of(store, store.root())?));
     };
+    let mut asked = BTreeMap::new(store.alloc());
     for text in &steps.texts {
-        need_fine_path(store, text.file.as_str(), &root)?;
+        need_fine_path(store, text.file.as_str(), &root, &mut asked)?;
     }
     for rename in &steps.apart {
         need_on_device(store, rename.from.as_str(), &root)?;
@@ -28,7 +30,7 @@ pub fn need_possible<S: Store>(store: &mut S, steps: &Steps) -> Result<(), Fault
         need_short(store.alloc(), store.root(), path.as_str())?;
     }
     for rename in &steps.together {
-        need_fine_path(store, rename.to.as_str(), &root)?;
+        need_fine_path(store, rename.to.as_str(), &root, &mut asked)?;
     }
     Ok(())
 }
@@ -55,8 +57,19 @@ pub fn need_short(alloc: Global, root: &str, path: &str) -> Result<(), Fault> {
 
 // Fails if what is at a path is on another file system than the root.
 fn need_on_device<S: Store>(store: &mut S, path: &str, root: &Found) -> Result<(), Fault> {
+    need_directory_on_device(store, directory_of(path), root)?;
+    need_directory_on_device(store, path, root)
+}
+
+// Fails if a directory is on another file system than the root. Of files this isn't asked: where a file system lies over two
+// others, a file can have the device of one of them.
+fn need_directory_on_device<S: Store>(
+    store: &mut S,
+    path: &str,
+    root: &Found,
+) -> Result<(), Fault> {
     match find_at(store, path)? {
-        Some(found) if found.device != root.device => {
+        Some(found) if found.kind == FoundKind::Directory && found.device != root.device => {
             Err(Fault::OtherDevice(copy_of(store, path)?))
         }
         _ => Ok(()),
@@ -64,23 +77,46 @@ fn need_on_device<S: Store>(store: &mut S, path: &str, root: &Found) -> Result<(
 }
 
 // Fails if the system can't have a path: the path or a name in it is too long, or the directory for it is on another
-// file system than the root.
-fn need_fine_path<S: Store>(store: &mut S, path: &str, root: &Found) -> Result<(), Fault> {
+// file system than the root. Notes for each path that was asked for whether a directory is there.
+fn need_fine_path<S: Store>(
+    store: &mut S,
+    path: &str,
+    root: &Found,
+    asked: &mut BTreeMap<String, bool>,
+) -> Result<(), Fault> {
     need_short(store.alloc(), store.root(), path)?;
     let mut nearest = String::new(store.alloc());
     for name in path.split('/') {
-        let asked = join(store.alloc(), nearest.as_str(), name)?;
-        match find_at(store, asked.as_str()) {
-            Ok(Some(found)) if found.kind == FoundKind::Directory => {
-                if found.device != root.device {
-                    return Err(Fault::OtherDevice(asked));
-                }
-                nearest = asked;
-            }
-            Ok(_) => {}
-            Err(Fault::TooLong(_)) => return Err(Fault::TooLong(copy_of(store, path)?)),
-            Err(fault) => return Err(fault),
+        let next = join(store.alloc(), nearest.as_str(), name)?;
+        let is_directory = match asked.get(next.as_str()) {
+            Some(is_directory) => *is_directory,
+            None => is_fine_directory(store, next.as_str(), path, root)?,
+        };
+        asked.insert(copy_of(store, next.as_str())?, is_directory)?;
+        if is_directory {
+            nearest = next;
         }
     }
     Ok(())
+}
+
+// Whether a directory is on the way to a path. Fails if the path is too long, or the directory is on another file system
+// than the root.
+fn is_fine_directory<S: Store>(
+    store: &mut S,
+    directory: &str,
+    path: &str,
+    root: &Found,
+) -> Result<bool, Fault> {
+    match find_at(store, directory) {
+        Ok(Some(found)) if found.kind == FoundKind::Directory => {
+            if found.device != root.device {
+                return Err(Fault::OtherDevice(copy_of(store, directory)?));
+            }
+            Ok(true)
+        }
+        Ok(_) => Ok(false),
+        Err(Fault::TooLong(_)) => Err(Fault::TooLong(copy_of(store, path)?)),
+        Err(fault) => Err(fault),
+    }
 }

@@ -6,7 +6,7 @@ use std::fmt;
 /// Something that is left when a run has ended. Paths are relative to the root.
 #[derive(Debug, Drop)]
 pub enum Remark {
-    /// A file with a text that isn't the run's own: somebody changed it during the run.
+    /// A file that isn't as the run left it: another program changed it, or put it there.
     Kept(String),
     /// What moved, or was to move, is at neither of two paths.
     Gone {
@@ -24,7 +24,10 @@ impl fmt::Display for Remark {
         match self {
             Remark::Kept(path) => {
                 let path = Printable(path.as_str());
-                write!(f, "{path} is kept: its text was changed during the run")
+                write!(
+                    f,
+                    "{path} is kept: another program changed it, or put it there"
+                )
             }
             Remark::Gone { from, to } => {
                 let (from, to) = (Printable(from.as_str()), Printable(to.as_str()));

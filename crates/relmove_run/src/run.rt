@@ -1,14 +1,17 @@
 //! A run, its end after a fault, and its undoing.
-use crate::actions::sync_directory;
-use crate::ending::{Change, Way, changes_from, stage_to_end};
+use crate::actions::{find, sync_directory};
+use crate::change::Change;
+use crate::ending::{Way, changes_from, goes_on, stage_to_end};
 use crate::fault::{Call, Fault, at};
 use crate::journal::Journal;
 use crate::near::need_no_journal_near;
-use crate::own_files::{Trust, find_journal, need_no_own_files, none_yet, open_journal};
+use crate::own_files::{
+    JOURNAL, Trust, find_journal, need_no_own_files, none_yet, own_files_of, remove_leftovers,
+};
 use crate::possible::need_possible;
 use crate::remark::Remark;
 use crate::shape::is_of_run;
-use crate::store::Store;
+use crate::store::{Found, Store};
 use crate::text_digest::TextDigest;
 use crate::ways::need_ways;
 use crate::work::{Leftover, Stage, TextFile, Work};
@@ -22,9 +25,14 @@ use std::collections::BTreeMap;
 pub enum Ended {
     /// All is done: everything is at its new path.
     Done(Vec<Remark>),
-    /// The run was taken back: everything is as before.
-    TakenBack(Vec<Remark>),
-    /// Nothing is changed, or everything was taken back.
+    /// The run was taken back: everything is as before, but for what the remarks say.
+    TakenBack {
+        /// Why the run went back by itself. `None` if it was to go back.
+        cause: Option<Fault>,
+        /// What is left.
+        remarks: Vec<Remark>,
+    },
+    /// Nothing is changed. A file of the run's own may be left, if the run couldn't remove it.
     Refused(Fault),
     /// The call stopped in the middle. What it did stays.
     Stopped {
@@ -35,6 +43,8 @@ pub enum Ended {
         fault: Fault,
         /// Whether the journal was read afterwards.
         has_journal: bool,
+        /// What is left of the stages that ended.
+        remarks: Vec<Remark>,
     },
 }
 
@@ -86,7 +96,9 @@ pub struct PageText<'a> {
 /// its staging name, and so is each page with its old or its new text. Then [`resume`] does the rest, and until
 /// everything is at its new path [`undo`] takes back what was done.
 ///
-/// The call refuses to work if the root has a journal, or one of the directories, or a directory above the root.
+/// The call refuses to work if the root has a journal, or one of the directories, or a directory above the root. It looks
+/// for journals near once, after its own first journal is in its place: a caller looks for them before it plans, by
+/// [`need_no_journal_near`].
 pub fn carry_out<S: Store + Drop>(
     locked: Locked<S>,
     steps: Steps,
@@ -102,44 +114,77 @@ pub fn carry_out<S: Store + Drop>(
 /// Ends a run that stopped: goes on to the end, or, if the run was going back, to the beginning. If a page that changes
 /// was changed before it got its staging name, the run is taken back.
 pub fn resume<S: Store + Drop>(locked: Locked<S>, trust: Trust) -> Ended {
-    match open(locked, trust) {
-        Ok(worker) => end_from(worker),
-        Err(fault) => Ended::Refused(fault),
-    }
+    end_stopped(locked, trust, Way::Resume)
 }
 
 /// Takes back a run that stopped before everything was at its new path.
 pub fn undo<S: Store + Drop>(locked: Locked<S>, trust: Trust) -> Ended {
-    match open(locked, trust) {
-        Ok(worker) => turn_back(worker),
+    end_stopped(locked, trust, Way::Undo)
+}
+
+/// A run that stopped, as its journal said when it was read. So what [`StoppedRun::changes`] returns is what
+/// [`StoppedRun::end`] does, whatever comes to the journal's place in between.
+#[derive(Drop)]
+pub struct StoppedRun {
+    found: Found,
+    journal: Journal,
+}
+
+impl StoppedRun {
+    /// Reads the journal of a run that stopped. Changes nothing.
+    ///
+    /// Allocates the journal.
+    pub fn read<S: Store + Drop>(
+        locked: &mut Locked<S>,
+        trust: Trust,
+    ) -> Result<StoppedRun, Fault> {
+        let (found, journal) = find_journal(locked.store(), trust)?;
+        Ok(StoppedRun { found, journal })
+    }
+
+    /// Returns the changes that the end of the run makes. Some of them may be made already.
+    ///
+    /// Allocates them.
+    pub fn changes(&self, alloc: Global, way: Way) -> Result<Vec<Change>, Fault> {
+        let stage = stage_to_end(way, self.journal.stage)?;
+        Ok(changes_from(alloc, &self.journal.work, stage)?)
+    }
+
+    /// Ends the run, as [`resume`] or [`undo`] does.
+    pub fn end<S: Store + Drop>(self, locked: Locked<S>, way: Way) -> Ended {
+        if let Err(fault) = stage_to_end(way, self.journal.stage) {
+            return Ended::Refused(fault);
+        }
+        match (open(locked, self), way) {
+            (Ok(worker), Way::Resume) => end_from(worker),
+            (Ok(worker), Way::Undo) => turn_back(worker, None),
+            (Err(fault), _) => Ended::Refused(fault),
+        }
+    }
+}
+
+// Ends a run that stopped. Without a journal, removes what a kill left of the run's other files.
+fn end_stopped<S: Store + Drop>(mut locked: Locked<S>, trust: Trust, way: Way) -> Ended {
+    match StoppedRun::read(&mut locked, trust) {
+        Ok(run) => run.end(locked, way),
+        Err(Fault::NoJournal) => match remove_leftovers(locked.store(), None) {
+            Ok(()) => Ended::Refused(Fault::NoJournal),
+            Err(fault) => Ended::Refused(fault),
+        },
         Err(fault) => Ended::Refused(fault),
     }
 }
 
-/// Returns the changes that [`resume`] or [`undo`] would make, wherever the journal was written. Some of them may be made
-/// already. Changes nothing.
-///
-/// Allocates them.
-pub fn changes_to_end<S: Store + Drop>(
-    locked: &mut Locked<S>,
-    way: Way,
-) -> Result<Vec<Change>, Fault> {
-    let store = locked.store();
-    let journal = find_journal(store)?;
-    let stage = stage_to_end(way, journal.stage)?;
-    Ok(changes_from(store.alloc(), &journal.work, stage)?)
-}
-
 // Ends a run from its stage: goes on, or goes on back.
 fn end_from<S: Store + Drop>(worker: Worker<S>) -> Ended {
-    match worker.stage() {
-        Stage::Staging | Stage::Making | Stage::Placing | Stage::Cleaning => go_on_or_back(worker),
-        _ => go_back(worker),
+    if goes_on(worker.stage()) {
+        return go_on_or_back(worker);
     }
+    go_back(worker, None)
 }
 
-// Takes a run back, unless it is too late.
-fn turn_back<S: Store + Drop>(mut worker: Worker<S>) -> Ended {
+// Takes a run back, unless it is too late. If it goes back by itself, it has a cause.
+fn turn_back<S: Store + Drop>(mut worker: Worker<S>, cause: Option<Fault>) -> Ended {
     let stage = match stage_to_end(Way::Undo, worker.stage()) {
         Ok(stage) => stage,
         Err(fault) => return Ended::Refused(fault),
@@ -149,7 +194,7 @@ fn turn_back<S: Store + Drop>(mut worker: Worker<S>) -> Ended {
     {
         return stop(worker, fault);
     }
-    go_back(worker)
+    go_back(worker, cause)
 }
 
 // Does everything up to the first rename.
@@ -159,7 +204,7 @@ fn begin<S: Store + Drop>(
     pages: &[PageText<'_>],
     directories: &[&str],
 ) -> Result<Worker<S>, Ended> {
-    let (texts, mut worker) = match prepare(locked, steps, pages, directories) {
+    let (texts, mut worker) = match prepare(locked, steps, pages) {
         Ok(prepared) => prepared,
         Err(fault) => return Err(Ended::Refused(fault)),
     };
@@ -177,11 +222,9 @@ fn prepare<S: Store + Drop>(
     locked: Locked<S>,
     steps: Steps,
     pages: &[PageText<'_>],
-    directories: &[&str],
 ) -> Result<(Vec<NewText>, Worker<S>), Fault> {
     let Locked(mut store) = locked;
     let own = none_yet(&mut store)?;
-    need_no_journal_near(&mut store, directories)?;
     need_possible(&mut store, &steps)?;
     let (texts, work) = work_of(store.alloc(), steps, pages)?;
     if !is_of_run(store.alloc(), &work)? {
@@ -276,30 +319,48 @@ fn refuse_staging<S: Store + Drop>(mut worker: Worker<S>, fault: Fault) -> Ended
 
 // Takes back what was done.
 fn refuse<S: Store + Drop>(mut worker: Worker<S>, fault: Fault) -> Ended {
-    match worker.go_back() {
-        Err(_) if worker.may_have_journal() => stop(worker, fault),
-        _ => Ended::Refused(fault),
+    if worker.finish().is_err() && may_have_journal(&mut worker) {
+        return stop(worker, fault);
+    }
+    refused(fault, worker.into_remarks())
+}
+
+// Whether the root may have the run's journal. If it hasn't, the run changed nothing, or all of it is taken back.
+fn may_have_journal<S: Store + Drop>(worker: &mut Worker<S>) -> bool {
+    worker.may_have_journal() && !matches!(&find(worker.store(), JOURNAL), Ok(None))
+}
+
+// How a run ended that did nothing but what was taken back.
+fn refused(fault: Fault, remarks: Vec<Remark>) -> Ended {
+    if remarks.is_empty() {
+        return Ended::Refused(fault);
+    }
+    Ended::TakenBack {
+        cause: Some(fault),
+        remarks,
     }
 }
 
 // The run stopped. A call that put a journal in its place may have been reported as failed, so the journal is read again.
 fn stop<S: Store + Drop>(mut worker: Worker<S>, fault: Fault) -> Ended {
     let known = worker.stage();
-    let (stage, has_journal) = match &find_journal(worker.store()) {
-        Ok(journal) => (journal.stage, true),
+    let (stage, has_journal) = match &find_journal(worker.store(), Trust::AnyFolder) {
+        Ok((_, journal)) => (journal.stage, true),
         Err(_) => (known, false),
     };
     Ended::Stopped {
         stage,
         fault,
         has_journal,
+        remarks: worker.into_remarks(),
     }
 }
 
-// The run that the journal is of.
-fn open<S: Store + Drop>(locked: Locked<S>, trust: Trust) -> Result<Worker<S>, Fault> {
+// The run that goes on from where it stopped.
+fn open<S: Store + Drop>(locked: Locked<S>, run: StoppedRun) -> Result<Worker<S>, Fault> {
     let Locked(mut store) = locked;
-    let (own, journal) = open_journal(&mut store, trust)?;
+    let StoppedRun { found, journal } = run;
+    let own = own_files_of(&mut store, &found)?;
     // A run may have been killed before the journal's name was on the disk. Nothing that comes now may be there without it.
     sync_directory(&mut store, "")?;
     let Journal { stage, work, .. } = journal;
@@ -309,20 +370,20 @@ fn open<S: Store + Drop>(locked: Locked<S>, trust: Trust) -> Result<Worker<S>, F
 
 // Goes on to the end. If a page was changed before it got its staging name, goes back.
 fn go_on_or_back<S: Store + Drop>(mut worker: Worker<S>) -> Ended {
-    match worker.go_on() {
+    match worker.finish() {
         Ok(()) => Ended::Done(worker.into_remarks()),
-        Err(Fault::Changed(page)) => match turn_back(worker) {
-            Ended::TakenBack(_) => Ended::Refused(Fault::Changed(page)),
-            ended => ended,
-        },
+        Err(Fault::Changed(page)) => turn_back(worker, Some(Fault::Changed(page))),
         Err(fault) => stop(worker, fault),
     }
 }
 
 // Goes back to the beginning.
-fn go_back<S: Store + Drop>(mut worker: Worker<S>) -> Ended {
-    match worker.go_back() {
-        Ok(()) => Ended::TakenBack(worker.into_remarks()),
+fn go_back<S: Store + Drop>(mut worker: Worker<S>, cause: Option<Fault>) -> Ended {
+    match worker.finish() {
+        Ok(()) => Ended::TakenBack {
+            cause,
+            remarks: worker.into_remarks(),
+        },
         Err(fault) => stop(worker, fault),
     }
 }

@@ -1,17 +1,17 @@
 //! Whether work can be a run's: which paths it has, and how its lists fit together.
-ghost use Rattle.std.specs.Prelude.{◌≡◌, ◌↔◌, IfOk, IsTrue, filter, map, string_bytes};
+ghost use Rattle.std.specs.Prelude.{◌≡◌, ◌↔◌, IfOk, IsTrue, filter, length, map, string_bytes};
 ghost use Rattle.std.specs.List.{list_all};
-ghost use Rattle.relmove_run.specs.Shape.{AreAscending, AreDifferent, GoesOnce, HaveSameOnce, IsOfRun, LosesNothing, StagesItsTexts, has_paths_of_run, is_directory_name, is_directory_path, is_leftover, is_made_path, is_name, is_nameless, is_path, is_placing, is_staging, is_staging_name, is_text_path, is_written, new_paths, old_paths, removed_paths, text_paths};
+ghost use Rattle.relmove_run.specs.Shape.{AreAscending, AreDifferent, GoesOnce, HaveSameOnce, IsOfRun, PlacesOrRemoves, RemovesAsManyTexts, StagesItsTexts, has_paths_of_run, is_directory_name, is_directory_path, is_leftover, is_made_path, is_name, is_nameless, is_path, is_placing, is_staging, is_staging_name, is_text_path, is_written, new_paths, old_paths, removed_paths, text_paths};
 
 use crate::work::{Leftover, TextFile, Work};
 use relmove_actions::Rename;
 use std::alloc::{AllocError, Global};
 
 // What the names of a run's own files begin with.
-const OWN: &str = ".relmove";
+const RESERVED: &str = ".relmove";
 
-// What staging names and the names of new texts begin with, before their number.
-const STAGING: &str = ".relmove-";
+/// What staging names and the names of new texts begin with, before their number.
+pub const STAGING: &str = ".relmove-";
 
 /// Whether work can be a run's.
 ///
@@ -22,7 +22,8 @@ pub fn is_of_run(alloc: Global, work: &Work) -> Result<bool, AllocError>
     Ok(
         have_paths_of_run(work)
             && stages_its_texts(alloc, work)?
-            && loses_nothing(alloc, work)?
+            && places_or_removes(alloc, work)?
+            && removes_as_many_texts(work)
             && goes_once(alloc, work)?,
     )
 }
@@ -37,14 +38,21 @@ fn stages_its_texts(alloc: Global, work: &Work) -> Result<bool, AllocError>
 }
 
 // Whether each staging name is given once, and whatever gets one is placed or removed, once.
-fn loses_nothing(alloc: Global, work: &Work) -> Result<bool, AllocError>
-    ensures { IfOk result (λ yes. IsTrue yes ↔ LosesNothing work.now) }
+fn places_or_removes(alloc: Global, work: &Work) -> Result<bool, AllocError>
+    ensures { IfOk result (λ yes. IsTrue yes ↔ PlacesOrRemoves work.now) }
 {
     let given = new_paths(alloc, &work.staged)?;
     let mut taken = old_paths(alloc, &work.placed)?;
     let mut removed = removed_paths(alloc, &work.cleaned)?;
     taken.append(&mut removed)?;
     have_same_once(given, taken)
+}
+
+// Whether as many texts are removed as new texts come.
+fn removes_as_many_texts(work: &Work) -> bool
+    ensures { IsTrue result ↔ RemovesAsManyTexts work.now }
+{
+    count_removed(&work.cleaned) == work.texts.len()
 }
 
 // Whether nothing gets two staging names, and no two things get one new path.
@@ -169,7 +177,7 @@ fn is_made_path(path: &str) -> bool
 fn is_name(part: &str) -> bool
     ensures { result ≡ is_name part.now }
 {
-    !is_nameless(part) && !part.starts_with(OWN) && !part.contains('\0')
+    !is_nameless(part) && !part.starts_with(RESERVED) && !part.contains('\0')
 }
 
 // Whether a part of a path is no name: the part is empty, `.` or `..`.
@@ -255,6 +263,20 @@ fn removed_paths<'a>(alloc: Global, leftovers: &'a [Leftover]) -> Result<Vec<&'a
         }
     }
     Ok(paths)
+}
+
+// How many texts are among what is removed.
+fn count_removed(leftovers: &[Leftover]) -> usize
+    ensures { result ≡ length (removed_paths leftovers.now) }
+{
+    let mut count = 0;
+    for leftover in leftovers {
+        match leftover {
+            Leftover::Text(_) => count += 1,
+            Leftover::Directory(_) => {}
+        }
+    }
+    count
 }
 
 // Whether two lists have the same paths, each once.

@@ -1,6 +1,7 @@
 //! What a run needs of the files below a root, as a trait.
+ghost use Rattle.std.specs.Prelude.{◌≡◌, ◌==◌, ◌&&◌};
+
 use std::alloc::{AllocError, Global};
-use std::fs::Files;
 use std::io;
 use std::time::SystemTime;
 
@@ -42,9 +43,20 @@ pub struct Found {
 
 impl Found {
     /// Whether this is the same thing as another one, maybe under another name.
-    pub fn is_same(&self, other: &Found) -> bool {
+    pub fn is_same(&self, other: &Found) -> bool
+        ensures same { result ≡ (self.now.device == other.now.device && self.now.inode == other.now.inode) }
+    {
         self.device == other.device && self.inode == other.inode
     }
+}
+
+/// The names in a directory.
+#[derive(Debug, PartialEq, Eq, Drop)]
+pub struct Names {
+    /// The names that are UTF-8, in no order. `.` and `..` aren't among them.
+    pub texts: Vec<String>,
+    /// Whether there is a name that isn't UTF-8.
+    pub has_other: bool,
 }
 
 /// The files below a root. A path is relative to the root. The empty path is the root itself, and `..` is above it.
@@ -62,6 +74,15 @@ pub trait Store {
 
     /// What is at a path, or `None` if nothing is there. No symbolic link at the end of the path is followed.
     fn find(&mut self, path: &str) -> io::Result<Option<Found>>;
+
+    /// What is at a path where symbolic links lead, also one at the end of the path, or `None` if nothing is there.
+    fn follow(&mut self, path: &str) -> io::Result<Option<Found>>;
+
+    /// The names in a directory.
+    fn list(&mut self, path: &str) -> io::Result<Names>;
+
+    /// The path that is written in a symbolic link, or `None` if it isn't UTF-8.
+    fn read_link(&mut self, path: &str) -> io::Result<Option<String>>;
 
     /// The bytes of a regular file. Fails without opening it if something else is there.
     fn read(&mut self, path: &str) -> io::Result<Vec<u8>>;
@@ -93,7 +114,7 @@ pub trait Store {
     /// Gives a file a second name. Fails if something is there.
     fn link(&mut self, from: &str, to: &str) -> io::Result<()>;
 
-    /// Makes a directory. Fails if something is there.
+    /// Makes a directory whose owner may list it, change it and use its names. Fails if something is there.
     fn make_directory(&mut self, path: &str) -> io::Result<()>;
 
     /// Removes a file.
@@ -106,12 +127,12 @@ pub trait Store {
     /// lock until the store is dropped.
     fn lock(&mut self) -> io::Result<bool>;
 
-    /// Whether another process has the lock of the root.
+    /// Whether another process has the lock of the root. Where the system has no locks, none has it.
     fn is_locked(&mut self) -> io::Result<bool>;
 }
 
 /// A runtime whose files a run can reach.
-pub trait Machine: Files + AllocGlobal + Clone + Drop {
+pub trait Machine: AllocGlobal {
     /// The files below a root.
     type Store: Store + Drop;
 

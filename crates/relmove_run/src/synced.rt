@@ -1,10 +1,10 @@
-//! Syncs the directories in which a stage of a run changed names.
-use crate::actions::sync_directory;
+//! Syncs the directories in which a stage of a run changed names, and removes the names that a loss of power kept there.
+use crate::actions::{Ways, remove_second_name, sync_directory};
 use crate::fault::Fault;
-use crate::path::directory_of;
+use crate::path::{directory_of, join, name_of};
+use crate::stages::{Action, actions_of};
 use crate::store::Store;
-use crate::work::{Leftover, Stage, TextFile, Work};
-use relmove_actions::Rename;
+use crate::work::{Stage, Work};
 use std::alloc::{AllocError, Global};
 use std::collections::{BTreeMap, BTreeSet};
 
@@ -16,23 +16,99 @@ pub(crate) fn sync_stage<S: Store>(store: &mut S, work: &Work, stage: Stage) -> 
     Ok(())
 }
 
+// Removes the names that things left for their staging names in a stage, where a loss of power kept them. A directory in
+// which such a name is may have left too.
+pub(crate) fn remove_left_names<S: Store>(
+    store: &mut S,
+    ways: &mut Ways,
+    work: &Work,
+    stage: Stage,
+) -> Result<(), Fault> {
+    for (path, kept) in &left_names_of(store.alloc(), work, stage)? {
+        remove_second_name(store, ways, path.as_str(), kept)?;
+    }
+    Ok(())
+}
+
+// The names that things left in a stage, where they are after the stage, and the names that they got.
+fn left_names_of(
+    alloc: Global,
+    work: &Work,
+    stage: Stage,
+) -> Result<Vec<(String, &str)>, AllocError> {
+    let mut left = Vec::new(alloc);
+    for action in &actions_of(alloc, work, stage)? {
+        if let Some(paths) = action.paths() {
+            left.push(paths)?;
+        }
+    }
+    places_of(alloc, &left)
+}
+
+// Where names are that things left for their staging names, and the staging names.
+fn places_of<'a>(
+    alloc: Global,
+    left: &[(&'a str, &'a str)],
+) -> Result<Vec<(String, &'a str)>, AllocError> {
+    let mut names = BTreeMap::new(alloc);
+    for (path, name) in left {
+        names.insert(*path, *name)?;
+    }
+    let mut places = Vec::with_capacity(alloc, left.len())?;
+    for (path, name) in left {
+        let directory = place_after(alloc, &names, directory_of(path))?;
+        let place = join(alloc, directory.as_str(), name_of(path))?;
+        places.push((place, *name))?;
+    }
+    Ok(places)
+}
+
 // The directories in which a stage changes names, where they are after the stage.
 fn directories_of(
     alloc: Global,
     work: &Work,
     stage: Stage,
 ) -> Result<BTreeSet<String>, AllocError> {
+    let actions = actions_of(alloc, work, stage)?;
+    let names = new_paths_of(alloc, &actions)?;
     let mut directories = BTreeSet::new(alloc);
-    match stage {
-        Stage::Writing | Stage::Erasing => add_texts(alloc, &work.texts, &mut directories)?,
-        Stage::Making | Stage::Unmaking => add_made(alloc, &work.made, &mut directories)?,
-        Stage::Staging => add_left(alloc, &work.staged, &mut directories)?,
-        Stage::Unstaging => add_old(alloc, &work.staged, &mut directories)?,
-        Stage::Placing => add_new(alloc, &work.placed, &mut directories)?,
-        Stage::Unplacing => add_left_again(alloc, &work.placed, &mut directories)?,
-        Stage::Cleaning => add_cleaned(alloc, &work.cleaned, &mut directories)?,
+    for action in &actions {
+        add_directories(alloc, *action, &names, &mut directories)?;
     }
     Ok(directories)
+}
+
+// The new path of each path that actions rename.
+fn new_paths_of<'a>(
+    alloc: Global,
+    actions: &[Action<'a>],
+) -> Result<BTreeMap<&'a str, &'a str>, AllocError> {
+    let mut names = BTreeMap::new(alloc);
+    for action in actions {
+        if let Some((from, to)) = action.paths() {
+            names.insert(from, to)?;
+        }
+    }
+    Ok(names)
+}
+
+// Adds the directories in which an action changes names. The directory that a thing left may have left too. Without its own
+// inode a new directory loses what is placed in it.
+fn add_directories(
+    alloc: Global,
+    action: Action<'_>,
+    names: &BTreeMap<&str, &str>,
+    directories: &mut BTreeSet<String>,
+) -> Result<(), AllocError> {
+    let directory = directory_of(action.path());
+    if let Some((_, to)) = action.paths() {
+        directories.insert(place_after(alloc, names, directory)?)?;
+        return add(alloc, directory_of(to), directories);
+    }
+    if let Action::Make(path) = action {
+        add(alloc, path, directories)?;
+    }
+    add(alloc, directory, directories)
 }
 
 // Adds a directory.
@@ -43,104 +119,6 @@ fn add(
 ) -> Result<(), AllocError> {
     directories.insert(String::from_str(alloc, directory)?)?;
     Ok(())
-}
-
-// Adds the directories of texts.
-fn add_texts(
-    alloc: Global,
-    texts: &[TextFile],
-    directories: &mut BTreeSet<String>,
-) -> Result<(), AllocError> {
-    for text in texts {
-        add(alloc, directory_of(text.path.as_str()), directories)?;
-    }
-    Ok(())
-}
-
-// Adds the directories in which directories are made or removed.
-fn add_made(
-    alloc: Global,
-    made: &[String],
-    directories: &mut BTreeSet<String>,
-) -> Result<(), AllocError> {
-    for path in made {
-        add(alloc, directory_of(path.as_str()), directories)?;
-    }
-    Ok(())
-}
-
-// Adds the directories of what is removed at the end. Old texts are in the root.
-fn add_cleaned(
-    alloc: Global,
-    cleaned: &[Leftover],
-    directories: &mut BTreeSet<String>,
-) -> Result<(), AllocError> {
-    for leftover in cleaned {
-        let path = match leftover {
-            Leftover::Text(file) => file.path.as_str(),
-            Leftover::Directory(path) => path.as_str(),
-        };
-        add(alloc, directory_of(path), directories)?;
-    }
-    Ok(())
-}
-
-// Adds the directories to which things came back from their staging names, and the root.
-fn add_old(
-    alloc: Global,
-    staged: &[Rename],
-    directories: &mut BTreeSet<String>,
-) -> Result<(), AllocError> {
-    for rename in staged {
-        add(alloc, directory_of(rename.from.as_str()), directories)?;
-    }
-    add(alloc, "", directories)
-}
-
-// Adds the directories to which things came from their staging names, and the root.
-fn add_new(
-    alloc: Global,
-    placed: &[Rename],
-    directories: &mut BTreeSet<String>,
-) -> Result<(), AllocError> {
-    for rename in placed {
-        add(alloc, directory_of(rename.to.as_str()), directories)?;
-    }
-    add(alloc, "", directories)
-}
-
-// Adds the directories that things left for their staging names, and the root. Such a directory may have left too.
-fn add_left(
-    alloc: Global,
-    staged: &[Rename],
-    directories: &mut BTreeSet<String>,
-) -> Result<(), AllocError> {
-    let mut names = BTreeMap::new(alloc);
-    for rename in staged {
-        names.insert(rename.from.as_str(), rename.to.as_str())?;
-    }
-    for rename in staged {
-        let directory = place_after(alloc, &names, directory_of(rename.from.as_str()))?;
-        directories.insert(directory)?;
-    }
-    add(alloc, "", directories)
-}
-
-// Adds the directories that things left again for their staging names, and the root. Such a directory may have left too.
-fn add_left_again(
-    alloc: Global,
-    placed: &[Rename],
-    directories: &mut BTreeSet<String>,
-) -> Result<(), AllocError> {
-    let mut names = BTreeMap::new(alloc);
-    for rename in placed {
-        names.insert(rename.to.as_str(), rename.from.as_str())?;
-    }
-    for rename in placed {
-        let directory = place_after(alloc, &names, directory_of(rename.to.as_str()))?;
-        directories.insert(directory)?;
-    }
-    add(alloc, "", directories)
 }
 
 // Where a directory is, if it or the nearest directory above it got a staging name.

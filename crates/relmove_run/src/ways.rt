@@ -1,18 +1,20 @@
 //! Whether a symbolic link is on the way to a path of a run.
-use crate::actions::{copy_of, find};
-use crate::fault::Fault;
+use crate::actions::copy_of;
+use crate::fault::{Call, Fault, at};
 use crate::store::{FoundKind, Store};
 use crate::work::{Leftover, Work};
 use std::alloc::{AllocError, Global};
 use std::collections::BTreeSet;
+use std::io::ErrorKind;
 
 /// Fails if a symbolic link is on the way to a path of a run, and isn't itself one that the run moves.
 ///
 /// Allocates a list of its paths.
 pub(crate) fn need_ways<S: Store>(store: &mut S, work: &Work) -> Result<(), Fault> {
     let paths = paths_of(store.alloc(), work)?;
+    let mut asked = BTreeSet::new(store.alloc());
     for path in &paths {
-        need_no_symlink_above(store, path, &paths)?;
+        need_no_symlink_above(store, path, &paths, &mut asked)?;
     }
     Ok(())
 }
@@ -37,20 +39,36 @@ fn paths_of(alloc: Global, work: &Work) -> Result<BTreeSet<&str>, AllocError> {
     Ok(paths)
 }
 
-// Fails if a symbolic link that isn't one of these paths is on the way to a path.
-fn need_no_symlink_above<S: Store>(
+// Fails if a symbolic link that isn't one of these paths is on the way to a path. Each path is asked for once.
+fn need_no_symlink_above<'a, S: Store>(
     store: &mut S,
-    path: &str,
+    path: &'a str,
     paths: &BTreeSet<&str>,
+    asked: &mut BTreeSet<&'a str>,
 ) -> Result<(), Fault> {
     for (slash, _) in path.match_indices('/') {
         if let Some(above) = path.get(..slash)
             && !paths.contains(above)
-            && let Some(found) = find(store, above)?
-            && found.kind == FoundKind::Symlink
+            && !asked.contains(above)
         {
-            return Err(Fault::NotADirectory(copy_of(store, above)?));
+            need_no_symlink(store, above)?;
+            asked.insert(above)?;
         }
     }
     Ok(())
+}
+
+// Fails if a symbolic link is at a path. What can't be looked up leads nowhere.
+fn need_no_symlink<S: Store>(store: &mut S, path: &str) -> Result<(), Fault> {
+    let found = match store.find(path) {
+        Err(error) if error.kind() == ErrorKind::PermissionDenied => None,
+        Err(error) if error.kind() == ErrorKind::InvalidFilename => None,
+        asked => at(store.alloc(), Call::Ask, path, asked)?,
+    };
+    match found {
+        Some(found) if found.kind == FoundKind::Symlink => {
+            Err(Fault::NotADirectory(copy_of(store, path)?))
+        }
+        _ => Ok(()),
+    }
 }

@@ -1,4 +1,7 @@
 //! What a run does, stage by stage.
+ghost use Rattle.std.specs.Prelude.{◌≡◌};
+ghost use Rattle.relmove_run.specs.Reading.{no_work, parts_of};
+
 use crate::text_digest::TextDigest;
 use relmove_actions::Rename;
 use std::alloc::Global;
@@ -62,7 +65,9 @@ pub struct Work {
 
 impl Work {
     /// Work with nothing to do. Allocates nothing.
-    pub fn new(alloc: Global) -> Work {
+    pub fn new(alloc: Global) -> Work
+        ensures nothing { parts_of result ≡ no_work }
+    {
         Work {
             texts: Vec::new(alloc),
             staged: Vec::new(alloc),

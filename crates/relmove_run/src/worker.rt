@@ -1,16 +1,19 @@
 //! Does the work of a run, from any stage on. Each step asks first whether it is done.
 use crate::actions::{
-    OwnFile, carry, copy_of, digest_at, find, is_there, make_directory, need_free,
-    remove_directory, remove_file, write_text,
+    OwnFile, Ways, Written, carry, copy_of, digest_at, digest_found, find_to_remove, is_there,
+    make_directory, need_free, remove_directory, remove_file, unmake_directory, write_text,
 };
 use crate::fault::Fault;
 use crate::own_files::{OwnFiles, put_first, put_next, remove_all};
 use crate::remark::Remark;
+use crate::stages::{Action, MOST_STAGES, actions_of};
 use crate::store::{Found, FoundKind, Store};
-use crate::synced::sync_stage;
+use crate::synced::{remove_left_names, sync_stage};
+use crate::text_digest::TextDigest;
 use crate::work::{Leftover, Stage, TextFile, Work};
 use relmove_actions::{NewText, Rename};
 use std::alloc::AllocError;
+use std::io::ErrorKind;
 
 // A run under way.
 #[derive(Drop)]
@@ -20,7 +23,11 @@ pub(crate) struct Worker<S: Drop> {
     work: Work,
     stage: Stage,
     // The files of the first new texts, which the run may have made.
-    written: Vec<OwnFile>,
+    written: Vec<Written>,
+    // Whether a loss of power may have kept both names of a file that was renamed.
+    may_have_both_names: bool,
+    // The directories on the ways to paths.
+    ways: Ways,
     remarks: Vec<Remark>,
 }
 
@@ -28,12 +35,15 @@ impl<S: Store + Drop> Worker<S> {
     // A run that begins.
     pub(crate) fn new(store: S, own: OwnFiles, work: Work) -> Worker<S> {
         let (written, remarks) = (Vec::new(store.alloc()), Vec::new(store.alloc()));
+        let ways = Ways::new(store.alloc());
         Worker {
             store,
             own,
             work,
             stage: Stage::Writing,
             written,
+            may_have_both_names: false,
+            ways,
             remarks,
         }
     }
@@ -47,15 +57,18 @@ impl<S: Store + Drop> Worker<S> {
     ) -> Result<Worker<S>, AllocError> {
         let mut written = Vec::with_capacity(store.alloc(), work.texts.len())?;
         for _ in &work.texts {
-            written.push(OwnFile::Unknown)?;
+            written.push(Written::UNKNOWN)?;
         }
         let remarks = Vec::new(store.alloc());
+        let ways = Ways::new(store.alloc());
         Ok(Worker {
             store,
             own,
             work,
             stage,
             written,
+            may_have_both_names: true,
+            ways,
             remarks,
         })
     }
@@ -108,63 +121,54 @@ impl<S: Store + Drop> Worker<S> {
     // Writes the new texts.
     pub(crate) fn write_texts(&mut self, texts: &[NewText]) -> Result<(), Fault> {
         for text in texts {
-            let mut own = OwnFile::None;
-            let written = write_text(&mut self.store, text, &mut own);
-            self.written.push(own)?;
-            written?;
+            let mut written = Written::NONE;
+            let outcome = write_text(&mut self.store, &mut self.ways, text, &mut written);
+            self.written.push(written)?;
+            outcome?;
         }
         Ok(())
     }
 
-    // Goes on to the end.
-    pub(crate) fn go_on(&mut self) -> Result<(), Fault> {
-        match self.stage {
-            Stage::Staging => self.go_on_from_staging(),
-            Stage::Making => self.go_on_from_making(),
-            Stage::Placing => self.go_on_from_placing(),
-            _ => self.clean(),
-        }
-    }
-
-    // Gives everything its staging name, and goes on.
-    fn go_on_from_staging(&mut self) -> Result<(), Fault> {
-        for rename in &self.work.staged {
-            carry(&mut self.store, rename.from.as_str(), rename.to.as_str())?;
-        }
-        self.need_old_texts()?;
-        self.enter(Stage::Making)?;
-        self.go_on_from_making()
-    }
-
-    // Makes the new directories, and goes on.
-    fn go_on_from_making(&mut self) -> Result<(), Fault> {
-        for path in &self.work.made {
-            make_directory(&mut self.store, path.as_str())?;
-        }
-        self.enter(Stage::Placing)?;
-        self.go_on_from_placing()
-    }
-
-    // Gives everything its new path, and goes on.
-    fn go_on_from_placing(&mut self) -> Result<(), Fault> {
-        for rename in &self.work.placed {
-            carry(&mut self.store, rename.from.as_str(), rename.to.as_str())?;
-        }
-        self.enter(Stage::Cleaning)?;
-        self.clean()
-    }
-
-    // Removes what is left over, and ends the run.
-    fn clean(&mut self) -> Result<(), Fault> {
-        for leftover in &self.work.cleaned {
-            match leftover {
-                Leftover::Text(file) => remove_text(&mut self.store, file, &mut self.remarks)?,
-                Leftover::Directory(path) => {
-                    remove_emptied(&mut self.store, path.as_str(), &mut self.remarks)?
-                }
-            }
+    // Does what is left of the run's stage and of those after it, and ends the run. At the stages `writing` and `erasing`
+    // this needs no room on the disk.
+    pub(crate) fn finish(&mut self) -> Result<(), Fault> {
+        self.do_stage()?;
+        for _ in 0..MOST_STAGES {
+            let Some(next) = self.stage.next() else {
+                break;
+            };
+            self.enter(next)?;
+            self.do_stage()?;
         }
         self.end()
+    }
+
+    // Does the actions of the run's stage.
+    fn do_stage(&mut self) -> Result<(), Fault> {
+        act_at(
+            &mut self.store,
+            &mut self.ways,
+            &self.work,
+            &self.written,
+            self.stage,
+            &mut self.remarks,
+        )?;
+        match self.stage {
+            Stage::Staging => {
+                self.remove_left_names()?;
+                self.need_old_texts()
+            }
+            Stage::Unplacing => self.remove_left_names(),
+            _ => Ok(()),
+        }
+    }
+
+    // Removes the names that a loss of power kept of what has its staging name.
+    fn remove_left_names(&mut self) -> Result<(), Fault> {
+        if self.may_have_both_names {
+            remove_left_names(&mut self.store, &mut self.ways, &self.work, self.stage)?;
+        }
+        Ok(())
     }
 
     // Removes the run's own files.
@@ -185,62 +189,6 @@ impl<S: Store + Drop> Worker<S> {
         }
         Ok(())
     }
-
-    // Goes back to the beginning.
-    pub(crate) fn go_back(&mut self) -> Result<(), Fault> {
-        match self.stage {
-            Stage::Unplacing => self.go_back_from_placing(),
-            Stage::Unmaking => self.go_back_from_making(),
-            Stage::Unstaging => self.go_back_from_staging(),
-            Stage::Erasing => self.erase(),
-            _ => self.abandon(),
-        }
-    }
-
-    // Gives what is at its new path its staging name again, and goes on back.
-    fn go_back_from_placing(&mut self) -> Result<(), Fault> {
-        for rename in self.work.placed.iter().rev() {
-            if !is_there(&mut self.store, rename.from.as_str())? {
-                carry_back(&mut self.store, rename, &mut self.remarks)?;
-            }
-        }
-        self.enter(Stage::Unmaking)?;
-        self.go_back_from_making()
-    }
-
-    // Removes the directories that were made, and goes on back.
-    fn go_back_from_making(&mut self) -> Result<(), Fault> {
-        for path in self.work.made.iter().rev() {
-            remove_directory(&mut self.store, path.as_str())?;
-        }
-        self.enter(Stage::Unstaging)?;
-        self.go_back_from_staging()
-    }
-
-    // Takes what has its staging name back to its old path, and goes on back.
-    fn go_back_from_staging(&mut self) -> Result<(), Fault> {
-        for rename in self.work.staged.iter().rev() {
-            carry_back(&mut self.store, rename, &mut self.remarks)?;
-        }
-        self.enter(Stage::Erasing)?;
-        self.erase()
-    }
-
-    // Removes the new texts, and ends the run.
-    fn erase(&mut self) -> Result<(), Fault> {
-        for text in &self.work.texts {
-            remove_text(&mut self.store, text, &mut self.remarks)?;
-        }
-        self.end()
-    }
-
-    // Removes the new texts that may be written in part, and ends the run. This needs no room on the disk.
-    fn abandon(&mut self) -> Result<(), Fault> {
-        for (text, own) in self.work.texts.iter().zip(&self.written) {
-            remove_part(&mut self.store, text, *own, &mut self.remarks)?;
-        }
-        self.end()
-    }
 }
 
 // The path from which a staging name came.
@@ -251,15 +199,68 @@ fn old_path<'a>(staged: &'a [Rename], name: &'a str) -> &'a str {
     }
 }
 
+// Does the actions of a stage.
+fn act_at<S: Store>(
+    store: &mut S,
+    ways: &mut Ways,
+    work: &Work,
+    written: &[Written],
+    stage: Stage,
+    remarks: &mut Vec<Remark>,
+) -> Result<(), Fault> {
+    for action in &actions_of(store.alloc(), work, stage)? {
+        act(store, ways, work, written, *action, remarks)?;
+    }
+    Ok(())
+}
+
+// Does an action, unless that is done.
+fn act<S: Store>(
+    store: &mut S,
+    ways: &mut Ways,
+    work: &Work,
+    written: &[Written],
+    action: Action<'_>,
+    remarks: &mut Vec<Remark>,
+) -> Result<(), Fault> {
+    match action {
+        Action::Carry(rename) => carry(store, ways, rename.from.as_str(), rename.to.as_str()),
+        Action::Unplace(rename) => unplace(store, ways, rename, remarks),
+        Action::Unstage(rename) => unstage(store, ways, work, rename, remarks),
+        Action::Make(path) => make_directory(store, ways, path),
+        Action::Unmake(path) => unmake_directory(store, ways, path),
+        Action::RemoveText(text) => remove_text(store, ways, text, remarks),
+        Action::RemovePart(number, text) => match written.get(number) {
+            Some(written) => remove_part(store, ways, text, *written, remarks),
+            None => Ok(()),
+        },
+        Action::RemoveEmptied(path) => remove_emptied(store, ways, path, remarks),
+    }
+}
+
+// Gives what is at its new path its staging name again, unless something has that name.
+fn unplace<S: Store>(
+    store: &mut S,
+    ways: &mut Ways,
+    rename: &Rename,
+    remarks: &mut Vec<Remark>,
+) -> Result<(), Fault> {
+    if is_there(store, rename.from.as_str())? {
+        return Ok(());
+    }
+    carry_back(store, ways, rename, remarks)
+}
+
 // Takes back a rename, unless that is done. Notes what is at neither path.
 fn carry_back<S: Store>(
     store: &mut S,
+    ways: &mut Ways,
     rename: &Rename,
     remarks: &mut Vec<Remark>,
 ) -> Result<(), Fault> {
     let (from, to) = (rename.from.as_str(), rename.to.as_str());
     if is_there(store, to)? {
-        return carry(store, to, from);
+        return carry(store, ways, to, from);
     }
     if !is_there(store, from)? {
         let (from, to) = (copy_of(store, from)?, copy_of(store, to)?);
@@ -268,56 +269,117 @@ fn carry_back<S: Store>(
     Ok(())
 }
 
+// Takes what has its staging name back to its old path. If a text of the run is at its old path already, what has its
+// staging name isn't the run's: it stays, and this is noted.
+fn unstage<S: Store>(
+    store: &mut S,
+    ways: &mut Ways,
+    work: &Work,
+    rename: &Rename,
+    remarks: &mut Vec<Remark>,
+) -> Result<(), Fault> {
+    let back = carry_back(store, ways, rename, remarks);
+    if let Err(Fault::Both { .. }) = &back
+        && is_back(store, work, rename)?
+    {
+        return Ok(remarks.push(Remark::Kept(copy_of(store, rename.to.as_str())?))?);
+    }
+    back
+}
+
+// Whether a text of the run is at the old path of a rename.
+fn is_back<S: Store>(store: &mut S, work: &Work, rename: &Rename) -> Result<bool, Fault> {
+    match digest_of(work, rename) {
+        Some(digest) => Ok(digest_at(store, rename.from.as_str())? == Some(digest)),
+        None => Ok(false),
+    }
+}
+
+// The digest of what a rename gives a staging name, if the journal has it: of a new text, or of the old text of a page.
+fn digest_of(work: &Work, rename: &Rename) -> Option<TextDigest> {
+    for text in &work.texts {
+        if text.path == rename.from {
+            return Some(text.digest);
+        }
+    }
+    for leftover in &work.cleaned {
+        if let Leftover::Text(text) = leftover
+            && text.path == rename.to
+        {
+            return Some(text.digest);
+        }
+    }
+    None
+}
+
 // Removes a text of the run, unless it has changed: then it stays, and this is noted.
 fn remove_text<S: Store>(
     store: &mut S,
+    ways: &mut Ways,
     text: &TextFile,
     remarks: &mut Vec<Remark>,
 ) -> Result<(), Fault> {
     let path = text.path.as_str();
-    if !is_there(store, path)? {
+    let Some(found) = find_to_remove(store, path)? else {
         return Ok(());
-    }
-    if digest_at(store, path)? == Some(text.digest) {
-        return remove_file(store, path);
+    };
+    if digest_found(store, path, &found)? == Some(text.digest) {
+        return remove_file(store, ways, path);
     }
     Ok(remarks.push(Remark::Kept(copy_of(store, path)?))?)
 }
 
-// Removes a text that the run wrote, maybe in part. Anything else there stays, and this is noted.
+// Removes a text that the run wrote, maybe in part. Anything else there stays, and this is noted. A part is told by its
+// file and its length, and a whole text by its digest.
 fn remove_part<S: Store>(
     store: &mut S,
+    ways: &mut Ways,
     text: &TextFile,
-    own: OwnFile,
+    written: Written,
     remarks: &mut Vec<Remark>,
 ) -> Result<(), Fault> {
+    if written.own == OwnFile::None {
+        return Ok(());
+    }
     let path = text.path.as_str();
-    let Some(found) = find(store, path)? else {
+    let Some(found) = find_to_remove(store, path)? else {
         return Ok(());
     };
-    let is_part = match own {
-        OwnFile::None => return Ok(()),
-        OwnFile::Unknown => may_be_part(&found, text),
-        OwnFile::Inode(_) => own.is(&found),
-    };
-    if is_part {
-        return remove_file(store, path);
+    if may_be_part(store, text, written, &found) {
+        return remove_file(store, ways, path);
     }
-    Ok(remarks.push(Remark::Kept(copy_of(store, path)?))?)
+    remove_text(store, ways, text, remarks)
 }
 
-// Whether what is found may be a part of a text that a killed run wrote.
-fn may_be_part(found: &Found, text: &TextFile) -> bool {
-    found.kind == FoundKind::File && found.links == 1 && found.length <= text.digest.length
+// Whether what is found may be a part of a text that the run wrote. A file that a killed run made is whole only if it has
+// its permissions: before, it can't be read.
+fn may_be_part<S: Store>(store: &mut S, text: &TextFile, written: Written, found: &Found) -> bool {
+    let is_own = match written.own {
+        OwnFile::Unknown => found.kind == FoundKind::File && found.links == 1,
+        own => own.is(found),
+    };
+    let length = text.digest.length;
+    is_own
+        && !written.is_whole
+        && (found.length < length || found.length == length && !can_read(store, text.path.as_str()))
+}
+
+// Whether the system lets the program read a file.
+fn can_read<S: Store>(store: &mut S, path: &str) -> bool {
+    match store.read(path) {
+        Err(error) => error.kind() != ErrorKind::PermissionDenied,
+        Ok(_) => true,
+    }
 }
 
 // Removes a directory that the run emptied. If it can't be removed, it stays, and this is noted.
 fn remove_emptied<S: Store>(
     store: &mut S,
+    ways: &mut Ways,
     path: &str,
     remarks: &mut Vec<Remark>,
 ) -> Result<(), Fault> {
-    match remove_directory(store, path) {
+    match remove_directory(store, ways, path) {
         Ok(()) => Ok(()),
         Err(Fault::OutOfMemory) => Err(Fault::OutOfMemory),
         // A call may report a failure after it removed the directory.

@@ -600,7 +600,8 @@ ltb-past : (b : ℕ) → nat_lt b 128 ≡ false → 128 ≤ b
 ltb-past b is = grind (arith, nat_tests)
 
 -- no byte past ASCII begins a tail
-not_tail : (syntax : TargetSyntax) (b : ℕ) (bs : List ℕ) → 128 ≤ b → path_pieces syntax (b ∷ bs) ≡ plain b ∷ path_pieces syntax bs
+not_tail : (syntax : TargetSyntax) (b : ℕ) (bs : List ℕ) → 128 ≤ b
+    → path_pieces syntax (b ∷ bs) ≡ plain b ∷ path_pieces syntax bs
 not_tail syntax b bs past =
     let first = source_piece syntax in
     ap (λ p. before_tail (p ∷ pieces first (p.size - 1) bs)) (literal-piece syntax b bs (past_ascii-literal b past))

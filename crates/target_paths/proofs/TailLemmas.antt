@@ -69,7 +69,8 @@ says-url text n reading says =
     (λ keeps at told. not_relative-none reading told)
     (λ relative at told. says-decoded (joined (pieces url_piece 0 text)) n reading (decoded-relative text at) told)
     refl says where
-      not_relative-none : (reading : TargetReading) → Says not_relative reading → IfPath reading (λ path at. (at ≡ n) × BeginsRelative path)
+      not_relative-none : (reading : TargetReading) → Says not_relative reading
+          → IfPath reading (λ path at. (at ≡ n) × BeginsRelative path)
       not_relative-none NotRelative told = tt
       not_relative-none (Unknown why) told = tt
       not_relative-none (Path path at) told = absurd (cc)

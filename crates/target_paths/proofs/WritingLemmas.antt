@@ -86,7 +86,8 @@ written-character place c rest = of (nat_lt c 128) refl where
       let past : 128 ≤ c = grind (arith, nat_tests) in
       let count : 0 < length (encode_utf8 c) = omega (arith, length-encode c, (len_utf8_bounds c).0) in
       written-past place (encode_utf8 c) rest c past count (encode-past_ascii c past)
-      ∙ ap (λ t. (if t then percent_text c else encode_utf8 c) ++ written (place_after place c) rest) (sym (past_ascii-kept place c past))
+      ∙ ap (λ t. (if t then percent_text c else encode_utf8 c) ++ written (place_after place c) rest)
+      (sym (past_ascii-kept place c past))
 
 -- what is written for a path with one more character
 pub written-next : (place : Place) (cs : List ℕ) (n c more : ℕ) (old new : List ℕ) → n < length cs → c ≡ get_or cs n c

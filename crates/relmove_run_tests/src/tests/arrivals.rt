@@ -1,8 +1,13 @@
 //! Files that come to a path while a run works: they stay, but for those that come between a question and a rename.
 use crate::tests::cases::{self, Case};
-use crate::tests::runs::{calls_of, can_be_undone, loses_nothing, run, run_and_fail};
-use crate::tests::same;
-use relmove_disk::{Way, below_site, disk_of, file_of};
+use crate::tests::reasons::{gives_reason, stops_with};
+use crate::tests::runs::{
+    End, calls_of, can_be_undone, end_of, first_call_at, first_call_with, loses_nothing,
+    remarks_of, run, run_and_fail, undo_on,
+};
+use crate::tests::{holds, same};
+use relmove_disk::{Disk, Way, below_site, disk_of, file_of};
+use relmove_run::{Ended, Fault, Remark, Stage};
 use std::alloc::Global;
 use std::test::Fail;
 
@@ -59,4 +64,176 @@ fn keeps_what_comes_to_the_names_of_its_own_files(rt: HostRuntime) -> Result<(),
         stay(rt.alloc(), &cases::PAGE_CHANGES, path, 0)?;
     }
     Ok(())
+}
+
+// A run that is killed before its first rename, and then a file at a staging name.
+fn disk_with_file(alloc: Global, case: &Case, path: &str) -> Result<Disk, Fail> {
+    let number = first_call_at(alloc, case, Stage::Staging)?;
+    let (_, disk) = run_and_fail(alloc, case, number, Way::Killed)?;
+    disk.add(below_site(alloc, path)?.as_str(), file_of(alloc, "mine")?)?;
+    Ok(disk)
+}
+
+// Whether the run goes back if a file comes to the staging name of one of its texts. The file stays, and this is said.
+fn goes_back_beside(alloc: Global, path: &str) -> Result<(), Fail> {
+    let case = &cases::PAGE_CHANGES;
+    let disk = disk_with_file(alloc, case, path)?;
+    let ended = undo_on(&disk);
+    same(path, &end_of(&ended), &End::TakenBack)?;
+    let full = below_site(alloc, path)?;
+    let is_said = match remarks_of(&ended) {
+        [Remark::Kept(kept)] => kept.as_str() == path,
+        _ => false,
+    };
+    same("said", &is_said, &true)?;
+    same("it stays", &disk.is_file(full.as_str(), "mine")?, &true)?;
+    disk.remove(full.as_str())?;
+    holds(alloc, "taken back", &disk, case.before)
+}
+
+#[test]
+fn goes_back_beside_a_file_at_a_staging_name(rt: HostRuntime) -> Result<(), Fail> {
+    goes_back_beside(rt.alloc(), ".relmove-1")?;
+    goes_back_beside(rt.alloc(), ".relmove-2")
+}
+
+// The journal doesn't say which of two files is the run's. Whichever is removed or renamed, the other one goes back.
+#[test]
+fn names_both_files_of_a_rename(rt: HostRuntime) -> Result<(), Fail> {
+    let alloc = rt.alloc();
+    let disk = disk_with_file(alloc, &cases::FILE_MOVES, ".relmove-1")?;
+    let words = match &undo_on(&disk) {
+        Ended::Stopped { fault, .. } => format!(in alloc; "{fault}")?,
+        _ => String::new(alloc),
+    };
+    let expected =
+        "can't rename .relmove-1 to a/x.md: something is at both paths. Rename or remove the one that isn't the run's";
+    same("said", &words.as_str(), &expected)?;
+    same("it stays", &disk.is_file("site/.relmove-1", "mine")?, &true)?;
+    disk.remove("site/.relmove-1")?;
+    can_be_undone(alloc, &cases::FILE_MOVES, &disk)
+}
+
+// Puts a file in the place of the journal, before a call of a run. Whether the file stays.
+fn stays_as_journal(alloc: Global, number: u32) -> Result<bool, Fail> {
+    let disk = disk_of(alloc, cases::PAGE_CHANGES.before)?;
+    disk.replace_before(number, "site/.relmove", file_of(alloc, "mine")?)?;
+    run(alloc, &cases::PAGE_CHANGES, &disk)?;
+    Ok(disk.has("site/.relmove")? && disk.is_file("site/.relmove", "mine")?)
+}
+
+// Four times a next journal takes the place of the one before: after the question for that one come the question for the
+// next one and the rename. Once the journal is removed right after the question for it.
+#[test]
+fn keeps_what_comes_in_the_place_of_its_journal(rt: HostRuntime) -> Result<(), Fail> {
+    let mut lost = 0u32;
+    for number in 1..=calls_of(rt.alloc(), &cases::PAGE_CHANGES)? {
+        if !stays_as_journal(rt.alloc(), number)? {
+            lost = lost.saturating_add(1);
+        }
+    }
+    same("files that are lost", &lost, &9)
+}
+
+// Puts a file in the place of what is at a path, before a call of a run. Whether the file stays there.
+fn stays_in_place(alloc: Global, path: &str, number: u32) -> Result<bool, Fail> {
+    let disk = disk_of(alloc, cases::PAGE_CHANGES.before)?;
+    disk.replace_before(number, path, file_of(alloc, "mine")?)?;
+    run(alloc, &cases::PAGE_CHANGES, &disk)?;
+    Ok(disk.has(path)? && disk.is_file(path, "mine")?)
+}
+
+// Whether files that come in the place of what is at a path stay, but for those that come before so many calls of a run.
+fn stay_in_place(alloc: Global, path: &str, lost: u32) -> Result<(), Fail> {
+    let mut count = 0u32;
+    for number in 1..=calls_of(alloc, &cases::PAGE_CHANGES)? {
+        if !stays_in_place(alloc, path, number)? {
+            count = count.saturating_add(1);
+        }
+    }
+    same(path, &count, &lost)
+}
+
+// The first journal's second name is asked for twice before it is removed, and so a file is lost that comes before the
+// second question or before the removal. Each of four later journals gets the journal's name right after the question for
+// it.
+#[test]
+fn keeps_what_comes_in_the_place_of_its_next_journal(rt: HostRuntime) -> Result<(), Fail> {
+    stay_in_place(rt.alloc(), "site/.relmove-journal", 6)
+}
+
+// The spare journal is removed once.
+#[test]
+fn keeps_what_comes_in_the_place_of_its_spare_journal(rt: HostRuntime) -> Result<(), Fail> {
+    stay_in_place(rt.alloc(), "site/.relmove-spare", 2)
+}
+
+// A file that comes right before a run makes the one of its new text. The fault names it, and there is nothing else to say.
+#[test]
+fn says_nothing_more_of_a_file_at_the_name_of_a_text(rt: HostRuntime) -> Result<(), Fail> {
+    let (alloc, case) = (rt.alloc(), &cases::PAGE_CHANGES);
+    let number = first_call_with(alloc, case, "site/.relmove-9")?;
+    let disk = disk_of(alloc, case.before)?;
+    disk.add_before(
+        number.saturating_sub(1),
+        "site/.relmove-9",
+        file_of(alloc, "mine")?,
+    )?;
+    same("refused", &end_of(&run(alloc, case, &disk)?), &End::Refused)?;
+    same("it stays", &disk.is_file("site/.relmove-9", "mine")?, &true)
+}
+
+// Whether a journal that comes before a call of a run is told. `None` if the run's own is there already.
+fn tells_journal(alloc: Global, number: u32) -> Result<Option<bool>, Fail> {
+    let (_, disk) = run_and_fail(alloc, &cases::SWAP, number, Way::Killed)?;
+    if disk.has("site/.relmove")? {
+        return Ok(None);
+    }
+    let disk = disk_of(alloc, cases::SWAP.before)?;
+    disk.add_before(number, "site/.relmove", file_of(alloc, "mine")?)?;
+    let ended = run(alloc, &cases::SWAP, &disk)?;
+    Ok(Some(matches!(&ended, Ended::Refused(Fault::HasJournal { .. }))))
+}
+
+#[test]
+fn tells_a_journal_that_comes(rt: HostRuntime) -> Result<(), Fail> {
+    for number in 1..=calls_of(rt.alloc(), &cases::SWAP)? {
+        match tells_journal(rt.alloc(), number)? {
+            Some(is_told) => same("told", &is_told, &true)?,
+            None => return Ok(()),
+        }
+    }
+    Err(Fail::new("no journal was there"))
+}
+
+// A run whose next journal is gone, or isn't the one that it wrote, says so.
+#[test]
+fn names_its_next_journal(rt: HostRuntime) -> Result<(), Fail> {
+    let (alloc, case) = (rt.alloc(), &cases::SWAP);
+    // The question for the next journal comes right before its rename, and that three calls before the first call at a stage.
+    let number = first_call_at(alloc, case, Stage::Staging)?.saturating_sub(4);
+    let disk = disk_of(alloc, case.before)?;
+    disk.remove_before(number, "site/.relmove-journal")?;
+    let ended = run(alloc, case, &disk)?;
+    gives_reason(alloc, &ended, "Missing(\".relmove-journal\")")?;
+    let disk = disk_of(alloc, case.before)?;
+    disk.replace_before(number, "site/.relmove-journal", file_of(alloc, "mine")?)?;
+    let words =
+        ".relmove-journal has a name of relmove's own, and relmove didn't leave it: remove or rename it";
+    stops_with(alloc, &run(alloc, case, &disk)?, words)
+}
+
+// The call that makes the first journal is done and reported as failed: the file may be the run's own.
+#[test]
+fn removes_what_may_be_its_own_journal(rt: HostRuntime) -> Result<(), Fail> {
+    let (alloc, case) = (rt.alloc(), &cases::SWAP);
+    let path = "site/.relmove-journal";
+    let number = first_call_with(alloc, case, path)?.saturating_sub(1);
+    let (_, disk) = run_and_fail(alloc, case, number, Way::DoneAndFailed)?;
+    holds(alloc, "its own", &disk, case.before)?;
+    let disk = disk_of(alloc, case.before)?;
+    disk.fail_at(number, Way::DoneAndFailed);
+    disk.replace_before(number.saturating_add(1), path, file_of(alloc, "mine")?)?;
+    run(alloc, case, &disk)?;
+    same("another file", &disk.is_file(path, "mine")?, &true)
 }

@@ -119,6 +119,23 @@ pub const PAGE_CHANGES: Case = Case {
     emptied: &[],
 };
 
+pub const TWO_PAGES_CHANGE: Case = Case {
+    name: "two pages change where they are",
+    before: &[("a.md", Some("aa")), ("b.md", Some("bb"))],
+    after: &[("a.md", Some("aaa")), ("b.md", Some("bbb"))],
+    texts: &[("a.md", ".relmove-8", "aaa"), ("b.md", ".relmove-9", "bbb")],
+    apart: &[
+        ("a.md", ".relmove-1"),
+        (".relmove-8", ".relmove-2"),
+        ("b.md", ".relmove-3"),
+        (".relmove-9", ".relmove-4"),
+    ],
+    made: &[],
+    together: &[(".relmove-2", "a.md"), (".relmove-4", "b.md")],
+    removed: &[".relmove-1", ".relmove-3"],
+    emptied: &[],
+};
+
 pub const PAGE_IN_A_DIRECTORY: Case = Case {
     name: "a page changes in a directory that moves",
     before: &[

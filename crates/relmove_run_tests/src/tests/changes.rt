@@ -4,7 +4,8 @@ use crate::tests::same;
 use relmove_actions::Rename;
 use relmove_disk::{disk_of, file_of};
 use relmove_run::{
-    Fault, Leftover, Origin, Stage, TextDigest, TextFile, Way, Work, changes_to_end, journal_text,
+    Fault, Leftover, Origin, Stage, StoppedRun, TextDigest, TextFile, Trust, Way, Work,
+    journal_text,
 };
 use std::alloc::{AllocError, Global};
 use std::test::Fail;
@@ -71,7 +72,8 @@ fn changes_at(alloc: Global, stage: Stage, way: Way) -> Result<String, Fail> {
     disk.add("site/.relmove", file_of(alloc, text.as_str())?)?;
     let before = disk.listing()?;
     let mut locked = lock(&disk)?;
-    let said = changes_to_end(&mut locked, way);
+    let run = StoppedRun::read(&mut locked, Trust::AnyFolder)?;
+    let said = run.changes(alloc, way);
     same("nothing changes", &disk.listing()?, &before)?;
     let mut lines = String::new(alloc);
     match &said {

@@ -1,8 +1,8 @@
 //! Each call of a run fails in turn. After each fault no byte is lost, and the run can be ended and taken back.
 use crate::tests::cases::{self, Case};
 use crate::tests::runs::{
-    End, can_be_resumed, can_be_undone, end_of, is_done, loses_nothing, resume_on, run,
-    run_and_fail,
+    End, calls_of, can_be_resumed, can_be_undone, end_of, is_done, loses_nothing, remarks_of,
+    resume_on, run, run_and_fail,
 };
 use crate::tests::{holds, same};
 use relmove_disk::{Disk, Way, disk_of};
@@ -23,7 +23,7 @@ fn survives(alloc: Global, case: &Case, number: u32, way: Way) -> Result<(), Fai
     loses_nothing(alloc, case, &disk)?;
     match ended {
         Ended::Done(remarks) => is_done(alloc, case, &disk, &remarks),
-        Ended::TakenBack(_) => Err(Fail::new("the run was taken back")),
+        Ended::TakenBack { .. } => Err(Fail::new("the run was taken back")),
         Ended::Refused(_) => {
             if way == Way::Killed || way == Way::DoneAndKilled {
                 forgets_new_journal(&disk)?;
@@ -97,4 +97,34 @@ fn a_page_leaves_a_directory_that_moves(rt: HostRuntime) -> Result<(), Fail> {
 #[test]
 fn a_file_moves_into_a_directory_that_moves(rt: HostRuntime) -> Result<(), Fail> {
     survives_each_fault(rt.alloc(), &cases::INTO_A_MOVED_DIRECTORY)
+}
+
+// Whether a run survives that a question says once that nothing is there.
+fn survives_an_answer(alloc: Global, case: &Case, number: u32) -> Result<(), Fail> {
+    let (ended, disk) = run_and_fail(alloc, case, number, Way::NotThere)?;
+    loses_nothing(alloc, case, &disk)?;
+    match &ended {
+        Ended::Done(remarks) => is_done(alloc, case, &disk, remarks),
+        Ended::TakenBack { .. } | Ended::Refused(_) => {
+            same("nothing to say", &remarks_of(&ended).len(), &0)?;
+            holds(alloc, "taken back", &disk, case.before)
+        }
+        Ended::Stopped { .. } => {
+            can_be_resumed(alloc, case, &disk)?;
+            let (_, disk) = run_and_fail(alloc, case, number, Way::NotThere)?;
+            can_be_undone(alloc, case, &disk)
+        }
+    }
+}
+
+// A file system that says once that nothing is there leaves nothing without a word.
+#[test]
+fn a_question_has_a_wrong_answer(rt: HostRuntime) -> Result<(), Fail> {
+    let alloc = rt.alloc();
+    for case in [&cases::FILE_MOVES, &cases::PAGE_CHANGES] {
+        for number in 1..=calls_of(alloc, case)? {
+            survives_an_answer(alloc, case, number)?;
+        }
+    }
+    Ok(())
 }

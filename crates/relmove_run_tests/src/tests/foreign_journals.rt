@@ -2,8 +2,8 @@
 use crate::tests::reasons::gives_reason;
 use crate::tests::runs::{End, end_of, lock, resume_on, stopped_at, undo_on};
 use crate::tests::{cases, holds, same};
-use relmove_disk::{Content, Disk};
-use relmove_run::{Stage, Trust, undo};
+use relmove_disk::{Content, Disk, file_of};
+use relmove_run::{Stage, StoppedRun, Trust, Way, undo};
 use std::alloc::Global;
 use std::test::Fail;
 
@@ -54,13 +54,33 @@ fn believes_no_journal_of_another_directory(rt: HostRuntime) -> Result<(), Fail>
     is_foreign(alloc, "another directory", &disk)
 }
 
+// Whether a journal with another name isn't believed, and is if the caller trusts it.
+fn is_linked(alloc: Global, case: &str, disk: &Disk) -> Result<(), Fail> {
+    let before = disk.listing()?;
+    gives_reason(alloc, &resume_on(disk), "LinkedJournal")?;
+    gives_reason(alloc, &undo_on(disk), "LinkedJournal")?;
+    same(case, &disk.listing()?, &before)?;
+    let run = StoppedRun::read(&mut lock(disk)?, Trust::AnyFolder)?;
+    let changes = run.changes(alloc, Way::Undo)?;
+    same(case, &changes.is_empty(), &false)?;
+    let ended = undo(lock(disk)?, Trust::AnyFolder);
+    same(case, &end_of(&ended), &End::TakenBack)?;
+    disk.remove("o")?;
+    holds(alloc, case, disk, cases::SWAP.before)
+}
+
 #[test]
 fn believes_no_journal_with_another_name(rt: HostRuntime) -> Result<(), Fail> {
     let alloc = rt.alloc();
     let disk = stopped_at(alloc, &cases::SWAP, Stage::Placing)?;
     disk.add_link("site/.relmove", "o")?;
-    let before = disk.listing()?;
-    gives_reason(alloc, &resume_on(&disk), "NotAJournal")?;
-    gives_reason(alloc, &undo_on(&disk), "NotAJournal")?;
-    same("nothing changes", &disk.listing()?, &before)
+    is_linked(alloc, "another name", &disk)?;
+    let disk = stopped_at(alloc, &cases::SWAP, Stage::Placing)?;
+    disk.add_link("site/.relmove", "o")?;
+    disk.add("site/.relmove-journal", file_of(alloc, "relmove j")?)?;
+    is_linked(alloc, "another name, and the beginning of a journal", &disk)?;
+    let disk = stopped_at(alloc, &cases::SWAP, Stage::Placing)?;
+    disk.add_link("site/.relmove", "o")?;
+    disk.add_link("site/.relmove", "site/.relmove-journal")?;
+    is_linked(alloc, "two other names", &disk)
 }

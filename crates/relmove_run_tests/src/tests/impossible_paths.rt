@@ -1,4 +1,5 @@
 //! Paths that the system can't have: a run is refused before it changes anything, and a run that stopped goes back.
+use crate::tests::reasons::gives_reason;
 use crate::tests::runs::{End, end_of, lock, run};
 use crate::tests::{cases, holds, same};
 use relmove_actions::{NewText, Rename, Steps};
@@ -39,13 +40,19 @@ fn no_steps(alloc: Global) -> Steps {
     }
 }
 
-// Steps that give a file a new path.
-fn steps_to(alloc: Global, path: &str) -> Result<Steps, AllocError> {
+// Steps that give a file a staging name.
+fn steps_from(alloc: Global, path: &str) -> Result<Steps, AllocError> {
     let mut steps = no_steps(alloc);
     steps.apart.push(Rename {
-        from: String::from_str(alloc, "a")?,
+        from: String::from_str(alloc, path)?,
         to: String::from_str(alloc, ".relmove-1")?,
     })?;
+    Ok(steps)
+}
+
+// Steps that give a file a new path.
+fn steps_to(alloc: Global, path: &str) -> Result<Steps, AllocError> {
+    let mut steps = steps_from(alloc, "a")?;
     steps.together.push(Rename {
         from: String::from_str(alloc, ".relmove-1")?,
         to: String::from_str(alloc, path)?,
@@ -97,7 +104,27 @@ fn asks_for_names_that_are_too_long(rt: HostRuntime) -> Result<(), Fail> {
     let name = name.as_str();
     are_too_long(alloc, name)?;
     are_too_long(alloc, format!(in alloc; "{name}/x")?.as_str())?;
+    // A file is at `a`.
+    are_too_long(alloc, format!(in alloc; "a/{name}")?.as_str())?;
     are_too_long(alloc, format!(in alloc; "x/{name}/x")?.as_str())
+}
+
+// A name is asked for by itself also if another one of its directory was asked for before.
+#[test]
+fn asks_for_a_second_name_in_a_new_directory(rt: HostRuntime) -> Result<(), Fail> {
+    let alloc = rt.alloc();
+    let name = name_of(alloc, 256)?;
+    let name = name.as_str();
+    let path = format!(in alloc; "x/{name}")?;
+    let mut steps = steps_to(alloc, "x/y")?;
+    steps.together.push(Rename {
+        from: String::from_str(alloc, ".relmove-2")?,
+        to: String::from_str(alloc, path.as_str())?,
+    })?;
+    let disk = disk_of(alloc, cases::SWAP.before)?;
+    let found = words_of(alloc, &disk, &steps)?;
+    let words = format!(in alloc; "x/{name} is too long, or a name in it is")?;
+    same("a second name", &found, &words)
 }
 
 // A path below ROOT has five bytes more: `site/`.
@@ -148,10 +175,15 @@ fn asks_for_other_devices(rt: HostRuntime) -> Result<(), Fail> {
     let found = words_of(alloc, &disk, &steps_to(alloc, "d/e/x")?)?;
     let words = "d/e is on another file system than ROOT";
     same("a new path", &found.as_str(), &words)?;
+    let words = "d/e is on another file system than ROOT";
+    for from in ["d/e", "d/e/a"] {
+        let found = words_of(alloc, &disk, &steps_from(alloc, from)?)?;
+        same(from, &found.as_str(), &words)?;
+    }
+    // the device of a file isn't asked for
     disk.set_device("site/a", 2)?;
     let found = words_of(alloc, &disk, &steps_to(alloc, "d/x")?)?;
-    let words = "a is on another file system than ROOT";
-    same("an old path", &found.as_str(), &words)
+    same("an old path", &found.as_str(), &"")
 }
 
 #[test]
@@ -166,6 +198,27 @@ fn refuses_a_run_that_is_impossible(rt: HostRuntime) -> Result<(), Fail> {
     same("nothing changes", &disk.listing()?, &before)
 }
 
+// A run does only the steps of a plan.
+#[test]
+fn refuses_steps_that_no_plan_makes(rt: HostRuntime) -> Result<(), Fail> {
+    let alloc = rt.alloc();
+    let disk = disk_of(alloc, cases::SWAP.before)?;
+    let before = disk.listing()?;
+    let ended = carry_out(lock(&disk)?, steps_to(alloc, ".git/x")?, &[], &[]);
+    gives_reason(alloc, &ended, "NotAPlan")?;
+    same("nothing changes", &disk.listing()?, &before)
+}
+
+#[test]
+fn names_a_root_that_is_not_there(rt: HostRuntime) -> Result<(), Fail> {
+    let alloc = rt.alloc();
+    let disk = disk_of(alloc, cases::SWAP.before)?;
+    let mut store = DiskStore::new(&disk, "gone")?;
+    let asked = need_possible(&mut store, &no_steps(alloc));
+    let found = format!(in alloc; "{asked:?}")?;
+    same("a root", &found.as_str(), &"Err(Missing(\"gone\"))")
+}
+
 // A directory that can't be listed can't be synced either.
 #[test]
 fn moves_files_of_a_directory_that_cannot_be_listed(rt: HostRuntime) -> Result<(), Fail> {
@@ -177,8 +230,8 @@ fn moves_files_of_a_directory_that_cannot_be_listed(rt: HostRuntime) -> Result<(
     holds(alloc, "done", &disk, cases::FILE_MOVES.after)
 }
 
-// Takes a run back that stopped before it could make a directory.
-fn goes_back_from(alloc: Global, directory: &str) -> Result<(), Fail> {
+// Takes a run back that stopped before it could make a directory, or that found none there.
+fn goes_back_from(alloc: Global, directory: &str, makes: bool) -> Result<(), Fail> {
     let disk = disk_of(alloc, &[(".relmove-1", Some("aa"))])?;
     let mut work = Work::new(alloc);
     let Steps {
@@ -187,7 +240,9 @@ fn goes_back_from(alloc: Global, directory: &str) -> Result<(), Fail> {
         ..
     } = steps_to(alloc, format!(in alloc; "{directory}/x")?.as_str())?;
     work.staged = apart;
-    work.made.push(String::from_str(alloc, directory)?)?;
+    if makes {
+        work.made.push(String::from_str(alloc, directory)?)?;
+    }
     work.placed = together;
     let origin = Origin { root: 0, file: 0 };
     let text = journal_text(alloc, origin, Stage::Placing, &work)?;
@@ -200,7 +255,10 @@ fn goes_back_from(alloc: Global, directory: &str) -> Result<(), Fail> {
 #[test]
 fn goes_back_from_what_was_never_made(rt: HostRuntime) -> Result<(), Fail> {
     let alloc = rt.alloc();
-    goes_back_from(alloc, "d")?;
-    goes_back_from(alloc, name_of(alloc, 256)?.as_str())?;
-    goes_back_from(alloc, path_of(alloc, 4100)?.as_str())
+    for makes in [true, false] {
+        goes_back_from(alloc, "d", makes)?;
+        goes_back_from(alloc, name_of(alloc, 256)?.as_str(), makes)?;
+        goes_back_from(alloc, path_of(alloc, 4100)?.as_str(), makes)?;
+    }
+    Ok(())
 }

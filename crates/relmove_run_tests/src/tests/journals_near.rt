@@ -3,7 +3,7 @@ use crate::tests::reasons::is_refused;
 use crate::tests::runs::{End, calls_of, end_of, run, run_and_fail};
 use crate::tests::{cases, holds, same};
 use relmove_disk::{Content, DiskStore, Way, disk_of, file_of};
-use relmove_run::need_no_journal_near;
+use relmove_run::{need_no_journal_near, need_rest};
 use std::alloc::Global;
 use std::test::Fail;
 
@@ -78,4 +78,51 @@ fn asks_for_journals_below_again(rt: HostRuntime) -> Result<(), Fail> {
 #[test]
 fn asks_for_journals_above_again(rt: HostRuntime) -> Result<(), Fail> {
     sees_journal_at(rt.alloc(), ".relmove")
+}
+
+// A run looks for journals near once. Its caller has looked for them before.
+#[test]
+fn asks_once(rt: HostRuntime) -> Result<(), Fail> {
+    let (alloc, case) = (rt.alloc(), &cases::FILE_MOVES);
+    for path in [".relmove", "site/a/.relmove"] {
+        let disk = disk_of(alloc, case.before)?;
+        disk.count_questions(path)?;
+        same(path, &end_of(&run(alloc, case, &disk)?), &End::Done)?;
+        same(path, &disk.questions(), &1)?;
+    }
+    Ok(())
+}
+
+#[test]
+fn sees_a_journal_in_each_directory(rt: HostRuntime) -> Result<(), Fail> {
+    let (alloc, case) = (rt.alloc(), &cases::DIRECTORY_MOVES);
+    let disk = disk_of(alloc, case.before)?;
+    disk.add("site/a/b/.relmove", file_of(alloc, "jj")?)?;
+    is_refused(alloc, case, &disk, "JournalNear(\"a/b/.relmove\")")
+}
+
+// In a directory that can't be searched no journal can be looked up.
+#[test]
+fn passes_over_a_directory_that_cannot_be_searched(rt: HostRuntime) -> Result<(), Fail> {
+    let alloc = rt.alloc();
+    let disk = disk_of(alloc, &[("a", None), ("a/.relmove", Some("jj"))])?;
+    disk.set_mode("site/a", 0o600)?;
+    let mut store = DiskStore::new(&disk, "site")?;
+    let asked = need_no_journal_near(&mut store, &["a"]);
+    same("no journal", &asked.is_ok(), &true)
+}
+
+// A call that changes nothing looks for a journal above the root too.
+#[test]
+fn rests_only_without_a_journal_above(rt: HostRuntime) -> Result<(), Fail> {
+    let alloc = rt.alloc();
+    let disk = disk_of(alloc, cases::SWAP.before)?;
+    disk.add(".relmove", file_of(alloc, "jj")?)?;
+    let asked = need_rest(&mut DiskStore::new(&disk, "site")?);
+    let found = format!(in alloc; "{asked:?}")?;
+    same(
+        "above",
+        &found.as_str(),
+        &"Err(JournalNear(\"../.relmove\"))",
+    )
 }

@@ -2,7 +2,8 @@
 use crate::tests::reasons::{gives_reason, is_refused};
 use crate::tests::runs::{End, end_of, lock, resume_on, run, undo_on};
 use crate::tests::{cases, same};
-use relmove_disk::disk_of;
+use relmove_disk::{DiskStore, disk_of};
+use relmove_run::{Fault, need_rest};
 use std::test::Fail;
 
 #[test]
@@ -20,4 +21,13 @@ fn works_alone(rt: HostRuntime) -> Result<(), Fail> {
     disk.set_locked(true);
     gives_reason(alloc, &undo_on(&disk), "AtWork")?;
     gives_reason(alloc, &resume_on(&disk), "AtWork")
+}
+
+// A call that changes nothing asks for the lock too.
+#[test]
+fn rests_only_without_another_process(rt: HostRuntime) -> Result<(), Fail> {
+    let disk = disk_of(rt.alloc(), cases::SWAP.before)?;
+    disk.set_locked(true);
+    let asked = need_rest(&mut DiskStore::new(&disk, "site")?);
+    same("locked", &matches!(&asked, Err(Fault::AtWork)), &true)
 }

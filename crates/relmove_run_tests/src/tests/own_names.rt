@@ -1,8 +1,8 @@
 //! What no run left at the names of a run's own files: each call is refused, and nothing is opened or changed.
-use crate::tests::reasons::gives_reason;
-use crate::tests::runs::{resume_on, run, undo_on};
-use crate::tests::{cases, same};
-use relmove_disk::{Content, Disk, disk_of, file_of};
+use crate::tests::reasons::{gives_reason, is_refused};
+use crate::tests::runs::{calls_of, resume_on, run, run_and_fail, undo_on};
+use crate::tests::{cases, holds, same};
+use relmove_disk::{Content, Disk, Way, below_site, disk_of, file_of};
 use relmove_run::Fault;
 use std::alloc::{AllocError, Global};
 use std::test::Fail;
@@ -52,6 +52,7 @@ fn reason_of(alloc: Global, stranger: Stranger) -> Result<String, AllocError> {
     let fault = match stranger {
         Stranger::File | Stranger::SecondName => Fault::HasJournal {
             written: SystemTime::UNIX_EPOCH.checked_add(Duration::from_secs(1_000_000_000)),
+            stage: None,
         },
         _ => Fault::OwnName(String::from_str(alloc, ".relmove")?),
     };
@@ -110,6 +111,62 @@ fn opens_no_journal_that_is_there(rt: HostRuntime) -> Result<(), Fail> {
             reason.as_str(),
             "NotAJournal",
         )?;
+    }
+    Ok(())
+}
+
+// The name under which the first journal was written is gone before the first new text is there.
+#[test]
+fn gives_its_journal_one_name(rt: HostRuntime) -> Result<(), Fail> {
+    let (alloc, case) = (rt.alloc(), &cases::PAGE_CHANGES);
+    for number in 1..=calls_of(alloc, case)? {
+        let (_, disk) = run_and_fail(alloc, case, number, Way::Killed)?;
+        if disk.has("site/.relmove-9")? {
+            same("a journal", &disk.has("site/.relmove")?, &true)?;
+            return same(
+                "its second name",
+                &disk.has("site/.relmove-journal")?,
+                &false,
+            );
+        }
+    }
+    Err(Fail::new("no text was written"))
+}
+
+// Whether a run is refused if this is at a name that it needs, and changes nothing.
+fn needs_name(alloc: Global, path: &str, content: Content) -> Result<(), Fail> {
+    let disk = disk_of(alloc, cases::PAGE_CHANGES.before)?;
+    disk.add(below_site(alloc, path)?.as_str(), content)?;
+    let reason = format!(in alloc; "Taken({path:?})")?;
+    is_refused(alloc, &cases::PAGE_CHANGES, &disk, reason.as_str())
+}
+
+#[test]
+fn begins_only_if_its_names_are_free(rt: HostRuntime) -> Result<(), Fail> {
+    let alloc = rt.alloc();
+    for path in [".relmove-1", ".relmove-9"] {
+        needs_name(alloc, path, file_of(alloc, "mine")?)?;
+        let target = String::from_str(alloc, "nowhere")?;
+        needs_name(alloc, path, Content::Symlink(target))?;
+    }
+    Ok(())
+}
+
+// A run that was killed before it changed anything may leave the beginning of a journal. Another run says so, and the call
+// that ends a run removes it.
+#[test]
+fn tells_what_a_killed_run_left(rt: HostRuntime) -> Result<(), Fail> {
+    let (alloc, case) = (rt.alloc(), &cases::SWAP);
+    for name in [".relmove-journal", ".relmove-spare"] {
+        let disk = disk_of(alloc, case.before)?;
+        disk.add(
+            below_site(alloc, name)?.as_str(),
+            file_of(alloc, "relmove j")?,
+        )?;
+        let reason = format!(in alloc; "LeftOver({name:?})")?;
+        is_refused(alloc, case, &disk, reason.as_str())?;
+        gives_reason(alloc, &undo_on(&disk), "NoJournal")?;
+        holds(alloc, name, &disk, case.before)?;
     }
     Ok(())
 }

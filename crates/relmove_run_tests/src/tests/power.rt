@@ -2,13 +2,14 @@
 //! the disk. Then the run can be ended and taken back, and no byte is lost.
 use crate::tests::cases::{self, Case};
 use crate::tests::runs::{
-    Ending, calls_of, can_be_resumed, can_be_undone, is_done, loses_nothing, moments_of, names_on,
-    run, run_and_fail,
+    End, Ending, calls_of, can_be_resumed, can_be_undone, end_of, is_done, loses_nothing,
+    moments_of, names_on, run, run_and_fail, stopped_at,
 };
-use crate::tests::same;
+use crate::tests::{holds, same};
 use relmove_disk::{Disk, Way, disk_of};
-use relmove_run::Ended;
+use relmove_run::{Ended, Stage};
 use std::alloc::Global;
+use std::io::ErrorKind;
 use std::test::Fail;
 
 // The tree after the power was lost before a call, with so many changes on the disk.
@@ -201,4 +202,36 @@ fn a_file_that_moved_into_a_directory_stays(rt: HostRuntime) -> Result<(), Fail>
 #[test]
 fn a_file_that_moved_into_a_directory_comes_back(rt: HostRuntime) -> Result<(), Fail> {
     survives_each_loss_while_it_ends(rt.alloc(), &cases::INTO_A_MOVED_DIRECTORY, Ending::Undo)
+}
+
+// A file system may lose what is in a directory that wasn't synced itself.
+#[test]
+fn a_new_directory_is_synced_before_anything_is_placed(rt: HostRuntime) -> Result<(), Fail> {
+    let disk = stopped_at(rt.alloc(), &cases::FILE_MOVES, Stage::Placing)?;
+    for path in ["site/b", "site/b/c"] {
+        same(path, &disk.is_synced(path)?, &true)?;
+    }
+    Ok(())
+}
+
+// What a system says of a directory that can't be synced, or is no longer there.
+const NO_SYNCS: [ErrorKind; 6] = [
+    ErrorKind::NotFound,
+    ErrorKind::NotADirectory,
+    ErrorKind::PermissionDenied,
+    ErrorKind::InvalidFilename,
+    ErrorKind::InvalidInput,
+    ErrorKind::Unsupported,
+];
+
+#[test]
+fn goes_on_where_no_directory_can_be_synced(rt: HostRuntime) -> Result<(), Fail> {
+    let (alloc, case) = (rt.alloc(), &cases::FILE_MOVES);
+    for why in &NO_SYNCS {
+        let disk = disk_of(alloc, case.before)?;
+        disk.refuse_directory_syncs(*why);
+        same("done", &end_of(&run(alloc, case, &disk)?), &End::Done)?;
+        holds(alloc, "done", &disk, case.after)?;
+    }
+    Ok(())
 }

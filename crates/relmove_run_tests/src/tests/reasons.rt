@@ -27,3 +27,12 @@ pub fn is_refused(alloc: Global, case: &Case, disk: &Disk, reason: &str) -> Resu
     gives_reason(alloc, &ended, reason)?;
     same("nothing changes", &disk.listing()?, &before)
 }
+
+/// Whether a call stopped for this reason.
+pub fn stops_with(alloc: Global, ended: &Ended, words: &str) -> Result<(), Fail> {
+    let found = match ended {
+        Ended::Stopped { fault, .. } => format!(in alloc; "{fault}")?,
+        _ => String::new(alloc),
+    };
+    same("a stop", &found.as_str(), &words)
+}

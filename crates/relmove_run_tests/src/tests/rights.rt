@@ -1,7 +1,9 @@
 //! Owners and permissions of the files that a run makes.
-use crate::tests::runs::{End, calls_of, end_of, resume_on, run};
-use crate::tests::{cases, same};
-use relmove_disk::{Disk, Way, disk_of};
+use crate::tests::runs::{
+    End, calls_of, can_be_resumed, can_be_undone, end_of, resume_on, run, stopped_at,
+};
+use crate::tests::{cases, holds, same};
+use relmove_disk::{Content, Disk, Way, disk_of, file_of};
 use relmove_run::{Ended, Stage};
 use std::alloc::Global;
 use std::test::Fail;
@@ -99,4 +101,57 @@ fn needs_no_permissions_by_default(rt: HostRuntime) -> Result<(), Fail> {
         ends_without_permissions(rt.alloc(), number)?;
     }
     Ok(())
+}
+
+// The umasks after which a new directory doesn't let its owner list it, change it or use its names.
+const UMASKS: [u32; 4] = [0o177, 0o277, 0o477, 0o777];
+
+// Whether a run that was killed at a call can be ended and undone, and one that wasn't makes directories for their owner, if
+// new directories don't get some permissions.
+fn makes_directories(alloc: Global, mask: u32) -> Result<(), Fail> {
+    let case = &cases::FILE_MOVES;
+    let disk = disk_of(alloc, case.before)?;
+    disk.set_mask(mask);
+    let ended = run(alloc, case, &disk)?;
+    same("done", &end_of(&ended), &End::Done)?;
+    for path in ["site/b", "site/b/c"] {
+        let (mode, _, _) = disk.rights(path)?;
+        same(path, &mode, &(0o755 & !mask | 0o700))?;
+    }
+    holds(alloc, "done", &disk, case.after)?;
+    for number in 1..=disk.calls() {
+        can_be_undone(alloc, case, &killed_at(alloc, mask, number)?)?;
+        can_be_resumed(alloc, case, &killed_at(alloc, mask, number)?)?;
+    }
+    Ok(())
+}
+
+// The tree after a run that was killed at a call, if new directories don't get some permissions.
+fn killed_at(alloc: Global, mask: u32, number: u32) -> Result<Disk, Fail> {
+    let disk = disk_of(alloc, cases::FILE_MOVES.before)?;
+    disk.set_mask(mask);
+    disk.fail_at(number, Way::Killed);
+    run(alloc, &cases::FILE_MOVES, &disk)?;
+    disk.fail_at(0, Way::Killed);
+    Ok(disk)
+}
+
+#[test]
+fn makes_directories_for_their_owner(rt: HostRuntime) -> Result<(), Fail> {
+    for mask in &UMASKS {
+        makes_directories(rt.alloc(), *mask)?;
+    }
+    Ok(())
+}
+
+// A directory that is there and isn't empty isn't made anew, whatever its permissions.
+#[test]
+fn makes_no_directory_anew_that_is_in_use(rt: HostRuntime) -> Result<(), Fail> {
+    let alloc = rt.alloc();
+    let disk = stopped_at(alloc, &cases::PAGE_CHANGES, Stage::Making)?;
+    disk.add("site/y", Content::Directory)?;
+    disk.add("site/y/n", file_of(alloc, "mine")?)?;
+    disk.set_mode("site/y", 0o300)?;
+    same("done", &end_of(&resume_on(&disk)), &End::Done)?;
+    same("it stays", &disk.is_file("site/y/n", "mine")?, &true)
 }

@@ -1,8 +1,10 @@
 //! A run on a disk that gets full.
-use crate::tests::runs::{End, end_of, is_done, run, undo_on};
+use crate::tests::runs::{
+    End, end_of, first_call_with, is_done, run, run_and_fail, stopped_at, undo_on,
+};
 use crate::tests::{cases, holds, same};
-use relmove_disk::disk_of;
-use relmove_run::Ended;
+use relmove_disk::{Way, disk_of};
+use relmove_run::{Ended, Stage};
 use std::alloc::Global;
 use std::test::Fail;
 
@@ -15,7 +17,7 @@ fn fits(alloc: Global, room: u64) -> Result<(), Fail> {
     match ended {
         Ended::Done(remarks) => is_done(alloc, case, &disk, &remarks),
         Ended::Refused(_) => holds(alloc, "refused", &disk, case.before),
-        Ended::TakenBack(_) => Err(Fail::new("the run was taken back")),
+        Ended::TakenBack { .. } => Err(Fail::new("the run was taken back")),
         Ended::Stopped { .. } => {
             same("undone", &end_of(&undo_on(&disk)), &End::TakenBack)?;
             holds(alloc, "undone", &disk, case.before)
@@ -29,4 +31,36 @@ fn goes_back_on_a_full_disk(rt: HostRuntime) -> Result<(), Fail> {
         fits(rt.alloc(), room.saturating_mul(9))?;
     }
     Ok(())
+}
+
+// A run goes on if its spare journal can't be made.
+#[test]
+fn goes_on_without_a_spare_journal(rt: HostRuntime) -> Result<(), Fail> {
+    let (alloc, case) = (rt.alloc(), &cases::FILE_MOVES);
+    let number = first_call_with(alloc, case, "site/.relmove-spare")?.saturating_sub(1);
+    let (ended, disk) = run_and_fail(alloc, case, number, Way::Refused)?;
+    same("done", &end_of(&ended), &End::Done)?;
+    holds(alloc, "done", &disk, case.after)
+}
+
+// On a disk with room for the first journal and the spare one, and so many more bytes, the spare one makes room for each
+// later journal.
+fn ends_with_room(alloc: Global, journals: u64, more: u64) -> Result<(), Fail> {
+    let case = &cases::SWAP;
+    let disk = disk_of(alloc, case.before)?;
+    disk.leave_room(journals.saturating_add(more))?;
+    same("done", &end_of(&run(alloc, case, &disk)?), &End::Done)?;
+    holds(alloc, "done", &disk, case.after)
+}
+
+// With one more byte the beginning of a journal is there, and is removed first.
+#[test]
+fn ends_on_a_disk_that_its_journals_fill(rt: HostRuntime) -> Result<(), Fail> {
+    let alloc = rt.alloc();
+    let disk = stopped_at(alloc, &cases::SWAP, Stage::Staging)?;
+    let journal = disk.text_at("site/.relmove")?.len() as u64;
+    let spare = disk.text_at("site/.relmove-spare")?.len() as u64;
+    let journals = journal.saturating_add(spare);
+    ends_with_room(alloc, journals, 0)?;
+    ends_with_room(alloc, journals, 1)
 }

@@ -19,10 +19,31 @@ pub enum End {
 pub fn end_of(ended: &Ended) -> End {
     match ended {
         Ended::Done(_) => End::Done,
-        Ended::TakenBack(_) => End::TakenBack,
+        Ended::TakenBack { .. } => End::TakenBack,
         Ended::Refused(_) => End::Refused,
         Ended::Stopped { stage, .. } => End::Stopped(*stage),
     }
+}
+
+/// What a call left.
+pub fn remarks_of(ended: &Ended) -> &[Remark] {
+    match ended {
+        Ended::Done(remarks) => remarks.as_slice(),
+        Ended::TakenBack { remarks, .. } => remarks.as_slice(),
+        Ended::Stopped { remarks, .. } => remarks.as_slice(),
+        Ended::Refused(_) => &[],
+    }
+}
+
+/// Whether a run went back by itself, since a page was changed.
+pub fn is_changed(ended: &Ended) -> bool {
+    matches!(
+        ended,
+        Ended::TakenBack {
+            cause: Some(Fault::Changed(_)),
+            ..
+        }
+    )
 }
 
 /// The files below `site`, locked.
@@ -193,15 +214,33 @@ pub fn moments_of(alloc: Global, case: &Case) -> Result<Vec<u32>, Fail> {
     Ok(moments)
 }
 
-/// The tree after a run that was killed before its first call at a stage.
-pub fn stopped_at(alloc: Global, case: &Case, wanted: Stage) -> Result<Disk, Fail> {
+/// The first call of a run at a stage.
+pub fn first_call_at(alloc: Global, case: &Case, wanted: Stage) -> Result<u32, Fail> {
     for number in 1..=calls_of(alloc, case)? {
-        let (ended, disk) = run_and_fail(alloc, case, number, Way::Killed)?;
+        let (ended, _) = run_and_fail(alloc, case, number, Way::Killed)?;
         if end_of(&ended) == End::Stopped(wanted) {
-            return Ok(disk);
+            return Ok(number);
         }
     }
     Err(Fail::new("no run stopped"))
+}
+
+/// The first call of a run before which something is at a path.
+pub fn first_call_with(alloc: Global, case: &Case, path: &str) -> Result<u32, Fail> {
+    for number in 1..=calls_of(alloc, case)? {
+        let (_, disk) = run_and_fail(alloc, case, number, Way::Killed)?;
+        if disk.has(path)? {
+            return Ok(number);
+        }
+    }
+    Err(Fail::new("nothing came to the path"))
+}
+
+/// The tree after a run that was killed before its first call at a stage.
+pub fn stopped_at(alloc: Global, case: &Case, wanted: Stage) -> Result<Disk, Fail> {
+    let number = first_call_at(alloc, case, wanted)?;
+    let (_, disk) = run_and_fail(alloc, case, number, Way::Killed)?;
+    Ok(disk)
 }
 
 /// Whether a disk has the tree after the moves. An emptied directory that couldn't be removed may be there too, if that
@@ -229,7 +268,7 @@ pub fn is_done(alloc: Global, case: &Case, disk: &Disk, remarks: &[Remark]) -> R
 pub fn can_be_resumed(alloc: Global, case: &Case, disk: &Disk) -> Result<(), Fail> {
     match resume_on(disk) {
         Ended::Done(remarks) => is_done(alloc, case, disk, &remarks),
-        Ended::TakenBack(remarks) => {
+        Ended::TakenBack { remarks, .. } => {
             same("nothing to say", &remarks.len(), &0)?;
             holds(alloc, "taken back", disk, case.before)
         }
@@ -238,14 +277,18 @@ pub fn can_be_resumed(alloc: Global, case: &Case, disk: &Disk) -> Result<(), Fai
     }
 }
 
-/// Whether `undo` gives the tree before the moves, or says that it is too late.
+/// Whether `undo` gives the tree before the moves, or changes nothing and says that it is too late.
 pub fn can_be_undone(alloc: Global, case: &Case, disk: &Disk) -> Result<(), Fail> {
+    let before = disk.listing()?;
     match undo_on(disk) {
-        Ended::TakenBack(remarks) => {
+        Ended::TakenBack { remarks, .. } => {
             same("nothing to say", &remarks.len(), &0)?;
             holds(alloc, "undone", disk, case.before)
         }
-        Ended::Refused(Fault::TooLate) => can_be_resumed(alloc, case, disk),
+        Ended::Refused(Fault::TooLate) => {
+            same("too late", &disk.listing()?, &before)?;
+            can_be_resumed(alloc, case, disk)
+        }
         Ended::Refused(Fault::NoJournal) => is_whole(alloc, case, disk),
         other => Err(Fail::new(format_args!("undone: {other:?}"))),
     }

@@ -54,12 +54,16 @@ fn are_journals(
     Ok(())
 }
 
-const FINE: [(&str, &str); 7] = [
+const FINE: [(&str, &str); 8] = [
     ("nothing to do", ""),
     ("a move", "staged\ta\t.relmove-1\nplaced\t.relmove-1\tb/c\n"),
     (
         "a page",
         "text\td/.relmove-9\t0\te3b0c44298fc1c149afbf4c8996fb92427ae41e4649b934ca495991b7852b855\nstaged\td/.relmove-9\t.relmove-1\nstaged\td/a\t.relmove-2\nplaced\t.relmove-1\td/a\nremoved\t.relmove-2\t0\te3b0c44298fc1c149afbf4c8996fb92427ae41e4649b934ca495991b7852b855\n",
+    ),
+    (
+        "two pages",
+        "text\t.relmove-8\t0\te3b0c44298fc1c149afbf4c8996fb92427ae41e4649b934ca495991b7852b855\ntext\t.relmove-9\t0\te3b0c44298fc1c149afbf4c8996fb92427ae41e4649b934ca495991b7852b855\nstaged\ta\t.relmove-1\nstaged\t.relmove-8\t.relmove-2\nstaged\tb\t.relmove-3\nstaged\t.relmove-9\t.relmove-4\nplaced\t.relmove-2\ta\nplaced\t.relmove-4\tb\nremoved\t.relmove-1\t0\te3b0c44298fc1c149afbf4c8996fb92427ae41e4649b934ca495991b7852b855\nremoved\t.relmove-3\t0\te3b0c44298fc1c149afbf4c8996fb92427ae41e4649b934ca495991b7852b855\n",
     ),
     ("a directory", "made\ta/b\n"),
     ("a directory below a staging name", "made\t.relmove-1/b\n"),
@@ -192,6 +196,26 @@ const BAD_REST: [(&str, &str); 11] = [
 #[test]
 fn reads_no_other_work(rt: HostRuntime) -> Result<(), Fail> {
     are_journals(rt.alloc(), &BAD_REST, false)
+}
+
+const BAD_REMOVED: [(&str, &str); 3] = [
+    (
+        "a text is removed, and no new text comes",
+        "staged\ta\t.relmove-1\nremoved\t.relmove-1\t0\te3b0c44298fc1c149afbf4c8996fb92427ae41e4649b934ca495991b7852b855\n",
+    ),
+    (
+        "a new text comes, and no text is removed",
+        "text\td/.relmove-9\t0\te3b0c44298fc1c149afbf4c8996fb92427ae41e4649b934ca495991b7852b855\nstaged\td/.relmove-9\t.relmove-1\nplaced\t.relmove-1\td/a\n",
+    ),
+    (
+        "two texts are removed, and one new text comes",
+        "text\td/.relmove-9\t0\te3b0c44298fc1c149afbf4c8996fb92427ae41e4649b934ca495991b7852b855\nstaged\td/.relmove-9\t.relmove-1\nstaged\td/a\t.relmove-2\nstaged\tb\t.relmove-3\nplaced\t.relmove-1\td/a\nremoved\t.relmove-2\t0\te3b0c44298fc1c149afbf4c8996fb92427ae41e4649b934ca495991b7852b855\nremoved\t.relmove-3\t0\te3b0c44298fc1c149afbf4c8996fb92427ae41e4649b934ca495991b7852b855\n",
+    ),
+];
+
+#[test]
+fn reads_no_other_removal(rt: HostRuntime) -> Result<(), Fail> {
+    are_journals(rt.alloc(), &BAD_REMOVED, false)
 }
 
 const BAD_LINES: [(&str, &str); 8] = [

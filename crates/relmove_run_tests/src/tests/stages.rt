@@ -96,3 +96,34 @@ fn an_end_says_the_stage_of_its_journal(rt: HostRuntime) -> Result<(), Fail> {
     }
     Ok(())
 }
+
+// The first call of a run before which its journal says a stage.
+fn first_call_after_journal(alloc: Global, case: &Case, wanted: Stage) -> Result<u32, Fail> {
+    for number in 1..=calls_of(alloc, case)? {
+        let (_, disk) = run_and_fail(alloc, case, number, Way::Killed)?;
+        if stage_on(alloc, &disk)? == Some(wanted) {
+            return Ok(number);
+        }
+    }
+    Err(Fail::new("no journal said the stage"))
+}
+
+// If the journal can't be read, a call that stopped says the last stage that it knows of.
+#[test]
+fn a_run_says_the_last_stage_that_it_knows(rt: HostRuntime) -> Result<(), Fail> {
+    let (alloc, case) = (rt.alloc(), &cases::FILE_MOVES);
+    // The call that puts the journal of the next stage in its place.
+    let number = first_call_after_journal(alloc, case, Stage::Making)?.saturating_sub(1);
+    let disk = disk_of(alloc, case.before)?;
+    disk.fail_at(number, Way::Refused);
+    disk.refuse_at(number.saturating_add(1));
+    let said = match &run(alloc, case, &disk)? {
+        Ended::Stopped {
+            stage,
+            has_journal: false,
+            ..
+        } => Some(*stage),
+        _ => None,
+    };
+    same("a stage", &said, &Some(Stage::Staging))
+}

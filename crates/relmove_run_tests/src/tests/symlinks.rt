@@ -1,8 +1,8 @@
 //! A run goes through no symbolic link, whenever one comes.
 use crate::tests::cases::{self, Case};
-use crate::tests::reasons::gives_reason;
+use crate::tests::reasons::{gives_reason, stops_with};
 use crate::tests::runs::{
-    End, calls_of, end_of, lock, resume_on, run, run_and_fail, stopped_at, undo_on,
+    End, calls_of, end_of, first_call_at, lock, resume_on, run, run_and_fail, stopped_at, undo_on,
 };
 use crate::tests::same;
 use relmove_actions::Rename;
@@ -49,7 +49,7 @@ struct Exchange {
     calls: u32,
 }
 
-const EXCHANGES: [Exchange; 6] = [
+const EXCHANGES: [Exchange; 7] = [
     Exchange {
         what: "a new text is written, and an old page is staged",
         case: cases::PAGE_IN_A_DIRECTORY,
@@ -57,6 +57,14 @@ const EXCHANGES: [Exchange; 6] = [
         directory: "site/docs",
         outside: &[("a.md", Some("outside"))],
         calls: 3,
+    },
+    Exchange {
+        what: "a new text is written, and an old page is staged, in a directory of the link",
+        case: cases::PAGE_LEAVES,
+        undone_from: None,
+        directory: "site/docs",
+        outside: &[("in", None), ("in/a.md", Some("outside"))],
+        calls: 4,
     },
     Exchange {
         what: "a file is staged",
@@ -224,4 +232,19 @@ fn ends_a_run_that_moves_a_symlink(rt: HostRuntime) -> Result<(), Fail> {
     same("moved", &end_of(&ended), &End::Done)?;
     same("moved", &disk.is_file("site/d/x", "xx")?, &true)?;
     same("outside", &disk.is_file("out/x", "outside")?, &true)
+}
+
+// A directory that moved became a link to a directory outside, where the page has a second name.
+#[test]
+fn removes_no_second_name_through_a_symlink(rt: HostRuntime) -> Result<(), Fail> {
+    let (alloc, case) = (rt.alloc(), &cases::PAGE_IN_A_DIRECTORY);
+    // The call that puts the journal of the next stage in its place: everything has its staging name.
+    let number = first_call_at(alloc, case, Stage::Making)?.saturating_sub(3);
+    let (_, disk) = run_and_fail(alloc, case, number, Way::Killed)?;
+    disk.add("out", Content::Directory)?;
+    disk.add_link("site/.relmove-1", "out/a.md")?;
+    disk.add("site/.relmove-3", symlink(alloc, "../out")?)?;
+    let words = ".relmove-3 is no directory: a symbolic link or a file is there";
+    stops_with(alloc, &resume_on(&disk), words)?;
+    same("outside", &disk.has("out/a.md")?, &true)
 }

@@ -5,12 +5,13 @@ use crate::tests::{holds, same};
 use relmove_disk::{Disk, Way, disk_of, file_of};
 use relmove_run::Ended;
 use std::alloc::Global;
+use std::io::ErrorKind;
 use std::test::Fail;
 
 // A disk of this kind.
 fn disk_without_links(alloc: Global, case: &Case) -> Result<Disk, Fail> {
     let disk = disk_of(alloc, case.before)?;
-    disk.allow_links(false);
+    disk.refuse_links(ErrorKind::Unsupported);
     Ok(disk)
 }
 
@@ -59,4 +60,26 @@ fn keeps_a_journal_that_comes(rt: HostRuntime) -> Result<(), Fail> {
         }
     }
     same("journals that are replaced", &replaced, &1)
+}
+
+// What a system says of a link that it can't make.
+const NO_LINKS: [ErrorKind; 5] = [
+    ErrorKind::PermissionDenied,
+    ErrorKind::Unsupported,
+    ErrorKind::CrossesDevices,
+    ErrorKind::TooManyLinks,
+    ErrorKind::InvalidInput,
+];
+
+#[test]
+fn goes_on_without_links(rt: HostRuntime) -> Result<(), Fail> {
+    let case = &cases::SWAP;
+    for why in &NO_LINKS {
+        let disk = disk_of(rt.alloc(), case.before)?;
+        disk.refuse_links(*why);
+        let ended = run(rt.alloc(), case, &disk)?;
+        same("done", &matches!(&ended, Ended::Done(_)), &true)?;
+        holds(rt.alloc(), "done", &disk, case.after)?;
+    }
+    Ok(())
 }

@@ -1,8 +1,8 @@
 //! Calls that end a run: what they print, their status, and the tree after them.
 use crate::tests::reading::answers;
 use crate::tests::{holds, same};
-use relmove_disk::{Content, Disk, Place, disk_of};
-use relmove_lib::Status;
+use relmove_disk::{Content, Disk, DiskMachine, Place, disk_of};
+use relmove_lib::{Status, answer};
 use std::alloc::Global;
 use std::test::Fail;
 
@@ -312,7 +312,7 @@ const SPECIAL: [Row<'static>; 4] = [
         keeps_journal: true,
         status: Status::Refused,
         printed: "",
-        errors: "relmove: site: the journal .relmove wasn't written in this folder: it came with a copy or from elsewhere. Remove it, or add --trust-journal to see what it asks for\n",
+        errors: "relmove: site: the journal .relmove wasn't written in this folder: it came with a copy or from elsewhere. Add --trust-journal to see what it asks for. If you remove it, what has a name that begins with .relmove- keeps this name, and nothing says where it belongs\n",
     },
 ];
 
@@ -370,4 +370,59 @@ fn refuses_without_a_journal(rt: HostRuntime) -> Result<(), Fail> {
     answers(rt.alloc(), &disk, &["--resume", "site"], expected)?;
     answers(rt.alloc(), &disk, &["--undo", "site"], expected)?;
     holds(rt.alloc(), "no journal", &disk, OLD)
+}
+
+// Refuses a run beside a journal, and says which calls end its run.
+fn says_calls(alloc: Global, journal: &str, calls: &str) -> Result<(), Fail> {
+    let disk = disk_of(alloc, OLD)?;
+    add_journal(alloc, &disk, journal)?;
+    let before = disk.listing()?;
+    let errors = format!(in alloc;
+        "relmove: site: a run before this one didn't end; its journal .relmove was written on Sun, 09 Sep 2001 01:46:40 GMT. If it was your run, call {calls}. If the folder came from elsewhere, the journal may have come with it: then remove it\n"
+    )?;
+    answers(
+        alloc,
+        &disk,
+        &["--write", "site", "a.md", "c.md"],
+        (Status::Refused, "", errors.as_str()),
+    )?;
+    same(journal, &disk.listing()?, &before)
+}
+
+#[test]
+fn says_what_a_stage_allows(rt: HostRuntime) -> Result<(), Fail> {
+    let both = "relmove --resume ROOT or relmove --undo ROOT";
+    for journal in [STAGING, MAKING, PLACING, UNPLACING, ERASING] {
+        says_calls(rt.alloc(), journal, both)?;
+    }
+    says_calls(rt.alloc(), CLEANING, "relmove --resume ROOT")
+}
+
+// The journal of a run that moves `c.md` to `d.md`.
+const OTHER: &str =
+    "relmove journal 2\nroot\t1\nfile\t1\nstage\tstaging\nstaged\tc.md\t.relmove-1\nplaced\t.relmove-1\td.md\nend\t92\t94601f813574fd3d927f061d01d17cf96949ac47c0eb3ed64048ca69a02481db\n";
+
+// Ends a run, where another journal comes to the journal's place before this call. What the call did to the file of the
+// other run has to be printed. Whether it made so many calls.
+fn does_what_it_prints(alloc: Global, number: u32) -> Result<bool, Fail> {
+    let disk = disk_of(alloc, &[("a.md", Some("aa")), ("c.md", Some("cc"))])?;
+    add_journal(alloc, &disk, STAGING)?;
+    let other = Vec::from_slice(alloc, OTHER.as_bytes())?;
+    disk.replace_before(number, "site/.relmove", Content::File(other))?;
+    let (mut out, mut errors) = (Vec::new(alloc), Vec::new(alloc));
+    let words = ["--resume", "--trust-journal", "--write", "site"];
+    answer(&DiskMachine(&disk), &words, &mut out, &mut errors);
+    let printed = String::from_utf8(out)?;
+    let is_printed = printed.as_str().contains("rename c.md");
+    same("the file moved", &!disk.has("site/c.md")?, &is_printed)?;
+    Ok(disk.calls() >= number)
+}
+
+#[test]
+fn does_what_it_prints_if_the_journal_is_exchanged(rt: HostRuntime) -> Result<(), Fail> {
+    let mut number = 1u32;
+    while number < 100 && does_what_it_prints(rt.alloc(), number)? {
+        number = number.saturating_add(1);
+    }
+    same("calls", &(number > 10), &true)
 }

@@ -1,7 +1,9 @@
 //! Objects of JSON in place of words.
-use crate::tests::moving::{MOVED_SITE, Row, SITE, does};
-use relmove_disk::Place;
-use relmove_lib::Status;
+use crate::tests::moving::{self, MOVED_SITE, Row, SITE, does};
+use crate::tests::same;
+use relmove_disk::{DiskMachine, Place, Way, disk_of};
+use relmove_lib::{Status, answer};
+use std::alloc::Global;
 use std::test::Fail;
 
 const CHANGED: &str =
@@ -29,6 +31,60 @@ fn prints_no_words_with_write(rt: HostRuntime) -> Result<(), Fail> {
         printed: CHANGED,
     };
     does(rt.alloc(), &row)
+}
+
+// A call that moves a page.
+const WRITE: &[&str] = &["--write", "--json", "site", "guide/o.md", "n.md"];
+
+const REMARK: &str = "{\"remark\":\"can't remove guide: other error; this directory stays\"}\n";
+
+// Makes a call of the run fail. Whether the run ended and left the directory that it emptied. Then it prints this plan and
+// this remark.
+fn prints_remark(
+    alloc: Global,
+    words: &[&str],
+    (plan, remark): (&str, &str),
+    number: u32,
+) -> Result<bool, Fail> {
+    let disk = disk_of(alloc, SITE)?;
+    disk.fail_at(number, Way::Refused);
+    let (mut out, mut errors) = (Vec::new(alloc), Vec::new(alloc));
+    let status = answer(&DiskMachine(&disk), words, &mut out, &mut errors);
+    if status != Status::LinksLeft {
+        return Ok(false);
+    }
+    let mut expected = String::from_str(alloc, plan)?;
+    expected.push_str(remark)?;
+    same("a remark", &out.as_slice(), &expected.as_str().as_bytes())?;
+    same("no words", &errors.as_slice(), &b"".as_slice())?;
+    Ok(true)
+}
+
+// Whether some call of the run fails so that the run leaves the directory that it emptied, and prints this.
+fn prints_left(alloc: Global, words: &[&str], printed: (&str, &str)) -> Result<(), Fail> {
+    let disk = disk_of(alloc, SITE)?;
+    let (mut out, mut errors) = (Vec::new(alloc), Vec::new(alloc));
+    answer(&DiskMachine(&disk), words, &mut out, &mut errors);
+    // The directory is removed near the end.
+    for later in 0..disk.calls() {
+        if prints_remark(alloc, words, printed, disk.calls().saturating_sub(later))? {
+            return Ok(());
+        }
+    }
+    Err(Fail::new("no run left the directory"))
+}
+
+#[test]
+fn prints_what_a_run_leaves(rt: HostRuntime) -> Result<(), Fail> {
+    prints_left(rt.alloc(), WRITE, (CHANGED, REMARK))
+}
+
+const IN_WORDS: &str =
+    "site: can't remove guide: other error; this directory stays\nsite: everything is at its new path\n";
+
+#[test]
+fn prints_what_a_run_leaves_in_words(rt: HostRuntime) -> Result<(), Fail> {
+    prints_left(rt.alloc(), moving::WRITE, (moving::PLANNED, IN_WORDS))
 }
 
 const LEFT: &[Place] = &[

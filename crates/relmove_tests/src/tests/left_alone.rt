@@ -173,3 +173,54 @@ fn moves_beside_what_it_cannot_read(rt: HostRuntime) -> Result<(), Fail> {
         "relmove: g to h: what moves holds a name that isn't UTF-8, or a directory that can't be read\n";
     refuses(alloc, &disk, &["site", "g", "h"], UNREAD_BELOW, why)
 }
+
+const LONG: &[Place] = &[
+    ("a.md", Some("[l](l.md)")),
+    ("l.md", Some("[a](a.md)")),
+    ("l.txt", Some("ll")),
+];
+
+// 64 MiB are the longest page.
+#[test]
+fn passes_over_a_page_that_is_too_long(rt: HostRuntime) -> Result<(), Fail> {
+    let disk = disk_of(rt.alloc(), LONG)?;
+    disk.add_hole("site/l.md", (64 << 20) - 8)?;
+    disk.add_hole("site/l.txt", 1 << 40)?;
+    let unread = "relmove: l.md isn't read: longer than 64 MiB\n";
+    let expected = (Status::Kept, "", unread);
+    answers(rt.alloc(), &disk, &["--check", "site"], expected)?;
+    let expected = (Status::Kept, "0 pages changed, 1 file moved.\n", unread);
+    let words = ["--write", "site", "a.md", "b.md"];
+    answers(rt.alloc(), &disk, &words, expected)
+}
+
+#[test]
+fn reads_the_longest_page(rt: HostRuntime) -> Result<(), Fail> {
+    let disk = disk_of(rt.alloc(), LONG)?;
+    disk.add_hole("site/l.md", (64 << 20) - 9)?;
+    let printed = "relmove: site: can't read l.md: out of memory\n";
+    let expected = (Status::Refused, "", printed);
+    answers(rt.alloc(), &disk, &["--check", "site"], expected)
+}
+
+#[test]
+fn refuses_a_root_that_it_cannot_list(rt: HostRuntime) -> Result<(), Fail> {
+    let disk = disk_of(rt.alloc(), &[("a.md", Some("aa"))])?;
+    disk.set_mode("site", 0o300)?;
+    let errors = "relmove: site: can't list site: permission denied\n";
+    let expected = (Status::Refused, "", errors);
+    answers(rt.alloc(), &disk, &["--check", "site"], expected)
+}
+
+// The names in a directory that can be listed and not searched.
+const UNSEARCHED: &str =
+    "relmove: d/x isn't read: permission denied\nrelmove: d/y isn't read: permission denied\nrelmove: a name in the directory d can't be read, or isn't UTF-8\n";
+
+#[test]
+fn names_what_it_cannot_look_up(rt: HostRuntime) -> Result<(), Fail> {
+    let places: &[Place] = &[("d", None), ("d/x", Some("xx")), ("d/y", Some("yy"))];
+    let disk = disk_of(rt.alloc(), places)?;
+    disk.set_mode("site/d", 0o400)?;
+    let expected = (Status::Kept, "", UNSEARCHED);
+    answers(rt.alloc(), &disk, &["--check", "site"], expected)
+}

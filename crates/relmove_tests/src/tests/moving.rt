@@ -203,7 +203,7 @@ fn refuses(alloc: Global, moves: &[&str], printed: &str) -> Result<(), Fail> {
     holds(alloc, printed, &disk, TREE)
 }
 
-const REFUSED_PATHS: [(&[&str], &str); 8] = [
+const REFUSED_PATHS: [(&[&str], &str); 10] = [
     (
         &[".", "x"],
         "relmove: . to x: a path is the root, or ends in ..\n",
@@ -231,6 +231,14 @@ const REFUSED_PATHS: [(&[&str], &str); 8] = [
     (
         &["a.md", ".d/a.md"],
         "relmove: a.md to .d/a.md: a path is in a directory whose name begins with a dot; such directories aren't read\n",
+    ),
+    (
+        &["a.md", "d/.e/a.md"],
+        "relmove: a.md to d/.e/a.md: a path is in a directory whose name begins with a dot; such directories aren't read\n",
+    ),
+    (
+        &[".g/config", "x"],
+        "relmove: .g/config to x: a path is in a directory whose name begins with a dot; such directories aren't read\n",
     ),
     (
         &["b.md", "x.md", "a.md", "e/"],
@@ -348,10 +356,10 @@ fn deep_path(alloc: Global, directory: &str) -> Result<String, Fail> {
     Ok(path)
 }
 
-// A site with a directory `d` and a file deep below it.
-fn deep_site(alloc: Global) -> Result<Disk, Fail> {
+// A site with a directory `d`, and a file deep below one of its directories, or below `d` itself.
+fn deep_site(alloc: Global, top: &str) -> Result<Disk, Fail> {
     let disk = Disk::new(alloc)?;
-    let path = deep_path(alloc, "site/d")?;
+    let path = deep_path(alloc, top)?;
     for (slash, _) in path.match_indices('/') {
         disk.add(&path[..slash], Content::Directory)?;
     }
@@ -359,24 +367,65 @@ fn deep_site(alloc: Global) -> Result<Disk, Fail> {
     Ok(disk)
 }
 
-// A path of 4095 bytes is the longest.
-#[test]
-fn gives_no_path_that_is_too_long(rt: HostRuntime) -> Result<(), Fail> {
-    let alloc = rt.alloc();
-    let disk = deep_site(alloc)?;
+// Whether `d` gets a name of so many letters, and none that is longer: the path of the file below it would be too long.
+// `below` leads from `d` to the file's deep directories.
+fn gets_no_longer_name(alloc: Global, most: usize, below: &str) -> Result<(), Fail> {
+    let mut top = String::from_str(alloc, "site/d")?;
+    top.push_str(below)?;
+    let disk = deep_site(alloc, top.as_str())?;
     let before = disk.listing()?;
-    let long = letters(alloc, 'n', 96)?;
-    let path = deep_path(alloc, long.as_str())?;
+    let long = letters(alloc, 'n', most.saturating_add(1))?;
+    let mut top = String::from_str(alloc, long.as_str())?;
+    top.push_str(below)?;
+    let path = deep_path(alloc, top.as_str())?;
     let printed = format!(in alloc; "relmove: site: {path} is too long, or a name in it is\n")?;
     let words = ["--write", "site", "d", long.as_str()];
     let expected = (Status::Refused, "", printed.as_str());
     answers(alloc, &disk, &words, expected)?;
     answers(alloc, &disk, &words[1..], expected)?;
     same("nothing changes", &disk.listing()?, &before)?;
-    let longest = letters(alloc, 'n', 95)?;
+    let longest = letters(alloc, 'n', most)?;
     let words = ["--write", "site", "d", longest.as_str()];
     let printed = "0 pages changed, 1 directory moved.\n";
     answers(alloc, &disk, &words, (Status::Kept, printed, ""))
+}
+
+// A path of 4095 bytes is the longest.
+#[test]
+fn gives_no_path_that_is_too_long(rt: HostRuntime) -> Result<(), Fail> {
+    gets_no_longer_name(rt.alloc(), 95, "")
+}
+
+// What is in a directory whose name begins with a dot isn't read, but it gets a path too.
+#[test]
+fn gives_no_path_that_is_too_long_to_what_is_not_read(rt: HostRuntime) -> Result<(), Fail> {
+    gets_no_longer_name(rt.alloc(), 92, "/.g")
+}
+
+// A site with a directory that isn't read, in which nothing can be read, and one that can't be listed.
+const CLOSED: &[Place] = &[
+    ("d", None),
+    ("d/.g", None),
+    ("d/.g/NOT-UTF-8", Some("nn")),
+    ("d/.g/a.md", Some("aa")),
+    ("d/.g/c", None),
+    ("d/.g/c/b.md", Some("bb")),
+];
+
+#[test]
+fn asks_for_names_alone_in_what_is_not_read(rt: HostRuntime) -> Result<(), Fail> {
+    let disk = disk_of(rt.alloc(), CLOSED)?;
+    disk.add("site/d/.g/f", Content::Other)?;
+    disk.set_mode("site/d/.g/a.md", 0o000)?;
+    disk.set_mode("site/d/.g/c", 0o000)?;
+    let words = ["--write", "site", "d", "longer"];
+    let printed = "0 pages changed, 1 directory moved.\n";
+    answers(rt.alloc(), &disk, &words, (Status::Kept, printed, ""))?;
+    same(
+        "all is there",
+        &disk.is_file("site/longer/.g/a.md", "aa")?,
+        &true,
+    )
 }
 
 // The status of the call that writes.
@@ -423,4 +472,66 @@ fn stops_in_the_middle(rt: HostRuntime) -> Result<(), Fail> {
     }
     same("some stop", &(stopped > 0), &true)?;
     same("some are refused", &(refused > 0), &true)
+}
+
+/// What a call of [`WRITE`] prints before it moves anything.
+pub const PLANNED: &str = "site/n.md, from site/guide/o.md: 1 link\nsite/index.md: 2 links\n";
+
+// Removes a page before a call of the run, once it has its staging name. Whether the run went back by itself and said so.
+fn says_what_is_gone(alloc: Global, number: u32) -> Result<bool, Fail> {
+    let disk = disk_of(alloc, SITE)?;
+    disk.remove_before(number, "site/.relmove-1")?;
+    let (mut out, mut errors) = (Vec::new(alloc), Vec::new(alloc));
+    let status = answer(&DiskMachine(&disk), WRITE, &mut out, &mut errors);
+    if status != Status::LinksLeft {
+        return Ok(false);
+    }
+    same("the plan alone", &out.as_slice(), &PLANNED.as_bytes())?;
+    let (one, other) = (disk.has("site/index.md")?, disk.has("site/guide/o.md")?);
+    same("one page is gone", &(one != other), &true)?;
+    same("no journal", &disk.has("site/.relmove")?, &false)?;
+    Ok(true)
+}
+
+#[test]
+fn names_a_page_that_is_gone(rt: HostRuntime) -> Result<(), Fail> {
+    let disk = disk_of(rt.alloc(), SITE)?;
+    written(rt.alloc(), &disk);
+    for number in 1..=disk.calls() {
+        if says_what_is_gone(rt.alloc(), number)? {
+            return Ok(());
+        }
+    }
+    Err(Fail::new("no run went back"))
+}
+
+// A call looks for journals near before it plans, and once again after its own journal is in its place.
+#[test]
+fn asks_twice_for_journals_near(rt: HostRuntime) -> Result<(), Fail> {
+    for path in [".relmove", "site/guide/.relmove"] {
+        let disk = disk_of(rt.alloc(), SITE)?;
+        disk.count_questions(path)?;
+        same(path, &written(rt.alloc(), &disk), &Status::Kept)?;
+        same(path, &disk.questions(), &2)?;
+    }
+    Ok(())
+}
+
+// A call without `--write` asks the system whether it can have the new paths.
+#[test]
+fn asks_for_paths_without_write(rt: HostRuntime) -> Result<(), Fail> {
+    let alloc = rt.alloc();
+    let mut name = String::new(alloc);
+    for _ in 0..256u32 {
+        name.push('n')?;
+    }
+    let name = name.as_str();
+    let errors = format!(in alloc; "relmove: site: {name} is too long, or a name in it is\n")?;
+    let expected = (Status::Refused, "", errors.as_str());
+    answers(
+        alloc,
+        &disk_of(alloc, TREE)?,
+        &["site", "b.md", name],
+        expected,
+    )
 }

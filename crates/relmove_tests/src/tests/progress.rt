@@ -4,7 +4,7 @@ use crate::tests::{holds, same};
 use relmove_disk::{DiskMachine, disk_of};
 use relmove_lib::report::print_end;
 use relmove_lib::{Progress, Status, WithProgress, answer};
-use relmove_run::{Ended, Fault, Stage};
+use relmove_run::{Call, Ended, Fault, Remark, Stage};
 use std::alloc::Global;
 use std::test::Fail;
 
@@ -87,6 +87,7 @@ fn is_told(alloc: Global, stage: Stage, has_journal: bool, expected: String) -> 
         stage,
         fault: Fault::Missing(String::from_str(alloc, "a.md")?),
         has_journal,
+        remarks: Vec::new(alloc),
     };
     let mut out = Vec::new(alloc);
     print_end(&mut out, "d/", &stopped)?;
@@ -111,4 +112,69 @@ fn claims_nothing_without_a_journal(rt: HostRuntime) -> Result<(), Fail> {
         "relmove: d/: a.md isn't there\nrelmove: stopped in the middle, and the journal .relmove in d/ can't be read: it isn't known where everything is. Call relmove with --resume and d/ to end the run.\n",
     )?;
     is_told(rt.alloc(), Stage::Writing, false, expected)
+}
+
+#[test]
+fn says_what_a_run_left_that_went_back_by_itself(rt: HostRuntime) -> Result<(), Fail> {
+    let alloc = rt.alloc();
+    let mut remarks = Vec::new(alloc);
+    remarks.push(Remark::Gone {
+        from: String::from_str(alloc, "a.md")?,
+        to: String::from_str(alloc, ".relmove-1")?,
+    })?;
+    let ended = Ended::TakenBack {
+        cause: Some(Fault::Changed(String::from_str(alloc, "a.md")?)),
+        remarks,
+    };
+    let mut out = Vec::new(alloc);
+    print_end(&mut out, "d/", &ended)?;
+    let expected =
+        "relmove: d/: a.md was changed while the run worked, so the run was taken back\nd/: neither a.md nor .relmove-1 is there: another program removed it\nd/: the run was taken back, and all else is as before\n";
+    same("went back", &out.as_slice(), &expected.as_bytes())
+}
+
+#[test]
+fn says_what_a_run_left_that_stopped(rt: HostRuntime) -> Result<(), Fail> {
+    let alloc = rt.alloc();
+    let mut remarks = Vec::new(alloc);
+    remarks.push(Remark::Kept(String::from_str(alloc, ".relmove-1")?))?;
+    let stopped = Ended::Stopped {
+        stage: Stage::Cleaning,
+        fault: Fault::Missing(String::from_str(alloc, "a.md")?),
+        has_journal: true,
+        remarks,
+    };
+    let mut out = Vec::new(alloc);
+    print_end(&mut out, "d/", &stopped)?;
+    let expected =
+        "relmove: d/: a.md isn't there\nd/: .relmove-1 is kept: another program changed it, or put it there\nrelmove: stopped in the middle: everything is at its new path, and what is left over was being removed. Call relmove with --resume and d/.\nrelmove: the journal .relmove in d/ has the old paths, the names that begin with .relmove- and the new paths.\n";
+    same("a stop", &out.as_slice(), &expected.as_bytes())
+}
+
+#[test]
+fn names_the_root(rt: HostRuntime) -> Result<(), Fail> {
+    let alloc = rt.alloc();
+    let ended = Ended::Refused(Fault::System {
+        call: Call::Sync,
+        path: String::new(alloc),
+        why: String::from_str(alloc, "no room")?,
+    });
+    let mut out = Vec::new(alloc);
+    print_end(&mut out, "d/", &ended)?;
+    let expected = "relmove: d/: can't sync ROOT: no room\n";
+    same("the root", &out.as_slice(), &expected.as_bytes())
+}
+
+#[test]
+fn says_only_why_a_run_went_back_that_left_nothing(rt: HostRuntime) -> Result<(), Fail> {
+    let alloc = rt.alloc();
+    let ended = Ended::TakenBack {
+        cause: Some(Fault::Changed(String::from_str(alloc, "a.md")?)),
+        remarks: Vec::new(alloc),
+    };
+    let mut out = Vec::new(alloc);
+    print_end(&mut out, "d/", &ended)?;
+    let expected =
+        "relmove: d/: a.md was changed while the run worked, so the run was taken back\n";
+    same("went back", &out.as_slice(), &expected.as_bytes())
 }

@@ -1,7 +1,8 @@
 //! What moves do to a tree.
 use super::marks::{begin, end};
 use crate::tests::same;
-use relmove_lib::{EntryKind, Page, Root, Tree, changed_links_of, is_directory, moving_of};
+use relmove_lib::{EntryKind, Page, Tree, changed_links_of, is_directory, moving_of};
+use relmove_run::Machine;
 use std::alloc::{AllocError, Global};
 use std::collections::BTreeMap;
 use std::test::Fail;
@@ -54,7 +55,7 @@ fn links_that_change(rt: HostRuntime) -> Result<(), Fail> {
     let tree = tree(rt.alloc())?;
     let moves = [("d/b.md", "e/c.md")];
     // No link stays, so no file is asked for.
-    let Ok(moving) = moving_of(&Root::new(&rt, "."), &tree, &moves, false) else {
+    let Ok(moving) = moving_of(&mut rt.store_at(".")?, &tree, &moves, false) else {
         return Err(Fail::new("the moves are refused"));
     };
     begin(rt.alloc());

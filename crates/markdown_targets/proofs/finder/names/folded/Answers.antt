@@ -45,6 +45,8 @@ loop-byte-preserved c =
           (subst (λ a. IsSoFar label w.push-else-is_space.new.self.items a (k + 1)) (sym w.is_apart-is)
           (IsSoFar-byte label items w.push-else-is_space.new.self.items apart k c.loop-byte-test.true
           (sym w.if-is_space.ensures)
-          (w.in_ok-push-2.ensures.items ∙ ap (λ b. w.if-is_apart.folded.items ++ (b ∷ [])) w.to_ascii_lowercase.ensures.value ∙ spaced)
+          (w.in_ok-push-2.ensures.items
+          ∙ ap (λ b. w.if-is_apart.folded.items ++ (b ∷ [])) w.to_ascii_lowercase.ensures.value
+          ∙ spaced)
           c.loop-byte.invariant))
     ]

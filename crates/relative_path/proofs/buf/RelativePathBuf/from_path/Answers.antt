@@ -16,5 +16,7 @@ pub returns-clause-ok : goal.returns-clause-ok
 returns-clause-ok c =
     let text = c.as_str-path.result.now in
     let unrooted = sym c.has_root.ensures ∙ c.if-has_root.false in
-    c.into-2.ensures.0 ∙ c.push_components.ensures ∙ onto-without_cur_dirs _ _ text c.in_ok-text.ensures.bytes c.without_cur_dirs.ensures
+    c.into-2.ensures.0
+    ∙ c.push_components.ensures
+    ∙ onto-without_cur_dirs _ _ text c.in_ok-text.ensures.bytes c.without_cur_dirs.ensures
     ∙ ap spell (sym (without_cur_dirs-unix text unrooted) ∙ ap (λ t. without_cur_dirs (unix_components t)) c.as_str-path.ensures)

@@ -1,0 +1,41 @@
+//! A disk as a runtime: memory, a clock and standard error.
+use crate::disk::Disk;
+use std::alloc::{Alloc, Global};
+use std::fmt::Display;
+use std::io::{self, Eprint, ErrorKind, Write};
+use std::time::{Clock, Duration};
+
+/// A disk as a runtime.
+#[derive(Clone, Copy)]
+pub struct DiskMachine<'a>(pub &'a Disk);
+
+impl Alloc for DiskMachine<'_> {
+    type A = Global;
+
+    fn alloc(&self) -> Global {
+        self.0.alloc
+    }
+}
+
+// Each time the clock is read, 200 milliseconds have passed.
+impl Clock for DiskMachine<'_> {
+    fn monotonic(&self) -> io::Result<Duration> {
+        let time = self.0.time.get().saturating_add(200);
+        self.0.time.set(time);
+        Ok(Duration::from_millis(time))
+    }
+
+    fn since_1970(&self) -> io::Result<Duration> {
+        Err(io::Error::from(ErrorKind::Unsupported))
+    }
+}
+
+impl Eprint for DiskMachine<'_> {
+    fn eprint<D: Display + Drop>(&self, value: D) -> io::Result<()> {
+        write!(self.0.printed.try_borrow_mut()?, "{value}")
+    }
+
+    fn eprintln<D: Display + Drop>(&self, value: D) -> io::Result<()> {
+        writeln!(self.0.printed.try_borrow_mut()?, "{value}")
+    }
+}

@@ -1,0 +1,14 @@
+use Rattle.std.proofs.Common.{[], ◌∷◌, ◌++◌, codes, string_bytes}
+use Rattle.std.specs.Fmt.{decimal}
+use Rattle.relmove_run.specs.Journals.{line_bytes, stage_name}
+use Rattle.relmove_run.proofs.LoopLemmas.{grows}
+use Rattle.relmove_run.proofs.journal.push_head.Goals as goal
+
+pub returns : goal.returns
+returns c =
+    let old = string_bytes c.args.text.now in
+    let root = line_bytes (codes "root") (decimal c.args.origin.root ∷ []) in
+    let file = line_bytes (codes "file") (decimal c.args.origin.file ∷ []) in
+    let stage = line_bytes (codes "stage") (stage_name c.args.stage ∷ []) in
+    grows old (root ++ file) stage _ _ (grows old root file _ _ c.in_ok-push_number.ensures c.in_ok-push_number-2.ensures)
+    (rw c.name.ensures at c.in_ok-push_field.ensures)
