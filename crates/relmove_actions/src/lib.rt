@@ -1,6 +1,9 @@
-//! What a run of `relmove` does to the files below its root. The plan returns it, and the run carries it out.
+//! What a run of `relmove` does to the files below its root, and what the names begin with that a run gives. The plan
+//! returns what is to be done, and the run carries it out.
 #![tactic(auto)]
 
+pub use self::names::{RESERVED, STAGING};
 pub use self::steps::{NewText, Rename, Steps};
 
+mod names;
 mod steps;

@@ -27,10 +27,11 @@ pub use self::possible::{LONGEST_PATH, need_possible, need_short};
 pub use self::printable::Printable;
 pub use self::remark::Remark;
 pub use self::run::{Ended, Locked, PageText, StoppedRun, carry_out, need_rest, resume, undo};
-pub use self::shape::{STAGING, is_of_run};
+pub use self::shape::is_of_run;
 pub use self::store::{Found, FoundKind, Machine, Names, Store};
 pub use self::text_digest::TextDigest;
 pub use self::work::{Leftover, Stage, TextFile, Work};
+pub use relmove_actions::STAGING;
 
 mod actions;
 mod change;

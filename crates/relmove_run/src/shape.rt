@@ -4,14 +4,8 @@ ghost use Rattle.std.specs.List.{list_all};
 ghost use Rattle.relmove_run.specs.Shape.{AreAscending, AreDifferent, GoesOnce, HaveSameOnce, IsOfRun, PlacesOrRemoves, RemovesAsManyTexts, StagesItsTexts, has_paths_of_run, is_directory_name, is_directory_path, is_leftover, is_made_path, is_name, is_nameless, is_path, is_placing, is_staging, is_staging_name, is_text_path, is_written, new_paths, old_paths, removed_paths, text_paths};
 
 use crate::work::{Leftover, TextFile, Work};
-use relmove_actions::Rename;
+use relmove_actions::{RESERVED, Rename, STAGING};
 use std::alloc::{AllocError, Global};
-
-// What the names of a run's own files begin with.
-const RESERVED: &str = ".relmove";
-
-/// What staging names and the names of new texts begin with, before their number.
-pub const STAGING: &str = ".relmove-";
 
 /// Whether work can be a run's.
 ///
