@@ -7,6 +7,7 @@ ghost use Rattle.relmove_plan.specs.BetweenNames.{AreDrawn, IsDrawn, IsDrawnIn};
 use crate::refusal::Refusal;
 use relative_path::RelativePath;
 use relative_path_moves::{NormalPath, PlaceIndex};
+use relmove_actions::STAGING;
 use std::alloc::Global;
 
 // Free names, each with a greater number than those before it.
@@ -32,7 +33,7 @@ impl<'a> FreeNames<'a> {
         ensures refused { IfErr result IsStepsRefusal }
     {
         for number in self.next..u64::MAX {
-            let name = format!(in alloc; ".relmove-{number}")?;
+            let name = format!(in alloc; "{STAGING}{number}")?;
             let path = NormalPath::of(alloc, RelativePath::new(&name))?;
             if self.entries.get(&path).is_none() {
                 self.next = number + 1;
@@ -53,7 +54,7 @@ impl<'a> FreeNames<'a> {
         ensures refused { IfErr result IsStepsRefusal }
     {
         for number in self.next..u64::MAX {
-            let name = format!(in alloc; ".relmove-{number}")?;
+            let name = format!(in alloc; "{STAGING}{number}")?;
             let path = NormalPath::of_joined(alloc, directory, RelativePath::new(&name))?;
             if self.entries.get(&path).is_none() {
                 self.next = number + 1;

@@ -34,6 +34,7 @@ use crate::refusal::Refusal;
 use relative_path::{Component, RelativePath};
 use relative_path_files::has_plain_names;
 use relative_path_moves::{NormalPath, PlaceIndex, TreeMoves};
+use relmove_actions::RESERVED;
 use std::alloc::{AllocError, Global};
 
 // Fails at the first move whose paths, by themselves, are refused.
@@ -182,7 +183,7 @@ fn is_own_step(component: Component<'_>) -> bool
     ensures { result ≡ is_own_step (step_of component.entry) }
 {
     match component {
-        Component::Normal(name) => name.as_bytes().starts_with(b".relmove"),
+        Component::Normal(name) => name.starts_with(RESERVED),
         Component::CurDir | Component::ParentDir => false,
     }
 }
