@@ -8,6 +8,7 @@ use Rattle.std.proofs.lemmas.List.Elements.{All-map, All-weaker, AllZip-push, Co
 use Rattle.std.proofs.lemmas.List.Quantifiers.{Any-push}
 use Rattle.std.proofs.lemmas.Map.Keys.{Less-from_sorted}
 use Rattle.std.proofs.lemmas.Map.Lookups.{exact_bytes}
+use Rattle.std.proofs.lemmas.Option.{none-some}
 use Rattle.std.proofs.lemmas.Slice.Zip.{get_or-zip, length-zip}
 use Rattle.std.specs.Cmp.Lexicographic.{slice_cmp}
 use Rattle.std.specs.List.Sorted.{IsStrictlySortedBy}
@@ -16,18 +17,23 @@ use Rattle.std.specs.declared.cmp.Ordering.{Ordering}
 use Rattle.std.specs.declared.cmp.Ordering.TheVariants.{Less, Equal, Greater}
 use mathlib.Core.List.{reverse}
 use Rattle.relative_path.specs.Steps.{Step, components, slash}
+use Rattle.relative_path.specs.Naming.{last_name}
 use Rattle.relative_path.specs.Normalizing.{IsNormalText, IsNormalTextOf}
 use Rattle.relative_path.specs.RelativePath.{path_components, path_text}
+use Rattle.relative_path.specs.Walk.{IsSame}
 use Rattle.relative_path.specs.declared.path.RelativePath.{RelativePath}
-use Rattle.relative_path.proofs.ForCallers.{IsSame-refl}
-use Rattle.relative_path_moves.specs.Moves.{Move, move_at, moves_of}
+use Rattle.relative_path.proofs.ForCallers.{IsSame-refl, last_name-name}
+use Rattle.relative_path_moves.specs.Moves.{Move, move_at, moves_of, AreApart, AreNamed}
 use Rattle.relative_path_moves.specs.PlaceIndex.{IsFoundAt, IsNoneAt}
 use Rattle.relative_path_moves.specs.TreeMoves.{AtTreePath}
+use Rattle.relmove_plan.specs.BetweenNames.{IsNumbered, numbered_name}
 use Rattle.relmove_plan.specs.Directories.{AreMissing, AreMissingTexts, HasDirectory, HaveTextOf, IsAbove, IsLeftByMove, IsMissingText, IsTakenTo, LeavesTo, LeaveToNames, moves_to_names}
 use Rattle.relmove_plan.specs.Moves.{move_of}
+use Rattle.relmove_plan.specs.Refusals.{turned}
 use Rattle.relmove_plan.specs.Steps.{AboveFirst, AreAmong, StepTexts, with_carried, with_removed}
 use Rattle.relmove_plan.proofs.AboveLemmas.{same_front, some_long}
 use Rattle.relmove_plan.proofs.MovesLemmas.{length-moves_of, move_at-moves_of}
+use Rattle.relmove_plan.proofs.NewFilesLemmas.{components-numbered_name}
 use Rattle.relmove_plan.proofs.OrderLemmas.{nat_cmp-self}
 
 module _ (cs left directory rest : List Step) (last : Step) (split : cs ≡ left ++ rest)
@@ -326,6 +332,40 @@ move_at-moves_to_names moves names k within also =
     (move_of [] [], []) (move_of [] []) long
     ∙ ap (λ (pair : Move × List ℕ). move_of pair.0.new (components pair.1))
     (get_or-zip moves names k (move_of [] [], []) within also)
+
+-- the new paths of the moves have file names, and so has each name
+pub AreNamed-moves_to_names : (moves : List Move) (names : List (List ℕ)) (next : ℕ) → length names ≡ length moves
+    → AreNamed moves → All (IsNumbered next) names → AreNamed (moves_to_names moves names)
+AreNamed-moves_to_names moves names next count named numbered = λ k l lacks.
+    let within : k < length moves = rw (length-moves_to_names moves names count) at l in
+    let also : k < length names = rw count within in
+    elim (rw (move_at-moves_to_names moves names k within also) at lacks) [
+      | inl lacks_new ↦ named k within (inr lacks_new)
+      | inr lacks_name ↦
+          let is = numbered k [] also in
+          let found : last_name (components (get_or names k [])) ≡ Some (numbered_name is.number) =
+          ap last_name (ap components is.name_is ∙ components-numbered_name is.number is.fits)
+          ∙ last_name-name [] (numbered_name is.number) in
+          none-some (numbered_name is.number) (sym lacks_name ∙ found)
+    ]
+
+-- the moves to names leave from the new paths of the moves
+pub AreApart-moves_to_names : (moves : List Move) (names : List (List ℕ)) → length names ≡ length moves
+    → AreApart (turned moves) → AreApart (moves_to_names moves names)
+AreApart-moves_to_names moves names count apart = λ j k same.
+    let within : k < length moves = rw (length-moves_to_names moves names count) at same.within in
+    let before = same.before in
+    let old_is : (i : ℕ) → i < length moves → (move_at (moves_to_names moves names) i).old ≡ (move_at (turned moves) i).old =
+    λ i l. ap (λ (move : Move). move.old) (move_at-moves_to_names moves names i l (rw count l))
+    ∙ sym (ap (λ (move : Move). move.old)
+    (get_or-map (λ (move : Move). move_of move.new move.old) moves i (move_of [] []) (move_of [] []) l)) in
+    apart j k
+    (record {
+      before = before;
+      within = rw length-map within;
+      same = subst (λ cs. IsSame cs (move_at (turned moves) k).old) (old_is j (omega (arith, before, within)))
+          (subst (IsSame (move_at (moves_to_names moves names) j).old) (old_is k within) same.same);
+    })
 
 -- one pair more
 pub moves_to_names-next : (paths : List (RelativePath × RelativePath)) (names : List (String Global))

@@ -2,15 +2,15 @@
 ghost use Rattle.std.specs.Prelude.{◌≡◌, ◌<◌, ℕ, All, IfErr, IfOk, List, OnOk, length, map, string_bytes};
 ghost use Rattle.relative_path_links.specs.Site.{HaveTargets, KeepTheirLinks};
 ghost use Rattle.relative_path.specs.Steps.{Step, components};
-ghost use Rattle.relative_path_moves.specs.Moves.{moves_of};
+ghost use Rattle.relative_path_moves.specs.Moves.{AreApart, AreNamed, moves_of};
 ghost use Rattle.relative_path_moves.specs.PlaceIndex.{Indexes};
 ghost use Rattle.relative_path_moves.specs.declared.place_index.PlaceIndex.{PlaceIndex};
 ghost use Rattle.relmove_plan.specs.NewFiles.{AreFilesDrawn, HaveOwnFiles, LeaveFromEntries, LeaveOnce};
 ghost use Rattle.relmove_plan.specs.Pages.{changed_from, page_paths};
 ghost use Rattle.relmove_plan.specs.Plan.{IsAccepted, IsRefused};
-ghost use Rattle.relmove_plan.specs.Refusals.{IsStepsRefusal};
+ghost use Rattle.relmove_plan.specs.Refusals.{IsStepsRefusal, turned};
 ghost use Rattle.relmove_plan.specs.Moves.{EachMove};
-ghost use Rattle.relmove_plan.specs.Directories.{AreLeftByMoves, AreMade, LeaveToNames, MakesMissing};
+ghost use Rattle.relmove_plan.specs.Directories.{AreLeftByMoves, AreMade, LeaveToNames, MakesMissing, moves_to_names};
 ghost use Rattle.relmove_plan.specs.Trees.{AreAfter, entry_paths};
 ghost use Rattle.relmove_plan.specs.Steps.{AboveFirst, BelowFirst, DoesMove, LosesNothing, OnlyTheseLeave, RemovesAt, ReplacesPages, WritesPages, changed_paths, names_left, rename_texts, step_texts};
 ghost use Rattle.relmove_plan.specs.BetweenNames.{AreDrawn, AreFreeNames};
@@ -29,7 +29,7 @@ use crate::renames::{Renames, add_moves, add_pages, names_between, news_between,
 use crate::symbolic::{LinkNotice, link_notices};
 use relative_path::RelativePath;
 use relative_path_links::{MovedSitePage, SitePage, rewrite_site};
-use relative_path_moves::{PlaceIndex, TreeMoves};
+use relative_path_moves::{MoveTableError, PlaceIndex, TreeMoves};
 use relmove_actions::Steps;
 use std::alloc::{AllocError, Global};
 
@@ -174,6 +174,8 @@ fn steps_of(
 ) -> Result<Steps, Refusal>
     requires within { All (λ page. page.number < length pages.now) now.changed.now }
     requires long { length now.pages.now ≡ length pages.now }
+    requires named { AreNamed (moves_of moves.now) }
+    requires news_apart { AreApart (turned (moves_of moves.now)) }
     ensures apart { IfOk result
         (λ steps. BelowFirst (map (λ step. string_bytes step.from) steps.apart.items)) }
     ensures together { IfOk result
@@ -275,16 +277,32 @@ fn directories_made(
     moves: &[(RelativePath<'_>, RelativePath<'_>)],
     between: &[String],
     after: &PlaceIndex,
-) -> Result<Vec<String>, Refusal>
-    requires { length between.now ≡ length moves.now }
-    ensures made { IfOk result (λ made. (paths : List (List Step)) → Indexes paths after.now
+) -> Result<Vec<String>, AllocError>
+    requires count { length between.now ≡ length moves.now }
+    requires named { AreNamed (moves_to_names (moves_of moves.now) (map string_bytes between.now)) }
+    requires apart { AreApart (moves_to_names (moves_of moves.now) (map string_bytes between.now)) }
+    ensures { IfOk result (λ made. (paths : List (List Step)) → Indexes paths after.now
         → AreMade (moves_of moves.now) (map string_bytes between.now) paths (map string_bytes made.items)) }
-    ensures refused { IfErr result IsStepsRefusal }
 {
     let pairs = news_between(alloc, moves, between)?;
-    // All new paths and names in between have a file name, and no two new paths are equal.
-    let Ok(news) = TreeMoves::new(alloc, &pairs) else {
-        return Err(Refusal::OutOfMemory);
-    };
-    Ok(directories_to_make(alloc, moves, after, &news)?)
+    let news = table_of_accepted(alloc, &pairs)?;
+    directories_to_make(alloc, moves, after, &news)
+}
+
+// Returns the table of moves whose paths have file names, and no two of which have the same old path. Fails only if an
+// allocation fails.
+fn table_of_accepted<'a>(
+    alloc: Global,
+    moves: &'a [(RelativePath<'a>, RelativePath<'a>)],
+) -> Result<TreeMoves<'a>, AllocError>
+    requires named { AreNamed (moves_of moves.now) }
+    requires apart { AreApart (moves_of moves.now) }
+    ensures { IfOk result (λ table. table ≡ moves_of moves.now) }
+{
+    match TreeMoves::new(alloc, moves) {
+        Ok(table) => Ok(table),
+        Err(MoveTableError::NoFileName(_)) => unreachable!(),
+        Err(MoveTableError::SameOld(..)) => unreachable!(),
+        Err(MoveTableError::OutOfMemory) => Err(AllocError),
+    }
 }

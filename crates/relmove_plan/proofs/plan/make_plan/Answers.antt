@@ -19,6 +19,13 @@ returns-in_err-after-clause-refused c =
     IfErr-error c.from_residual-in_err-after.result c.in_err-after.field-0.0 _ c.from_residual-in_err-after.ensures.1
     (c.in_err-after.ensures.refused c.args.any_name c.in_ok-table.ensures.fine)
 
+pub steps_of-requires-clause-named : goal.steps_of-requires-clause-named
+steps_of-requires-clause-named c = λ k l. (c.in_ok-table.ensures.fine.paths k l).placed.named
+
+pub steps_of-requires-clause-news_apart : goal.steps_of-requires-clause-news_apart
+steps_of-requires-clause-news_apart c =
+    (c.in_ok-after.ensures.fine c.args.any_name c.in_ok-table.ensures.fine).apart.come.apart
+
 pub returns-clause-accepted : goal.returns-clause-accepted
 returns-clause-accepted c = c.in_ok-after.ensures.fine c.args.any_name c.in_ok-table.ensures.fine
 

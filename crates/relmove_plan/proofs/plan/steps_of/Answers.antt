@@ -12,7 +12,7 @@ use Rattle.relmove_plan.proofs.NamesLemmas.{AreFreeNames-IsPermutation}
 use Rattle.relmove_plan.proofs.OnlyLemmas.{OnlyTheseLeave-reordered}
 use Rattle.relmove_plan.proofs.NewFilesLemmas.{HaveOwnFiles-reordered}
 use Rattle.relmove_plan.proofs.OnceLemmas.{LeaveOnce-IsPermutation}
-use Rattle.relmove_plan.proofs.DirectoriesLemmas.{LeaveToNames-among}
+use Rattle.relmove_plan.proofs.DirectoriesLemmas.{AreApart-moves_to_names, AreNamed-moves_to_names, LeaveToNames-among}
 use Rattle.relmove_plan.proofs.plan.steps_of.Goals as goal
 
 -- the renames in order
@@ -23,6 +23,21 @@ in_order renames apart together = record {
   together = map rename_text together.items;
   removed = map string_bytes renames.removed.items;
 }
+
+pub directories_made-requires-clause-named : goal.directories_made-requires-clause-named
+directories_made-requires-clause-named c =
+    let leave = rw c.deref.ensures.value at c.in_ok-renames.ensures.named in
+    let drawn = c.in_ok-between.ensures.free c.args.now.index.now c.new-names.ensures in
+    rw c.deref-2.ensures.value
+    (AreNamed-moves_to_names (moves_of c.args.moves.now) (map string_bytes c.in_ok-between.between.items) _ leave.count
+    c.requires.named drawn.numbered)
+
+pub directories_made-requires-clause-apart : goal.directories_made-requires-clause-apart
+directories_made-requires-clause-apart c =
+    let leave = rw c.deref.ensures.value at c.in_ok-renames.ensures.named in
+    rw c.deref-2.ensures.value
+    (AreApart-moves_to_names (moves_of c.args.moves.now) (map string_bytes c.in_ok-between.between.items) leave.count
+    c.requires.news_apart)
 
 pub returns-clause-kept : goal.returns-clause-kept
 returns-clause-kept c =
@@ -117,5 +132,5 @@ returns-clause-made c = λ paths has.
       between = names;
       leave = LeaveToNames-among (rename_texts renames) steps among (moves_of c.args.moves.now) names
           (rw c.deref.ensures.value at c.in_ok-renames.ensures.named);
-      are_made = rw c.deref-2.ensures.value at (c.in_ok-directories_made.ensures.made paths has);
+      are_made = rw c.deref-2.ensures.value at (c.in_ok-directories_made.ensures paths has);
     }
