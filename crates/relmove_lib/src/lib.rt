@@ -7,7 +7,8 @@
 //! a call              program
 //! what is printed     report  summary
 //! whole pieces        dead_links  moving
-//! the work            tree
+//! the work            symlinks  writable
+//! what is read        tree
 //! what all share      position  arguments  progress
 //! ```
 #![tactic(auto)]
@@ -15,11 +16,13 @@
 pub use self::arguments::{Command, Effect, WrongCall, command_of};
 pub use self::dead_links::{DeadLink, WhyDead, dead_links_of};
 pub use self::moving::{
-    ChangedLink, LeftLink, Moving, WhyRefused, changed_links_of, is_directory, moving_of,
+    ChangedLink, LeftLink, LostSymlink, Moving, WhyLeft, WhyRefused, changed_links_of,
+    is_directory, moving_of,
 };
 pub use self::position::{Position, position_after};
 pub use self::program::{Status, answer};
 pub use self::progress::{Progress, StoreWithProgress, WithProgress};
+pub use self::symlinks::Loss;
 pub use self::tree::{EntryKind, LONGEST_PAGE, Page, Tree, Unread, read_tree};
 
 mod arguments;
@@ -30,4 +33,6 @@ mod program;
 mod progress;
 pub mod report;
 mod summary;
+mod symlinks;
 mod tree;
+mod writable;

@@ -45,8 +45,8 @@ the middle, also by a loss of power, --resume or --undo ends this run, and no fi
 program that puts a file at a path while relmove renames a file to it. A text that somebody changes during the run is
 kept, and printed.
 
-Exit status: 0 if all is done, 1 if a link is left that led to a file, or may have, or if a symbolic link moves or
-leads to what moves, or if a run left something to look at, such as a text that was changed during the run (with
+Exit status: 0 if all is done, 1 if a link is left that led to a file, or may have, or if a symbolic link moves, leads
+to what moves or leads to nothing after it, or if a run left something to look at, such as a text that was changed during the run (with
 --check: if a link is dead), 2 if the call was wrong or failed and nothing was changed, 3 if a run stopped in the
 middle.
 ";
@@ -105,6 +105,40 @@ pub fn print_changes<W: Write>(out: &mut W, root: &str, changes: &[Change]) -> i
     out.flush()
 }
 
+/// Prints how a run ended: what it left as objects of JSON, and why it failed on another output.
+pub(crate) fn print_end_as_json<O: Write, E: Write>(
+    alloc: Global,
+    out: &mut O,
+    errors: &mut E,
+    root: &str,
+    ended: &Ended,
+) -> io::Result<()> {
+    match ended {
+        Ended::Done(remarks) => print_remarks_as_json(alloc, out, remarks),
+        Ended::TakenBack { cause, remarks } => {
+            if let Some(cause) = cause {
+                print_fault(errors, root, cause)?;
+            }
+            print_remarks_as_json(alloc, out, remarks)?;
+            if remarks.is_empty() {
+                return Ok(());
+            }
+            print_state_before(errors, root, remarks)
+        }
+        Ended::Refused(fault) => print_fault(errors, root, fault),
+        Ended::Stopped {
+            stage,
+            fault,
+            has_journal,
+            remarks,
+        } => {
+            print_fault(errors, root, fault)?;
+            print_remarks_as_json(alloc, out, remarks)?;
+            print_stopped(errors, root, *stage, *has_journal)
+        }
+    }
+}
+
 /// Prints how a run ended.
 pub fn print_end<W: Write>(out: &mut W, root: &str, ended: &Ended) -> io::Result<()> {
     match ended {
@@ -136,15 +170,7 @@ pub fn print_end<W: Write>(out: &mut W, root: &str, ended: &Ended) -> io::Result
         } => {
             print_fault(out, root, fault)?;
             print_remarks(out, root, remarks)?;
-            let root = Printable(root);
-            if *has_journal {
-                print_stopped(out, root, *stage)
-            } else {
-                writeln!(
-                    out,
-                    "relmove: stopped in the middle, and the journal .relmove in {root} can't be read: it isn't known where everything is. Call relmove with --resume and {root} to end the run."
-                )
-            }
+            print_stopped(out, root, *stage, *has_journal)
         }
     }
 }
@@ -158,13 +184,30 @@ fn print_fault<W: Write>(out: &mut W, root: &str, fault: &Fault) -> io::Result<(
 // Prints what a run that was taken back left.
 fn print_taken_back<W: Write>(out: &mut W, root: &str, remarks: &[Remark]) -> io::Result<()> {
     print_remarks(out, root, remarks)?;
+    print_state_before(out, root, remarks)
+}
+
+// Prints how everything is after a run that was taken back.
+fn print_state_before<W: Write>(out: &mut W, root: &str, remarks: &[Remark]) -> io::Result<()> {
     let root = Printable(root);
     let state = state_before(remarks);
     writeln!(out, "{root}: the run was taken back, {state}")
 }
 
-// Prints what is known of a run that stopped, whose journal says this stage.
-fn print_stopped<W: Write>(out: &mut W, root: Printable<'_>, stage: Stage) -> io::Result<()> {
+// Prints what is known of a run that stopped, and whose journal says this stage, if it was read.
+fn print_stopped<W: Write>(
+    out: &mut W,
+    root: &str,
+    stage: Stage,
+    has_journal: bool,
+) -> io::Result<()> {
+    let root = Printable(root);
+    if !has_journal {
+        return writeln!(
+            out,
+            "relmove: stopped in the middle, and the journal .relmove in {root} can't be read: it isn't known where everything is. Call relmove with --resume and {root} to end the run."
+        );
+    }
     let (state, commands) = (state_at(stage), commands_at(stage));
     writeln!(
         out,
@@ -186,7 +229,7 @@ fn print_remarks<W: Write>(out: &mut W, root: &str, remarks: &[Remark]) -> io::R
 }
 
 // Prints what a run left, an object of JSON on each line.
-pub(crate) fn print_remarks_as_json<W: Write>(
+fn print_remarks_as_json<W: Write>(
     alloc: Global,
     out: &mut W,
     remarks: &[Remark],

@@ -8,6 +8,7 @@ mod arguments;
 mod ends;
 mod json;
 mod left_alone;
+mod lost;
 mod moving;
 mod outputs;
 mod progress;
