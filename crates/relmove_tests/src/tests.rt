@@ -5,6 +5,7 @@ use std::fmt::Debug;
 use std::test::Fail;
 
 mod arguments;
+mod closed;
 mod ends;
 mod json;
 mod left_alone;

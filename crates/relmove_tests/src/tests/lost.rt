@@ -1,8 +1,8 @@
 //! Links that lead to something before a run, and to nothing or to something else after it.
 use crate::tests::reading::answers;
 use crate::tests::same;
-use relmove_disk::{Content, Disk, Place, disk_of};
-use relmove_lib::Status;
+use relmove_disk::{Content, Disk, DiskMachine, Place, disk_of};
+use relmove_lib::{Status, answer};
 use std::alloc::Global;
 use std::test::Fail;
 
@@ -243,4 +243,60 @@ fn names_losses_as_json(rt: HostRuntime) -> Result<(), Fail> {
         &["--json", "site", "a.md", "b.md"],
         expected,
     )
+}
+
+const SPELLED: &[Place] = &[
+    ("a.md", Some("aa")),
+    ("d", None),
+    ("d/b.md", Some("bb")),
+    ("p.md", Some("[x](A.md) [y](a.md) [z](D/b.md) [n](none.md)")),
+];
+
+const SPELLED_DEAD: &str =
+    "site/p.md:1:5: A.md: the name there has another case or form\nsite/p.md:1:25: D/b.md: the name there has another case or form\nsite/p.md:1:37: none.md: nothing is there\n";
+
+const SPELLED_LEFT: &str =
+    "site/p.md: 1 link\nsite/p.md:1:5: A.md leads to a name that has another case or form, left as it is\nsite/p.md:1:25: D/b.md leads to a name that has another case or form, left as it is\n1 page would change, 1 file would move. Nothing is written: add --write.\n";
+
+#[test]
+fn names_links_in_another_case(rt: HostRuntime) -> Result<(), Fail> {
+    let disk = disk_of(rt.alloc(), SPELLED)?;
+    disk.ignore_case()?;
+    let expected = (Status::LinksLeft, SPELLED_DEAD, "");
+    answers(rt.alloc(), &disk, &["--check", "site"], expected)?;
+    let expected = (Status::LinksLeft, SPELLED_LEFT, "");
+    answers(rt.alloc(), &disk, &["site", "a.md", "b.md"], expected)
+}
+
+const DISTINCT_DEAD: &str =
+    "site/p.md:1:5: A.md: nothing is there\nsite/p.md:1:25: D/b.md: nothing is there\nsite/p.md:1:37: none.md: nothing is there\n";
+
+#[test]
+fn tells_names_of_two_cases_apart(rt: HostRuntime) -> Result<(), Fail> {
+    let disk = disk_of(rt.alloc(), SPELLED)?;
+    let expected = (Status::LinksLeft, DISTINCT_DEAD, "");
+    answers(rt.alloc(), &disk, &["--check", "site"], expected)?;
+    let printed =
+        "site/p.md: 1 link\n1 page would change, 1 file would move. Nothing is written: add --write.\n";
+    let expected = (Status::Kept, printed, "");
+    answers(rt.alloc(), &disk, &["site", "a.md", "b.md"], expected)
+}
+
+// How many calls of the file system a call makes that only prints. The page has this text.
+fn calls_with(alloc: Global, text: &'static str) -> Result<u32, Fail> {
+    let disk = disk_of(alloc, &[("a.md", Some("aa")), ("p.md", Some(text))])?;
+    let (mut out, mut errors) = (Vec::new(alloc), Vec::new(alloc));
+    let words = ["site", "a.md", "b.md"];
+    answer(&DiskMachine(&disk), &words, &mut out, &mut errors);
+    Ok(disk.calls())
+}
+
+#[test]
+fn asks_for_no_link_where_no_symbolic_link_is(rt: HostRuntime) -> Result<(), Fail> {
+    let alone = calls_with(rt.alloc(), "[a](a.md)")?;
+    let many = calls_with(
+        rt.alloc(),
+        "[a](a.md) [p](p.md) [n](none.md) [m](d/none.md) [u](../u)",
+    )?;
+    same("the calls", &many, &alone)
 }
