@@ -26,6 +26,8 @@ const PLACES: &[Place] = &[
     ("d/e", None),
     ("d/e/c.md", Some("cc")),
     ("f", None),
+    ("h", None),
+    ("h/e", None),
 ];
 
 const CASES: [Case; 7] = [
@@ -73,9 +75,9 @@ const CASES: [Case; 7] = [
     },
     Case {
         case: "another directory is at NEW's after the moves",
-        closed: "site/f",
-        mode: 0o655,
-        moves: &["f", "g", "d/e", "f", "a.md", "f/a.md"],
+        closed: "site/d/e",
+        mode: 0o555,
+        moves: &["d", "g", "h", "d", "a.md", "d/e/a.md"],
         why: "",
     },
 ];

@@ -84,7 +84,7 @@ const GONE: &str =
     "{\"remark\":\"neither guide/o.md nor .relmove-1 is there: another program removed it\"}\n";
 
 const TAKEN_BACK: &str =
-    "relmove: site: .relmove-1 isn't there\nsite: the run was taken back, and all else is as before\n";
+    "relmove: site: guide/o.md was changed while the run worked, so the run was taken back\nsite: the run was taken back, and all else is as before\n";
 
 // Removes a page before a call of the run, once it has its staging name. Whether the run went back by itself. Then it prints
 // what it left in JSON, and why on standard error.
