@@ -533,6 +533,9 @@ fn watched_link<'a, S: Store>(
     let Some(written) = page.text.get(target.start..target.end) else {
         return Ok(None);
     };
+    if !watch.sees(written) {
+        return Ok(None);
+    }
     let Some(file) = file_of(store.alloc(), page.path.as_str(), target, written)? else {
         return Ok(None);
     };
@@ -577,11 +580,14 @@ fn why_left<S: Store>(
 ) -> Result<Option<WhyLeft>, Fault> {
     match presence_at(watch.tree, file) {
         Presence::There => Ok(None),
-        Presence::Unknown => Ok(watch.loss_of(store, file)?.map(WhyLeft::Lost)),
-        Presence::Absent => {
-            let is_there = watch.ignores_case && leads_somewhere(store, file)?;
-            Ok(is_there.then_some(WhyLeft::OtherSpelling))
+        Presence::Unknown => match watch.loss_of(store, file)? {
+            Some(loss) => Ok(Some(WhyLeft::Lost(loss))),
+            None => Ok(None),
+        },
+        Presence::Absent if watch.ignores_case && leads_somewhere(store, file)? => {
+            Ok(Some(WhyLeft::OtherSpelling))
         }
+        Presence::Absent => Ok(None),
     }
 }
 

@@ -140,8 +140,12 @@ fn print_left_link<W: Write>(out: &mut W, root: &str, link: &LeftLink<'_>) -> io
             out,
             "{page}:{line}:{column}: {target} leads above {root}, left as it is"
         ),
-        WhyLeft::Lost(_) => writeln!(out, "{page}:{line}:{column}: {target} {why}"),
-        _ => writeln!(out, "{page}:{line}:{column}: {target} {why}, left as it is"),
+        WhyLeft::Unchanged(_) => {
+            writeln!(out, "{page}:{line}:{column}: {target} {why}, left as it is")
+        }
+        WhyLeft::Lost(_) | WhyLeft::OtherSpelling => {
+            writeln!(out, "{page}:{line}:{column}: {target} {why}")
+        }
     }
 }
 
@@ -155,7 +159,9 @@ fn why_left(why: WhyLeft) -> &'static str {
         WhyLeft::Lost(Loss::Elsewhere) => {
             "leads through a symbolic link, and to something else after the moves"
         }
-        WhyLeft::OtherSpelling => "leads to a name that has another case or form",
+        WhyLeft::OtherSpelling => {
+            "leads to a name in another case or form, and may lead to nothing after the moves"
+        }
     }
 }
 

@@ -1,5 +1,5 @@
 //! Where paths lead through symbolic links, before moves and after them.
-use crate::tree::{EntryKind, Tree, has_path, is_read_directory};
+use crate::tree::{EntryKind, Tree, has_dot_name, has_path, is_read_directory};
 use relative_path::RelativePath;
 use relative_path_moves::TreeMoves;
 use relmove_plan::Plan;
@@ -59,8 +59,10 @@ pub(crate) struct Watch<'a> {
     pub tree: &'a Tree,
     /// Whether its file system takes a name for one in another case.
     pub ignores_case: bool,
-    // Whether it has a symbolic link, or a directory that isn't read.
-    has_unknown: bool,
+    // Whether it has a symbolic link, or a directory that can't be listed.
+    has_symlink: bool,
+    // Whether it has a directory whose name begins with a dot.
+    has_dot_directory: bool,
     table: &'a TreeMoves<'a>,
     plan: &'a Plan,
     // The tree before the moves and after them, once it was asked for.
@@ -78,7 +80,8 @@ impl<'a> Watch<'a> {
         Ok(Watch {
             tree,
             ignores_case: ignores_case(store, tree)?,
-            has_unknown: has_unknown(tree),
+            has_symlink: has_symlink(tree),
+            has_dot_directory: has_dot_directory(tree),
             table,
             plan,
             both: None,
@@ -87,7 +90,14 @@ impl<'a> Watch<'a> {
 
     /// Whether anything is asked for of a link that the plan changes or lets stay.
     pub fn sees_links(&self) -> bool {
-        self.ignores_case || self.has_unknown
+        self.ignores_case || self.has_symlink || self.has_dot_directory
+    }
+
+    /// Whether anything is asked for of such a link, whose target is written so.
+    pub fn sees(&self, written: &str) -> bool {
+        self.ignores_case
+            || self.has_symlink
+            || self.has_dot_directory && may_have_dot_name(written)
     }
 
     /// Where a path leads after the moves, if it led to something else before them. A path that leads nowhere has nothing
@@ -107,13 +117,28 @@ impl<'a> Watch<'a> {
     }
 }
 
-// Whether a tree has a symbolic link, or a directory that isn't read.
-fn has_unknown(tree: &Tree) -> bool {
-    tree.entries.iter().any(|(path, kind)| match kind {
-        EntryKind::Link(_) => true,
-        EntryKind::Directory => !is_read_directory(tree, path.as_str()),
-        EntryKind::File | EntryKind::Other => false,
-    })
+// Whether a tree has a symbolic link, or a directory that can't be listed.
+fn has_symlink(tree: &Tree) -> bool {
+    !tree.unlisted.is_empty()
+        || tree
+            .entries
+            .values()
+            .any(|kind| matches!(kind, EntryKind::Link(_)))
+}
+
+// Whether a tree has a directory whose name begins with a dot.
+fn has_dot_directory(tree: &Tree) -> bool {
+    tree.entries.iter().any(|(path, kind)| *kind == EntryKind::Directory
+        && has_dot_name(path.as_str()))
+}
+
+// Whether a target that is written so may have a path with a name that begins with a dot, other than `.` and `..`. What may
+// stand for another character counts as a dot.
+fn may_have_dot_name(written: &str) -> bool {
+    written
+        .bytes()
+        .any(|byte| byte <= b' ' || matches!(byte, b'%' | b'&' | b'\\'))
+        || written.split('/').any(|name| name.starts_with('.') && name != "." && name != "..")
 }
 
 // Whether the file system takes a name for one in another case. Asks for one name: the first one that has an ASCII letter,

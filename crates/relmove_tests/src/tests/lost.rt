@@ -71,14 +71,19 @@ const LOST: [Case; 6] = [
         places: &[
             (".github", None),
             ("README.md", Some("rr")),
-            ("p.md", Some("[x](.github/README.md) [y](.github/none.md)")),
+            (
+                "p.md",
+                Some(
+                    "[x](.github/README.md) [y](.github/none.md) [e](%2Egithub/README.md) [r](&#46;github/README.md) [b](\\.github/README.md)",
+                ),
+            ),
         ],
         symlinks: &[("site/.github/README.md", "../README.md")],
         moves: &["README.md", "docs/README.md"],
-        printed: "site/p.md:1:5: .github/README.md leads through a symbolic link, and to nothing after the moves\n",
+        printed: "site/p.md:1:5: .github/README.md leads through a symbolic link, and to nothing after the moves\nsite/p.md:1:49: %2Egithub/README.md leads through a symbolic link, and to nothing after the moves\nsite/p.md:1:74: &#46;github/README.md leads through a symbolic link, and to nothing after the moves\nsite/p.md:1:101: \\.github/README.md leads through a symbolic link, and to nothing after the moves\n",
         end: "0 pages changed, 1 file moved.\n",
         status: Status::LinksLeft,
-        dead: "site/p.md:1:5: .github/README.md: nothing is there\nsite/p.md:1:28: .github/none.md: nothing is there\n",
+        dead: "site/p.md:1:5: .github/README.md: nothing is there\nsite/p.md:1:28: .github/none.md: nothing is there\nsite/p.md:1:49: %2Egithub/README.md: nothing is there\nsite/p.md:1:74: &#46;github/README.md: nothing is there\nsite/p.md:1:101: \\.github/README.md: nothing is there\n",
     },
     Case {
         case: "out of the root and back",
@@ -256,7 +261,7 @@ const SPELLED_DEAD: &str =
     "site/p.md:1:5: A.md: the name there has another case or form\nsite/p.md:1:25: D/b.md: the name there has another case or form\nsite/p.md:1:37: none.md: nothing is there\n";
 
 const SPELLED_LEFT: &str =
-    "site/p.md: 1 link\nsite/p.md:1:5: A.md leads to a name that has another case or form, left as it is\nsite/p.md:1:25: D/b.md leads to a name that has another case or form, left as it is\n1 page would change, 1 file would move. Nothing is written: add --write.\n";
+    "site/p.md: 1 link\nsite/p.md:1:5: A.md leads to a name in another case or form, and may lead to nothing after the moves\nsite/p.md:1:25: D/b.md leads to a name in another case or form, and may lead to nothing after the moves\n1 page would change, 1 file would move. Nothing is written: add --write.\n";
 
 #[test]
 fn names_links_in_another_case(rt: HostRuntime) -> Result<(), Fail> {
