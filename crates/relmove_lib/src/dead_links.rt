@@ -1,6 +1,6 @@
 //! Finds the links of pages that lead to nothing.
 use crate::position::{Position, Positions};
-use crate::symlinks::{Presence, presence_at};
+use crate::presence::{Presence, presence_at};
 use crate::tree::{EntryKind, Page, Tree};
 use relative_path::RelativePath;
 use relative_path_links::{Target, targets};

@@ -7,14 +7,16 @@
 //! a call              program
 //! what is printed     report  summary
 //! whole pieces        dead_links  moving
-//! the work            symlinks  writable
-//! what is read        tree
+//! questions           losses  writable
+//! where paths lead    seen  layout  walk
+//! the work            tree  presence
 //! what all share      position  arguments  progress
 //! ```
 #![tactic(auto)]
 
 pub use self::arguments::{Command, Effect, WrongCall, command_of};
 pub use self::dead_links::{DeadLink, WhyDead, dead_links_of};
+pub use self::losses::Loss;
 pub use self::moving::{
     ChangedLink, LeftLink, LostSymlink, Moving, WhyLeft, WhyRefused, changed_links_of,
     is_directory, moving_of,
@@ -22,17 +24,20 @@ pub use self::moving::{
 pub use self::position::{Position, position_after};
 pub use self::program::{Status, answer};
 pub use self::progress::{Progress, StoreWithProgress, WithProgress};
-pub use self::symlinks::Loss;
 pub use self::tree::{EntryKind, LONGEST_PAGE, Page, Tree, Unread, read_tree};
 
 mod arguments;
 mod dead_links;
+mod layout;
+mod losses;
 mod moving;
 mod position;
+mod presence;
 mod program;
 mod progress;
 pub mod report;
+mod seen;
 mod summary;
-mod symlinks;
 mod tree;
+mod walk;
 mod writable;

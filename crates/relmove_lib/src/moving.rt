@@ -4,8 +4,9 @@ ghost use Rattle.relative_path_links.specs.Site.{HaveTargets};
 ghost use Rattle.relmove_lib.specs.Pages.{AreTargetsOf};
 
 use crate::dead_links::leads_somewhere;
+use crate::losses::{Loss, Watch};
 use crate::position::{Position, Positions};
-use crate::symlinks::{Loss, Presence, Watch, presence_at};
+use crate::presence::{Presence, presence_at};
 use crate::tree::{EntryKind, Page, Tree, cannot_read, has_dot_name, has_path, is_read_directory};
 use relative_path::RelativePath;
 use relative_path_links::{

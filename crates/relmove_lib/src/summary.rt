@@ -1,9 +1,9 @@
 //! What a call that moves files prints.
+use crate::losses::Loss;
 use crate::moving::{
     ChangedLink, LeftLink, LostSymlink, Moving, WhyLeft, WhyRefused, changed_links_of, is_directory,
 };
 use crate::position::Position;
-use crate::symlinks::Loss;
 use crate::tree::Tree;
 use relative_path_links::{MovedSitePage, Unchanged};
 use relmove_plan::{ChangedPage, LinkNotice, Refusal};

@@ -1,6 +1,7 @@
 //! Asks whether the caller may change the directories of a run, before the run begins.
-use crate::symlinks::{find, known, top_of};
+use crate::seen::{find, known};
 use crate::tree::{Tree, is_directory_entry};
+use crate::walk::top_of;
 use relmove_plan::Plan;
 use relmove_run::{Call, Fault, Store, directory_of, fault_of, join};
 use std::alloc::{AllocError, Global};
