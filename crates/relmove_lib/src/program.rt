@@ -3,8 +3,8 @@ use crate::arguments::{Command, Effect, command_of};
 use crate::dead_links::{DeadLink, dead_links_of};
 use crate::moving::{Moving, moving_of};
 use crate::report::{
-    HELP, USAGE, print_changes, print_dead_link, print_dead_link_as_json, print_end,
-    print_end_as_json,
+    HELP, USAGE, print_changes, print_dead_link, print_dead_link_as_json, print_end, print_failure,
+    print_remarks_as_json, remarks_of,
 };
 use crate::summary::{
     Counts, counts_of, print_did, print_moving, print_moving_as_json, print_refused, print_would,
@@ -301,7 +301,7 @@ fn print_run<O: Write, E: Write>(
     status
 }
 
-// Prints in JSON how a run ended. Returns the status of the call.
+// Prints in JSON what a run left, and in words on standard error why it failed. Returns the status of the call.
 fn end_in_json<O: Write, E: Write>(
     alloc: Global,
     ended: Ended,
@@ -311,8 +311,9 @@ fn end_in_json<O: Write, E: Write>(
     errors: &mut E,
 ) -> Status {
     // The work is done or not, whether this is printed or not.
-    let _ = print_end_as_json(alloc, out, errors, root, &ended);
+    let _ = print_remarks_as_json(alloc, out, remarks_of(&ended));
     let _ = out.flush();
+    let _ = print_failure(errors, root, &ended);
     if is_done_whole(&ended) {
         status
     } else {

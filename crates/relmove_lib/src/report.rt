@@ -45,8 +45,8 @@ the middle, also by a loss of power, --resume or --undo ends this run, and no fi
 program that puts a file at a path while relmove renames a file to it. A text that somebody changes during the run is
 kept, and printed.
 
-Exit status: 0 if all is done, 1 if a link is left that led to a file, or may have, or if a symbolic link moves, leads
-to what moves or leads to nothing after it, or if a run left something to look at, such as a text that was changed during the run (with
+Exit status: 0 if all is done, 1 if a link is left that led to a file, or may have, or if a symbolic link moves or
+leads to what moves, or if a run left something to look at, such as a text that was changed during the run (with
 --check: if a link is dead), 2 if the call was wrong or failed and nothing was changed, 3 if a run stopped in the
 middle.
 ";
@@ -105,36 +105,38 @@ pub fn print_changes<W: Write>(out: &mut W, root: &str, changes: &[Change]) -> i
     out.flush()
 }
 
-/// Prints how a run ended: what it left as objects of JSON, and why it failed on another output.
-pub(crate) fn print_end_as_json<O: Write, E: Write>(
-    alloc: Global,
-    out: &mut O,
-    errors: &mut E,
-    root: &str,
-    ended: &Ended,
-) -> io::Result<()> {
+// What a run left.
+pub(crate) fn remarks_of(ended: &Ended) -> &[Remark] {
     match ended {
-        Ended::Done(remarks) => print_remarks_as_json(alloc, out, remarks),
+        Ended::Done(remarks) => remarks,
+        Ended::TakenBack { remarks, .. } => remarks,
+        Ended::Stopped { remarks, .. } => remarks,
+        Ended::Refused(_) => &[],
+    }
+}
+
+// Prints why a run didn't end as it was to, without what it left.
+pub(crate) fn print_failure<W: Write>(out: &mut W, root: &str, ended: &Ended) -> io::Result<()> {
+    match ended {
+        Ended::Done(_) => Ok(()),
         Ended::TakenBack { cause, remarks } => {
             if let Some(cause) = cause {
-                print_fault(errors, root, cause)?;
+                print_fault(out, root, cause)?;
             }
-            print_remarks_as_json(alloc, out, remarks)?;
             if remarks.is_empty() {
                 return Ok(());
             }
-            print_state_before(errors, root, remarks)
+            print_state_before(out, root, remarks)
         }
-        Ended::Refused(fault) => print_fault(errors, root, fault),
+        Ended::Refused(fault) => print_fault(out, root, fault),
         Ended::Stopped {
             stage,
             fault,
             has_journal,
-            remarks,
+            ..
         } => {
-            print_fault(errors, root, fault)?;
-            print_remarks_as_json(alloc, out, remarks)?;
-            print_stopped(errors, root, *stage, *has_journal)
+            print_fault(out, root, fault)?;
+            print_stopped(out, root, *stage, *has_journal)
         }
     }
 }
@@ -229,7 +231,7 @@ fn print_remarks<W: Write>(out: &mut W, root: &str, remarks: &[Remark]) -> io::R
 }
 
 // Prints what a run left, an object of JSON on each line.
-fn print_remarks_as_json<W: Write>(
+pub(crate) fn print_remarks_as_json<W: Write>(
     alloc: Global,
     out: &mut W,
     remarks: &[Remark],
