@@ -30,3 +30,14 @@ fn holds(alloc: Global, case: &str, disk: &Disk, places: &[Place]) -> Result<(),
     let expected = disk_of(alloc, places)?;
     same(case, &disk.listing()?, &expected.listing()?)
 }
+
+// Words, and more words after them.
+fn words_of(
+    alloc: Global,
+    words: &[&'static str],
+    more: &[&'static str],
+) -> Result<Vec<&'static str>, Fail> {
+    let mut all = Vec::from_slice(alloc, words)?;
+    all.extend_from_slice(more)?;
+    Ok(all)
+}

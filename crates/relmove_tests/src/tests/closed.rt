@@ -1,6 +1,6 @@
 //! Directories that the caller may not change: a call says so before it moves anything.
 use crate::tests::reading::answers;
-use crate::tests::same;
+use crate::tests::{same, words_of};
 use relmove_disk::{Content, Disk, Place, disk_of};
 use relmove_lib::Status;
 use std::alloc::Global;
@@ -87,15 +87,13 @@ const PRINTED: &str = "0 pages would change, 1 file would move. Nothing is writt
 // Whether a call that only prints says what is wrong, and so does one that writes, which changes nothing.
 fn says_why(alloc: Global, case: &Case, disk: &Disk, why: &str) -> Result<(), Fail> {
     let before = disk.listing()?;
-    let mut words = Vec::new(alloc);
-    words.push("--write")?;
-    words.push("site")?;
-    words.extend_from_slice(case.moves)?;
+    let words = words_of(alloc, &["site"], case.moves)?;
     if why.is_empty() {
-        return is_possible(alloc, disk, &words[1..]);
+        return is_possible(alloc, disk, &words);
     }
     let expected = (Status::Refused, "", why);
-    answers(alloc, disk, &words[1..], expected)?;
+    answers(alloc, disk, &words, expected)?;
+    let words = words_of(alloc, &["--write", "site"], case.moves)?;
     answers(alloc, disk, &words, expected)?;
     same(case.case, &disk.listing()?, &before)
 }

@@ -1,6 +1,6 @@
 //! Links that lead to something before a run, and to nothing or to something else after it.
 use crate::tests::reading::answers;
-use crate::tests::same;
+use crate::tests::{same, words_of};
 use relmove_disk::{Content, Disk, DiskMachine, Place, disk_of};
 use relmove_lib::{Status, answer};
 use std::alloc::Global;
@@ -182,23 +182,26 @@ fn disk_with(alloc: Global, case: &Case) -> Result<Disk, Fail> {
 fn names_losses(alloc: Global, case: &Case) -> Result<(), Fail> {
     let disk = disk_with(alloc, case)?;
     let before = disk.listing()?;
-    let mut words = Vec::new(alloc);
-    words.push("--write")?;
-    words.push("site")?;
-    words.extend_from_slice(case.moves)?;
-    let printed = format!(in alloc; "{}{}", case.printed, case.end)?;
+    let printed = printed_by(alloc, case)?;
     let would = would_print(alloc, printed.as_str())?;
-    let expected = (case.status, would.as_str(), "");
-    answers(alloc, &disk, &words[1..], expected)?;
+    let words = words_of(alloc, &["site"], case.moves)?;
+    answers(alloc, &disk, &words, (case.status, would.as_str(), ""))?;
     same(case.case, &disk.listing()?, &before)?;
-    let expected = (case.status, printed.as_str(), "");
-    answers(alloc, &disk, &words, expected)?;
+    let words = words_of(alloc, &["--write", "site"], case.moves)?;
+    answers(alloc, &disk, &words, (case.status, printed.as_str(), ""))?;
     let status = if case.dead.is_empty() {
         Status::Kept
     } else {
         Status::LinksLeft
     };
     answers(alloc, &disk, &["--check", "site"], (status, case.dead, ""))
+}
+
+// What the call of a case prints.
+fn printed_by(alloc: Global, case: &Case) -> Result<String, Fail> {
+    let mut printed = String::from_str(alloc, case.printed)?;
+    printed.push_str(case.end)?;
+    Ok(printed)
 }
 
 // What a call prints without `--write` where it prints this with it.
