@@ -350,7 +350,8 @@ impl Nodes {
                 }
             }
         }
-        self.lose_power(self.changes.len())?;
+        let left = self.changes.len();
+        self.lose_power(left)?;
         Ok(has_both)
     }
 

@@ -54,7 +54,7 @@ fn a_directory(rt: HostRuntime) -> Result<(), Fail> {
 fn links_that_change(rt: HostRuntime) -> Result<(), Fail> {
     let tree = tree(rt.alloc())?;
     let moves = [("d/b.md", "e/c.md")];
-    // No link stays, so no file is asked for.
+    // No link stays, so only one name is asked for: whether the file system ignores case.
     let Ok(moving) = moving_of(&mut rt.store_at(".")?, &tree, &moves, false) else {
         return Err(Fail::new("the moves are refused"));
     };
