@@ -2,5 +2,5 @@
 use Rattle.std.proofs.Common.{◌-◌, ◌^◌}
 use Rattle.relmove_lib.proofs.moving.need_short_below.Given as goal
 
-abbrev pub decreases-loop-old : goal.decreases-loop-old-new
-decreases-loop-old l = 2 ^ 64 - l.next
+abbrev pub decreases-loop-old : goal.decreases-loop-old
+decreases-loop-old g l = 2 ^ 64 - l.next

@@ -3,4 +3,4 @@ use Rattle.std.proofs.Common.{◌-◌, ◌^◌, length}
 use Rattle.relmove_lib.proofs.tree.read_tree.Given as goal
 
 abbrev pub decreases-loop-directory : goal.decreases-loop-directory
-decreases-loop-directory l = 2 ^ 64 - length l.directories.items
+decreases-loop-directory g l = 2 ^ 64 - length l.directories.items
