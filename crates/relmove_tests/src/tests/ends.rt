@@ -420,9 +420,12 @@ fn does_what_it_prints(alloc: Global, number: u32) -> Result<bool, Fail> {
 
 #[test]
 fn does_what_it_prints_if_the_journal_is_exchanged(rt: HostRuntime) -> Result<(), Fail> {
-    let mut number = 1u32;
-    while number < 100 && does_what_it_prints(rt.alloc(), number)? {
-        number = number.saturating_add(1);
+    let mut calls = 0u32;
+    for number in 1..100u32 {
+        if !does_what_it_prints(rt.alloc(), number)? {
+            break;
+        }
+        calls = number;
     }
-    same("calls", &(number > 10), &true)
+    same("calls", &(calls >= 10), &true)
 }
