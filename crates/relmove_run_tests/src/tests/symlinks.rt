@@ -64,7 +64,7 @@ const EXCHANGES: [Exchange; 7] = [
         undone_from: None,
         directory: "site/docs",
         outside: &[("in", None), ("in/a.md", Some("outside"))],
-        calls: 4,
+        calls: 3,
     },
     Exchange {
         what: "a file is staged",
