@@ -25,6 +25,9 @@ struct Surprise {
     deed: Deed,
 }
 
+// What a new directory doesn't let its group and others do in any case.
+const USUAL_MASK: u32 = 0o022;
+
 /// A disk, and the process that works on it: its user and group, 1000 at first, the number of its calls, and those that
 /// fail. Also the time, in milliseconds, and what was printed on standard error.
 #[derive(Drop)]
@@ -392,8 +395,8 @@ impl Disk {
     }
 
     // Makes a directory where nothing is. Returns its permissions too.
-    pub(crate) fn make_directory(&self, path: &str) -> io::Result<(usize, u32)> {
-        let mode = 0o755 & !self.mask.get();
+    pub(crate) fn make_directory(&self, path: &str, mode: u32) -> io::Result<(usize, u32)> {
+        let mode = mode & !USUAL_MASK & !self.mask.get();
         let mut nodes = self.nodes.try_borrow_mut()?;
         Ok((nodes.make(path, Content::Directory, mode)?, mode))
     }

@@ -10,6 +10,9 @@ const LONGEST_PATH: usize = 4095;
 
 const LONGEST_NAME: usize = 255;
 
+// The bit of a directory whose names only their owners change.
+const STICKY: u32 = 0o1000;
+
 // A path that has more names, with those of the symbolic links on its way, leads in a circle.
 const MOST_NAMES: usize = 10_000;
 
@@ -226,6 +229,7 @@ impl Nodes {
     pub fn rename(&mut self, from: &str, to: &str) -> io::Result<()> {
         let directories = [self.need_change(from)?, self.need_change(to)?];
         let number = self.need_number(from)?;
+        self.need_own(directories[0], number)?;
         let replaced = self.number_at(to);
         if let Some(replaced) = replaced {
             if replaced == number {
@@ -251,6 +255,7 @@ impl Nodes {
         if self.node(number)?.is_directory() {
             return Err(io::Error::from(ErrorKind::IsADirectory));
         }
+        self.need_own(directory, number)?;
         self.remove_name(path);
         let path = String::from_str(self.alloc, path)?;
         self.note(Change::Removed(path, number), &[directory])
@@ -266,6 +271,7 @@ impl Nodes {
         if self.has_names_below(path) {
             return Err(io::Error::from(ErrorKind::DirectoryNotEmpty));
         }
+        self.need_own(directory, number)?;
         self.remove_name(path);
         let path = String::from_str(self.alloc, path)?;
         self.note(Change::Removed(path, number), &[directory])
@@ -419,6 +425,16 @@ impl Nodes {
         }
         node.need_permission(self.process, WRITE | SEARCH)?;
         Ok(number)
+    }
+
+    // Fails if a directory is sticky, and the process owns neither it nor what is to leave it.
+    fn need_own(&self, directory: usize, number: usize) -> io::Result<()> {
+        let (directory, node) = (self.node(directory)?, self.node(number)?);
+        let user = self.process.user;
+        if directory.mode & STICKY == 0 || directory.owner.user == user || node.owner.user == user {
+            return Ok(());
+        }
+        Err(io::Error::from(ErrorKind::PermissionDenied))
     }
 
     // Notes a change of names in these directories.

@@ -278,10 +278,10 @@ impl Store for DiskStore<'_> {
         turn.end()
     }
 
-    fn make_directory(&mut self, path: &str) -> io::Result<()> {
+    fn make_directory(&mut self, path: &str, mode: u32) -> io::Result<()> {
         let turn = self.disk.turn()?;
         let path = self.resolve(path)?;
-        let (number, mode) = self.disk.make_directory(path.as_str())?;
+        let (number, mode) = self.disk.make_directory(path.as_str(), mode)?;
         turn.end()?;
         if mode & OWNER_PERMISSIONS == OWNER_PERMISSIONS {
             return Ok(());

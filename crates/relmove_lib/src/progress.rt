@@ -183,8 +183,8 @@ impl<R: Clock + Eprint, S: Store + Drop> Store for StoreWithProgress<'_, R, S> {
         self.store.link(from, to)
     }
 
-    fn make_directory(&mut self, path: &str) -> io::Result<()> {
-        self.store.make_directory(path)
+    fn make_directory(&mut self, path: &str, mode: u32) -> io::Result<()> {
+        self.store.make_directory(path, mode)
     }
 
     fn remove_file(&mut self, path: &str) -> io::Result<()> {

@@ -12,7 +12,7 @@ use Rattle.relmove_run.specs.declared.fault.Fault.{Fault}
 use Rattle.relmove_run.specs.declared.work.Stage.{Stage}
 use Rattle.relmove_run.specs.Journals.{escaped, escaped_character, field_bytes}
 use Rattle.relmove_run.specs.Reading.LeftoverParts.{Emptied, Removed}
-use Rattle.relmove_run.specs.Reading.Line.{AtStage, End, File, OfWork, Root}
+use Rattle.relmove_run.specs.Reading.Line.{AtStage, End, File, OfWork, Root, Run}
 use Rattle.relmove_run.specs.Reading.WorkLine.{Cleaned, Made, NewText, Placed, Staged}
 use Rattle.relmove_run.specs.Reading.{GivenMemory, Line, WorkLine, fields_text, line_fields, line_text, line_word, work_word}
 
@@ -92,6 +92,7 @@ work_word-above (Cleaned (Emptied path)) = refl
 line_word-above : (line : Line) → list_all (λ c. nat_lt 10 c) (line_word line) ≡ true
 line_word-above (Root number) = refl
 line_word-above (File number) = refl
+line_word-above (Run number) = refl
 line_word-above (AtStage stage) = refl
 line_word-above (OfWork line) = work_word-above line
 line_word-above (End size sha256) = refl
@@ -113,7 +114,8 @@ differ : (one other : List ℕ) → bytes_eq one other ≡ false → one ≢ oth
 differ one other no_equal same = true≢false (sym ((bytes_eq-Decides one other).1 same) ∙ no_equal)
 
 abbrev is_word_of_head : List ℕ → Bool
-is_word_of_head word = bytes_eq word (codes "root") || bytes_eq word (codes "file") || bytes_eq word (codes "stage")
+is_word_of_head word = bytes_eq word (codes "root") || bytes_eq word (codes "file") || bytes_eq word (codes "run")
+    || bytes_eq word (codes "stage")
 
 work_word-head : (line : WorkLine) → is_word_of_head (work_word line) ≡ false
 work_word-head (NewText text) = refl
@@ -128,6 +130,7 @@ module _ (P : Line → Type 0) where
   pub at_root : ((number : ℕ) → P (Root number)) → (line : Line) → line_word line ≡ codes "root" → P line
   at_root root (Root number) is = root number
   at_root root (File number) is = absurd (differ (codes "file") (codes "root") refl is)
+  at_root root (Run number) is = absurd (differ (codes "run") (codes "root") refl is)
   at_root root (AtStage stage) is = absurd (differ (codes "stage") (codes "root") refl is)
   at_root root (OfWork line) is = absurd (true≢false (sym (ap is_word_of_head is) ∙ work_word-head line))
   at_root root (End size sha256) is = absurd (differ (codes "end") (codes "root") refl is)
@@ -136,14 +139,25 @@ module _ (P : Line → Type 0) where
   pub at_file : ((number : ℕ) → P (File number)) → (line : Line) → line_word line ≡ codes "file" → P line
   at_file file (Root number) is = absurd (differ (codes "root") (codes "file") refl is)
   at_file file (File number) is = file number
+  at_file file (Run number) is = absurd (differ (codes "run") (codes "file") refl is)
   at_file file (AtStage stage) is = absurd (differ (codes "stage") (codes "file") refl is)
   at_file file (OfWork line) is = absurd (true≢false (sym (ap is_word_of_head is) ∙ work_word-head line))
   at_file file (End size sha256) is = absurd (differ (codes "end") (codes "file") refl is)
+
+  -- only that of the run's own directory
+  pub at_run : ((number : ℕ) → P (Run number)) → (line : Line) → line_word line ≡ codes "run" → P line
+  at_run run (Root number) is = absurd (differ (codes "root") (codes "run") refl is)
+  at_run run (File number) is = absurd (differ (codes "file") (codes "run") refl is)
+  at_run run (Run number) is = run number
+  at_run run (AtStage stage) is = absurd (differ (codes "stage") (codes "run") refl is)
+  at_run run (OfWork line) is = absurd (true≢false (sym (ap is_word_of_head is) ∙ work_word-head line))
+  at_run run (End size sha256) is = absurd (differ (codes "end") (codes "run") refl is)
 
   -- only that of the stage
   pub at_stage : ((stage : Stage) → P (AtStage stage)) → (line : Line) → line_word line ≡ codes "stage" → P line
   at_stage at (Root number) is = absurd (differ (codes "root") (codes "stage") refl is)
   at_stage at (File number) is = absurd (differ (codes "file") (codes "stage") refl is)
+  at_stage at (Run number) is = absurd (differ (codes "run") (codes "stage") refl is)
   at_stage at (AtStage stage) is = at stage
   at_stage at (OfWork line) is = absurd (true≢false (sym (ap is_word_of_head is) ∙ work_word-head line))
   at_stage at (End size sha256) is = absurd (differ (codes "end") (codes "stage") refl is)

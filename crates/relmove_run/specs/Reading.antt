@@ -104,6 +104,7 @@ HasDigest (Directory path) = ⊤
 pub record FitsTypes (origin : Origin) (work : Work) : Type 0 where
   pub root : origin.root < 2 ^ 64
   pub file : origin.file < 2 ^ 64
+  pub run : origin.run < 2 ^ 64
   pub texts : All (λ text. IsDigest text.digest) work.texts.items
   pub cleaned : All HasDigest work.cleaned.items
 
@@ -127,6 +128,7 @@ pub data WorkLine : Type 0 where
 pub data Line : Type 0 where
   Root : ℕ → Line
   File : ℕ → Line
+  Run : ℕ → Line
   AtStage : Stage → Line
   OfWork : WorkLine → Line
   End : List ℕ → List ℕ → Line
@@ -143,6 +145,7 @@ work_word (Cleaned (Emptied path)) = codes "emptied"
 abbrev pub line_word : Line → List ℕ
 line_word (Root number) = codes "root"
 line_word (File number) = codes "file"
+line_word (Run number) = codes "run"
 line_word (AtStage stage) = codes "stage"
 line_word (OfWork line) = work_word line
 line_word (End size sha256) = codes "end"
@@ -165,6 +168,7 @@ work_fields (Cleaned (Emptied path)) = path ∷ []
 abbrev pub line_fields : Line → List (List ℕ)
 line_fields (Root number) = decimal number ∷ []
 line_fields (File number) = decimal number ∷ []
+line_fields (Run number) = decimal number ∷ []
 line_fields (AtStage stage) = stage_name stage ∷ []
 line_fields (OfWork line) = work_fields line
 line_fields (End size sha256) = size ∷ sha256 ∷ []
@@ -190,6 +194,7 @@ IsWorkLine (Cleaned (Emptied path)) = IsUtf8 path
 abbrev pub IsLine : Line → Type 0
 IsLine (Root number) = number < 2 ^ 64
 IsLine (File number) = number < 2 ^ 64
+IsLine (Run number) = number < 2 ^ 64
 IsLine (AtStage stage) = ⊤
 IsLine (OfWork line) = IsWorkLine line
 IsLine (End size sha256) = ⊤
@@ -232,12 +237,18 @@ with_work_line work (Cleaned leftover) = record {
   cleaned = work.cleaned ++ leftover ∷ [];
 }
 
+-- the same, and another origin
+abbrev pub at_origin : Content → Origin → Content
+at_origin content origin = record { origin = origin; stage = content.stage; work = content.work }
+
 -- what it adds to a journal
 abbrev pub with_line : Content → Line → Content
 with_line content (Root number) =
-    record { origin = record { root = number; file = content.origin.file }; stage = content.stage; work = content.work }
+    at_origin content (record { root = number; file = content.origin.file; run = content.origin.run })
 with_line content (File number) =
-    record { origin = record { root = content.origin.root; file = number }; stage = content.stage; work = content.work }
+    at_origin content (record { root = content.origin.root; file = number; run = content.origin.run })
+with_line content (Run number) =
+    at_origin content (record { root = content.origin.root; file = content.origin.file; run = number })
 with_line content (AtStage stage) = record { origin = content.origin; stage = stage; work = content.work }
 with_line content (OfWork line) =
     record { origin = content.origin; stage = content.stage; work = with_work_line content.work line }

@@ -4,6 +4,7 @@ ghost use Rattle.relmove_run.specs.Permissions.{allowed_permissions, permissions
 
 use crate::fault::{Call, Fault, at, fault_of};
 use crate::file_store::is_absence;
+use crate::staging_names::{OWN_DIRECTORY, STAGING_NAME};
 use crate::store::{Found, FoundKind, Store};
 use crate::text_digest::TextDigest;
 use relmove_actions::NewText;
@@ -38,29 +39,33 @@ pub(crate) fn is_there<S: Store>(store: &mut S, path: &str) -> Result<bool, Faul
     Ok(find(store, path)?.is_some())
 }
 
-// Fails if something is at a path.
-pub(crate) fn need_free<S: Store>(store: &mut S, path: &str) -> Result<(), Fault> {
-    if is_there(store, path)? {
-        return Err(Fault::Taken(copy_of(store, path)?));
-    }
-    Ok(())
-}
-
 // The directories that were on the ways to paths, and to which directories above them no symbolic link led.
 #[derive(Drop)]
-pub(crate) struct Ways(BTreeMap<String, Found>);
+pub(crate) struct Ways {
+    known: BTreeMap<String, Found>,
+    // The inode of the run's own directory, once the run has one.
+    own: Option<u64>,
+}
 
 impl Ways {
     // None. Allocates nothing.
     pub(crate) fn new(alloc: Global) -> Ways {
-        Ways(BTreeMap::new(alloc))
+        Ways {
+            known: BTreeMap::new(alloc),
+            own: None,
+        }
+    }
+
+    // Notes which one the run's own directory is.
+    pub(crate) fn set_own(&mut self, inode: u64) {
+        self.own = Some(inode);
     }
 
     // The longest directory above a path that was asked for, and how many bytes its path has.
     fn nearest(&self, path: &str) -> Option<(usize, Found)> {
         for (slash, _) in path.rmatch_indices('/') {
             if let Some(directory) = path.get(..slash)
-                && let Some(found) = self.0.get(directory)
+                && let Some(found) = self.known.get(directory)
             {
                 return Some((slash, *found));
             }
@@ -69,19 +74,40 @@ impl Ways {
     }
 }
 
-// Fails unless whatever is on the way to a path is a directory. If the longest directory on it that was asked for before is
-// still the same one, the directories above that one aren't asked for again.
+// Fails unless whatever is on the way to a path is a directory, and the run's own directory is the one that the run made. If
+// the longest directory on the way that was asked for before is still the same one, the directories above that one aren't
+// asked for again.
 pub(crate) fn need_way<S: Store>(store: &mut S, ways: &mut Ways, path: &str) -> Result<(), Fault> {
-    let known = known_way(store, ways, path)?;
+    let own = own_way(store, ways, path)?;
+    let known = known_way(store, ways, path)?.max(own);
     for (slash, _) in path.match_indices('/') {
         if slash > known
             && let Some(directory) = path.get(..slash)
         {
             let found = need_directory(store, directory)?;
-            ways.0.insert(copy_of(store, directory)?, found)?;
+            ways.known.insert(copy_of(store, directory)?, found)?;
         }
     }
     Ok(())
+}
+
+// How many bytes of a path lead to the run's own directory. Fails if that isn't the one that the run made.
+fn own_way<S: Store>(store: &mut S, ways: &Ways, path: &str) -> Result<usize, Fault> {
+    if !path.starts_with(STAGING_NAME) {
+        return Ok(0);
+    }
+    need_own_directory(store, ways)?;
+    Ok(OWN_DIRECTORY.len())
+}
+
+// Fails unless the run's own directory is there, and is the one that the run made.
+pub(crate) fn need_own_directory<S: Store>(store: &mut S, ways: &Ways) -> Result<(), Fault> {
+    match find(store, OWN_DIRECTORY)? {
+        Some(found) if found.kind == FoundKind::Directory && ways.own == Some(found.inode) => {
+            Ok(())
+        }
+        _ => Err(Fault::Exchanged(copy_of(store, OWN_DIRECTORY)?)),
+    }
 }
 
 // How many bytes of a path lead to a directory to which no symbolic link leads.
@@ -194,7 +220,7 @@ pub(crate) fn make_directory<S: Store>(
         }
     }
     need_way(store, ways, path)?;
-    let made = store.make_directory(path);
+    let made = store.make_directory(path, ALL_PERMISSIONS);
     at(store.alloc(), Call::MakeDirectory, path, made)
 }
 
@@ -298,7 +324,7 @@ pub(crate) fn create<S: Store>(
     Ok(file)
 }
 
-// A file that a run may have made.
+// A file or a directory that a run may have made.
 #[derive(Clone, Copy, PartialEq, Eq)]
 pub(crate) enum OwnFile {
     // The run made none.
@@ -312,10 +338,13 @@ pub(crate) enum OwnFile {
 impl OwnFile {
     // Whether what is found is the file, if the run knows that.
     pub(crate) fn is(self, found: &Found) -> bool {
-        match self {
-            OwnFile::Inode(inode) => found.kind == FoundKind::File && found.inode == inode,
-            _ => false,
-        }
+        found.kind == FoundKind::File && self == OwnFile::Inode(found.inode)
+    }
+
+    // Whether what is found can be the directory.
+    pub(crate) fn may_be_directory(self, found: &Found) -> bool {
+        found.kind == FoundKind::Directory
+            && (self == OwnFile::Unknown || self == OwnFile::Inode(found.inode))
     }
 }
 
@@ -386,7 +415,10 @@ pub(crate) fn sync<S: Store>(store: &mut S, file: &S::NewFile, path: &str) -> Re
 }
 
 // The permissions of a file's owner.
-const OWNER_PERMISSIONS: u32 = 0o700;
+pub(crate) const OWNER_PERMISSIONS: u32 = 0o700;
+
+// The permissions of everybody.
+const ALL_PERMISSIONS: u32 = 0o777;
 
 // Gives a new file to the owner and the group of the old one, if the system allows it. Returns the permissions that the
 // new file may have.

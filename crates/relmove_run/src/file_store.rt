@@ -7,10 +7,12 @@ ghost use Rattle.std.specs.declared.io.ErrorKind.TheVariants.{NotADirectory, Not
 use crate::path::join;
 use crate::store::{Found, FoundKind, Machine, Names, Store};
 use std::alloc::{AllocError, Global};
-use std::fs::{self, File, FileType, Metadata, OpenFile, OpenOptions, Permissions, TryLockError};
+use std::fs::{
+    self, DirBuilder, File, FileType, Metadata, OpenFile, OpenOptions, Permissions, TryLockError,
+};
 use std::io::{self, ErrorKind, Read, Write};
 use std::os::fd::AsFd;
-use std::os::unix::fs::{MetadataExt, OpenOptionsExt, PermissionsExt, fchown};
+use std::os::unix::fs::{DirBuilderExt, MetadataExt, OpenOptionsExt, PermissionsExt, fchown};
 use std::thread;
 use std::time::Duration;
 
@@ -152,9 +154,11 @@ impl Store for FileStore {
         fs::hard_link(&self.runtime, from.as_str(), to.as_str())
     }
 
-    fn make_directory(&mut self, path: &str) -> io::Result<()> {
+    fn make_directory(&mut self, path: &str, mode: u32) -> io::Result<()> {
         let path = self.full(path)?;
-        fs::create_dir(&self.runtime, path.as_str())?;
+        let mut builder = DirBuilder::new();
+        builder.mode(mode);
+        builder.create(&self.runtime, path.as_str())?;
         let mode = fs::symlink_metadata(&self.runtime, path.as_str())?.mode() & PERMISSIONS;
         if mode & OWNER_PERMISSIONS == OWNER_PERMISSIONS {
             return Ok(());

@@ -1,14 +1,18 @@
-//! The files that a run has of its own: its journal, the next journal, and a spare one.
+//! What a run has of its own: its journal, the next journal, a spare one, and the directory of staging names.
 //!
 //! A journal is written whole to a new file and synced, and then put in its place. So it is never seen half written. The
 //! first one is put where nothing is, and each later one replaces the one before. The spare one is there for its room: on
 //! a disk that is full, it makes way for the next journal.
+//!
+//! The directory is there before the first journal, which has its inode, and goes before the last one.
 use crate::actions::{
-    OwnFile, Ways, copy_of, create, find, find_to_remove, remove_file, sync, sync_directory,
-    write_whole,
+    OWNER_PERMISSIONS, OwnFile, Ways, copy_of, create, find, find_to_remove, remove_file, sync,
+    sync_directory, write_whole,
 };
-use crate::fault::{Call, Fault, at};
+use crate::fault::{Call, Fault, at, fault_of};
 use crate::journal::{Journal, Origin, begins_as_journal, journal_of, journal_text};
+use crate::remark::Remark;
+use crate::staging_names::OWN_DIRECTORY;
 use crate::store::{Found, FoundKind, Store};
 use crate::work::{Stage, Work};
 use std::io::{self, ErrorKind};
@@ -39,6 +43,7 @@ pub enum Trust {
 pub(crate) struct OwnFiles {
     // The inode of the root.
     root: u64,
+    directory: OwnFile,
     // The journal in its place is the first or the second of these, once one was put there.
     journal: OwnFile,
     next: OwnFile,
@@ -53,6 +58,23 @@ impl OwnFiles {
         self.may_have_journal
     }
 
+    // The inode of the run's own directory, if the run knows it.
+    pub(crate) fn directory(&self) -> Option<u64> {
+        match self.directory {
+            OwnFile::Inode(inode) => Some(inode),
+            _ => None,
+        }
+    }
+
+    // Where the run's journals are, without their own inodes.
+    fn place(&self) -> Origin {
+        Origin {
+            root: self.root,
+            file: 0,
+            run: self.directory().unwrap_or(0),
+        }
+    }
+
     // Whether what is found is the run's journal, or the next one.
     fn has(&self, found: &Found) -> bool {
         self.journal.is(found) || self.next.is(found)
@@ -64,6 +86,7 @@ pub(crate) fn none_yet<S: Store>(store: &mut S) -> Result<OwnFiles, Fault> {
     need_no_own_files(store)?;
     Ok(OwnFiles {
         root: inode_of_root(store)?,
+        directory: OwnFile::None,
         journal: OwnFile::None,
         next: OwnFile::None,
         spare: OwnFile::None,
@@ -75,7 +98,32 @@ pub(crate) fn none_yet<S: Store>(store: &mut S) -> Result<OwnFiles, Fault> {
 pub fn need_no_own_files<S: Store>(store: &mut S) -> Result<(), Fault> {
     need_no_journal(store)?;
     need_no_other(store, NEW_JOURNAL)?;
-    need_no_other(store, SPARE)
+    need_no_other(store, SPARE)?;
+    need_no_own_directory(store)
+}
+
+// Fails if something has the name of a run's own directory. A run that was killed before it had a journal may have left it
+// empty.
+fn need_no_own_directory<S: Store>(store: &mut S) -> Result<(), Fault> {
+    let Some(found) = find(store, OWN_DIRECTORY)? else {
+        return Ok(());
+    };
+    let path = copy_of(store, OWN_DIRECTORY)?;
+    if found.kind == FoundKind::Directory && is_empty(store, OWN_DIRECTORY)? {
+        return Err(Fault::LeftOver(path));
+    }
+    Err(Fault::OwnName(path))
+}
+
+// Whether nothing is in a directory. One that can't be listed may be empty: it may not have its permissions yet.
+fn is_empty<S: Store>(store: &mut S, path: &str) -> Result<bool, Fault> {
+    match store.list(path) {
+        Err(error) if error.kind() == ErrorKind::PermissionDenied => Ok(true),
+        listed => {
+            let names = at(store.alloc(), Call::List, path, listed)?;
+            Ok(names.texts.is_empty() && !names.has_other)
+        }
+    }
 }
 
 // Fails if the root has a journal.
@@ -130,8 +178,8 @@ pub(crate) fn find_journal<S: Store>(
     let journal = read_journal(store, &found)?;
     if trust == Trust::ThisFolder {
         need_one_name(store, &found)?;
-        let (root, file) = (inode_of_root(store)?, found.inode);
-        if journal.origin != (Origin { root, file }) {
+        let root = inode_of_root(store)?;
+        if journal.origin.root != root || journal.origin.file != found.inode {
             return Err(Fault::ForeignJournal);
         }
     }
@@ -139,11 +187,19 @@ pub(crate) fn find_journal<S: Store>(
 }
 
 // Takes over the own files of a run whose journal was found. Removes what a kill left of the others.
-pub(crate) fn own_files_of<S: Store>(store: &mut S, found: &Found) -> Result<OwnFiles, Fault> {
+pub(crate) fn own_files_of<S: Store>(
+    store: &mut S,
+    found: &Found,
+    origin: Origin,
+    trust: Trust,
+) -> Result<OwnFiles, Fault> {
     let root = inode_of_root(store)?;
-    remove_leftovers(store, Some(found))?;
+    let directory = own_directory_of(store, origin, trust)?;
+    remove_leftover(store, NEW_JOURNAL, Some(found))?;
+    remove_leftover(store, SPARE, None)?;
     Ok(OwnFiles {
         root,
+        directory: OwnFile::Inode(directory),
         journal: OwnFile::Inode(found.inode),
         next: OwnFile::None,
         spare: OwnFile::None,
@@ -151,13 +207,38 @@ pub(crate) fn own_files_of<S: Store>(store: &mut S, found: &Found) -> Result<Own
     })
 }
 
-// Removes what a kill left of a run's files beside its journal, if it has one.
-pub(crate) fn remove_leftovers<S: Store>(
-    store: &mut S,
-    journal: Option<&Found>,
-) -> Result<(), Fault> {
-    remove_leftover(store, NEW_JOURNAL, journal)?;
-    remove_leftover(store, SPARE, None)
+// The inode of the own directory of a run. A copy of the directory has another one than the journal says.
+fn own_directory_of<S: Store>(store: &mut S, origin: Origin, trust: Trust) -> Result<u64, Fault> {
+    if trust == Trust::AnyFolder
+        && let Some(found) = find(store, OWN_DIRECTORY)?
+    {
+        return Ok(found.inode);
+    }
+    Ok(origin.run)
+}
+
+// Removes what a kill left of a run's own files, without a journal.
+pub(crate) fn remove_leftovers<S: Store>(store: &mut S) -> Result<(), Fault> {
+    remove_leftover(store, NEW_JOURNAL, None)?;
+    remove_leftover(store, SPARE, None)?;
+    remove_empty_directory(store)
+}
+
+// Removes the own directory that a run left which was killed before it had a journal. Fails if something is in it, or if
+// something else has its name.
+fn remove_empty_directory<S: Store>(store: &mut S) -> Result<(), Fault> {
+    match find_to_remove(store, OWN_DIRECTORY)? {
+        None => Ok(()),
+        Some(found) if found.kind == FoundKind::Directory => {
+            match store.remove_directory(OWN_DIRECTORY) {
+                Err(error) if error.kind() == ErrorKind::DirectoryNotEmpty => {
+                    Err(Fault::OwnName(copy_of(store, OWN_DIRECTORY)?))
+                }
+                removed => at(store.alloc(), Call::RemoveDirectory, OWN_DIRECTORY, removed),
+            }
+        }
+        Some(_) => Err(Fault::OwnName(copy_of(store, OWN_DIRECTORY)?)),
+    }
 }
 
 // Fails if a journal has a name outside the root. A run that is killed may leave it the name of the next journal too.
@@ -222,6 +303,26 @@ fn is_beginning<S: Store>(store: &mut S, path: &str, found: &Found) -> Result<bo
     Ok(begins_as_journal(bytes.as_slice()))
 }
 
+// Makes the run's own directory, for its owner alone. Returns its inode.
+pub(crate) fn make_own_directory<S: Store>(
+    store: &mut S,
+    own: &mut OwnFiles,
+) -> Result<u64, Fault> {
+    let made = store.make_directory(OWN_DIRECTORY, OWNER_PERMISSIONS);
+    own.directory = match &made {
+        Err(error) if error.kind() == ErrorKind::AlreadyExists => OwnFile::None,
+        _ => OwnFile::Unknown,
+    };
+    at(store.alloc(), Call::MakeDirectory, OWN_DIRECTORY, made)?;
+    match find(store, OWN_DIRECTORY)? {
+        Some(found) if found.kind == FoundKind::Directory => {
+            own.directory = OwnFile::Inode(found.inode);
+            Ok(found.inode)
+        }
+        _ => Err(Fault::Exchanged(copy_of(store, OWN_DIRECTORY)?)),
+    }
+}
+
 // Puts the first journal where nothing is, and makes the spare one.
 pub(crate) fn put_first<S: Store>(
     store: &mut S,
@@ -243,6 +344,8 @@ pub(crate) fn put_first<S: Store>(
     own.journal = own.next;
     remove_own(store, NEW_JOURNAL, &mut own.next)?;
     make_spare(store, own, work)?;
+    // Without its own inode the directory would lose what gets a name in it.
+    sync_directory(store, OWN_DIRECTORY)?;
     sync_directory(store, "")
 }
 
@@ -271,8 +374,14 @@ fn has_no_links(kind: ErrorKind) -> bool {
 
 // Makes the spare journal: that of the stage with the longest name. Without room there is none.
 fn make_spare<S: Store>(store: &mut S, own: &mut OwnFiles, work: &Work) -> Result<(), Fault> {
-    let root = own.root;
-    match write_journal(store, root, SPARE, (Stage::Unstaging, work), &mut own.spare) {
+    let place = own.place();
+    match write_journal(
+        store,
+        place,
+        SPARE,
+        (Stage::Unstaging, work),
+        &mut own.spare,
+    ) {
         Err(Fault::OutOfMemory) => Err(Fault::OutOfMemory),
         Err(_) => remove_own(store, SPARE, &mut own.spare),
         Ok(()) => Ok(()),
@@ -351,27 +460,27 @@ fn write_next<S: Store>(
     work: &Work,
 ) -> Result<(), Fault> {
     remove_own(store, NEW_JOURNAL, &mut own.next)?;
-    let root = own.root;
-    write_journal(store, root, NEW_JOURNAL, (stage, work), &mut own.next)
+    let place = own.place();
+    write_journal(store, place, NEW_JOURNAL, (stage, work), &mut own.next)
 }
 
 // Writes a journal whole to a new file, and syncs it. Notes which file it is.
 fn write_journal<S: Store>(
     store: &mut S,
-    root: u64,
+    place: Origin,
     path: &str,
     (stage, work): (Stage, &Work),
     own: &mut OwnFile,
 ) -> Result<(), Fault> {
     let mut ways = Ways::new(store.alloc());
     let mut file = create(store, &mut ways, path, PRIVATE, own)?;
-    let file_inode = match own {
+    let inode = match own {
         OwnFile::Inode(inode) => *inode,
         _ => 0,
     };
     let origin = Origin {
-        root,
-        file: file_inode,
+        file: inode,
+        ..place
     };
     let text = journal_text(store.alloc(), origin, stage, work)?;
     let set = store.set_mode(&file, PRIVATE);
@@ -380,10 +489,15 @@ fn write_journal<S: Store>(
     sync(store, &file, path)
 }
 
-// Removes the run's own files. The journal is the last one.
-pub(crate) fn remove_all<S: Store>(store: &mut S, own: &mut OwnFiles) -> Result<(), Fault> {
+// Removes the run's own files. The journal is the last one. Notes what is left of the run's own directory.
+pub(crate) fn remove_all<S: Store>(
+    store: &mut S,
+    own: &mut OwnFiles,
+    remarks: &mut Vec<Remark>,
+) -> Result<(), Fault> {
     remove_own(store, NEW_JOURNAL, &mut own.next)?;
     remove_own(store, SPARE, &mut own.spare)?;
+    remove_own_directory(store, own.directory, remarks)?;
     if !own.may_have_journal {
         return Ok(());
     }
@@ -392,6 +506,35 @@ pub(crate) fn remove_all<S: Store>(store: &mut S, own: &mut OwnFiles) -> Result<
         Some(found) if own.has(&found) => remove_journal(store),
         Some(_) => Err(Fault::NotAJournal),
     }
+}
+
+// Removes the run's own directory. If something is in it, or if something else has its name, it stays, and this is noted. A
+// call that reports a failure after it removed the directory has done its work.
+fn remove_own_directory<S: Store>(
+    store: &mut S,
+    own: OwnFile,
+    remarks: &mut Vec<Remark>,
+) -> Result<(), Fault> {
+    if own == OwnFile::None {
+        return Ok(());
+    }
+    let Some(found) = find_to_remove(store, OWN_DIRECTORY)? else {
+        return Ok(());
+    };
+    if !own.may_be_directory(&found) {
+        return Ok(remarks.push(Remark::Kept(copy_of(store, OWN_DIRECTORY)?))?);
+    }
+    let removed = store.remove_directory(OWN_DIRECTORY);
+    if let Err(error) = &removed
+        && error.kind() == ErrorKind::DirectoryNotEmpty
+    {
+        let why = fault_of(store.alloc(), Call::RemoveDirectory, OWN_DIRECTORY, error);
+        return Ok(remarks.push(Remark::Stays(why))?);
+    }
+    if removed.is_err() && find(store, OWN_DIRECTORY)?.is_none() {
+        return Ok(());
+    }
+    at(store.alloc(), Call::RemoveDirectory, OWN_DIRECTORY, removed)
 }
 
 // Removes the journal. A call that reports a failure after it removed the journal has done its work.

@@ -15,7 +15,7 @@ pub enum Remark {
         /// The other path.
         to: String,
     },
-    /// A directory that the run emptied can't be removed.
+    /// A directory that the run emptied, or its own directory, can't be removed.
     Stays(Fault),
 }
 

@@ -11,6 +11,7 @@ use crate::own_files::{
 use crate::possible::need_possible;
 use crate::remark::Remark;
 use crate::shape::is_of_run;
+use crate::staging_names::with_staging_names;
 use crate::store::{Found, Store};
 use crate::text_digest::TextDigest;
 use crate::ways::need_ways;
@@ -91,6 +92,9 @@ pub struct PageText<'a> {
 /// Moves files and directories, and puts new texts in the place of pages. `pages` has the text of each page that gets a
 /// new one. `directories` are the directories below the root in which other runs may have journals.
 ///
+/// The staging names are in the run's own directory, [`OWN_DIRECTORY`](crate::OWN_DIRECTORY): the number of a name in between
+/// of the steps is the staging name's.
+///
 /// A fault before anything moves takes back everything: the files below the root are as before. So does a page whose
 /// text isn't the one that was read. After a fault in the middle each file is whole, at its old path, its new path or
 /// its staging name, and so is each page with its old or its new text. Then [`resume`] does the rest, and until
@@ -128,6 +132,7 @@ pub fn undo<S: Store + Drop>(locked: Locked<S>, trust: Trust) -> Ended {
 pub struct StoppedRun {
     found: Found,
     journal: Journal,
+    trust: Trust,
 }
 
 impl StoppedRun {
@@ -139,7 +144,11 @@ impl StoppedRun {
         trust: Trust,
     ) -> Result<StoppedRun, Fault> {
         let (found, journal) = find_journal(locked.store(), trust)?;
-        Ok(StoppedRun { found, journal })
+        Ok(StoppedRun {
+            found,
+            journal,
+            trust,
+        })
     }
 
     /// Returns the changes that the end of the run makes. Some of them may be made already.
@@ -167,7 +176,7 @@ impl StoppedRun {
 fn end_stopped<S: Store + Drop>(mut locked: Locked<S>, trust: Trust, way: Way) -> Ended {
     match StoppedRun::read(&mut locked, trust) {
         Ok(run) => run.end(locked, way),
-        Err(Fault::NoJournal) => match remove_leftovers(locked.store(), None) {
+        Err(Fault::NoJournal) => match remove_leftovers(locked.store()) {
             Ok(()) => Ended::Refused(Fault::NoJournal),
             Err(fault) => Ended::Refused(fault),
         },
@@ -226,13 +235,12 @@ fn prepare<S: Store + Drop>(
     let Locked(mut store) = locked;
     let own = none_yet(&mut store)?;
     need_possible(&mut store, &steps)?;
+    let steps = with_staging_names(store.alloc(), steps)?;
     let (texts, work) = work_of(store.alloc(), steps, pages)?;
     if !is_of_run(store.alloc(), &work)? {
         return Err(Fault::NotAPlan);
     }
-    let mut worker = Worker::new(store, own, work);
-    worker.need_names()?;
-    Ok((texts, worker))
+    Ok((texts, Worker::new(store, own, work)))
 }
 
 // The new texts, and the work of a run with them.
@@ -359,8 +367,12 @@ fn stop<S: Store + Drop>(mut worker: Worker<S>, fault: Fault) -> Ended {
 // The run that goes on from where it stopped.
 fn open<S: Store + Drop>(locked: Locked<S>, run: StoppedRun) -> Result<Worker<S>, Fault> {
     let Locked(mut store) = locked;
-    let StoppedRun { found, journal } = run;
-    let own = own_files_of(&mut store, &found)?;
+    let StoppedRun {
+        found,
+        journal,
+        trust,
+    } = run;
+    let own = own_files_of(&mut store, &found, journal.origin, trust)?;
     // A run may have been killed before the journal's name was on the disk. Nothing that comes now may be there without it.
     sync_directory(&mut store, "")?;
     let Journal { stage, work, .. } = journal;

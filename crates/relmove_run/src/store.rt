@@ -114,8 +114,9 @@ pub trait Store {
     /// Gives a file a second name. Fails if something is there.
     fn link(&mut self, from: &str, to: &str) -> io::Result<()>;
 
-    /// Makes a directory whose owner may list it, change it and use its names. Fails if something is there.
-    fn make_directory(&mut self, path: &str) -> io::Result<()>;
+    /// Makes a directory with at most these permissions, whose owner may list it, change it and use its names. Fails if
+    /// something is there.
+    fn make_directory(&mut self, path: &str, mode: u32) -> io::Result<()>;
 
     /// Removes a file.
     fn remove_file(&mut self, path: &str) -> io::Result<()>;

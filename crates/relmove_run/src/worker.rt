@@ -1,10 +1,11 @@
 //! Does the work of a run, from any stage on. Each step asks first whether it is done.
 use crate::actions::{
-    OwnFile, Ways, Written, carry, copy_of, digest_at, digest_found, find_to_remove, is_there,
-    make_directory, need_free, remove_directory, remove_file, unmake_directory, write_text,
+    OwnFile, Ways, Written, carry, copy_of, digest_at, digest_found, find, find_to_remove,
+    is_there, make_directory, need_own_directory, remove_directory, remove_file, unmake_directory,
+    write_text,
 };
 use crate::fault::Fault;
-use crate::own_files::{OwnFiles, put_first, put_next, remove_all};
+use crate::own_files::{OwnFiles, make_own_directory, put_first, put_next, remove_all};
 use crate::remark::Remark;
 use crate::stages::{Action, MOST_STAGES, actions_of};
 use crate::store::{Found, FoundKind, Store};
@@ -60,7 +61,10 @@ impl<S: Store + Drop> Worker<S> {
             written.push(Written::UNKNOWN)?;
         }
         let remarks = Vec::new(store.alloc());
-        let ways = Ways::new(store.alloc());
+        let mut ways = Ways::new(store.alloc());
+        if let Some(inode) = own.directory() {
+            ways.set_own(inode);
+        }
         Ok(Worker {
             store,
             own,
@@ -93,8 +97,10 @@ impl<S: Store + Drop> Worker<S> {
         self.remarks
     }
 
-    // Puts the first journal in its place.
+    // Makes the run's own directory, and puts the first journal in its place.
     pub(crate) fn begin(&mut self) -> Result<(), Fault> {
+        let inode = make_own_directory(&mut self.store, &mut self.own)?;
+        self.ways.set_own(inode);
         put_first(&mut self.store, &mut self.own, &self.work)
     }
 
@@ -104,17 +110,6 @@ impl<S: Store + Drop> Worker<S> {
         sync_stage(&mut self.store, &self.work, self.stage)?;
         put_next(&mut self.store, &mut self.own, stage, &self.work)?;
         self.stage = stage;
-        Ok(())
-    }
-
-    // Fails if a name that the run needs is taken.
-    pub(crate) fn need_names(&mut self) -> Result<(), Fault> {
-        for rename in &self.work.staged {
-            need_free(&mut self.store, rename.to.as_str())?;
-        }
-        for text in &self.work.texts {
-            need_free(&mut self.store, text.path.as_str())?;
-        }
         Ok(())
     }
 
@@ -145,6 +140,12 @@ impl<S: Store + Drop> Worker<S> {
 
     // Does the actions of the run's stage.
     fn do_stage(&mut self) -> Result<(), Fault> {
+        if needs_own_directory(self.stage) {
+            need_own_directory(&mut self.store, &self.ways)?;
+        }
+        if self.stage == Stage::Placing {
+            self.need_new_texts()?;
+        }
         act_at(
             &mut self.store,
             &mut self.ways,
@@ -174,7 +175,20 @@ impl<S: Store + Drop> Worker<S> {
     // Removes the run's own files.
     fn end(&mut self) -> Result<(), Fault> {
         sync_stage(&mut self.store, &self.work, self.stage)?;
-        remove_all(&mut self.store, &mut self.own)
+        remove_all(&mut self.store, &mut self.own, &mut self.remarks)
+    }
+
+    // Fails if what has the staging name of a new text isn't this text.
+    fn need_new_texts(&mut self) -> Result<(), Fault> {
+        for text in &self.work.texts {
+            let path = text.path.as_str();
+            if let Some(found) = find(&mut self.store, path)?
+                && digest_found(&mut self.store, path, &found)? != Some(text.digest)
+            {
+                return Err(Fault::OtherText(copy_of(&self.store, path)?));
+            }
+        }
+        Ok(())
     }
 
     // Fails if the text of a page that changes isn't the one that was read.
@@ -188,6 +202,15 @@ impl<S: Store + Drop> Worker<S> {
             }
         }
         Ok(())
+    }
+}
+
+// Whether something may have a staging name during a stage. At the others the run's own directory may be gone already.
+fn needs_own_directory(stage: Stage) -> bool {
+    match stage {
+        Stage::Staging | Stage::Making | Stage::Placing => true,
+        Stage::Unplacing | Stage::Unmaking | Stage::Unstaging => true,
+        Stage::Writing | Stage::Cleaning | Stage::Erasing => false,
     }
 }
 
@@ -263,6 +286,7 @@ fn carry_back<S: Store>(
         return carry(store, ways, to, from);
     }
     if !is_there(store, from)? {
+        need_own_directory(store, ways)?;
         let (from, to) = (copy_of(store, from)?, copy_of(store, to)?);
         remarks.push(Remark::Gone { from, to })?;
     }
@@ -295,13 +319,8 @@ fn is_back<S: Store>(store: &mut S, work: &Work, rename: &Rename) -> Result<bool
     }
 }
 
-// The digest of what a rename gives a staging name, if the journal has it: of a new text, or of the old text of a page.
+// The digest of what a rename gives a staging name, if the journal has it: of the old text of a page.
 fn digest_of(work: &Work, rename: &Rename) -> Option<TextDigest> {
-    for text in &work.texts {
-        if text.path == rename.from {
-            return Some(text.digest);
-        }
-    }
     for leftover in &work.cleaned {
         if let Leftover::Text(text) = leftover
             && text.path == rename.to
@@ -330,7 +349,7 @@ fn remove_text<S: Store>(
 }
 
 // Removes a text that the run wrote, maybe in part. Anything else there stays, and this is noted. A part is told by its
-// file and its length, and a whole text by its digest.
+// place and its length, and a whole text by its digest.
 fn remove_part<S: Store>(
     store: &mut S,
     ways: &mut Ways,
@@ -355,7 +374,7 @@ fn remove_part<S: Store>(
 // its permissions: before, it can't be read.
 fn may_be_part<S: Store>(store: &mut S, text: &TextFile, written: Written, found: &Found) -> bool {
     let is_own = match written.own {
-        OwnFile::Unknown => found.kind == FoundKind::File && found.links == 1,
+        OwnFile::Unknown => found.kind == FoundKind::File,
         own => own.is(found),
     };
     let length = text.digest.length;

@@ -106,27 +106,29 @@ fn names_each_call(rt: HostRuntime) -> Result<(), Fail> {
 fn fault_at(alloc: Global, kind: usize) -> Result<Fault, AllocError> {
     let path = path(alloc)?;
     Ok(match kind {
-        0 => Fault::Taken(path),
-        1 => Fault::Missing(path),
+        0 => Fault::Missing(path),
+        1 => Fault::OtherText(path),
         2 => Fault::NotADirectory(path),
         3 => Fault::TooLong(path),
         4 => Fault::OtherDevice(path),
         5 => Fault::Changed(path),
         6 => Fault::JournalNear(path),
         7 => Fault::OwnName(path),
+        8 => Fault::Exchanged(path),
         _ => Fault::LeftOver(path),
     })
 }
 
-const WITH_PATH: [&str; 9] = [
-    "a\\u{1b} is there already",
+const WITH_PATH: [&str; 10] = [
     "a\\u{1b} isn't there",
+    "a\\u{1b} isn't the text that the run wrote: another program changed it, or put it there",
     "a\\u{1b} is no directory: a symbolic link or a file is there",
     "a\\u{1b} is too long, or a name in it is",
     "a\\u{1b} is on another file system than ROOT",
     "a\\u{1b} was changed while the run worked, so the run was taken back",
     "a\\u{1b} is the journal of a run that didn't end: end that run first",
     "a\\u{1b} has a name of relmove's own, and relmove didn't leave it: remove or rename it",
+    "a\\u{1b} isn't the directory that the run made: another program removed or exchanged it",
     "a\\u{1b} was left by a run that was killed: call relmove --undo ROOT to remove it",
 ];
 

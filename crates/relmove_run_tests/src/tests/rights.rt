@@ -39,9 +39,13 @@ fn keeps_owners_and_permissions(rt: HostRuntime) -> Result<(), Fail> {
 
 // Fails if another user than its owner can read a new text that doesn't have its group, or another file of the run's own.
 fn is_private(disk: &Disk, group: u32) -> Result<(), Fail> {
-    if disk.has("site/.relmove-9")? {
-        let (mode, _, found) = disk.rights("site/.relmove-9")?;
+    if disk.has("site/.relmove-run/9")? {
+        let (mode, _, found) = disk.rights("site/.relmove-run/9")?;
         same("a new text", &(found == group || mode & 0o077 == 0), &true)?;
+    }
+    if disk.has("site/.relmove-run")? {
+        let (mode, _, _) = disk.rights("site/.relmove-run")?;
+        same("its directory", &mode, &0o700)?;
     }
     for path in [
         "site/.relmove",

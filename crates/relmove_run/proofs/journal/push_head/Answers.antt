@@ -9,6 +9,8 @@ returns c =
     let old = string_bytes c.args.text.now in
     let root = line_bytes (codes "root") (decimal c.args.origin.root ∷ []) in
     let file = line_bytes (codes "file") (decimal c.args.origin.file ∷ []) in
+    let run = line_bytes (codes "run") (decimal c.args.origin.run ∷ []) in
     let stage = line_bytes (codes "stage") (stage_name c.args.stage ∷ []) in
-    grows old (root ++ file) stage _ _ (grows old root file _ _ c.in_ok-push_number.ensures c.in_ok-push_number-2.ensures)
+    grows old (root ++ file ++ run) stage _ _ (grows old (root ++ file) run _ _
+    (grows old root file _ _ c.in_ok-push_number.ensures c.in_ok-push_number-2.ensures) c.in_ok-push_number-3.ensures)
     (rw c.name.ensures at c.in_ok-push_field.ensures)
