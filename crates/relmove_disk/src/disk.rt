@@ -43,6 +43,8 @@ pub struct Disk {
     size: Cell<u64>,
     // Whether the process may give a file to another user.
     pub(crate) gives_away: Cell<bool>,
+    // Whether each name of a file has an inode of its own.
+    pub(crate) has_inode_for_each_path: Cell<bool>,
     // Why a file can't have a second name, if it can't.
     pub(crate) no_links: Cell<Option<ErrorKind>>,
     // Why a directory can't be synced, if it can't.
@@ -69,6 +71,7 @@ impl Disk {
             asked: Cell::new(0),
             size: Cell::new(u64::MAX),
             gives_away: Cell::new(false),
+            has_inode_for_each_path: Cell::new(false),
             no_links: Cell::new(None),
             no_syncs: Cell::new(None),
             mask: Cell::new(0),
@@ -186,6 +189,11 @@ impl Disk {
     /// Says whether the process may give files to other users.
     pub fn allow_giving(&self, is_allowed: bool) {
         self.gives_away.set(is_allowed);
+    }
+
+    /// From now on a file has another inode under each of its names, as on some file systems of the user's space.
+    pub fn set_inode_for_each_path(&self) {
+        self.has_inode_for_each_path.set(true);
     }
 
     /// From now on the process can't give a file a second name: that fails with this error.

@@ -366,8 +366,8 @@ impl Nodes {
         Ok(true)
     }
 
-    // A path of a node.
-    fn path_of(&self, number: usize) -> Option<&str> {
+    /// A path of a node.
+    pub fn path_of(&self, number: usize) -> Option<&str> {
         let name = self.names.iter().find(|name| name.node == number)?;
         Some(name.path.as_str())
     }

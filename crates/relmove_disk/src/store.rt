@@ -8,6 +8,9 @@ use std::alloc::{AllocError, Global};
 use std::io::{self, ErrorKind};
 use std::time::{Duration, SystemTime};
 
+// More bytes than a path has.
+const LONGEST_PATH: u64 = 4096;
+
 // The most bytes that one call writes.
 const MOST_WRITTEN: usize = 9;
 
@@ -69,28 +72,36 @@ impl<'a> DiskStore<'a> {
 
     // What is at a path, also where the symbolic link at its end leads if `follows`.
     fn found_at(&self, path: &str, follows: bool) -> io::Result<Option<Found>> {
-        let number = match self.resolve_to(path, follows) {
-            Ok(path) => {
-                self.disk.note_question(path.as_str())?;
-                self.disk.nodes.try_borrow()?.number_at(path.as_str())
-            }
-            Err(error) if is_absence(error.kind()) => None,
+        let path = match self.resolve_to(path, follows) {
+            Ok(path) => path,
+            Err(error) if is_absence(error.kind()) => return Ok(None),
             Err(error) => return Err(error),
         };
+        self.disk.note_question(path.as_str())?;
+        let number = self.disk.nodes.try_borrow()?.number_at(path.as_str());
         match number {
-            Some(number) => Ok(Some(self.found_of(number)?)),
+            Some(number) => Ok(Some(self.found_of(number, path.as_str())?)),
             None => Ok(None),
         }
     }
 
-    // What a node is.
-    fn found_of(&self, number: usize) -> io::Result<Found> {
+    // The inode of a node under a name.
+    fn inode_of(&self, number: usize, path: &str) -> u64 {
+        let inode = (number as u64).saturating_add(1);
+        if self.disk.has_inode_for_each_path.get() {
+            return inode.saturating_mul(LONGEST_PATH).saturating_add(path.len() as u64);
+        }
+        inode
+    }
+
+    // What a node is under a name.
+    fn found_of(&self, number: usize, path: &str) -> io::Result<Found> {
         let nodes = self.disk.nodes.try_borrow()?;
         let node = nodes.node(number)?;
         Ok(Found {
             kind: kind_of(node),
             device: node.device,
-            inode: (number as u64).saturating_add(1),
+            inode: self.inode_of(number, path),
             links: nodes.links(number),
             length: node.length().saturating_add(node.hole),
             mode: node.mode,
@@ -202,7 +213,11 @@ impl Store for DiskStore<'_> {
     fn find_new(&mut self, file: &NewDiskFile) -> io::Result<Found> {
         let turn = self.disk.turn()?;
         turn.end()?;
-        self.found_of(file.0)
+        let path = match self.disk.nodes.try_borrow()?.path_of(file.0) {
+            Some(path) => String::from_str(self.disk.alloc, path)?,
+            None => String::new(self.disk.alloc),
+        };
+        self.found_of(file.0, path.as_str())
     }
 
     fn write(&mut self, file: &mut NewDiskFile, bytes: &[u8]) -> io::Result<()> {

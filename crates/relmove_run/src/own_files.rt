@@ -79,6 +79,12 @@ impl OwnFiles {
     fn has(&self, found: &Found) -> bool {
         self.journal.is(found) || self.next.is(found)
     }
+
+    // Whether a journal was written to the file of the run's journal, or to that of the next one.
+    fn wrote(&self, journal: &Journal) -> bool {
+        let file = OwnFile::Inode(journal.origin.file);
+        self.journal == file || self.next == file
+    }
 }
 
 // The own files of a run that begins: none.
@@ -435,11 +441,24 @@ pub(crate) fn put_next<S: Store>(
 // Fails unless the run's journal is in its place, and notes which one that is.
 fn need_own_journal<S: Store>(store: &mut S, own: &mut OwnFiles) -> Result<(), Fault> {
     match find(store, JOURNAL)? {
-        Some(found) if own.has(&found) => {
+        Some(found) if is_own_journal(store, own, &found)? => {
             own.journal = OwnFile::Inode(found.inode);
             Ok(())
         }
         _ => Err(Fault::NotAJournal),
+    }
+}
+
+// Whether what is found in the journal's place is the run's journal. Where a file system has an inode for each path, it has
+// another one there than under the name under which it was written: then its text tells.
+fn is_own_journal<S: Store>(store: &mut S, own: &OwnFiles, found: &Found) -> Result<bool, Fault> {
+    if own.has(found) {
+        return Ok(true);
+    }
+    match &read_journal(store, found) {
+        Ok(journal) => Ok(own.wrote(journal)),
+        Err(Fault::OutOfMemory) => Err(Fault::OutOfMemory),
+        Err(_) => Ok(false),
     }
 }
 
@@ -503,7 +522,7 @@ pub(crate) fn remove_all<S: Store>(
     }
     match find_to_remove(store, JOURNAL)? {
         None => Ok(()),
-        Some(found) if own.has(&found) => remove_journal(store),
+        Some(found) if is_own_journal(store, own, &found)? => remove_journal(store),
         Some(_) => Err(Fault::NotAJournal),
     }
 }

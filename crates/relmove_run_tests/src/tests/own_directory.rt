@@ -68,9 +68,8 @@ fn goes_on_only_with_its_directory(rt: HostRuntime) -> Result<(), Fail> {
 }
 
 // Removes the directory before a call of a run that is taken back. Whether the journal stays where something is gone.
-fn keeps_journal(alloc: Global, number: u32) -> Result<(), Fail> {
-    let disk = stopped_at(alloc, &cases::SWAP, Stage::Placing)?;
-    disk.fail_at(0, Way::Refused);
+fn keeps_journal(alloc: Global, first: u32, number: u32) -> Result<(), Fail> {
+    let (_, disk) = run_and_fail(alloc, &cases::SWAP, first, Way::Killed)?;
     disk.remove_before(number, "site/.relmove-run")?;
     let ended = undo_on(&disk);
     let is_back = disk.has("site/a")? && disk.has("site/b")?;
@@ -88,8 +87,9 @@ fn keeps_journal(alloc: Global, number: u32) -> Result<(), Fail> {
 
 #[test]
 fn keeps_its_journal_if_its_directory_goes(rt: HostRuntime) -> Result<(), Fail> {
+    let first = first_call_at(rt.alloc(), &cases::SWAP, Stage::Placing)?;
     for number in 1..40u32 {
-        keeps_journal(rt.alloc(), number)?;
+        keeps_journal(rt.alloc(), first, number)?;
     }
     Ok(())
 }
