@@ -3,7 +3,7 @@ use crate::calls::Turn;
 use crate::disk::Disk;
 use crate::machine::DiskMachine;
 use crate::node::{Content, Node, Owner, READ};
-use relmove_run::{Found, FoundKind, Machine, Names, Store, is_absence, join};
+use relmove_run::{Found, FoundKind, Machine, Names, PageFile, Store, is_absence, join};
 use std::alloc::{AllocError, Global};
 use std::io::{self, ErrorKind};
 use std::time::{Duration, SystemTime};
@@ -56,6 +56,11 @@ impl<'a> DiskStore<'a> {
             root: String::from_str(disk.alloc, root)?,
             has_lock: false,
         })
+    }
+
+    /// What is at a path, as another process sees it that nothing refuses.
+    pub fn seen(&self, path: &str) -> io::Result<Option<Found>> {
+        self.found_at(path, false)
     }
 
     // The name at a path below the root. The root itself may be a symbolic link.
@@ -184,6 +189,11 @@ impl Store for DiskStore<'_> {
     }
 
     fn read(&mut self, path: &str) -> io::Result<Vec<u8>> {
+        let (_, bytes) = self.read_page(path)?;
+        Ok(bytes)
+    }
+
+    fn read_page(&mut self, path: &str) -> io::Result<(PageFile, Vec<u8>)> {
         let turn = self.disk.turn()?;
         turn.end()?;
         let path = self.resolve(path)?;
@@ -196,7 +206,9 @@ impl Store for DiskStore<'_> {
             Content::File(_) if node.hole > 0 => Err(io::Error::from(ErrorKind::OutOfMemory)),
             Content::File(bytes) => {
                 node.need_permission(nodes.process, READ)?;
-                Ok(Vec::from_slice(self.disk.alloc, bytes.as_slice())?)
+                let bytes = Vec::from_slice(self.disk.alloc, bytes.as_slice())?;
+                let found = self.found_of(number, path.as_str())?;
+                Ok((PageFile::of(&found), bytes))
             }
             _ => Err(io::Error::from(ErrorKind::InvalidInput)),
         }

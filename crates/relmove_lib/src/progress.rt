@@ -1,5 +1,5 @@
 //! The progress of a long call: a runtime that prints how many files the call has opened, and how many renames it made.
-use relmove_run::{Found, Machine, Names, Store};
+use relmove_run::{Found, Machine, Names, PageFile, Store};
 use std::alloc::{Alloc, AllocError, Global};
 use std::cell::Cell;
 use std::io::{self, Eprint};
@@ -143,6 +143,11 @@ impl<R: Clock + Eprint, S: Store + Drop> Store for StoreWithProgress<'_, R, S> {
     fn read(&mut self, path: &str) -> io::Result<Vec<u8>> {
         self.watch.count_opened();
         self.store.read(path)
+    }
+
+    fn read_page(&mut self, path: &str) -> io::Result<(PageFile, Vec<u8>)> {
+        self.watch.count_opened();
+        self.store.read_page(path)
     }
 
     fn create(&mut self, path: &str, mode: u32) -> io::Result<S::NewFile> {

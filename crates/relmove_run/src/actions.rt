@@ -5,7 +5,7 @@ ghost use Rattle.relmove_run.specs.Permissions.{allowed_permissions, permissions
 use crate::fault::{Call, Fault, at, fault_of};
 use crate::file_store::is_absence;
 use crate::staging_names::{OWN_DIRECTORY, STAGING_NAME};
-use crate::store::{Found, FoundKind, Store};
+use crate::store::{Found, FoundKind, PageFile, Store};
 use crate::text_digest::TextDigest;
 use relmove_actions::NewText;
 use std::alloc::{AllocError, Global};
@@ -294,10 +294,14 @@ pub(crate) fn digest_found<S: Store>(
     Ok(Some(TextDigest::of(text.as_slice())))
 }
 
-// What a page is. Fails if it is no regular file any more.
-fn find_page<S: Store>(store: &mut S, page: &str) -> Result<Found, Fault> {
+// Fails unless a page is the file from which its text was read.
+pub(crate) fn need_page<S: Store>(
+    store: &mut S,
+    page: &str,
+    file: &PageFile,
+) -> Result<(), Fault> {
     match find(store, page)? {
-        Some(found) if found.kind == FoundKind::File => Ok(found),
+        Some(found) if found.kind == FoundKind::File && file.is(&found) => Ok(()),
         Some(_) => Err(Fault::Changed(copy_of(store, page)?)),
         None => Err(Fault::Missing(copy_of(store, page)?)),
     }
@@ -371,17 +375,26 @@ impl Written {
     };
 }
 
-// Writes the new text of a page whole to a new file, and syncs it. The file gets the permissions of the page, and its
-// owner, if the system allows that. Only its owner can read it before it has its group. Notes which file it is, and when
-// it is whole.
+// A page's new text, and the file from which the old text was read.
+#[derive(Drop)]
+pub(crate) struct PageChange {
+    // The new text.
+    pub(crate) new: NewText,
+    // The page's file.
+    pub(crate) old: PageFile,
+}
+
+// Writes the new text of a page whole to a new file, and syncs it. The file gets the permissions that the page had when it
+// was read, and its owner, if the system allows that. Only its owner can read it before it has its group. Notes which file
+// it is, and when it is whole.
 pub(crate) fn write_text<S: Store>(
     store: &mut S,
     ways: &mut Ways,
-    new: &NewText,
+    change: &PageChange,
     written: &mut Written,
 ) -> Result<(), Fault> {
-    let (page, path) = (new.page.as_str(), new.file.as_str());
-    let old = find_page(store, page)?;
+    let PageChange { new, old } = change;
+    let path = new.file.as_str();
     let mut file = create(
         store,
         ways,
@@ -391,7 +404,7 @@ pub(crate) fn write_text<S: Store>(
     )?;
     write_whole(store, &mut file, path, new.text.as_bytes())?;
     written.is_whole = true;
-    let mode = give_to_owner(store, &file, path, &old)?;
+    let mode = give_to_owner(store, &file, path, old)?;
     let set = store.set_mode(&file, mode);
     at(store.alloc(), Call::SetPermissions, path, set)?;
     sync(store, &file, path)
@@ -426,7 +439,7 @@ fn give_to_owner<S: Store>(
     store: &mut S,
     file: &S::NewFile,
     path: &str,
-    old: &Found,
+    old: &PageFile,
 ) -> Result<u32, Fault> {
     let found = store.find_new(file);
     let new = at(store.alloc(), Call::Ask, path, found)?;
@@ -442,7 +455,7 @@ fn give_to_owner<S: Store>(
 
 // The permissions of an old file that a new one may have. Without the old owner it doesn't run as its owner or its
 // group, and without the old group its group may do only what others may do.
-fn allowed_mode(old: &Found, new: &Found) -> u32
+fn allowed_mode(old: &PageFile, new: &Found) -> u32
     ensures { result ≡ allowed_permissions old.now new.now }
 {
     if new.owner == old.owner && new.group == old.group {

@@ -5,7 +5,7 @@ ghost use Rattle.std.specs.Prelude.{◌≡◌, ◌↔◌, ◌⊎◌, IsTrue};
 ghost use Rattle.std.specs.declared.io.ErrorKind.TheVariants.{NotADirectory, NotFound};
 
 use crate::path::join;
-use crate::store::{Found, FoundKind, Machine, Names, Store};
+use crate::store::{Found, FoundKind, Machine, Names, PageFile, Store};
 use std::alloc::{AllocError, Global};
 use std::fs::{
     self, DirBuilder, File, FileType, Metadata, OpenFile, OpenOptions, Permissions, TryLockError,
@@ -111,6 +111,11 @@ impl Store for FileStore {
     }
 
     fn read(&mut self, path: &str) -> io::Result<Vec<u8>> {
+        let (_, bytes) = self.read_page(path)?;
+        Ok(bytes)
+    }
+
+    fn read_page(&mut self, path: &str) -> io::Result<(PageFile, Vec<u8>)> {
         read_regular(&self.runtime, self.full(path)?.as_str())
     }
 
@@ -227,15 +232,16 @@ impl Machine for HostRuntime {
     }
 }
 
-// Reads a regular file. Whatever else is there isn't opened. If something else comes there before the file is opened,
+// Reads a regular file, and says which one that is. Whatever else is there isn't opened. If something else comes there before the file is opened,
 // the call fails after it opened that; the call may wait then, if that is a FIFO.
-fn read_regular(runtime: &HostRuntime, path: &str) -> io::Result<Vec<u8>> {
+fn read_regular(runtime: &HostRuntime, path: &str) -> io::Result<(PageFile, Vec<u8>)> {
     need_file(fs::symlink_metadata(runtime, path)?.file_type())?;
     let mut file = fs::open(runtime, path)?;
-    need_file(file.metadata()?.file_type())?;
+    let metadata = file.metadata()?;
+    need_file(metadata.file_type())?;
     let mut bytes = Vec::new(runtime.alloc());
     file.read_to_end(&mut bytes)?;
-    Ok(bytes)
+    Ok((PageFile::of(&found_of(&metadata)), bytes))
 }
 
 // Fails unless this is a regular file's kind.

@@ -29,7 +29,7 @@ pub use self::remark::Remark;
 pub use self::run::{Ended, Locked, PageText, StoppedRun, carry_out, need_rest, resume, undo};
 pub use self::shape::is_of_run;
 pub use self::staging_names::OWN_DIRECTORY;
-pub use self::store::{Found, FoundKind, Machine, Names, Store};
+pub use self::store::{Found, FoundKind, Machine, Names, PageFile, Store};
 pub use self::text_digest::TextDigest;
 pub use self::work::{Leftover, Stage, TextFile, Work};
 pub use relmove_actions::STAGING;

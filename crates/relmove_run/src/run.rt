@@ -1,5 +1,5 @@
 //! A run, its end after a fault, and its undoing.
-use crate::actions::{find, sync_directory};
+use crate::actions::{PageChange, find, need_page, sync_directory};
 use crate::change::Change;
 use crate::ending::{Way, changes_from, goes_on, stage_to_end};
 use crate::fault::{Call, Fault, at};
@@ -12,7 +12,7 @@ use crate::possible::need_possible;
 use crate::remark::Remark;
 use crate::shape::is_of_run;
 use crate::staging_names::with_staging_names;
-use crate::store::{Found, Store};
+use crate::store::{Found, PageFile, Store};
 use crate::text_digest::TextDigest;
 use crate::ways::need_ways;
 use crate::work::{Leftover, Stage, TextFile, Work};
@@ -87,6 +87,8 @@ pub struct PageText<'a> {
     pub path: &'a str,
     /// Its text.
     pub text: &'a str,
+    /// The file from which it was read.
+    pub file: PageFile,
 }
 
 /// Moves files and directories, and puts new texts in the place of pages. `pages` has the text of each page that gets a
@@ -94,6 +96,9 @@ pub struct PageText<'a> {
 ///
 /// The staging names are in the run's own directory, [`OWN_DIRECTORY`](crate::OWN_DIRECTORY): the number of a name in between
 /// of the steps is the staging name's.
+///
+/// A new text gets the permissions, the owner and the group that its page had when its text was read. If another file is at
+/// the page's path, the call fails with [`Fault::Changed`] before it writes anything.
 ///
 /// A fault before anything moves takes back everything: the files below the root are as before. So does a page whose
 /// text isn't the one that was read. After a fault in the middle each file is whole, at its old path, its new path or
@@ -213,11 +218,11 @@ fn begin<S: Store + Drop>(
     pages: &[PageText<'_>],
     directories: &[&str],
 ) -> Result<Worker<S>, Ended> {
-    let (texts, mut worker) = match prepare(locked, steps, pages) {
+    let (changes, mut worker) = match prepare(locked, steps, pages) {
         Ok(prepared) => prepared,
         Err(fault) => return Err(Ended::Refused(fault)),
     };
-    if let Err(fault) = write_texts(&mut worker, &texts, directories) {
+    if let Err(fault) = write_texts(&mut worker, &changes, directories) {
         return Err(refuse(worker, fault));
     }
     if let Err(fault) = worker.enter(Stage::Staging) {
@@ -231,16 +236,20 @@ fn prepare<S: Store + Drop>(
     locked: Locked<S>,
     steps: Steps,
     pages: &[PageText<'_>],
-) -> Result<(Vec<NewText>, Worker<S>), Fault> {
+) -> Result<(Vec<PageChange>, Worker<S>), Fault> {
     let Locked(mut store) = locked;
     let own = none_yet(&mut store)?;
     need_possible(&mut store, &steps)?;
+    for page in pages {
+        need_page(&mut store, page.path, &page.file)?;
+    }
     let steps = with_staging_names(store.alloc(), steps)?;
     let (texts, work) = work_of(store.alloc(), steps, pages)?;
     if !is_of_run(store.alloc(), &work)? {
         return Err(Fault::NotAPlan);
     }
-    Ok((texts, Worker::new(store, own, work)))
+    let changes = changes_of(store.alloc(), texts, pages)?;
+    Ok((changes, Worker::new(store, own, work)))
 }
 
 // The new texts, and the work of a run with them.
@@ -258,6 +267,26 @@ fn work_of(
         cleaned,
     };
     Ok((steps.texts, work))
+}
+
+// The new texts, with the files of their pages.
+fn changes_of(
+    alloc: Global,
+    texts: Vec<NewText>,
+    pages: &[PageText<'_>],
+) -> Result<Vec<PageChange>, Fault> {
+    let mut files = BTreeMap::new(alloc);
+    for page in pages {
+        files.insert(page.path, page.file)?;
+    }
+    let mut changes = Vec::with_capacity(alloc, texts.len())?;
+    for new in texts {
+        let Some(old) = files.get(new.page.as_str()) else {
+            return Err(Fault::NotAPlan);
+        };
+        changes.push(PageChange { old: *old, new })?;
+    }
+    Ok(changes)
 }
 
 // The files of new texts.
@@ -309,12 +338,12 @@ fn cleaned_of(
 // sees the other's journal.
 fn write_texts<S: Store + Drop>(
     worker: &mut Worker<S>,
-    texts: &[NewText],
+    changes: &[PageChange],
     directories: &[&str],
 ) -> Result<(), Fault> {
     worker.begin()?;
     need_no_journal_near(worker.store(), directories)?;
-    worker.write_texts(texts)
+    worker.write_texts(changes)
 }
 
 // Takes back what was done, if the journal may say that things get staging names.

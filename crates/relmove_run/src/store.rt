@@ -50,6 +50,41 @@ impl Found {
     }
 }
 
+/// The file of a page, as it was when its text was read.
+#[derive(Clone, Copy, Debug, PartialEq, Eq)]
+pub struct PageFile {
+    /// The number of its device.
+    pub device: u64,
+    /// Its number on the device.
+    pub inode: u64,
+    /// Its permissions.
+    pub mode: u32,
+    /// The user who owned it.
+    pub owner: u32,
+    /// The group that owned it.
+    pub group: u32,
+}
+
+impl PageFile {
+    /// The file that was found.
+    pub fn of(found: &Found) -> PageFile {
+        PageFile {
+            device: found.device,
+            inode: found.inode,
+            mode: found.mode,
+            owner: found.owner,
+            group: found.group,
+        }
+    }
+
+    /// Whether what is found is this file.
+    pub fn is(&self, found: &Found) -> bool
+        ensures file { result ≡ (self.now.device == found.now.device && self.now.inode == found.now.inode) }
+    {
+        self.device == found.device && self.inode == found.inode
+    }
+}
+
 /// The names in a directory.
 #[derive(Debug, PartialEq, Eq, Drop)]
 pub struct Names {
@@ -86,6 +121,9 @@ pub trait Store {
 
     /// The bytes of a regular file. Fails without opening it if something else is there.
     fn read(&mut self, path: &str) -> io::Result<Vec<u8>>;
+
+    /// The bytes of a regular file, and which file was opened. Fails without opening it if something else is there.
+    fn read_page(&mut self, path: &str) -> io::Result<(PageFile, Vec<u8>)>;
 
     /// Makes a file with at most these permissions where nothing is. Fails if something is there.
     fn create(&mut self, path: &str, mode: u32) -> io::Result<Self::NewFile>;

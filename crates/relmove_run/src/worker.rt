@@ -1,6 +1,6 @@
 //! Does the work of a run, from any stage on. Each step asks first whether it is done.
 use crate::actions::{
-    OwnFile, Ways, Written, carry, copy_of, digest_at, digest_found, find, find_to_remove,
+    OwnFile, PageChange, Ways, Written, carry, copy_of, digest_at, digest_found, find, find_to_remove,
     is_there, make_directory, need_own_directory, remove_directory, remove_file, unmake_directory,
     write_text,
 };
@@ -12,7 +12,7 @@ use crate::store::{Found, FoundKind, Store};
 use crate::synced::{remove_left_names, sync_stage};
 use crate::text_digest::TextDigest;
 use crate::work::{Leftover, Stage, TextFile, Work};
-use relmove_actions::{NewText, Rename};
+use relmove_actions::Rename;
 use std::alloc::AllocError;
 use std::io::ErrorKind;
 
@@ -114,10 +114,10 @@ impl<S: Store + Drop> Worker<S> {
     }
 
     // Writes the new texts.
-    pub(crate) fn write_texts(&mut self, texts: &[NewText]) -> Result<(), Fault> {
-        for text in texts {
+    pub(crate) fn write_texts(&mut self, changes: &[PageChange]) -> Result<(), Fault> {
+        for change in changes {
             let mut written = Written::NONE;
-            let outcome = write_text(&mut self.store, &mut self.ways, text, &mut written);
+            let outcome = write_text(&mut self.store, &mut self.ways, change, &mut written);
             self.written.push(written)?;
             outcome?;
         }
