@@ -345,7 +345,9 @@ impl Disk {
     /// Whether a file with this text is at a path.
     pub fn is_file(&self, path: &str, text: &str) -> io::Result<bool> {
         let nodes = self.nodes.try_borrow()?;
-        let path = nodes.resolve(path, false)?;
+        let Ok(path) = nodes.resolve(path, false) else {
+            return Ok(false);
+        };
         match nodes.number_at(path.as_str()) {
             Some(number) => Ok(nodes.node(number)?.is_file_of(text)),
             None => Ok(false),
