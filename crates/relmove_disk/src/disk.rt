@@ -186,6 +186,12 @@ impl Disk {
         Ok(())
     }
 
+    /// From now on the process is one of this user and this group. The user 0 may do everything.
+    pub fn set_user(&self, user: u32, group: u32) -> io::Result<()> {
+        self.nodes.try_borrow_mut()?.process = Owner { user, group };
+        Ok(())
+    }
+
     /// Says whether the process may give files to other users.
     pub fn allow_giving(&self, is_allowed: bool) {
         self.gives_away.set(is_allowed);

@@ -1,6 +1,6 @@
 //! What is on a disk: nodes, and the names that lead to them.
 use crate::changes::{Change, Changes};
-use crate::node::{Content, Node, Owner, READ, SEARCH, WRITE};
+use crate::node::{Content, Node, Owner, READ, ROOT_USER, SEARCH, WRITE};
 use relmove_run::{directory_of, join, name_of};
 use std::alloc::{AllocError, Global};
 use std::io::{self, ErrorKind};
@@ -431,7 +431,8 @@ impl Nodes {
     fn need_own(&self, directory: usize, number: usize) -> io::Result<()> {
         let (directory, node) = (self.node(directory)?, self.node(number)?);
         let user = self.process.user;
-        if directory.mode & STICKY == 0 || directory.owner.user == user || node.owner.user == user {
+        let is_owner = directory.owner.user == user || node.owner.user == user;
+        if directory.mode & STICKY == 0 || is_owner || user == ROOT_USER {
             return Ok(());
         }
         Err(io::Error::from(ErrorKind::PermissionDenied))

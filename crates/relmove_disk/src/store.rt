@@ -20,6 +20,9 @@ const OWNER_PERMISSIONS: u32 = 0o700;
 // A name, or a path in a symbolic link, that stands for one that isn't UTF-8.
 const NOT_UTF_8: &str = "NOT-UTF-8";
 
+// When the top of a disk was made, in nanoseconds since 1970. Each later node was made a nanosecond after the one before.
+const MADE: u64 = 1_000_000_000_000_000_000;
+
 // When everything on a disk was written, in seconds since 1970.
 const WRITTEN: u64 = 1_000_000_000;
 
@@ -94,7 +97,9 @@ impl<'a> DiskStore<'a> {
     fn inode_of(&self, number: usize, path: &str) -> u64 {
         let inode = (number as u64).saturating_add(1);
         if self.disk.has_inode_for_each_path.get() {
-            return inode.saturating_mul(LONGEST_PATH).saturating_add(path.len() as u64);
+            return inode
+                .saturating_mul(LONGEST_PATH)
+                .saturating_add(path.len() as u64);
         }
         inode
     }
@@ -113,6 +118,7 @@ impl<'a> DiskStore<'a> {
             owner: node.owner.user,
             group: node.owner.group,
             modified: SystemTime::UNIX_EPOCH.checked_add(Duration::from_secs(WRITTEN)),
+            made: MADE.saturating_add(number as u64),
         })
     }
 }

@@ -72,6 +72,7 @@ leftover_line (Directory path) = directory_line (codes "emptied") (string_bytes 
 abbrev pub head_lines : Origin → Stage → List ℕ
 head_lines origin stage = line_bytes (codes "root") (decimal origin.root ∷ [])
     ++ line_bytes (codes "file") (decimal origin.file ∷ []) ++ line_bytes (codes "run") (decimal origin.run ∷ [])
+    ++ line_bytes (codes "owner") (decimal origin.owner ∷ []) ++ line_bytes (codes "time") (decimal origin.time ∷ [])
     ++ line_bytes (codes "stage") (stage_name stage ∷ [])
 
 -- the lines that say what the run does

@@ -295,11 +295,7 @@ pub(crate) fn digest_found<S: Store>(
 }
 
 // Fails unless a page is the file from which its text was read.
-pub(crate) fn need_page<S: Store>(
-    store: &mut S,
-    page: &str,
-    file: &PageFile,
-) -> Result<(), Fault> {
+pub(crate) fn need_page<S: Store>(store: &mut S, page: &str, file: &PageFile) -> Result<(), Fault> {
     match find(store, page)? {
         Some(found) if found.kind == FoundKind::File && file.is(&found) => Ok(()),
         Some(_) => Err(Fault::Changed(copy_of(store, page)?)),
@@ -307,14 +303,14 @@ pub(crate) fn need_page<S: Store>(
     }
 }
 
-// Makes a file with at most these permissions, and notes which one it is.
+// Makes a file with at most these permissions, and notes which one it is. Returns what it is too.
 pub(crate) fn create<S: Store>(
     store: &mut S,
     ways: &mut Ways,
     path: &str,
     mode: u32,
     own: &mut OwnFile,
-) -> Result<S::NewFile, Fault> {
+) -> Result<(S::NewFile, Found), Fault> {
     need_way(store, ways, path)?;
     let created = store.create(path, mode);
     *own = match &created {
@@ -325,7 +321,7 @@ pub(crate) fn create<S: Store>(
     let found = store.find_new(&file);
     let found = at(store.alloc(), Call::Ask, path, found)?;
     *own = OwnFile::Inode(found.inode);
-    Ok(file)
+    Ok((file, found))
 }
 
 // A file or a directory that a run may have made.
@@ -395,13 +391,8 @@ pub(crate) fn write_text<S: Store>(
 ) -> Result<(), Fault> {
     let PageChange { new, old } = change;
     let path = new.file.as_str();
-    let mut file = create(
-        store,
-        ways,
-        path,
-        old.mode & OWNER_PERMISSIONS,
-        &mut written.own,
-    )?;
+    let mode = old.mode & OWNER_PERMISSIONS;
+    let (mut file, _) = create(store, ways, path, mode, &mut written.own)?;
     write_whole(store, &mut file, path, new.text.as_bytes())?;
     written.is_whole = true;
     let mode = give_to_owner(store, &file, path, old)?;

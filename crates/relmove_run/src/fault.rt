@@ -118,6 +118,8 @@ pub enum Fault {
     ForeignJournal,
     /// The journal's file has another name too.
     LinkedJournal,
+    /// The journal is of a run of another user, the one of this number.
+    OthersJournal(u32),
     /// Something has a name of the run's own, and no run left it.
     OwnName(String),
     /// A run that was killed before it changed anything left a file of its own.
@@ -144,6 +146,10 @@ impl fmt::Display for Fault {
                 )
             }
             Fault::HasJournal { written, stage } => write_has_journal(f, *written, *stage),
+            Fault::OthersJournal(owner) => write!(
+                f,
+                "the journal .relmove is of a run of another user, of the number {owner}: only this user ends it, or root with --trust-journal"
+            ),
             other => match words_with_path(other) {
                 Some((path, words)) => {
                     let path = Printable(named(path));
@@ -211,7 +217,7 @@ fn words_with_path(fault: &Fault) -> Option<(&str, &'static str)> {
         )),
         Fault::JournalNear(path) => Some((
             path.as_str(),
-            "is the journal of a run that didn't end: end that run first",
+            "is the journal of a run that didn't end. If it was your run, end it first. If the folder came from elsewhere, the journal may have come with it: then remove it",
         )),
         Fault::OwnName(path) => Some((
             path.as_str(),

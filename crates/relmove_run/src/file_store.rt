@@ -14,7 +14,7 @@ use std::io::{self, ErrorKind, Read, Write};
 use std::os::fd::AsFd;
 use std::os::unix::fs::{DirBuilderExt, MetadataExt, OpenOptionsExt, PermissionsExt, fchown};
 use std::thread;
-use std::time::Duration;
+use std::time::{Duration, SystemTime};
 
 // The bits of a mode that are permissions.
 const PERMISSIONS: u32 = 0o7777;
@@ -264,6 +264,18 @@ fn found_of(metadata: &Metadata) -> Found {
         owner: metadata.uid(),
         group: metadata.gid(),
         modified: metadata.modified().ok(),
+        made: match metadata.created() {
+            Ok(time) => nanoseconds_of(time),
+            Err(_) => 0,
+        },
+    }
+}
+
+// The nanoseconds since 1970 at a time, or 0 if there aren't so many.
+fn nanoseconds_of(time: SystemTime) -> u64 {
+    match time.duration_since(SystemTime::UNIX_EPOCH) {
+        Ok(duration) => u64::try_from(duration.as_nanos()).unwrap_or(0),
+        Err(_) => 0,
     }
 }
 

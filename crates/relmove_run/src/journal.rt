@@ -9,6 +9,8 @@
 //! root     1835021
 //! file     1835044
 //! run      1835043
+//! owner    1000
+//! time     1764249923123456789
 //! stage    staging
 //! text     .relmove-run/2  120  5c8e
 //! staged   docs/a.md       .relmove-run/1
@@ -86,6 +88,11 @@ pub struct Origin {
     pub file: u64,
     /// The inode of the run's own directory.
     pub run: u64,
+    /// The user who owns the journal's own file.
+    pub owner: u64,
+    /// When the journal's own file was made, in nanoseconds since 1970, or 0 if the system doesn't know that. No archive and
+    /// no copy can set it.
+    pub time: u64,
 }
 
 /// What a journal says.
@@ -144,6 +151,8 @@ fn push_head(
     push_number(alloc, text, "root", origin.root)?;
     push_number(alloc, text, "file", origin.file)?;
     push_number(alloc, text, "run", origin.run)?;
+    push_number(alloc, text, "owner", origin.owner)?;
+    push_number(alloc, text, "time", origin.time)?;
     push_field(text, "stage", stage.name())?;
     Ok(())
 }
@@ -363,6 +372,8 @@ fn read_lines(alloc: Global, text: &str) -> Result<Journal, Fault>
             root: 0,
             file: 0,
             run: 0,
+            owner: 0,
+            time: 0,
         },
         stage: Stage::Writing,
         work: Work::new(alloc),
@@ -397,6 +408,8 @@ fn read_fields(alloc: Global, journal: &mut Journal, word: &str, fields: &str) -
         "root" => set_number(&mut journal.origin.root, fields),
         "file" => set_number(&mut journal.origin.file, fields),
         "run" => set_number(&mut journal.origin.run, fields),
+        "owner" => set_number(&mut journal.origin.owner, fields),
+        "time" => set_number(&mut journal.origin.time, fields),
         "stage" => set_stage(&mut journal.stage, fields),
         END => Ok(()),
         _ => read_action(alloc, &mut journal.work, word, fields),

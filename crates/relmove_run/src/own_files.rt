@@ -44,6 +44,8 @@ pub(crate) struct OwnFiles {
     // The inode of the root.
     root: u64,
     directory: OwnFile,
+    // The user who owns the directory.
+    owner: u32,
     // The journal in its place is the first or the second of these, once one was put there.
     journal: OwnFile,
     next: OwnFile,
@@ -58,6 +60,11 @@ impl OwnFiles {
         self.may_have_journal
     }
 
+    // The user whose run this is.
+    pub(crate) fn owner(&self) -> u32 {
+        self.owner
+    }
+
     // The inode of the run's own directory, if the run knows it.
     pub(crate) fn directory(&self) -> Option<u64> {
         match self.directory {
@@ -66,12 +73,14 @@ impl OwnFiles {
         }
     }
 
-    // Where the run's journals are, without their own inodes.
+    // Where the run's journals are, without what is known of their own files.
     fn place(&self) -> Origin {
         Origin {
             root: self.root,
             file: 0,
             run: self.directory().unwrap_or(0),
+            owner: 0,
+            time: 0,
         }
     }
 
@@ -93,6 +102,7 @@ pub(crate) fn none_yet<S: Store>(store: &mut S) -> Result<OwnFiles, Fault> {
     Ok(OwnFiles {
         root: inode_of_root(store)?,
         directory: OwnFile::None,
+        owner: 0,
         journal: OwnFile::None,
         next: OwnFile::None,
         spare: OwnFile::None,
@@ -184,12 +194,19 @@ pub(crate) fn find_journal<S: Store>(
     let journal = read_journal(store, &found)?;
     if trust == Trust::ThisFolder {
         need_one_name(store, &found)?;
-        let root = inode_of_root(store)?;
-        if journal.origin.root != root || journal.origin.file != found.inode {
+        if !is_from_here(journal.origin, inode_of_root(store)?, &found) {
             return Err(Fault::ForeignJournal);
         }
     }
     Ok((found, journal))
+}
+
+// Whether a journal that was found was written in this root, to this very file.
+fn is_from_here(origin: Origin, root: u64, found: &Found) -> bool {
+    origin.root == root
+        && origin.file == found.inode
+        && origin.owner == u64::from(found.owner)
+        && origin.time == found.made
 }
 
 // Takes over the own files of a run whose journal was found. Removes what a kill left of the others.
@@ -203,9 +220,11 @@ pub(crate) fn own_files_of<S: Store>(
     let directory = own_directory_of(store, origin, trust)?;
     remove_leftover(store, NEW_JOURNAL, Some(found))?;
     remove_leftover(store, SPARE, None)?;
+    need_own_run(store, found.owner, trust)?;
     Ok(OwnFiles {
         root,
         directory: OwnFile::Inode(directory),
+        owner: found.owner,
         journal: OwnFile::Inode(found.inode),
         next: OwnFile::None,
         spare: OwnFile::None,
@@ -222,6 +241,45 @@ fn own_directory_of<S: Store>(store: &mut S, origin: Origin, trust: Trust) -> Re
     }
     Ok(origin.run)
 }
+
+// Fails unless who calls owns the journal of a run, or is root and trusts it.
+fn need_own_run<S: Store>(store: &mut S, owner: u32, trust: Trust) -> Result<(), Fault> {
+    let may_end = match caller_of(store)? {
+        Some(caller) => caller == owner || caller == ROOT_USER && trust == Trust::AnyFolder,
+        None => is_alone_in_root(store, owner)?,
+    };
+    if may_end {
+        return Ok(());
+    }
+    Err(Fault::OthersJournal(owner))
+}
+
+// The user who may do everything.
+const ROOT_USER: u32 = 0;
+
+// The user who calls: the owner of a file that the call makes, and removes again. `None` if the disk has no room for it.
+fn caller_of<S: Store>(store: &mut S) -> Result<Option<u32>, Fault> {
+    let file = match store.create(NEW_JOURNAL, PRIVATE) {
+        Err(error) if error.kind() == ErrorKind::StorageFull => return Ok(None),
+        created => at(store.alloc(), Call::Create, NEW_JOURNAL, created)?,
+    };
+    let found = store.find_new(&file);
+    let found = at(store.alloc(), Call::Ask, NEW_JOURNAL, found)?;
+    let mut own = OwnFile::Inode(found.inode);
+    remove_own(store, NEW_JOURNAL, &mut own)?;
+    Ok(Some(found.owner))
+}
+
+// Whether a user owns the root, and nobody else may change the names in it.
+fn is_alone_in_root<S: Store>(store: &mut S, user: u32) -> Result<bool, Fault> {
+    Ok(match find(store, "")? {
+        Some(root) => root.owner == user && root.mode & OTHERS_WRITE == 0,
+        None => false,
+    })
+}
+
+// The permissions of a group and of others to change the names in a directory.
+const OTHERS_WRITE: u32 = 0o022;
 
 // Removes what a kill left of a run's own files, without a journal.
 pub(crate) fn remove_leftovers<S: Store>(store: &mut S) -> Result<(), Fault> {
@@ -323,6 +381,7 @@ pub(crate) fn make_own_directory<S: Store>(
     match find(store, OWN_DIRECTORY)? {
         Some(found) if found.kind == FoundKind::Directory => {
             own.directory = OwnFile::Inode(found.inode);
+            own.owner = found.owner;
             Ok(found.inode)
         }
         _ => Err(Fault::Exchanged(copy_of(store, OWN_DIRECTORY)?)),
@@ -335,7 +394,10 @@ pub(crate) fn put_first<S: Store>(
     own: &mut OwnFiles,
     work: &Work,
 ) -> Result<(), Fault> {
-    write_next(store, own, Stage::Writing, work)?;
+    let origin = write_next(store, own, Stage::Writing, work)?;
+    if origin.owner != u64::from(own.owner) {
+        return Err(Fault::Exchanged(copy_of(store, OWN_DIRECTORY)?));
+    }
     let linked = link_next(store);
     if let Err(error) = &linked
         && error.kind() == ErrorKind::AlreadyExists
@@ -390,7 +452,7 @@ fn make_spare<S: Store>(store: &mut S, own: &mut OwnFiles, work: &Work) -> Resul
     ) {
         Err(Fault::OutOfMemory) => Err(Fault::OutOfMemory),
         Err(_) => remove_own(store, SPARE, &mut own.spare),
-        Ok(()) => Ok(()),
+        Ok(_) => Ok(()),
     }
 }
 
@@ -471,41 +533,40 @@ fn need_next<S: Store>(store: &mut S, own: &OwnFiles) -> Result<(), Fault> {
     }
 }
 
-// Writes the next journal whole.
+// Writes the next journal whole. Returns what it says of its file.
 fn write_next<S: Store>(
     store: &mut S,
     own: &mut OwnFiles,
     stage: Stage,
     work: &Work,
-) -> Result<(), Fault> {
+) -> Result<Origin, Fault> {
     remove_own(store, NEW_JOURNAL, &mut own.next)?;
     let place = own.place();
     write_journal(store, place, NEW_JOURNAL, (stage, work), &mut own.next)
 }
 
-// Writes a journal whole to a new file, and syncs it. Notes which file it is.
+// Writes a journal whole to a new file, and syncs it. Notes which file it is, and returns what the journal says of it.
 fn write_journal<S: Store>(
     store: &mut S,
     place: Origin,
     path: &str,
     (stage, work): (Stage, &Work),
     own: &mut OwnFile,
-) -> Result<(), Fault> {
+) -> Result<Origin, Fault> {
     let mut ways = Ways::new(store.alloc());
-    let mut file = create(store, &mut ways, path, PRIVATE, own)?;
-    let inode = match own {
-        OwnFile::Inode(inode) => *inode,
-        _ => 0,
-    };
+    let (mut file, found) = create(store, &mut ways, path, PRIVATE, own)?;
     let origin = Origin {
-        file: inode,
+        file: found.inode,
+        owner: u64::from(found.owner),
+        time: found.made,
         ..place
     };
     let text = journal_text(store.alloc(), origin, stage, work)?;
     let set = store.set_mode(&file, PRIVATE);
     at(store.alloc(), Call::SetPermissions, path, set)?;
     write_whole(store, &mut file, path, text.as_bytes())?;
-    sync(store, &file, path)
+    sync(store, &file, path)?;
+    Ok(origin)
 }
 
 // Removes the run's own files. The journal is the last one. Notes what is left of the run's own directory.

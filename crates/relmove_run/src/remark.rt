@@ -15,6 +15,13 @@ pub enum Remark {
         /// The other path.
         to: String,
     },
+    /// The journal of another user's run that didn't end, in a directory near.
+    Near {
+        /// The journal.
+        path: String,
+        /// The number of the user who owns it.
+        owner: u32,
+    },
     /// A directory that the run emptied, or its own directory, can't be removed.
     Stays(Fault),
 }
@@ -34,6 +41,13 @@ impl fmt::Display for Remark {
                 write!(
                     f,
                     "neither {from} nor {to} is there: another program removed it"
+                )
+            }
+            Remark::Near { path, owner } => {
+                let path = Printable(path.as_str());
+                write!(
+                    f,
+                    "{path} is the journal of a run that didn't end, of the user of the number {owner}"
                 )
             }
             Remark::Stays(fault) => write!(f, "{fault}; this directory stays"),

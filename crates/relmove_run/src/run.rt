@@ -342,7 +342,7 @@ fn write_texts<S: Store + Drop>(
     directories: &[&str],
 ) -> Result<(), Fault> {
     worker.begin()?;
-    need_no_journal_near(worker.store(), directories)?;
+    worker.look_near(directories)?;
     worker.write_texts(changes)
 }
 

@@ -39,6 +39,8 @@ pub struct Found {
     pub group: u32,
     /// When it was written last, if this is known.
     pub modified: Option<SystemTime>,
+    /// When it was made, in nanoseconds since 1970, or 0 if this isn't known. No program can set it.
+    pub made: u64,
 }
 
 impl Found {

@@ -1,10 +1,11 @@
 //! Does the work of a run, from any stage on. Each step asks first whether it is done.
 use crate::actions::{
-    OwnFile, PageChange, Ways, Written, carry, copy_of, digest_at, digest_found, find, find_to_remove,
-    is_there, make_directory, need_own_directory, remove_directory, remove_file, unmake_directory,
-    write_text,
+    OwnFile, PageChange, Ways, Written, carry, copy_of, digest_at, digest_found, find,
+    find_to_remove, is_there, make_directory, need_own_directory, remove_directory, remove_file,
+    unmake_directory, write_text,
 };
 use crate::fault::Fault;
+use crate::near::look_near;
 use crate::own_files::{OwnFiles, make_own_directory, put_first, put_next, remove_all};
 use crate::remark::Remark;
 use crate::stages::{Action, MOST_STAGES, actions_of};
@@ -102,6 +103,13 @@ impl<S: Store + Drop> Worker<S> {
         let inode = make_own_directory(&mut self.store, &mut self.own)?;
         self.ways.set_own(inode);
         put_first(&mut self.store, &mut self.own, &self.work)
+    }
+
+    // Fails if a directory above the root, or one of these below it, has another journal of the user whose run this is. Notes
+    // those of other users.
+    pub(crate) fn look_near(&mut self, directories: &[&str]) -> Result<(), Fault> {
+        let user = self.own.owner();
+        look_near(&mut self.store, directories, user, &mut self.remarks)
     }
 
     // Ends a stage, and puts the journal of the next one in its place. The run is at that stage if the call returns

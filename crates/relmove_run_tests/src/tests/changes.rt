@@ -67,6 +67,8 @@ fn changes_at(alloc: Global, stage: Stage, way: Way) -> Result<String, Fail> {
         root: 0,
         file: 0,
         run: 0,
+        owner: 0,
+        time: 0,
     };
     let text = journal_text(alloc, origin, stage, &work(alloc)?)?;
     disk.add("site/.relmove", file_of(alloc, text.as_str())?)?;

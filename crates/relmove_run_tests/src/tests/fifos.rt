@@ -51,6 +51,8 @@ fn ends(alloc: Global, stage: Stage, expected: End) -> Result<(), Fail> {
         root: 0,
         file: 0,
         run: 0,
+        owner: 0,
+        time: 0,
     };
     let text = journal_text(alloc, origin, stage, &work(alloc)?)?;
     disk.add("site/.relmove", file_of(alloc, text.as_str())?)?;

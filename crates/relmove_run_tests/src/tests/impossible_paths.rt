@@ -239,6 +239,8 @@ fn goes_back_from(alloc: Global, directory: &str, makes: bool) -> Result<(), Fai
         root: 0,
         file: 0,
         run: 0,
+        owner: 0,
+        time: 0,
     };
     let text = journal_text(alloc, origin, Stage::Placing, &work)?;
     disk.add("site/.relmove", file_of(alloc, text.as_str())?)?;

@@ -11,6 +11,8 @@ const ORIGIN: Origin = Origin {
     root: u64::MAX,
     file: 7,
     run: 8,
+    owner: 9,
+    time: 10,
 };
 
 // The digest of the text `abc`, as `sha256sum` prints it.
@@ -76,10 +78,10 @@ fn work(alloc: Global) -> Result<Work, AllocError> {
 }
 
 const LINES: &str =
-    "relmove journal 3\nroot\t18446744073709551615\nfile\t7\nrun\t8\nstage\tplacing\ntext\t.relmove-run/9\t3\tba7816bf8f01cfea414140de5dae2223b00361a396177a9cb410ff61f20015ad\nstaged\ta\\tb\\nc\\\\\t.relmove-run/1\nstaged\td/é\\\\n\t.relmove-run/3\nmade\tx\r\nplaced\t.relmove-run/1\t\\\\t/\\\\\\\\n\nplaced\t.relmove-run/9\td/é\\\\n\nremoved\t.relmove-run/3\t0\te3b0c44298fc1c149afbf4c8996fb92427ae41e4649b934ca495991b7852b855\nemptied\tend\nemptied\t /b\n";
+    "relmove journal 3\nroot\t18446744073709551615\nfile\t7\nrun\t8\nowner\t9\ntime\t10\nstage\tplacing\ntext\t.relmove-run/9\t3\tba7816bf8f01cfea414140de5dae2223b00361a396177a9cb410ff61f20015ad\nstaged\ta\\tb\\nc\\\\\t.relmove-run/1\nstaged\td/é\\\\n\t.relmove-run/3\nmade\tx\r\nplaced\t.relmove-run/1\t\\\\t/\\\\\\\\n\nplaced\t.relmove-run/9\td/é\\\\n\nremoved\t.relmove-run/3\t0\te3b0c44298fc1c149afbf4c8996fb92427ae41e4649b934ca495991b7852b855\nemptied\tend\nemptied\t /b\n";
 
 // The digest is what `sha256sum` prints of the lines before.
-const END: &str = "end\t404\t913ee2bf1bdb5bb94cc321cd74a746444d8c53c74049ea7f8db7e963731b5c8e\n";
+const END: &str = "end\t420\t3a55198636a12f6576acb373338275463999e11109d7388b2d35a6fe4a33989a\n";
 
 // The journal of the work.
 fn pinned(alloc: Global) -> Result<String, AllocError> {

@@ -5,7 +5,8 @@ use std::alloc::{AllocError, Global};
 use std::test::Fail;
 
 // Lines that a run may write, in one list.
-const HEAD: &str = "relmove journal 3\nroot\t1\nfile\t2\nrun\t3\nstage\tstaging\n";
+const HEAD: &str =
+    "relmove journal 3\nroot\t1\nfile\t2\nrun\t3\nowner\t4\ntime\t5\nstage\tstaging\n";
 
 // Two digits for each byte.
 fn push_hexadecimal(text: &mut String, bytes: &[u8]) -> Result<(), AllocError> {
@@ -278,27 +279,33 @@ fn reads_no_other_lines(rt: HostRuntime) -> Result<(), Fail> {
 }
 
 const BAD_HEADS: [(&str, &str); 7] = [
-    ("no head", "root\t1\nfile\t2\nrun\t3\nstage\tstaging\n"),
+    (
+        "no head",
+        "root\t1\nfile\t2\nrun\t3\nowner\t4\ntime\t5\nstage\tstaging\n",
+    ),
     (
         "another version",
-        "relmove journal 4\nroot\t1\nfile\t2\nrun\t3\nstage\tstaging\n",
+        "relmove journal 4\nroot\t1\nfile\t2\nrun\t3\nowner\t4\ntime\t5\nstage\tstaging\n",
     ),
     (
         "no root",
-        "relmove journal 3\nfile\t2\nrun\t3\nstage\tstaging\n",
+        "relmove journal 3\nfile\t2\nrun\t3\nowner\t4\ntime\t5\nstage\tstaging\n",
     ),
     (
         "no own directory",
-        "relmove journal 3\nroot\t1\nfile\t2\nstage\tstaging\n",
+        "relmove journal 3\nroot\t1\nfile\t2\nowner\t4\ntime\t5\nstage\tstaging\n",
     ),
-    ("no stage", "relmove journal 3\nroot\t1\nfile\t2\nrun\t3\n"),
+    (
+        "no stage",
+        "relmove journal 3\nroot\t1\nfile\t2\nrun\t3\nowner\t4\ntime\t5\n",
+    ),
     (
         "another stage",
-        "relmove journal 3\nroot\t1\nfile\t2\nrun\t3\nstage\tparting\n",
+        "relmove journal 3\nroot\t1\nfile\t2\nrun\t3\nowner\t4\ntime\t5\nstage\tparting\n",
     ),
     (
         "a number with a zero",
-        "relmove journal 3\nroot\t01\nfile\t2\nrun\t3\nstage\tstaging\n",
+        "relmove journal 3\nroot\t01\nfile\t2\nrun\t3\nowner\t4\ntime\t5\nstage\tstaging\n",
     ),
 ];
 

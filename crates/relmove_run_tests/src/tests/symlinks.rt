@@ -187,6 +187,8 @@ fn resume_with(alloc: Global, work: &Work) -> Result<(Ended, Disk), Fail> {
         root: 0,
         file: 0,
         run: 0,
+        owner: 0,
+        time: 0,
     };
     let text = journal_text(alloc, origin, Stage::Staging, work)?;
     disk.add("site/.relmove", file_of(alloc, text.as_str())?)?;

@@ -102,9 +102,7 @@ fn goes_on_with_an_inode_for_each_path(rt: HostRuntime) -> Result<(), Fail> {
 
 // There too a file that comes in the place of the journal stays.
 #[test]
-fn keeps_what_comes_to_a_journal_with_an_inode_for_each_path(
-    rt: HostRuntime,
-) -> Result<(), Fail> {
+fn keeps_what_comes_to_a_journal_with_an_inode_for_each_path(rt: HostRuntime) -> Result<(), Fail> {
     let (alloc, case) = (rt.alloc(), &cases::SWAP);
     let number = first_call_at(alloc, case, Stage::Making)?;
     let disk = disk_of(alloc, case.before)?;

@@ -321,7 +321,7 @@ const STOPPED_BELOW: &[Place] = &[
 fn names_no_file_of_a_run_below(rt: HostRuntime) -> Result<(), Fail> {
     let disk = disk_of(rt.alloc(), STOPPED_BELOW)?;
     let printed =
-        "relmove: site: d/.relmove is the journal of a run that didn't end: end that run first\n";
+        "relmove: site: d/.relmove is the journal of a run that didn't end. If it was your run, end it first. If the folder came from elsewhere, the journal may have come with it: then remove it\n";
     let expected = (Status::Refused, "", printed);
     let words = ["--write", "site", "a.md", "b.md"];
     answers(rt.alloc(), &disk, &words, expected)?;
