@@ -440,20 +440,30 @@ fn has_no_links(kind: ErrorKind) -> bool {
     )
 }
 
-// Makes the spare journal: that of the stage with the longest name. Without room there is none.
+// Makes the spare journal. Without room there is none.
 fn make_spare<S: Store>(store: &mut S, own: &mut OwnFiles, work: &Work) -> Result<(), Fault> {
-    let place = own.place();
-    match write_journal(
-        store,
-        place,
-        SPARE,
-        (Stage::Unstaging, work),
-        &mut own.spare,
-    ) {
+    match write_spare(store, &mut own.spare, work) {
         Err(Fault::OutOfMemory) => Err(Fault::OutOfMemory),
         Err(_) => remove_own(store, SPARE, &mut own.spare),
-        Ok(_) => Ok(()),
+        Ok(()) => Ok(()),
     }
+}
+
+// No journal is longer than one with these numbers, at the stage with the longest name.
+const LONGEST: Origin = Origin {
+    root: u64::MAX,
+    file: u64::MAX,
+    run: u64::MAX,
+    owner: u64::MAX,
+    time: u64::MAX,
+};
+
+// Writes the spare journal, which no later one exceeds.
+fn write_spare<S: Store>(store: &mut S, own: &mut OwnFile, work: &Work) -> Result<(), Fault> {
+    let mut ways = Ways::new(store.alloc());
+    let (mut file, _) = create(store, &mut ways, SPARE, PRIVATE, own)?;
+    let text = journal_text(store.alloc(), LONGEST, Stage::Unstaging, work)?;
+    write_private(store, &mut file, SPARE, text.as_str())
 }
 
 // Removes a file that the run made. Fails if something else is there.
@@ -533,7 +543,7 @@ fn need_next<S: Store>(store: &mut S, own: &OwnFiles) -> Result<(), Fault> {
     }
 }
 
-// Writes the next journal whole. Returns what it says of its file.
+// Writes the next journal whole. Notes which file it is, and returns what the journal says of it.
 fn write_next<S: Store>(
     store: &mut S,
     own: &mut OwnFiles,
@@ -542,19 +552,8 @@ fn write_next<S: Store>(
 ) -> Result<Origin, Fault> {
     remove_own(store, NEW_JOURNAL, &mut own.next)?;
     let place = own.place();
-    write_journal(store, place, NEW_JOURNAL, (stage, work), &mut own.next)
-}
-
-// Writes a journal whole to a new file, and syncs it. Notes which file it is, and returns what the journal says of it.
-fn write_journal<S: Store>(
-    store: &mut S,
-    place: Origin,
-    path: &str,
-    (stage, work): (Stage, &Work),
-    own: &mut OwnFile,
-) -> Result<Origin, Fault> {
     let mut ways = Ways::new(store.alloc());
-    let (mut file, found) = create(store, &mut ways, path, PRIVATE, own)?;
+    let (mut file, found) = create(store, &mut ways, NEW_JOURNAL, PRIVATE, &mut own.next)?;
     let origin = Origin {
         file: found.inode,
         owner: u64::from(found.owner),
@@ -562,11 +561,21 @@ fn write_journal<S: Store>(
         ..place
     };
     let text = journal_text(store.alloc(), origin, stage, work)?;
-    let set = store.set_mode(&file, PRIVATE);
-    at(store.alloc(), Call::SetPermissions, path, set)?;
-    write_whole(store, &mut file, path, text.as_bytes())?;
-    sync(store, &file, path)?;
+    write_private(store, &mut file, NEW_JOURNAL, text.as_str())?;
     Ok(origin)
+}
+
+// Writes a text to a new file that only its owner can read, and syncs it.
+fn write_private<S: Store>(
+    store: &mut S,
+    file: &mut S::NewFile,
+    path: &str,
+    text: &str,
+) -> Result<(), Fault> {
+    let set = store.set_mode(file, PRIVATE);
+    at(store.alloc(), Call::SetPermissions, path, set)?;
+    write_whole(store, file, path, text.as_bytes())?;
+    sync(store, file, path)
 }
 
 // Removes the run's own files. The journal is the last one. Notes what is left of the run's own directory.
