@@ -480,7 +480,7 @@ pub const PLANNED: &str = "site/n.md, from site/guide/o.md: 1 link\nsite/index.m
 // Removes a page before a call of the run, once it has its staging name. Whether the run went back by itself and said so.
 fn says_what_is_gone(alloc: Global, number: u32) -> Result<bool, Fail> {
     let disk = disk_of(alloc, SITE)?;
-    disk.remove_before(number, "site/.relmove-1")?;
+    disk.remove_before(number, "site/.relmove-run/1")?;
     let (mut out, mut errors) = (Vec::new(alloc), Vec::new(alloc));
     let status = answer(&DiskMachine(&disk), WRITE, &mut out, &mut errors);
     if status != Status::LinksLeft {
