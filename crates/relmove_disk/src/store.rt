@@ -121,6 +121,31 @@ impl<'a> DiskStore<'a> {
             made: MADE.saturating_add(number as u64),
         })
     }
+
+    // Reads at most so many bytes of a file.
+    fn read_of(&self, path: &str, most: u64) -> io::Result<(PageFile, Vec<u8>)> {
+        let turn = self.disk.turn()?;
+        turn.end()?;
+        let path = self.resolve(path)?;
+        let nodes = self.disk.nodes.try_borrow()?;
+        let Some(number) = nodes.number_at(path.as_str()) else {
+            return Err(io::Error::from(ErrorKind::NotFound));
+        };
+        let node = nodes.node(number)?;
+        match &node.content {
+            Content::File(bytes) if node.hole > 0 && most > bytes.len() as u64 => {
+                Err(io::Error::from(ErrorKind::OutOfMemory))
+            }
+            Content::File(bytes) => {
+                node.need_permission(nodes.process, READ)?;
+                let start = bytes.get(..most as usize).unwrap_or(bytes.as_slice());
+                let bytes = Vec::from_slice(self.disk.alloc, start)?;
+                let found = self.found_of(number, path.as_str())?;
+                Ok((PageFile::of(&found), bytes))
+            }
+            _ => Err(io::Error::from(ErrorKind::InvalidInput)),
+        }
+    }
 }
 
 // What kind of thing a node is.
@@ -199,25 +224,13 @@ impl Store for DiskStore<'_> {
         Ok(bytes)
     }
 
+    fn read_start(&mut self, path: &str, most: u64) -> io::Result<Vec<u8>> {
+        let (_, bytes) = self.read_of(path, most)?;
+        Ok(bytes)
+    }
+
     fn read_page(&mut self, path: &str) -> io::Result<(PageFile, Vec<u8>)> {
-        let turn = self.disk.turn()?;
-        turn.end()?;
-        let path = self.resolve(path)?;
-        let nodes = self.disk.nodes.try_borrow()?;
-        let Some(number) = nodes.number_at(path.as_str()) else {
-            return Err(io::Error::from(ErrorKind::NotFound));
-        };
-        let node = nodes.node(number)?;
-        match &node.content {
-            Content::File(_) if node.hole > 0 => Err(io::Error::from(ErrorKind::OutOfMemory)),
-            Content::File(bytes) => {
-                node.need_permission(nodes.process, READ)?;
-                let bytes = Vec::from_slice(self.disk.alloc, bytes.as_slice())?;
-                let found = self.found_of(number, path.as_str())?;
-                Ok((PageFile::of(&found), bytes))
-            }
-            _ => Err(io::Error::from(ErrorKind::InvalidInput)),
-        }
+        self.read_of(path, u64::MAX)
     }
 
     fn create(&mut self, path: &str, mode: u32) -> io::Result<NewDiskFile> {

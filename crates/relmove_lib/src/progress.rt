@@ -145,6 +145,11 @@ impl<R: Clock + Eprint, S: Store + Drop> Store for StoreWithProgress<'_, R, S> {
         self.store.read(path)
     }
 
+    fn read_start(&mut self, path: &str, most: u64) -> io::Result<Vec<u8>> {
+        self.watch.count_opened();
+        self.store.read_start(path, most)
+    }
+
     fn read_page(&mut self, path: &str) -> io::Result<(PageFile, Vec<u8>)> {
         self.watch.count_opened();
         self.store.read_page(path)

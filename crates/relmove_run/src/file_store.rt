@@ -115,8 +115,13 @@ impl Store for FileStore {
         Ok(bytes)
     }
 
+    fn read_start(&mut self, path: &str, most: u64) -> io::Result<Vec<u8>> {
+        let (_, bytes) = read_regular(&self.runtime, self.full(path)?.as_str(), most)?;
+        Ok(bytes)
+    }
+
     fn read_page(&mut self, path: &str) -> io::Result<(PageFile, Vec<u8>)> {
-        read_regular(&self.runtime, self.full(path)?.as_str())
+        read_regular(&self.runtime, self.full(path)?.as_str(), u64::MAX)
     }
 
     fn create(&mut self, path: &str, mode: u32) -> io::Result<File> {
@@ -232,15 +237,15 @@ impl Machine for HostRuntime {
     }
 }
 
-// Reads a regular file, and says which one that is. Whatever else is there isn't opened. If something else comes there before the file is opened,
+// Reads at most so many bytes of a regular file, and says which one that is. Whatever else is there isn't opened. If something else comes there before the file is opened,
 // the call fails after it opened that; the call may wait then, if that is a FIFO.
-fn read_regular(runtime: &HostRuntime, path: &str) -> io::Result<(PageFile, Vec<u8>)> {
+fn read_regular(runtime: &HostRuntime, path: &str, most: u64) -> io::Result<(PageFile, Vec<u8>)> {
     need_file(fs::symlink_metadata(runtime, path)?.file_type())?;
-    let mut file = fs::open(runtime, path)?;
+    let file = fs::open(runtime, path)?;
     let metadata = file.metadata()?;
     need_file(metadata.file_type())?;
     let mut bytes = Vec::new(runtime.alloc());
-    file.read_to_end(&mut bytes)?;
+    file.take(most).read_to_end(&mut bytes)?;
     Ok((PageFile::of(&found_of(&metadata)), bytes))
 }
 

@@ -115,6 +115,9 @@ const SECOND_HEAD: &str = "relmove journal 2\n";
 
 const END: &str = "end";
 
+// How many bytes the first line of a journal has.
+pub(crate) const HEAD_LENGTH: u64 = 18;
+
 /// Whether a text may be the beginning of a journal.
 pub(crate) fn begins_as_journal(bytes: &[u8]) -> bool {
     bytes.starts_with(HEAD.as_bytes()) || HEAD.as_bytes().starts_with(bytes)

@@ -10,7 +10,7 @@ use crate::actions::{
     sync_directory, write_whole,
 };
 use crate::fault::{Call, Fault, at, fault_of};
-use crate::journal::{Journal, Origin, begins_as_journal, journal_of, journal_text};
+use crate::journal::{HEAD_LENGTH, Journal, Origin, begins_as_journal, journal_of, journal_text};
 use crate::remark::Remark;
 use crate::staging_names::OWN_DIRECTORY;
 use crate::store::{Found, FoundKind, Store};
@@ -25,6 +25,13 @@ const NEW_JOURNAL: &str = ".relmove-journal";
 
 // A file that is removed if a journal finds no room.
 const SPARE: &str = ".relmove-spare";
+
+// How many bytes a journal may have: a GiB. A run with a longer one doesn't begin, and nothing longer is read.
+const LONGEST_JOURNAL: u64 = 1 << 30;
+
+// Who ends a run that stopped puts this file into the run's own directory, where no other run puts one. Where the lock of the
+// root does nothing, the run that is ended sees it, and stops.
+const END: &str = ".relmove-run/end";
 
 // The permissions of a run's own files.
 const PRIVATE: u32 = 0o600;
@@ -50,6 +57,8 @@ pub(crate) struct OwnFiles {
     journal: OwnFile,
     next: OwnFile,
     spare: OwnFile,
+    // The file of who ends the run.
+    end: OwnFile,
     // Whether the journal may be in its place.
     may_have_journal: bool,
 }
@@ -106,6 +115,7 @@ pub(crate) fn none_yet<S: Store>(store: &mut S) -> Result<OwnFiles, Fault> {
         journal: OwnFile::None,
         next: OwnFile::None,
         spare: OwnFile::None,
+        end: OwnFile::None,
         may_have_journal: false,
     })
 }
@@ -228,6 +238,7 @@ pub(crate) fn own_files_of<S: Store>(
         journal: OwnFile::Inode(found.inode),
         next: OwnFile::None,
         spare: OwnFile::None,
+        end: OwnFile::None,
         may_have_journal: true,
     })
 }
@@ -321,10 +332,10 @@ fn need_one_name<S: Store>(store: &mut S, found: &Found) -> Result<(), Fault> {
 
 // Reads the journal that was found.
 fn read_journal<S: Store>(store: &mut S, found: &Found) -> Result<Journal, Fault> {
-    if found.kind != FoundKind::File {
+    if found.kind != FoundKind::File || found.length > LONGEST_JOURNAL {
         return Err(Fault::NotAJournal);
     }
-    let read = store.read(JOURNAL);
+    let read = store.read_start(JOURNAL, LONGEST_JOURNAL);
     let bytes = at(store.alloc(), Call::Read, JOURNAL, read)?;
     match std::str::from_utf8(bytes.as_slice()) {
         Ok(text) => journal_of(store.alloc(), text),
@@ -362,7 +373,7 @@ fn is_beginning<S: Store>(store: &mut S, path: &str, found: &Found) -> Result<bo
     if found.length == 0 {
         return Ok(true);
     }
-    let read = store.read(path);
+    let read = store.read_start(path, HEAD_LENGTH);
     let bytes = at(store.alloc(), Call::Read, path, read)?;
     Ok(begins_as_journal(bytes.as_slice()))
 }
@@ -561,6 +572,9 @@ fn write_next<S: Store>(
         ..place
     };
     let text = journal_text(store.alloc(), origin, stage, work)?;
+    if text.len() as u64 > LONGEST_JOURNAL {
+        return Err(Fault::TooLong(copy_of(store, JOURNAL)?));
+    }
     write_private(store, &mut file, NEW_JOURNAL, text.as_str())?;
     Ok(origin)
 }
@@ -578,6 +592,47 @@ fn write_private<S: Store>(
     sync(store, file, path)
 }
 
+// Takes the run's own directory, if it is there: from now on another call that works on the run stops. On a disk without room
+// the directory isn't taken.
+pub(crate) fn take_directory<S: Store>(
+    store: &mut S,
+    ways: &mut Ways,
+    own: &mut OwnFiles,
+) -> Result<(), Fault> {
+    match find(store, OWN_DIRECTORY)? {
+        Some(found) if own.directory.may_be_directory(&found) => {}
+        _ => return Ok(()),
+    }
+    if find(store, END)?.is_some() {
+        remove_file(store, ways, END)?;
+    }
+    match create(store, ways, END, PRIVATE, &mut own.end) {
+        Err(Fault::OutOfMemory) => Err(Fault::OutOfMemory),
+        _ => Ok(()),
+    }
+}
+
+// Fails if another call took the run's own directory.
+pub(crate) fn need_untaken<S: Store>(store: &mut S, own: &OwnFiles) -> Result<(), Fault> {
+    match find(store, END)? {
+        None => Ok(()),
+        Some(found) if own.end.is(&found) => Ok(()),
+        Some(_) => Err(Fault::AtWork),
+    }
+}
+
+// Removes the file of who ends the run, if it is still there.
+fn remove_end<S: Store>(store: &mut S, own: &mut OwnFiles) -> Result<(), Fault> {
+    if let Some(found) = find_to_remove(store, END)?
+        && own.end.is(&found)
+    {
+        let removed = store.remove_file(END);
+        at(store.alloc(), Call::RemoveFile, END, removed)?;
+    }
+    own.end = OwnFile::None;
+    Ok(())
+}
+
 // Removes the run's own files. The journal is the last one. Notes what is left of the run's own directory.
 pub(crate) fn remove_all<S: Store>(
     store: &mut S,
@@ -586,6 +641,9 @@ pub(crate) fn remove_all<S: Store>(
 ) -> Result<(), Fault> {
     remove_own(store, NEW_JOURNAL, &mut own.next)?;
     remove_own(store, SPARE, &mut own.spare)?;
+    if own.end != OwnFile::None {
+        remove_end(store, own)?;
+    }
     remove_own_directory(store, own.directory, remarks)?;
     if !own.may_have_journal {
         return Ok(());

@@ -406,7 +406,9 @@ fn open<S: Store + Drop>(locked: Locked<S>, run: StoppedRun) -> Result<Worker<S>
     sync_directory(&mut store, "")?;
     let Journal { stage, work, .. } = journal;
     need_ways(&mut store, &work)?;
-    Ok(Worker::at(store, own, work, stage)?)
+    let mut worker = Worker::at(store, own, work, stage)?;
+    worker.take_directory()?;
+    Ok(worker)
 }
 
 // Goes on to the end. If a page was changed before it got its staging name, goes back.

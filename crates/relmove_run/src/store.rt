@@ -124,6 +124,9 @@ pub trait Store {
     /// The bytes of a regular file. Fails without opening it if something else is there.
     fn read(&mut self, path: &str) -> io::Result<Vec<u8>>;
 
+    /// The first bytes of a regular file, at most so many. Fails without opening it if something else is there.
+    fn read_start(&mut self, path: &str, most: u64) -> io::Result<Vec<u8>>;
+
     /// The bytes of a regular file, and which file was opened. Fails without opening it if something else is there.
     fn read_page(&mut self, path: &str) -> io::Result<(PageFile, Vec<u8>)>;
 

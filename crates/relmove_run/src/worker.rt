@@ -6,7 +6,9 @@ use crate::actions::{
 };
 use crate::fault::Fault;
 use crate::near::look_near;
-use crate::own_files::{OwnFiles, make_own_directory, put_first, put_next, remove_all};
+use crate::own_files::{
+    OwnFiles, make_own_directory, need_untaken, put_first, put_next, remove_all, take_directory,
+};
 use crate::remark::Remark;
 use crate::stages::{Action, MOST_STAGES, actions_of};
 use crate::store::{Found, FoundKind, Store};
@@ -112,9 +114,15 @@ impl<S: Store + Drop> Worker<S> {
         look_near(&mut self.store, directories, user, &mut self.remarks)
     }
 
+    // Takes the directory of a run that stopped.
+    pub(crate) fn take_directory(&mut self) -> Result<(), Fault> {
+        take_directory(&mut self.store, &mut self.ways, &mut self.own)
+    }
+
     // Ends a stage, and puts the journal of the next one in its place. The run is at that stage if the call returns
     // `Ok`. Otherwise the journal may say either stage.
     pub(crate) fn enter(&mut self, stage: Stage) -> Result<(), Fault> {
+        need_untaken(&mut self.store, &self.own)?;
         sync_stage(&mut self.store, &self.work, self.stage)?;
         put_next(&mut self.store, &mut self.own, stage, &self.work)?;
         self.stage = stage;

@@ -196,3 +196,29 @@ fn tells_what_a_killed_run_left(rt: HostRuntime) -> Result<(), Fail> {
     }
     Ok(())
 }
+
+// A file of 200 GB that takes no room.
+const HOLE: u64 = 200_000_000_000;
+
+// Of a file at a name of a run's own only as much is read as a journal can have.
+#[test]
+fn reads_no_more_than_a_journal_can_have(rt: HostRuntime) -> Result<(), Fail> {
+    let (alloc, case) = (rt.alloc(), &cases::SWAP);
+    let disk = disk_of(alloc, case.before)?;
+    disk.add("site/.relmove", file_of(alloc, "relmove journal 3\n")?)?;
+    disk.add_hole("site/.relmove", HOLE)?;
+    let reason = reason_of(alloc, Stranger::File)?;
+    is_refused(alloc, case, &disk, reason.as_str())?;
+    gives_reason(alloc, &undo_on(&disk), "NotAJournal")?;
+    for name in [".relmove-journal", ".relmove-spare"] {
+        let path = below_site(alloc, name)?;
+        let disk = disk_of(alloc, case.before)?;
+        disk.add(path.as_str(), file_of(alloc, "relmove journal 3\n")?)?;
+        disk.add_hole(path.as_str(), HOLE)?;
+        let reason = format!(in alloc; "LeftOver({name:?})")?;
+        is_refused(alloc, case, &disk, reason.as_str())?;
+        gives_reason(alloc, &undo_on(&disk), "NoJournal")?;
+        holds(alloc, name, &disk, case.before)?;
+    }
+    Ok(())
+}

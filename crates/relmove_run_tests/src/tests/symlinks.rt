@@ -250,7 +250,7 @@ fn removes_no_second_name_through_a_symlink(rt: HostRuntime) -> Result<(), Fail>
     let (_, disk) = run_and_fail(alloc, case, number, Way::Killed)?;
     disk.add("out", Content::Directory)?;
     disk.add_link("site/.relmove-run/1", "out/a.md")?;
-    disk.add("site/.relmove-run/3", symlink(alloc, "../out")?)?;
+    disk.add("site/.relmove-run/3", symlink(alloc, "../../out")?)?;
     let words = ".relmove-run/3 is no directory: a symbolic link or a file is there";
     stops_with(alloc, &resume_on(&disk), words)?;
     same("outside", &disk.has("out/a.md")?, &true)
