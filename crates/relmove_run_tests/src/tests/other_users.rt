@@ -1,8 +1,11 @@
 //! A journal that another user wrote is believed by nobody but root, and one that was written to another file by nobody.
 use crate::tests::reasons::{gives_reason, is_refused};
-use crate::tests::runs::{End, end_of, lock, remarks_of, resume_on, run, stopped_at, undo_on};
+use crate::tests::runs::{
+    End, end_of, first_call_with, lock, remarks_of, resume_on, run, run_and_fail, stopped_at,
+    undo_on,
+};
 use crate::tests::{cases, holds, same};
-use relmove_disk::{Disk, DiskStore, disk_of, file_of};
+use relmove_disk::{Disk, DiskStore, Way, disk_of, file_of};
 use relmove_run::{
     Found, Journal, Origin, Remark, Stage, Trust, journal_of, journal_text, need_rest, undo,
 };
@@ -34,6 +37,7 @@ fn forge(alloc: Global, disk: &Disk, origin: Origin) -> Result<(), Fail> {
 fn planted(alloc: Global) -> Result<Disk, Fail> {
     let disk = stopped_at(alloc, &cases::SWAP, Stage::Placing)?;
     disk.set_owner("site/.relmove", 7, 7)?;
+    disk.set_mode("site/.relmove", 0o644)?;
     let origin = Origin {
         owner: 7,
         ..journal_on(alloc, &disk)?.origin
@@ -69,9 +73,10 @@ fn lets_root_end_a_run_that_it_trusts(rt: HostRuntime) -> Result<(), Fail> {
 // On a full disk no file can be made: then a journal is believed where nobody but its owner can have written it.
 #[test]
 fn ends_its_own_run_on_a_full_disk(rt: HostRuntime) -> Result<(), Fail> {
-    let alloc = rt.alloc();
+    let (alloc, case) = (rt.alloc(), &cases::PAGE_CHANGES);
+    let number = first_call_with(alloc, case, "site/.relmove-run/9")?;
     for (mode, end) in [(0o755, End::TakenBack), (0o777, End::Refused)] {
-        let disk = stopped_at(alloc, &cases::PAGE_CHANGES, Stage::Writing)?;
+        let (_, disk) = run_and_fail(alloc, case, number, Way::Killed)?;
         disk.remove("site/.relmove-spare")?;
         disk.set_mode("site", mode)?;
         disk.leave_room(0)?;
