@@ -212,6 +212,12 @@ impl Disk {
         self.no_syncs.set(Some(why));
     }
 
+    /// From now on the disk finds a name also by one in another case.
+    pub fn ignore_case(&self) -> io::Result<()> {
+        self.nodes.try_borrow_mut()?.ignores_case = true;
+        Ok(())
+    }
+
     /// From now on a new file or directory doesn't get these permissions.
     pub fn set_mask(&self, mask: u32) {
         self.mask.set(mask);

@@ -32,6 +32,8 @@ pub(crate) struct Nodes {
     changes: Changes,
     // Who the process is that works on the disk.
     pub process: Owner,
+    // Whether a name is found by one in another case.
+    pub ignores_case: bool,
 }
 
 impl Nodes {
@@ -46,6 +48,7 @@ impl Nodes {
                 user: 1000,
                 group: 1000,
             },
+            ignores_case: false,
         }
     }
 
@@ -61,8 +64,16 @@ impl Nodes {
 
     /// The node to which a name leads.
     pub fn number_at(&self, path: &str) -> Option<usize> {
-        let name = self.names.iter().find(|name| name.path.as_str() == path)?;
+        let name = self
+            .names
+            .iter()
+            .find(|name| self.is_name(name.path.as_str(), path))?;
         Some(name.node)
+    }
+
+    // Whether a path leads to a name.
+    fn is_name(&self, name: &str, path: &str) -> bool {
+        name == path || self.ignores_case && name.eq_ignore_ascii_case(path)
     }
 
     // The node to which a name has to lead.
@@ -345,7 +356,8 @@ impl Nodes {
                 }
             }
         }
-        self.lose_power(self.changes.len())?;
+        let left = self.changes.len();
+        self.lose_power(left)?;
         Ok(has_both)
     }
 

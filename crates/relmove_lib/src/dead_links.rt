@@ -1,5 +1,6 @@
 //! Finds the links of pages that lead to nothing.
 use crate::position::{Position, Positions};
+use crate::presence::{Presence, presence_at};
 use crate::tree::{EntryKind, Page, Tree};
 use relative_path::RelativePath;
 use relative_path_links::{Target, targets};
@@ -15,6 +16,8 @@ pub enum WhyDead {
     Missing,
     /// It leads above the root.
     AboveRoot,
+    /// What is there has a name in another case, or in another form of Unicode. The file system takes one for the other.
+    OtherSpelling,
 }
 
 impl WhyDead {
@@ -23,6 +26,7 @@ impl WhyDead {
         match self {
             WhyDead::Missing => "nothing is there",
             WhyDead::AboveRoot => "it leads above the root",
+            WhyDead::OtherSpelling => "the name there has another case or form",
         }
     }
 }
@@ -113,17 +117,29 @@ fn why_dead<S: Store>(
         return Ok(Some(WhyDead::AboveRoot));
     }
     let file = file.as_relative_path().as_str();
-    let is_there = match tree.entries.get(file) {
-        Some(EntryKind::File | EntryKind::Other) => !is_of_directory(path),
-        Some(EntryKind::Directory) => true,
-        Some(EntryKind::Link(_)) => leads_somewhere(store, file)?,
-        None => file.is_empty() || leads_somewhere(store, file)?,
-    };
-    Ok(if is_there {
+    match presence_at(tree, file) {
+        Presence::There => Ok(missing_unless(!is_of_directory(path) || is_no_file(tree, file))),
+        Presence::Unknown => Ok(missing_unless(leads_somewhere(store, file)?)),
+        Presence::Absent if leads_somewhere(store, file)? => Ok(Some(WhyDead::OtherSpelling)),
+        Presence::Absent => Ok(Some(WhyDead::Missing)),
+    }
+}
+
+// Why a link is dead, if nothing is where it leads.
+fn missing_unless(is_there: bool) -> Option<WhyDead> {
+    if is_there {
         None
     } else {
         Some(WhyDead::Missing)
-    })
+    }
+}
+
+// Whether no file is at a path.
+fn is_no_file(tree: &Tree, path: &str) -> bool {
+    !matches!(
+        tree.entries.get(path),
+        Some(EntryKind::File | EntryKind::Other)
+    )
 }
 
 // Whether a path can only be a directory's.

@@ -7,15 +7,19 @@
 //! a call              program
 //! what is printed     report  summary
 //! whole pieces        dead_links  moving
-//! the work            tree
+//! questions           losses  writable
+//! where paths lead    seen  layout  walk
+//! the work            tree  presence
 //! what all share      position  arguments  progress
 //! ```
 #![tactic(auto)]
 
 pub use self::arguments::{Command, Effect, WrongCall, command_of};
 pub use self::dead_links::{DeadLink, WhyDead, dead_links_of};
+pub use self::losses::Loss;
 pub use self::moving::{
-    ChangedLink, LeftLink, Moving, WhyRefused, changed_links_of, is_directory, moving_of,
+    ChangedLink, LeftLink, LostSymlink, Moving, WhyLeft, WhyRefused, changed_links_of,
+    is_directory, moving_of,
 };
 pub use self::position::{Position, position_after};
 pub use self::program::{Status, answer};
@@ -24,10 +28,16 @@ pub use self::tree::{EntryKind, LONGEST_PAGE, Page, Tree, Unread, read_tree};
 
 mod arguments;
 mod dead_links;
+mod layout;
+mod losses;
 mod moving;
 mod position;
+mod presence;
 mod program;
 mod progress;
 pub mod report;
+mod seen;
 mod summary;
 mod tree;
+mod walk;
+mod writable;

@@ -4,17 +4,17 @@ ghost use Rattle.relative_path_links.specs.Site.{HaveTargets};
 ghost use Rattle.relmove_lib.specs.Pages.{AreTargetsOf};
 
 use crate::dead_links::leads_somewhere;
+use crate::losses::{Loss, Watch};
 use crate::position::{Position, Positions};
-use crate::tree::{EntryKind, Page, Tree, cannot_read};
+use crate::presence::{Presence, presence_at};
+use crate::tree::{EntryKind, Page, Tree, cannot_read, has_dot_name, has_path, is_read_directory};
 use relative_path::RelativePath;
 use relative_path_links::{
     MovedSitePage, SitePage, Target, Unchanged, are_in_order, rewrite_links, targets,
 };
-use relative_path_moves::{MoveTableError, MovedPage, TreeMoves};
+use relative_path_moves::{MoveTableError, MovedPage, TreeMoves, directory};
 use relmove_plan::{Entry, Kind, Plan, Refusal, make_plan};
-use relmove_run::{
-    Call, Fault, FoundKind, LONGEST_PATH, Store, at, is_absence, join, name_of, need_short,
-};
+use relmove_run::{Call, Fault, FoundKind, LONGEST_PATH, Store, at, is_absence, join, need_short};
 use std::alloc::{AllocError, AllocFailed, Global};
 use std::io::ErrorKind;
 use target_paths::{TargetReading, path_of_target};
@@ -68,7 +68,18 @@ impl From<MoveTableError> for WhyRefused {
     }
 }
 
-/// A link that stays as it is, although it no longer leads to its file, or may not.
+/// Why a link no longer leads to its file, or may not.
+#[derive(Clone, Copy, Debug, PartialEq, Eq)]
+pub enum WhyLeft {
+    /// No target can be written for it, or its file isn't known.
+    Unchanged(Unchanged),
+    /// It leads through a symbolic link, and not to its file after the moves.
+    Lost(Loss),
+    /// Its file has a name in another case, or in another form of Unicode, and the file system takes one for the other.
+    OtherSpelling,
+}
+
+/// A link that no longer leads to its file after the moves, or may not.
 #[derive(Clone, Copy, Debug)]
 pub struct LeftLink<'a> {
     /// The path of its page before the moves.
@@ -77,10 +88,19 @@ pub struct LeftLink<'a> {
     pub position: Position,
     /// Its target, as it is written.
     pub target: &'a str,
-    /// Why it stays.
-    pub why: Unchanged,
+    /// Why.
+    pub why: WhyLeft,
     /// Whether it leads to a file before the moves, or may.
     pub leads: bool,
+}
+
+/// A symbolic link that no longer leads to what it led to.
+#[derive(Clone, Copy, Debug)]
+pub struct LostSymlink<'a> {
+    /// Its path before the moves.
+    pub path: &'a str,
+    /// Where it leads.
+    pub loss: Loss,
 }
 
 /// A link that gets a new target.
@@ -101,8 +121,10 @@ pub struct ChangedLink<'a> {
 pub struct Moving<'a> {
     /// The plan.
     pub plan: Plan,
-    /// The links that stay, and no longer lead to their file, or may not.
+    /// The links that no longer lead to their file, or may not.
     pub left: Vec<LeftLink<'a>>,
+    /// The symbolic links that no longer lead to what they led to, and aren't among those of the plan.
+    pub lost: Vec<LostSymlink<'a>>,
     // The targets of each page.
     found: Vec<Vec<Target>>,
 }
@@ -111,7 +133,9 @@ pub struct Moving<'a> {
 /// tree gets a path that is too long for the system.
 ///
 /// Asks the system whether what the links that stay lead to is there, and for the names in directories that aren't read
-/// and get longer paths. What is above the root isn't asked for.
+/// and get longer paths. Of a link it asks for nothing else, unless the link leads through a symbolic link or into a
+/// directory that isn't read. Once it asks whether the file system ignores case. If it does, links that lead to no name
+/// that was read are asked for. What is above the root is asked for only where a symbolic link leads there.
 pub fn moving_of<'a, S: Store>(
     store: &mut S,
     tree: &'a Tree,
@@ -124,9 +148,15 @@ pub fn moving_of<'a, S: Store>(
     let found = found_targets(alloc, &tree.pages)?;
     let plan = plan_of(alloc, tree, &found, &pairs, any_name)?;
     need_directories(alloc, tree, moves)?;
-    need_short_paths(store, tree, &pairs)?;
-    let left = left_links(store, &tree.pages, &found, &plan.pages)?;
-    Ok(Moving { plan, left, found })
+    let table = TreeMoves::new(alloc, &pairs)?;
+    need_short_paths(store, tree, &pairs, &table)?;
+    let (left, lost) = losses_of(store, tree, &found, &plan, &table)?;
+    Ok(Moving {
+        plan,
+        left,
+        lost,
+        found,
+    })
 }
 
 /// Returns the links that moves change: those of a plan that [`moving_of`] made of the same moves in the same tree.
@@ -207,9 +237,9 @@ fn need_short_paths<S: Store>(
     store: &mut S,
     tree: &Tree,
     moves: &[(RelativePath<'_>, RelativePath<'_>)],
+    table: &TreeMoves<'_>,
 ) -> Result<(), WhyRefused> {
     let alloc = store.alloc();
-    let table = TreeMoves::new(alloc, moves)?;
     let most = most_added(store.root(), moves);
     for (path, kind) in &tree.entries {
         let path = path.as_str();
@@ -351,20 +381,8 @@ fn entries_of<'a>(alloc: Global, tree: &'a Tree) -> Result<Vec<Entry<'a>>, Alloc
 fn directory_kind<'a>(tree: &Tree, path: &str) -> Kind<'a> {
     Kind::Directory {
         has_foreign_name: has_path(&tree.unreadable_names, path),
-        is_read: !has_dot_name(path) && !has_path(&tree.unlisted, path),
+        is_read: is_read_directory(tree, path),
     }
-}
-
-// Whether a path is among sorted ones.
-fn has_path(paths: &[String], path: &str) -> bool {
-    paths
-        .binary_search_by(|other| other.as_str().cmp(path))
-        .is_ok()
-}
-
-// Whether the name at the end of a path begins with a dot.
-fn has_dot_name(path: &str) -> bool {
-    name_of(path).starts_with('.')
 }
 
 // The symbolic link with this target.
@@ -402,16 +420,35 @@ fn site_pages<'a>(
     Ok(site)
 }
 
-// The links that stay, and no longer lead to their file, or may not.
+// The links and the symbolic links that no longer lead to their file, or may not.
+fn losses_of<'a, S: Store>(
+    store: &mut S,
+    tree: &'a Tree,
+    found: &[Vec<Target>],
+    plan: &Plan,
+    table: &TreeMoves<'_>,
+) -> Result<(Vec<LeftLink<'a>>, Vec<LostSymlink<'a>>), Fault> {
+    let mut watch = Watch::new(store, tree, table, plan)?;
+    let left = left_links(store, &tree.pages, found, &plan.pages, &mut watch)?;
+    let lost = lost_symlinks(store, tree, plan, &mut watch)?;
+    Ok((left, lost))
+}
+
+// The links that no longer lead to their file, or may not.
 fn left_links<'a, S: Store>(
     store: &mut S,
     pages: &'a [Page],
     found: &[Vec<Target>],
     news: &[MovedSitePage],
+    watch: &mut Watch<'_>,
 ) -> Result<Vec<LeftLink<'a>>, Fault> {
     let mut left = Vec::new(store.alloc());
     for ((page, targets), new) in pages.iter().zip(found).zip(news) {
-        add_left_links(store, page, targets, new, &mut left)?;
+        if watch.sees_links() {
+            add_watched_links(store, page, targets, new, watch, &mut left)?;
+        } else {
+            add_left_links(store, page, targets, new, &mut left)?;
+        }
     }
     Ok(left)
 }
@@ -437,6 +474,34 @@ fn add_left_links<'a, S: Store>(
     Ok(())
 }
 
+// Adds the links of a page that stay, and those that no longer lead to their file although they have the target that the
+// plan gives them.
+fn add_watched_links<'a, S: Store>(
+    store: &mut S,
+    page: &'a Page,
+    targets: &[Target],
+    new: &MovedSitePage,
+    watch: &mut Watch<'_>,
+    left: &mut Vec<LeftLink<'a>>,
+) -> Result<(), Fault> {
+    let mut positions = Positions::new(page.text.as_str());
+    // Both lists are in the order of the page.
+    let mut unchanged = new.page.unchanged.as_slice();
+    for target in targets {
+        let link = match unchanged.split_first() {
+            Some(((start, why), rest)) if *start == target.start => {
+                unchanged = rest;
+                left_link(store, page, *target, *why, &mut positions)?
+            }
+            _ => watched_link(store, page, *target, watch, &mut positions)?,
+        };
+        if let Some(link) = link {
+            left.push(link)?;
+        }
+    }
+    Ok(())
+}
+
 // The link of a target that stays.
 fn left_link<'a, S: Store>(
     store: &mut S,
@@ -453,9 +518,100 @@ fn left_link<'a, S: Store>(
         page: page.path.as_str(),
         position,
         target: written,
-        why,
+        why: WhyLeft::Unchanged(why),
         leads,
     }))
+}
+
+// The link of a target that the plan changes or lets stay, if it no longer leads to its file, or may not.
+fn watched_link<'a, S: Store>(
+    store: &mut S,
+    page: &'a Page,
+    target: Target,
+    watch: &mut Watch<'_>,
+    positions: &mut Positions<'_>,
+) -> Result<Option<LeftLink<'a>>, Fault> {
+    let Some(written) = page.text.get(target.start..target.end) else {
+        return Ok(None);
+    };
+    if !watch.sees(written) {
+        return Ok(None);
+    }
+    let Some(file) = file_of(store.alloc(), page.path.as_str(), target, written)? else {
+        return Ok(None);
+    };
+    let Some(why) = why_left(store, file.as_str(), watch)? else {
+        return Ok(None);
+    };
+    let Some(position) = positions.at(target.start) else {
+        return Ok(None);
+    };
+    Ok(Some(LeftLink {
+        page: page.path.as_str(),
+        position,
+        target: written,
+        why,
+        leads: true,
+    }))
+}
+
+// The path below the root to which a target of a page leads, if it leads to one.
+fn file_of(
+    alloc: Global,
+    page: &str,
+    target: Target,
+    written: &str,
+) -> Result<Option<String>, AllocError> {
+    let TargetReading::Path { path, .. } = path_of_target(alloc, target.syntax, written)? else {
+        return Ok(None);
+    };
+    let directory = directory(RelativePath::new(page));
+    let file = directory.join_normalized(alloc, RelativePath::new(path.as_str()))?;
+    if file.as_relative_path().climb() > 0 {
+        return Ok(None);
+    }
+    Ok(Some(file.into_string()))
+}
+
+// Why a link that leads to this path no longer leads to its file after the moves, or may not.
+fn why_left<S: Store>(
+    store: &mut S,
+    file: &str,
+    watch: &mut Watch<'_>,
+) -> Result<Option<WhyLeft>, Fault> {
+    match presence_at(watch.tree, file) {
+        Presence::There => Ok(None),
+        Presence::Unknown => match watch.loss_of(store, file)? {
+            Some(loss) => Ok(Some(WhyLeft::Lost(loss))),
+            None => Ok(None),
+        },
+        Presence::Absent if watch.ignores_case && leads_somewhere(store, file)? => {
+            Ok(Some(WhyLeft::OtherSpelling))
+        }
+        Presence::Absent => Ok(None),
+    }
+}
+
+// The symbolic links that no longer lead to what they led to, but for those of the plan.
+fn lost_symlinks<'a, S: Store>(
+    store: &mut S,
+    tree: &'a Tree,
+    plan: &Plan,
+    watch: &mut Watch<'_>,
+) -> Result<Vec<LostSymlink<'a>>, Fault> {
+    let mut lost = Vec::new(store.alloc());
+    for (number, (path, kind)) in tree.entries.iter().enumerate() {
+        if matches!(kind, EntryKind::Link(_))
+            && !plan.links.iter().any(|notice| notice.entry == number)
+            && let Some(loss) = watch.loss_of(store, path.as_str())?
+        {
+            lost.push(LostSymlink {
+                path: path.as_str(),
+                loss,
+            })?;
+        }
+    }
+    Ok(lost)
 }
 
 // Where a target begins, and its text.

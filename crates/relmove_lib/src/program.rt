@@ -3,13 +3,14 @@ use crate::arguments::{Command, Effect, command_of};
 use crate::dead_links::{DeadLink, dead_links_of};
 use crate::moving::{Moving, moving_of};
 use crate::report::{
-    HELP, USAGE, print_changes, print_dead_link, print_dead_link_as_json, print_end,
-    print_remarks_as_json,
+    HELP, USAGE, print_changes, print_dead_link, print_dead_link_as_json, print_end, print_failure,
+    print_remarks_as_json, remarks_of,
 };
 use crate::summary::{
     Counts, counts_of, print_did, print_moving, print_moving_as_json, print_refused, print_would,
 };
 use crate::tree::{Tree, has_reserved_name, read_tree};
+use crate::writable::need_writable;
 use relmove_run::{
     Call, Ended, Fault, Locked, Machine, PageText, Printable, Remark, StoppedRun, Store, Trust,
     Way, carry_out, fault_of, need_no_journal_below, need_no_journal_near, need_no_own_files,
@@ -160,6 +161,7 @@ fn move_and_print<R: Machine, O: Write, E: Write>(
     let tree = read_whole(&mut store, errors)?;
     let (moving, counts, status) = plan(&mut store, &tree, moves, options, out, errors)?;
     need_possible(&mut store, &moving.plan.steps)?;
+    need_writable(&mut store, &tree, &moving.plan)?;
     let outcome = if options.json {
         Ok(())
     } else {
@@ -185,6 +187,7 @@ fn move_and_write<R: Machine, O: Write, E: Write>(
     let alloc = runtime.alloc();
     let directories = directories_of(alloc, &tree)?;
     let texts = old_texts(alloc, &tree, &moving)?;
+    need_writable(locked.store(), &tree, &moving.plan)?;
     let ended = carry_out(locked, moving.plan.steps, &texts, &directories);
     let done = (counts, status);
     Ok(print_run(alloc, root, ended, done, options, out, errors))
@@ -252,7 +255,8 @@ fn refuse<E: Write>(root: &str, fault: &Fault, errors: &mut E) -> Status {
 
 // The status of a run that does all of the plan.
 fn status_of_moving(moving: &Moving<'_>) -> Status {
-    if moving.plan.links.is_empty() && !moving.left.iter().any(|link| link.leads) {
+    let keeps_symlinks = moving.plan.links.is_empty() && moving.lost.is_empty();
+    if keeps_symlinks && !moving.left.iter().any(|link| link.leads) {
         Status::Kept
     } else {
         Status::LinksLeft
@@ -286,10 +290,8 @@ fn print_run<O: Write, E: Write>(
     out: &mut O,
     errors: &mut E,
 ) -> Status {
-    if options.json
-        && let Ended::Done(remarks) = &ended
-    {
-        return print_left_as_json(alloc, remarks, status, out);
+    if options.json {
+        return end_in_json(alloc, ended, root, status, out, errors);
     }
     if !is_done_whole(&ended) {
         return end(ended, root, out, errors);
@@ -300,20 +302,23 @@ fn print_run<O: Write, E: Write>(
     status
 }
 
-// Prints in JSON what a run left that did all of its plan. Returns the status of the call.
-fn print_left_as_json<O: Write>(
+// Prints in JSON what a run left, and in words on standard error why it failed. Returns the status of the call.
+fn end_in_json<O: Write, E: Write>(
     alloc: Global,
-    remarks: &[Remark],
+    ended: Ended,
+    root: &str,
     status: Status,
     out: &mut O,
+    errors: &mut E,
 ) -> Status {
-    // The work is done, whether this is printed or not.
-    let _ = print_remarks_as_json(alloc, out, remarks);
+    // The work is done or not, whether this is printed or not.
+    let _ = print_remarks_as_json(alloc, out, remarks_of(&ended));
     let _ = out.flush();
-    if remarks.is_empty() {
+    let _ = print_failure(errors, root, &ended);
+    if is_done_whole(&ended) {
         status
     } else {
-        Status::LinksLeft
+        status_of(&ended)
     }
 }
 

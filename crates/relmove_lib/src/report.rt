@@ -105,6 +105,42 @@ pub fn print_changes<W: Write>(out: &mut W, root: &str, changes: &[Change]) -> i
     out.flush()
 }
 
+// What a run left.
+pub(crate) fn remarks_of(ended: &Ended) -> &[Remark] {
+    match ended {
+        Ended::Done(remarks) => remarks,
+        Ended::TakenBack { remarks, .. } => remarks,
+        Ended::Stopped { remarks, .. } => remarks,
+        Ended::Refused(_) => &[],
+    }
+}
+
+// Prints why a run didn't end as it was to, without what it left.
+pub(crate) fn print_failure<W: Write>(out: &mut W, root: &str, ended: &Ended) -> io::Result<()> {
+    match ended {
+        Ended::Done(_) => Ok(()),
+        Ended::TakenBack { cause, remarks } => {
+            if let Some(cause) = cause {
+                print_fault(out, root, cause)?;
+            }
+            if remarks.is_empty() {
+                return Ok(());
+            }
+            print_state_before(out, root, remarks)
+        }
+        Ended::Refused(fault) => print_fault(out, root, fault),
+        Ended::Stopped {
+            stage,
+            fault,
+            has_journal,
+            ..
+        } => {
+            print_fault(out, root, fault)?;
+            print_stopped(out, root, *stage, *has_journal)
+        }
+    }
+}
+
 /// Prints how a run ended.
 pub fn print_end<W: Write>(out: &mut W, root: &str, ended: &Ended) -> io::Result<()> {
     match ended {
@@ -136,15 +172,7 @@ pub fn print_end<W: Write>(out: &mut W, root: &str, ended: &Ended) -> io::Result
         } => {
             print_fault(out, root, fault)?;
             print_remarks(out, root, remarks)?;
-            let root = Printable(root);
-            if *has_journal {
-                print_stopped(out, root, *stage)
-            } else {
-                writeln!(
-                    out,
-                    "relmove: stopped in the middle, and the journal .relmove in {root} can't be read: it isn't known where everything is. Call relmove with --resume and {root} to end the run."
-                )
-            }
+            print_stopped(out, root, *stage, *has_journal)
         }
     }
 }
@@ -158,13 +186,30 @@ fn print_fault<W: Write>(out: &mut W, root: &str, fault: &Fault) -> io::Result<(
 // Prints what a run that was taken back left.
 fn print_taken_back<W: Write>(out: &mut W, root: &str, remarks: &[Remark]) -> io::Result<()> {
     print_remarks(out, root, remarks)?;
+    print_state_before(out, root, remarks)
+}
+
+// Prints how everything is after a run that was taken back.
+fn print_state_before<W: Write>(out: &mut W, root: &str, remarks: &[Remark]) -> io::Result<()> {
     let root = Printable(root);
     let state = state_before(remarks);
     writeln!(out, "{root}: the run was taken back, {state}")
 }
 
-// Prints what is known of a run that stopped, whose journal says this stage.
-fn print_stopped<W: Write>(out: &mut W, root: Printable<'_>, stage: Stage) -> io::Result<()> {
+// Prints what is known of a run that stopped, and whose journal says this stage, if it was read.
+fn print_stopped<W: Write>(
+    out: &mut W,
+    root: &str,
+    stage: Stage,
+    has_journal: bool,
+) -> io::Result<()> {
+    let root = Printable(root);
+    if !has_journal {
+        return writeln!(
+            out,
+            "relmove: stopped in the middle, and the journal .relmove in {root} can't be read: it isn't known where everything is. Call relmove with --resume and {root} to end the run."
+        );
+    }
     let (state, commands) = (state_at(stage), commands_at(stage));
     writeln!(
         out,

@@ -1,5 +1,8 @@
 //! What a call that moves files prints.
-use crate::moving::{ChangedLink, LeftLink, Moving, WhyRefused, changed_links_of, is_directory};
+use crate::losses::Loss;
+use crate::moving::{
+    ChangedLink, LeftLink, LostSymlink, Moving, WhyLeft, WhyRefused, changed_links_of, is_directory,
+};
 use crate::position::Position;
 use crate::tree::Tree;
 use relative_path_links::{MovedSitePage, Unchanged};
@@ -78,7 +81,7 @@ pub fn counts_of(
     })
 }
 
-/// Prints what moves do: the pages that change, the links that stay, and symbolic links.
+/// Prints what moves do: the pages that change, the links that no longer lead to their file or may not, and symbolic links.
 pub fn print_moving<W: Write>(
     out: &mut W,
     root: &str,
@@ -95,7 +98,11 @@ pub fn print_moving<W: Write>(
     for link in &moving.left {
         print_left_link(out, root, link)?;
     }
-    print_notices(out, root, tree, &moving.plan.links)
+    print_notices(out, root, tree, &moving.plan.links)?;
+    for symlink in &moving.lost {
+        print_lost_symlink(out, root, symlink)?;
+    }
+    Ok(())
 }
 
 // Prints a page that changes: its path, its path before the moves if that is another, and how many links change.
@@ -119,7 +126,7 @@ fn print_changed_page<W: Write>(
     writeln!(out, "{page}, from {before}: {links}")
 }
 
-// Prints a link that stays.
+// Prints a link that no longer leads to its file, or may not.
 fn print_left_link<W: Write>(out: &mut W, root: &str, link: &LeftLink<'_>) -> io::Result<()> {
     let page = Below {
         root,
@@ -129,16 +136,37 @@ fn print_left_link<W: Write>(out: &mut W, root: &str, link: &LeftLink<'_>) -> io
     let (root, target) = (Printable(root), Printable(link.target));
     let why = why_left(link.why);
     match link.why {
-        Unchanged::AboveRoot => writeln!(
+        WhyLeft::Unchanged(Unchanged::AboveRoot) => writeln!(
             out,
             "{page}:{line}:{column}: {target} leads above {root}, left as it is"
         ),
-        _ => writeln!(out, "{page}:{line}:{column}: {target} {why}, left as it is"),
+        WhyLeft::Unchanged(_) => {
+            writeln!(out, "{page}:{line}:{column}: {target} {why}, left as it is")
+        }
+        WhyLeft::Lost(_) | WhyLeft::OtherSpelling => {
+            writeln!(out, "{page}:{line}:{column}: {target} {why}")
+        }
+    }
+}
+
+// Why a link no longer leads to its file, or may not, in words that follow its target.
+fn why_left(why: WhyLeft) -> &'static str {
+    match why {
+        WhyLeft::Unchanged(why) => why_unchanged(why),
+        WhyLeft::Lost(Loss::Nowhere) => {
+            "leads through a symbolic link, and to nothing after the moves"
+        }
+        WhyLeft::Lost(Loss::Elsewhere) => {
+            "leads through a symbolic link, and to something else after the moves"
+        }
+        WhyLeft::OtherSpelling => {
+            "leads to a name in another case or form, and may lead to nothing after the moves"
+        }
     }
 }
 
 // Why a link stays, in words that follow its target.
-fn why_left(why: Unchanged) -> &'static str {
+fn why_unchanged(why: Unchanged) -> &'static str {
     match why {
         Unchanged::AboveRoot => "leads above the root",
         Unchanged::NoPath => "leads to a file to which no path leads from the page",
@@ -198,6 +226,28 @@ fn why_noticed(notice: LinkNotice) -> &'static str {
     }
 }
 
+// Prints a symbolic link that no longer leads to what it led to.
+fn print_lost_symlink<W: Write>(
+    out: &mut W,
+    root: &str,
+    symlink: &LostSymlink<'_>,
+) -> io::Result<()> {
+    let path = Below {
+        root,
+        path: symlink.path,
+    };
+    let why = why_lost(symlink.loss);
+    writeln!(out, "{path}: this symbolic link {why}, left as it is")
+}
+
+// Why a symbolic link that no longer leads to what it led to is printed.
+fn why_lost(loss: Loss) -> &'static str {
+    match loss {
+        Loss::Nowhere => "leads to nothing after the moves",
+        Loss::Elsewhere => "leads to something else after the moves",
+    }
+}
+
 // The path of an entry of a tree.
 fn entry_at(tree: &Tree, number: usize) -> &str {
     for (at, (path, _)) in tree.entries.iter().enumerate() {
@@ -208,7 +258,8 @@ fn entry_at(tree: &Tree, number: usize) -> &str {
     ""
 }
 
-/// Prints what moves do, an object of JSON on each line: the links that change, the links that stay, and symbolic links.
+/// Prints what moves do, an object of JSON on each line: the links that change, the links that no longer lead to their file
+/// or may not, and symbolic links.
 pub fn print_moving_as_json<W: Write>(
     alloc: Global,
     out: &mut W,
@@ -222,7 +273,11 @@ pub fn print_moving_as_json<W: Write>(
     for link in &moving.left {
         print_left_link_as_json(alloc, out, link)?;
     }
-    print_notices_as_json(alloc, out, tree, &moving.plan.links)
+    print_notices_as_json(alloc, out, tree, &moving.plan.links)?;
+    for symlink in &moving.lost {
+        print_symlink_as_json(alloc, out, symlink.path, why_lost(symlink.loss))?;
+    }
+    Ok(())
 }
 
 // Prints a link that changes.
@@ -245,7 +300,7 @@ fn print_changed_link_as_json<W: Write>(
     writeln!(out, "{text}")
 }
 
-// Prints a link that stays.
+// Prints a link that no longer leads to its file, or may not.
 fn print_left_link_as_json<W: Write>(
     alloc: Global,
     out: &mut W,
@@ -278,21 +333,20 @@ fn print_notices_as_json<W: Write>(
         if let Some(notice) = next
             && notice.entry == number
         {
-            print_notice_as_json(alloc, out, path.as_str(), *notice)?;
+            print_symlink_as_json(alloc, out, path.as_str(), why_noticed(*notice))?;
             next = rest.next();
         }
     }
     Ok(())
 }
 
-// Prints a symbolic link that moves, or that leads to what moves.
-fn print_notice_as_json<W: Write>(
+// Prints a symbolic link, and why.
+fn print_symlink_as_json<W: Write>(
     alloc: Global,
     out: &mut W,
     link: &str,
-    notice: LinkNotice,
+    why: &str,
 ) -> io::Result<()> {
-    let why = why_noticed(notice);
     let object = json!(in alloc; { "link": link, "why": why })?;
     let text = object.to_string(alloc)?;
     writeln!(out, "{text}")

@@ -362,6 +362,28 @@ fn has_base(alloc: Global, text: &str) -> Result<bool, AllocError> {
     Ok(may_have && link_targets(alloc, text)?.has_base)
 }
 
+// Whether an entry of a tree is a directory.
+pub(crate) fn is_directory_entry(tree: &Tree, path: &str) -> bool {
+    matches!(tree.entries.get(path), Some(EntryKind::Directory))
+}
+
+// Whether the directory at a path is read: its name doesn't begin with a dot, and it can be listed.
+pub(crate) fn is_read_directory(tree: &Tree, path: &str) -> bool {
+    !has_dot_name(path) && !has_path(&tree.unlisted, path)
+}
+
+// Whether the name at the end of a path begins with a dot.
+pub(crate) fn has_dot_name(path: &str) -> bool {
+    name_of(path).starts_with('.')
+}
+
+// Whether a path is among sorted ones.
+pub(crate) fn has_path(paths: &[String], path: &str) -> bool {
+    paths
+        .binary_search_by(|other| other.as_str().cmp(path))
+        .is_ok()
+}
+
 // Whether a path has a reserved name: one that a run may give to what moves, or to a new text.
 pub(crate) fn has_reserved_name(path: &str) -> bool {
     name_of(path).starts_with(STAGING)

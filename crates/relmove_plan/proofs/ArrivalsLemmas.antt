@@ -18,11 +18,11 @@ use Rattle.relative_path_moves.specs.PlaceIndex.{IsNoneAt, path_at}
 use Rattle.relative_path_moves.specs.TreeMoves.{AtTreePath, IsLeftInPlace, IsTakenTo, IsTreeTarget, TakesAlong}
 use Rattle.relative_path_links.specs.declared.site.MovedSitePage.{MovedSitePage}
 use Rattle.relative_path_links.specs.declared.site.SitePage.{SitePage}
-use Rattle.relmove_plan.specs.declared.entry.Entry.{Entry}
-use Rattle.relmove_plan.specs.Moves.{is_own_step}
+use Rattle.relmove_checks.specs.declared.entry.Entry.{Entry}
+use Rattle.relmove_checks.specs.Moves.{is_own_step}
+use Rattle.relmove_checks.specs.Trees.{IsAfter, is_directory}
 use Rattle.relmove_plan.specs.Runs.{names_of, carried, renames_of, ComesTo, EntriesArrive, TextArrives}
-use Rattle.relmove_plan.specs.Steps.{StepTexts, ReplacesPage}
-use Rattle.relmove_plan.specs.Trees.{IsAfter, is_directory}
+use Rattle.relmove_steps.specs.Steps.{StepTexts, ReplacesPage}
 use Rattle.relmove_plan.specs.WholeTrees.{IsAt, LeadsToFile}
 use Rattle.relmove_plan.proofs.CarriedLemmas.{HasNoName, is_own, leaving}
 use Rattle.relmove_plan.proofs.CarriedLemmas as carrying

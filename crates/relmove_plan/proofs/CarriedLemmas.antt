@@ -8,14 +8,14 @@ use Rattle.std.proofs.lemmas.List.{get_or-map, get_or_append_left, get_or_defaul
 use Rattle.relative_path.specs.Steps.{Step, components, name, slash}
 use Rattle.relative_path_moves.specs.Moves.{Move}
 use Rattle.relative_path_moves.specs.PlaceIndex.{IsNoneAt}
-use Rattle.relmove_plan.specs.BetweenNames.{AreFreeNames, numbered_name}
-use Rattle.relmove_plan.specs.Moves.{is_own_step}
+use Rattle.relmove_checks.specs.Moves.{is_own_step}
+use Rattle.relmove_checks.specs.Trees.{entry_paths}
+use Rattle.relmove_checks.specs.declared.entry.Entry.{Entry}
+use Rattle.relmove_steps.specs.BetweenNames.{AreFreeNames, numbered_name}
 use Rattle.relmove_plan.specs.Runs.{carried, names_of, rename_places, renames_of}
-use Rattle.relmove_plan.specs.Steps.{Carries, LeavesFrom, StepTexts, names_come, names_left}
-use Rattle.relmove_plan.specs.Trees.{entry_paths}
-use Rattle.relmove_plan.specs.declared.entry.Entry.{Entry}
+use Rattle.relmove_steps.specs.Steps.{Carries, LeavesFrom, StepTexts, names_come, names_left}
 use Rattle.relmove_plan.proofs.KnownRunsLemmas.{IsKnownRun}
-use Rattle.relmove_plan.proofs.NamesLemmas.{AreFreeNames-IsPermutation}
+use Rattle.relmove_steps.proofs.ForCallers.{AreFreeNames-IsPermutation}
 use Rattle.relmove_plan.proofs.PlacesLemmas.{IsBelow-joined, names_of-names}
 use Rattle.relmove_plan.proofs.RunsLemmas.{IsUnder, IsUnder-shorter, carried-append, carried-by, carried-elsewhere}
 use Rattle.relmove_plan.proofs.SourcesLemmas.{IsFrom-apart, IsSource, IsSource-leaves, IsUnder-first, element}

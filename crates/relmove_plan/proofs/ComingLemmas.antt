@@ -10,9 +10,9 @@ use Rattle.relative_path.proofs.ForCallers.{IsSame-place, IsSame-sym, IsSame-tra
 use Rattle.relative_path_moves.specs.Moves.{Move, move_at}
 use Rattle.relative_path_moves.specs.PlaceIndex.{IsNoneAt, path_at}
 use Rattle.relative_path_moves.specs.TreeMoves.{AtTreePath, IsTreeTarget}
-use Rattle.relmove_plan.specs.declared.entry.Entry.{Entry}
+use Rattle.relmove_checks.specs.declared.entry.Entry.{Entry}
 use Rattle.relmove_plan.specs.Runs.{names_of}
-use Rattle.relmove_plan.specs.Steps.{StepTexts, Carries, LeavesFrom, of_move, of_page, of_text, names_come}
+use Rattle.relmove_steps.specs.Steps.{StepTexts, Carries, LeavesFrom, of_move, of_page, of_text, names_come}
 use Rattle.relmove_plan.specs.WholeTrees.{IsAt}
 use Rattle.relmove_plan.proofs.CarriedLemmas.{HasNoName}
 use Rattle.relmove_plan.proofs.CarriedLemmas as carrying

@@ -14,11 +14,11 @@ use Rattle.relative_path.proofs.ForCallers.{IsSame-refl, walk-names}
 use Rattle.relative_path_moves.specs.Moves.{Move, move_at}
 use Rattle.relative_path_moves.specs.PlaceIndex.{IsNoneAt, path_at}
 use Rattle.relative_path_moves.specs.TreeMoves.{IsLeftInPlace, IsTakenTo, IsTreeTarget, TakesAlong}
-use Rattle.relmove_plan.specs.declared.entry.Entry.{Entry}
-use Rattle.relmove_plan.specs.Directories.{LeaveToNames}
+use Rattle.relmove_checks.specs.declared.entry.Entry.{Entry}
+use Rattle.relmove_checks.specs.Trees.{IsAfter, entry_paths, is_directory}
+use Rattle.relmove_steps.specs.Directories.{LeaveToNames}
 use Rattle.relmove_plan.specs.Runs.{carried, renames_of}
-use Rattle.relmove_plan.specs.Steps.{StepTexts}
-use Rattle.relmove_plan.specs.Trees.{IsAfter, entry_paths, is_directory}
+use Rattle.relmove_steps.specs.Steps.{StepTexts}
 use Rattle.relmove_plan.specs.WholeTrees.{IsAt}
 use Rattle.relmove_plan.proofs.KnownRunsLemmas.{IsKnownRun}
 use Rattle.relmove_plan.proofs.CarriedLemmas.{leaving}

@@ -14,12 +14,12 @@ use Rattle.relative_path_moves.specs.Moves.{Move}
 use Rattle.relative_path_moves.specs.PlaceIndex.{IsNoneAt, path_at}
 use Rattle.relative_path_moves.specs.TreeMoves.{IsTreeTarget}
 use Rattle.relative_path_moves.proofs.ForCallers.{AtTreePath-same, IsTreeTarget-only}
-use Rattle.relmove_plan.specs.declared.entry.Entry.{Entry}
+use Rattle.relmove_checks.specs.declared.entry.Entry.{Entry}
+use Rattle.relmove_checks.specs.Trees.{IsAfter, entry_paths}
+use Rattle.relmove_checks.proofs.ForCallers.{AllZip-at}
 use Rattle.relmove_plan.specs.Runs.{names_of, rename_places, carried, renames_of, IsThereAfter, NothingInTheWay}
-use Rattle.relmove_plan.specs.Steps.{StepTexts}
-use Rattle.relmove_plan.specs.Trees.{IsAfter, entry_paths}
+use Rattle.relmove_steps.specs.Steps.{StepTexts}
 use Rattle.relmove_plan.specs.WholeTrees.{IsAt}
-use Rattle.relmove_plan.proofs.AboveLemmas.{AllZip-at}
 use Rattle.relmove_plan.proofs.CarriedLemmas.{HasNoName, coming, is_own, is_own-numbered, leaving}
 use Rattle.relmove_plan.proofs.CarriedLemmas as carrying
 use Rattle.relmove_plan.proofs.ArrivalsLemmas as arrivals

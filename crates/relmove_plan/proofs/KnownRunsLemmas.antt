@@ -4,13 +4,13 @@ use Rattle.relative_path.specs.Steps.{Step, name, components}
 use Rattle.relative_path.specs.Normalizing.{IsNormalTextOf}
 use Rattle.relative_path_moves.specs.Moves.{Move}
 use Rattle.relative_path_moves.specs.TreeMoves.{AtTreePath}
-use Rattle.relmove_plan.specs.declared.entry.Entry.{Entry}
-use Rattle.relmove_plan.specs.BetweenNames.{AreFreeNames}
-use Rattle.relmove_plan.specs.Moves.{EachMove}
-use Rattle.relmove_plan.specs.NewFiles.{HaveOwnFiles, LeaveOnce}
-use Rattle.relmove_plan.specs.Plan.{IsAccepted}
-use Rattle.relmove_plan.specs.Steps.{StepTexts, AboveFirst, BelowFirst, Carries, DoesMove, LosesNothing, OnlyTheseLeave, RemovesAt, names_left}
-use Rattle.relmove_plan.specs.Trees.{entry_paths}
+use Rattle.relmove_checks.specs.declared.entry.Entry.{Entry}
+use Rattle.relmove_checks.specs.Moves.{EachMove}
+use Rattle.relmove_checks.specs.Plan.{IsAccepted}
+use Rattle.relmove_checks.specs.Trees.{entry_paths}
+use Rattle.relmove_steps.specs.BetweenNames.{AreFreeNames}
+use Rattle.relmove_steps.specs.NewFiles.{HaveOwnFiles, LeaveOnce}
+use Rattle.relmove_steps.specs.Steps.{StepTexts, AboveFirst, BelowFirst, Carries, DoesMove, LosesNothing, OnlyTheseLeave, RemovesAt, names_left}
 use Rattle.relmove_plan.specs.WholeTrees.{LeadsToFile, IsWhole}
 
 -- the new text of the page where the components lead is written to a file, and carried to where the moves take the page

@@ -13,12 +13,12 @@ use Rattle.relative_path.proofs.ForCallers.{IsSame-place, IsSame-sym, IsSame-tra
 use Rattle.relative_path_moves.specs.Moves.{Move, move_at}
 use Rattle.relative_path_moves.specs.PlaceIndex.{IsNoneAt}
 use Rattle.relative_path_moves.specs.TreeMoves.{AtTreePath, IsTreeTarget, TakesAlong}
-use Rattle.relmove_plan.specs.declared.entry.Entry.{Entry}
-use Rattle.relmove_plan.specs.Directories.{AreMade, IsMissingText, IsTakenTo, LeavesTo, LeaveToNames, moves_to_names}
-use Rattle.relmove_plan.specs.Moves.{move_of}
+use Rattle.relmove_checks.specs.declared.entry.Entry.{Entry}
+use Rattle.relmove_checks.specs.Moves.{move_of}
+use Rattle.relmove_checks.specs.Trees.{HasAt, is_file}
+use Rattle.relmove_steps.specs.Directories.{AreMade, IsMissingText, IsTakenTo, LeavesTo, LeaveToNames, moves_to_names}
 use Rattle.relmove_plan.specs.Runs.{names_of, carried, IsMadeFor, DirectoriesArrive}
-use Rattle.relmove_plan.specs.Steps.{StepTexts, names_left}
-use Rattle.relmove_plan.specs.Trees.{HasAt, is_file}
+use Rattle.relmove_steps.specs.Steps.{StepTexts, names_left}
 use Rattle.relmove_plan.proofs.CarriedLemmas.{HasNoName, coming, is_own}
 use Rattle.relmove_plan.proofs.CarriedLemmas as carrying
 use Rattle.relmove_plan.proofs.ArrivalsLemmas as arrivals

@@ -14,15 +14,15 @@ use Rattle.relative_path.proofs.ForCallers.{components-place, walk-names}
 use Rattle.relative_path_moves.specs.Moves.{Move, move_at}
 use Rattle.relative_path_moves.specs.PlaceIndex.{IsNoneAt, path_at}
 use Rattle.relative_path_moves.specs.TreeMoves.{IsLeftInPlace, IsTreeTarget}
-use Rattle.relmove_plan.specs.declared.entry.Entry.{Entry}
-use Rattle.relmove_plan.specs.Directories.{HaveTextOf, IsMissing, IsMissingText, MakesMissing, moves_to_names}
-use Rattle.relmove_plan.specs.Directories as specs
-use Rattle.relmove_plan.specs.Moves.{move_of}
-use Rattle.relmove_plan.specs.Refusals.{turned}
+use Rattle.relmove_checks.specs.declared.entry.Entry.{Entry}
+use Rattle.relmove_checks.specs.Moves.{move_of}
+use Rattle.relmove_checks.specs.Refusals.{turned}
+use Rattle.relmove_checks.proofs.ForCallers.{AllZip-at}
+use Rattle.relmove_steps.specs.Directories.{HaveTextOf, IsMissing, IsMissingText, MakesMissing, moves_to_names}
+use Rattle.relmove_steps.specs.Directories as specs
 use Rattle.relmove_plan.specs.Runs.{names_of, rename_places, carried, renames_of, CanBeMade, CanCome, HasMadeDirectory, HasOldDirectory, IsOpen, IsThereAfter}
-use Rattle.relmove_plan.specs.Steps.{StepTexts}
+use Rattle.relmove_steps.specs.Steps.{StepTexts}
 use Rattle.relmove_plan.specs.WholeTrees.{HasDirectoryAt, IsAt, LeadsToFile}
-use Rattle.relmove_plan.proofs.AboveLemmas.{AllZip-at}
 use Rattle.relmove_plan.proofs.KnownRunsLemmas.{IsKnownRun}
 use Rattle.relmove_plan.proofs.CarriedLemmas.{HasNoName, coming, leaving}
 use Rattle.relmove_plan.proofs.CarriedLemmas as carrying

@@ -19,27 +19,27 @@ use Rattle.relative_path_moves.specs.Moves.{Move, AreApart}
 use Rattle.relative_path_moves.specs.PlaceIndex.{path_at}
 use Rattle.relative_path_moves.specs.TreeMoves.{AtTreePath}
 use Rattle.relative_path_moves.proofs.ForCallers.{IsTreeTarget-only}
-use Rattle.relmove_plan.specs.declared.entry.Entry.{Entry}
-use Rattle.relmove_plan.specs.declared.pages.ChangedPage.{ChangedPage}
+use Rattle.relmove_checks.specs.declared.entry.Entry.{Entry}
+use Rattle.relmove_checks.specs.Moves.{EachMove}
+use Rattle.relmove_checks.specs.Plan.{IsAccepted}
+use Rattle.relmove_checks.specs.Trees.{AreAfter, AreDistinct, entry_paths}
+use Rattle.relmove_checks.proofs.ForCallers.{AllZip-at}
+use Rattle.relmove_steps.specs.declared.changed.ChangedPage.{ChangedPage}
 use Rattle.relmove_actions.specs.declared.steps.Steps.{Steps}
-use Rattle.relmove_plan.specs.BetweenNames.{AreFreeNames}
-use Rattle.relmove_plan.specs.Moves.{EachMove}
-use Rattle.relmove_plan.specs.NewFiles.{HaveOwnFiles, LeaveOnce}
-use Rattle.relmove_plan.specs.Pages.{page_paths}
-use Rattle.relmove_plan.specs.Plan.{IsAccepted}
-use Rattle.relmove_plan.specs.Directories.{MakesMissing}
+use Rattle.relmove_steps.specs.BetweenNames.{AreFreeNames}
+use Rattle.relmove_steps.specs.NewFiles.{HaveOwnFiles, LeaveOnce}
+use Rattle.relmove_steps.specs.Pages.{page_paths}
+use Rattle.relmove_steps.specs.Directories.{MakesMissing}
 use Rattle.relmove_plan.specs.Runs.{CanBeMade, CanCome, DirectoriesArrive, EntriesArrive, NothingInTheWay, TextsArrive}
-use Rattle.relmove_plan.specs.Steps.{AboveFirst, BelowFirst, DoesMove, LosesNothing, OnlyTheseLeave, RemovesAt, ReplacesPages, WritesPages, changed_paths, names_left, pages_written, rename_text, step_texts}
-use Rattle.relmove_plan.specs.Trees.{AreAfter, AreDistinct, entry_paths}
+use Rattle.relmove_steps.specs.Steps.{AboveFirst, BelowFirst, DoesMove, LosesNothing, OnlyTheseLeave, RemovesAt, ReplacesPages, WritesPages, changed_paths, names_left, pages_written, rename_text, step_texts}
 use Rattle.relmove_plan.specs.WholeTrees.{IsWhole, LeadsToFile}
-use Rattle.relmove_plan.proofs.AboveLemmas.{AllZip-at}
 use Rattle.relmove_plan.proofs.FreeWaysLemmas.{NothingInTheWay-steps}
 use Rattle.relmove_plan.proofs.KnownRunsLemmas.{IsKnownRun, IsReplaced}
 use Rattle.relmove_plan.proofs.SourcesLemmas.{element}
 use Rattle.relmove_plan.proofs.ArrivalsLemmas.{EntriesArrive-steps, TextArrives-page}
 use Rattle.relmove_plan.proofs.MadeLemmas.{DirectoriesArrive-made}
 use Rattle.relmove_plan.proofs.OpenLemmas.{CanBeMade-made, CanCome-steps}
-use Rattle.relmove_plan.proofs.NewFilesLemmas.{components-free}
+use Rattle.relmove_steps.proofs.ForCallers.{components-free}
 
 -- each entry has one path after the moves
 pub AreAfter-only : (moves : List Move) (entries : List Entry) (one other : List (List ℕ)) → AreApart moves

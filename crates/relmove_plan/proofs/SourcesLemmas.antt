@@ -11,13 +11,13 @@ use Rattle.relative_path_moves.specs.Moves.{Move, move_at}
 use Rattle.relative_path_moves.specs.Places.{directory}
 use Rattle.relative_path_moves.specs.PlaceIndex.{IsNoneAt, path_at}
 use Rattle.relative_path_moves.specs.TreeMoves.{TakesAlong}
-use Rattle.relmove_plan.specs.declared.entry.Entry.{Entry}
-use Rattle.relmove_plan.specs.BetweenNames.{numbered_name}
-use Rattle.relmove_plan.specs.Moves.{EachMove}
-use Rattle.relmove_plan.specs.NewFiles.{HaveOwnFiles, IsNextTo}
+use Rattle.relmove_checks.specs.declared.entry.Entry.{Entry}
+use Rattle.relmove_checks.specs.Moves.{EachMove}
+use Rattle.relmove_checks.specs.Trees.{IsThere, IsOldFine, entry_paths, is_directory}
+use Rattle.relmove_steps.specs.BetweenNames.{numbered_name}
+use Rattle.relmove_steps.specs.NewFiles.{HaveOwnFiles, IsNextTo}
 use Rattle.relmove_plan.specs.Runs.{names_of}
-use Rattle.relmove_plan.specs.Steps.{StepTexts, LeavesFrom, of_move, of_page, of_text, names_left}
-use Rattle.relmove_plan.specs.Trees.{IsThere, IsOldFine, entry_paths, is_directory}
+use Rattle.relmove_steps.specs.Steps.{StepTexts, LeavesFrom, of_move, of_page, of_text, names_left}
 use Rattle.relmove_plan.specs.WholeTrees.{IsAt, IsHeld, LeadsToFile, IsWhole}
 use Rattle.relmove_plan.proofs.PlacesLemmas.{joined-names, names_of-normal, names_of-names, spelled-place}
 use Rattle.relmove_plan.proofs.RunsLemmas.{IsUnder}

@@ -8,9 +8,9 @@ use Rattle.relative_path.specs.Steps.{Step, name, slash}
 use Rattle.relative_path.proofs.ForCallers.{walk-names}
 use Rattle.relative_path_moves.specs.Moves.{Move, move_at}
 use Rattle.relative_path_moves.specs.PlaceIndex.{path_at}
-use Rattle.relmove_plan.specs.declared.entry.Entry.{Entry}
+use Rattle.relmove_checks.specs.declared.entry.Entry.{Entry}
 use Rattle.relmove_plan.specs.Runs.{names_of, rename_places, carried, renames_of, IsThereAfter}
-use Rattle.relmove_plan.specs.Steps.{StepTexts, LeavesFrom, of_move, of_page, of_text, names_come, names_left}
+use Rattle.relmove_steps.specs.Steps.{StepTexts, LeavesFrom, of_move, of_page, of_text, names_come, names_left}
 use Rattle.relmove_plan.specs.WholeTrees.{IsAt}
 use Rattle.relmove_plan.proofs.CarriedLemmas.{HasNoName, coming, is_own, leaving}
 use Rattle.relmove_plan.proofs.CarriedLemmas as carrying

@@ -1,11 +1,2 @@
-pub mod Moves
-pub mod Trees
-pub mod Refusals
-pub mod Pages
-pub mod Plan
-pub mod Steps
-pub mod BetweenNames
-pub mod Directories
-pub mod NewFiles
 pub mod WholeTrees
 pub mod Runs

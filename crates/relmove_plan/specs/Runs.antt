@@ -11,11 +11,11 @@ use Rattle.relative_path_links.specs.declared.site.SitePage.{SitePage}
 use Rattle.relative_path_moves.specs.Moves.{Move}
 use Rattle.relative_path_moves.specs.PlaceIndex.{IsNoneAt}
 use Rattle.relative_path_moves.specs.TreeMoves.{AtTreePath}
-use Rattle.relmove_plan.specs.declared.entry.Entry.{Entry}
-use Rattle.relmove_plan.specs.declared.pages.ChangedPage.{ChangedPage}
-use Rattle.relmove_plan.specs.Directories.{AreMissing}
-use Rattle.relmove_plan.specs.Steps.{StepTexts}
-use Rattle.relmove_plan.specs.Trees.{AreAfter}
+use Rattle.relmove_checks.specs.declared.entry.Entry.{Entry}
+use Rattle.relmove_checks.specs.Trees.{AreAfter}
+use Rattle.relmove_steps.specs.declared.changed.ChangedPage.{ChangedPage}
+use Rattle.relmove_steps.specs.Directories.{AreMissing}
+use Rattle.relmove_steps.specs.Steps.{StepTexts}
 use Rattle.relmove_plan.specs.WholeTrees.{HasDirectoryAt, IsAt}
 
 -- the names of a path, in order

@@ -4,8 +4,8 @@ use Rattle.std.specs.List.{All, Any}
 use Rattle.relative_path.specs.Steps.{Step}
 use Rattle.relative_path.specs.RelativePath.{path_components}
 use Rattle.relative_path.specs.Walk.{place_of}
-use Rattle.relmove_plan.specs.declared.entry.Entry.{Entry}
-use Rattle.relmove_plan.specs.Trees.{AreDistinct, entry_paths, is_directory}
+use Rattle.relmove_checks.specs.declared.entry.Entry.{Entry}
+use Rattle.relmove_checks.specs.Trees.{AreDistinct, entry_paths, is_directory}
 
 -- the entry is at the place; it is a directory, or it is none
 pub record IsAt (directory : Bool) (place : List (List ℕ)) (entry : Entry) : Type 0 where

@@ -3,31 +3,17 @@
 //! from the theorems that these crates show to callers.
 //!
 //! ```text
-//! the plan              plan
-//! its parts             pages  symbolic  renames  directories  order
-//! what moves may not    after  refused  allowed
-//! what they need        between  foreign  above
-//! what all share        entry  refusal
+//! the plan     plan
+//! its parts    pages  symbolic
 //! ```
 #![tactic(auto)]
 
-pub use self::entry::{Entry, Kind};
-pub use self::pages::{ChangedPage, have_targets};
+pub use self::pages::have_targets;
 pub use self::plan::{Plan, Tree, make_plan};
-pub use self::refusal::Refusal;
 pub use self::symbolic::LinkNotice;
+pub use relmove_checks::{Entry, Kind, Refusal};
+pub use relmove_steps::ChangedPage;
 
-mod above;
-mod after;
-mod allowed;
-mod between;
-mod directories;
-mod entry;
-mod foreign;
-mod order;
 mod pages;
 mod plan;
-mod refusal;
-mod refused;
-mod renames;
 mod symbolic;

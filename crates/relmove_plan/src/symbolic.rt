@@ -1,7 +1,7 @@
 //! Symbolic links that moves concern.
-use crate::entry::{Entry, Kind};
 use relative_path::RelativePath;
 use relative_path_moves::{NormalPath, TreeMoves};
+use relmove_checks::{Entry, Kind};
 use std::alloc::{AllocError, Global};
 
 /// A symbolic link that moves, or that leads to what moves. It keeps its path, and may lead elsewhere then.

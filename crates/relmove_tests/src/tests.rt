@@ -5,9 +5,11 @@ use std::fmt::Debug;
 use std::test::Fail;
 
 mod arguments;
+mod closed;
 mod ends;
 mod json;
 mod left_alone;
+mod lost;
 mod moving;
 mod outputs;
 mod progress;
@@ -27,4 +29,15 @@ fn same<T: PartialEq + Debug>(case: &str, found: &T, expected: &T) -> Result<(),
 fn holds(alloc: Global, case: &str, disk: &Disk, places: &[Place]) -> Result<(), Fail> {
     let expected = disk_of(alloc, places)?;
     same(case, &disk.listing()?, &expected.listing()?)
+}
+
+// Words, and more words after them.
+fn words_of(
+    alloc: Global,
+    words: &[&'static str],
+    more: &[&'static str],
+) -> Result<Vec<&'static str>, Fail> {
+    let mut all = Vec::from_slice(alloc, words)?;
+    all.extend_from_slice(more)?;
+    Ok(all)
 }

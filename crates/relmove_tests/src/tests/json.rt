@@ -79,6 +79,45 @@ fn prints_what_a_run_leaves(rt: HostRuntime) -> Result<(), Fail> {
     prints_left(rt.alloc(), WRITE, (CHANGED, REMARK))
 }
 
+// What a run prints that was taken back without a page that somebody removed.
+const GONE: &str =
+    "{\"remark\":\"neither guide/o.md nor .relmove-run/1 is there: another program removed it\"}\n";
+
+const TAKEN_BACK: &str =
+    "relmove: site: guide/o.md was changed while the run worked, so the run was taken back\nsite: the run was taken back, and all else is as before\n";
+
+// Removes a page before a call of the run, once it has its staging name. Whether the run went back by itself. Then it prints
+// what it left in JSON, and why on standard error.
+fn prints_what_is_gone(alloc: Global, number: u32) -> Result<bool, Fail> {
+    let disk = disk_of(alloc, SITE)?;
+    disk.remove_before(number, moving::STAGED)?;
+    let (mut out, mut errors) = (Vec::new(alloc), Vec::new(alloc));
+    let status = answer(&DiskMachine(&disk), WRITE, &mut out, &mut errors);
+    if status != Status::LinksLeft {
+        return Ok(false);
+    }
+    let mut expected = String::from_str(alloc, CHANGED)?;
+    expected.push_str(GONE)?;
+    let (out, errors) = (String::from_utf8(out)?, String::from_utf8(errors)?);
+    same("a remark", &out.as_str(), &expected.as_str())?;
+    same("the reason", &errors.as_str(), &TAKEN_BACK)?;
+    Ok(true)
+}
+
+#[test]
+fn prints_what_a_run_leaves_that_is_taken_back(rt: HostRuntime) -> Result<(), Fail> {
+    let disk = disk_of(rt.alloc(), SITE)?;
+    let (mut out, mut errors) = (Vec::new(rt.alloc()), Vec::new(rt.alloc()));
+    answer(&DiskMachine(&disk), WRITE, &mut out, &mut errors);
+    // The page has its staging name for more than three calls before the run looks for it.
+    for number in (1..=disk.calls()).step_by(3) {
+        if prints_what_is_gone(rt.alloc(), number)? {
+            return Ok(());
+        }
+    }
+    Err(Fail::new("no run went back"))
+}
+
 const IN_WORDS: &str =
     "site: can't remove guide: other error; this directory stays\nsite: everything is at its new path\n";
 

@@ -477,10 +477,13 @@ fn stops_in_the_middle(rt: HostRuntime) -> Result<(), Fail> {
 /// What a call of [`WRITE`] prints before it moves anything.
 pub const PLANNED: &str = "site/n.md, from site/guide/o.md: 1 link\nsite/index.md: 2 links\n";
 
+/// The staging name of what moves first.
+pub const STAGED: &str = "site/.relmove-run/1";
+
 // Removes a page before a call of the run, once it has its staging name. Whether the run went back by itself and said so.
 fn says_what_is_gone(alloc: Global, number: u32) -> Result<bool, Fail> {
     let disk = disk_of(alloc, SITE)?;
-    disk.remove_before(number, "site/.relmove-run/1")?;
+    disk.remove_before(number, STAGED)?;
     let (mut out, mut errors) = (Vec::new(alloc), Vec::new(alloc));
     let status = answer(&DiskMachine(&disk), WRITE, &mut out, &mut errors);
     if status != Status::LinksLeft {

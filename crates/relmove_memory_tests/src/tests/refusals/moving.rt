@@ -2,10 +2,19 @@
 use super::marks::{begin, end};
 use crate::tests::same;
 use relmove_lib::{EntryKind, Page, Tree, changed_links_of, is_directory, moving_of};
-use relmove_run::Machine;
+use relmove_run::{Machine, PageFile};
 use std::alloc::{AllocError, Global};
 use std::collections::BTreeMap;
 use std::test::Fail;
+
+// The pages are in no file.
+const NO_FILE: PageFile = PageFile {
+    device: 0,
+    inode: 0,
+    mode: 0,
+    owner: 0,
+    group: 0,
+};
 
 // A tree with a page that links to another one.
 fn tree(alloc: Global) -> Result<Tree, AllocError> {
@@ -17,11 +26,13 @@ fn tree(alloc: Global) -> Result<Tree, AllocError> {
     let pages = vec![in alloc;
         Page {
             path: text("a.md")?,
-            text: text("[b](d/b.md#b)")?
+            text: text("[b](d/b.md#b)")?,
+            file: NO_FILE
         },
         Page {
             path: text("d/b.md")?,
-            text: text("[b](b.md)")?
+            text: text("[b](b.md)")?,
+            file: NO_FILE
         },
     ]?;
     Ok(Tree {
@@ -54,7 +65,7 @@ fn a_directory(rt: HostRuntime) -> Result<(), Fail> {
 fn links_that_change(rt: HostRuntime) -> Result<(), Fail> {
     let tree = tree(rt.alloc())?;
     let moves = [("d/b.md", "e/c.md")];
-    // No link stays, so no file is asked for.
+    // No link stays, so only one name is asked for: whether the file system ignores case.
     let Ok(moving) = moving_of(&mut rt.store_at(".")?, &tree, &moves, false) else {
         return Err(Fail::new("the moves are refused"));
     };

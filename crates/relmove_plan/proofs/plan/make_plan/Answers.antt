@@ -1,15 +1,15 @@
 -- What is accepted, or refused, of moves that may leave.
-use Rattle.relmove_plan.proofs.MovesLemmas.{IfErr-error}
 use Rattle.std.proofs.Common.{map, string_bytes, subst}
 use Rattle.relative_path_moves.specs.Moves.{moves_of}
 use Rattle.relative_path_moves.specs.PlaceIndex.{Indexes}
-use Rattle.relmove_plan.specs.Directories.{AreLeftByMoves, MakesMissing}
-use Rattle.relmove_plan.specs.Trees.{entry_paths}
-use Rattle.relmove_plan.specs.NewFiles.{LeaveFromEntries, LeaveOnce}
-use Rattle.relmove_plan.specs.Pages.{page_paths}
-use Rattle.relmove_plan.specs.Steps.{changed_paths, step_texts}
+use Rattle.relmove_checks.proofs.ForCallers.{IfErr-error}
+use Rattle.relmove_checks.specs.Trees.{entry_paths}
+use Rattle.relmove_steps.specs.Directories.{AreLeftByMoves, MakesMissing}
+use Rattle.relmove_steps.specs.NewFiles.{LeaveFromEntries, LeaveOnce}
+use Rattle.relmove_steps.specs.Pages.{page_paths}
+use Rattle.relmove_steps.specs.Steps.{changed_paths, step_texts}
 use Rattle.relmove_plan.specs.WholeTrees.{IsWhole}
-use Rattle.relmove_plan.proofs.OnceLemmas.{LeaveFromEntries-whole}
+use Rattle.relmove_plan.proofs.LeavingLemmas.{LeaveFromEntries-whole}
 use Rattle.relmove_plan.proofs.PlannedLemmas.{IsPlanned, AreAfter-only, CanBeMade-plan, CanCome-plan, DirectoriesArrive-plan, EntriesArrive-plan, NothingInTheWay-plan, TextsArrive-plan}
 use Rattle.relative_path.specs.Steps.{components}
 use Rattle.relmove_plan.proofs.plan.make_plan.Goals as goal

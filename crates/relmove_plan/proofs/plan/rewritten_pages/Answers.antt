@@ -1,7 +1,7 @@
 -- There are as many pages after the moves as before, and those that change are among them.
 use Rattle.std.proofs.lemmas.Slice.Zip.{AllZip-long}
 use Rattle.relative_path_links.specs.Site.{ForMovedPage, KeepsLinks}
-use Rattle.relmove_plan.proofs.PagesLemmas.{All-changed}
+use Rattle.relmove_steps.proofs.ForCallers.{All-changed}
 use Rattle.relmove_plan.proofs.plan.rewritten_pages.Goals as goal
 
 pub changed_pages-requires : goal.changed_pages-requires

@@ -1,0 +1,28 @@
+-- The next path is a new one.
+use Rattle.std.proofs.Common.{map}
+use Rattle.relative_path.specs.Steps.{components}
+use Rattle.relative_path_moves.specs.PlaceIndex.{IsFirstAt, path_at}
+use Rattle.relmove_checks.proofs.TreesLemmas.{Indexes-paths, IsFirstAt-paths, IsFirstAt-self, length-take_paths}
+use Rattle.relmove_checks.proofs.after.index_after.Goals as goal
+use borrow.Author.Count.{below_more}
+
+pub loop-number-preserved : goal.loop-number-preserved
+loop-number-preserved c =
+    let texts = c.args.paths.now in
+    let k = c.loop-number.number in
+    let text = c.index-paths-number.result in
+    let within = c.loop-number-test.true in
+    let count =
+    length-take_paths c.args.paths.now c.loop-number.number c.index-paths-number.result c.loop-number-test.true
+    c.index-paths-number.is in
+    let indexes = c.in_ok-first.ensures.indexes _ c.loop-number.invariant.indexes count in
+    let first = c.in_ok-first.ensures.first _ c.loop-number.invariant.indexes count in
+    record {
+      indexes = Indexes-paths texts k text within c.index-paths-number.is c.insert.new.self
+          (rw c.as_relative_path.ensures.text at indexes);
+      distinct = below_more (λ f. IsFirstAt (map components texts) (path_at (map components texts) f) f) k
+          c.loop-number.invariant.distinct
+          (IsFirstAt-self (map components texts) k c.in_ok-first.first
+          (IsFirstAt-paths texts k text within c.index-paths-number.is c.in_ok-first.first
+          (rw c.as_relative_path.ensures.text at first)) c.if-first-number.false);
+    }

@@ -1,0 +1,11 @@
+-- Each move so far is fine.
+use Rattle.std.proofs.Common.{ℕ, ◌<◌, List}
+use Rattle.relative_path_moves.specs.Moves.{Move, moves_of, move_at}
+use Rattle.relative_path_moves.specs.PlaceIndex.{Indexes}
+use Rattle.relmove_checks.specs.declared.entry.Entry.{Entry}
+use Rattle.relmove_checks.specs.Trees.{AreForeignPaths, IsOldFine, entry_paths}
+use Rattle.relmove_checks.proofs.refused.check_olds.Given as goal
+
+abbrev pub invariant-loop-number : goal.invariant-loop-number
+invariant-loop-number l = (entries : List Entry) → Indexes (entry_paths entries) l.index → AreForeignPaths entries l.foreign
+    → (j : ℕ) → j < l.number → (λ (move : Move). IsOldFine entries move.old) (move_at (moves_of l.moves) j)

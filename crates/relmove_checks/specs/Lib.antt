@@ -1,0 +1,4 @@
+pub mod Moves
+pub mod Trees
+pub mod Refusals
+pub mod Plan

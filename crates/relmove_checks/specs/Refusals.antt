@@ -1,0 +1,149 @@
+-- Why moves are refused: the first move that isn't fine, in the first of the tests that it doesn't pass.
+use Rattle.std.specs.Prelude.{◌≡◌, ◌⊎◌, ◌<◌, ℕ, Bool, false, List, map, length, ⊤}
+use Rattle.std.specs.List.{All}
+use Rattle.relative_path_files.specs.Names.{IfName, IsPlainName}
+use Rattle.relative_path_moves.specs.Moves.{Move, move_at, LacksFileName, IsFirstPair}
+use Rattle.relative_path.specs.Steps.{Step}
+use Rattle.relmove_checks.specs.declared.entry.Entry.{Entry}
+use Rattle.relmove_checks.specs.declared.refused.Barrier.{Barrier}
+use Rattle.relmove_checks.specs.declared.refused.Barrier.TheVariants.{Files, UnreadDirectories}
+use Rattle.relmove_checks.specs.declared.refusal.Refusal.{Refusal}
+use Rattle.relmove_checks.specs.declared.refusal.Refusal.TheVariants.{NoFileName, LeavesRoot, IntoItself, NotPlain, OwnName, SameOld, NotThere, ForeignName, SameNew, Taken, Collision, BelowFile, BelowUnread, NoFreeName, OutOfMemory}
+use Rattle.relmove_checks.specs.Moves as paths
+use Rattle.relmove_checks.specs.Moves.{EachMove, move_of, IsPlaced, LeadsIntoItself, StaysOutside, HasNames, HasOwnName}
+use Rattle.relmove_checks.specs.Trees.{IsNotThere, IsOldForeign, IsTaken, IsBelowSome, IsFirstCollision, is_barrier}
+
+-- the refusal is of the first move that isn't fine
+pub record IsOfFirst (Fine : Move → Type 0) (Refused : ℕ → Move → Refusal → Type 0) (moves : List Move)
+    (refusal : Refusal) : Type 0 where
+  pub number : ℕ
+  pub within : number < length moves
+  pub before : (j : ℕ) → j < number → Fine (move_at moves j)
+  pub here : Refused number (move_at moves number) refusal
+
+-- why the paths of move number k are refused by themselves: each test is tried after those above it. A failed
+-- allocation says nothing of the move
+abbrev pub IsPathRefusal : Bool → ℕ → Move → Refusal → Type 0
+IsPathRefusal any_name k move (NoFileName j) = (j ≡ k) × LacksFileName move
+IsPathRefusal any_name k move (LeavesRoot j) = (j ≡ k) × (¬ LacksFileName move) × paths.LeavesRoot move
+IsPathRefusal any_name k move (IntoItself j) = (j ≡ k) × IsPlaced move × LeadsIntoItself move
+IsPathRefusal any_name k move (NotPlain j) =
+    (j ≡ k) × IsPlaced move × StaysOutside move × (any_name ≡ false) × (¬ All (IfName IsPlainName) move.new)
+IsPathRefusal any_name k move (OwnName j) =
+    (j ≡ k) × IsPlaced move × StaysOutside move × HasNames any_name move.new
+    × (HasOwnName move.old ⊎ HasOwnName move.new)
+IsPathRefusal any_name k move (SameOld i j) = ⊥
+IsPathRefusal any_name k move (NotThere j) = ⊥
+IsPathRefusal any_name k move (ForeignName j) = ⊥
+IsPathRefusal any_name k move (SameNew i j) = ⊥
+IsPathRefusal any_name k move (Taken j) = ⊥
+IsPathRefusal any_name k move (Collision d e) = ⊥
+IsPathRefusal any_name k move (BelowFile j) = ⊥
+IsPathRefusal any_name k move (BelowUnread j) = ⊥
+IsPathRefusal any_name k move NoFreeName = ⊥
+IsPathRefusal any_name k move OutOfMemory = ⊤
+
+-- why move number k is refused for what is at its old path
+abbrev pub IsOldRefusal : List Entry → ℕ → Move → Refusal → Type 0
+IsOldRefusal entries k move (NoFileName j) = ⊥
+IsOldRefusal entries k move (LeavesRoot j) = ⊥
+IsOldRefusal entries k move (IntoItself j) = ⊥
+IsOldRefusal entries k move (NotPlain j) = ⊥
+IsOldRefusal entries k move (OwnName j) = ⊥
+IsOldRefusal entries k move (SameOld i j) = ⊥
+IsOldRefusal entries k move (NotThere j) = (j ≡ k) × IsNotThere entries move.old
+IsOldRefusal entries k move (ForeignName j) = (j ≡ k) × IsOldForeign entries move.old
+IsOldRefusal entries k move (SameNew i j) = ⊥
+IsOldRefusal entries k move (Taken j) = ⊥
+IsOldRefusal entries k move (Collision d e) = ⊥
+IsOldRefusal entries k move (BelowFile j) = ⊥
+IsOldRefusal entries k move (BelowUnread j) = ⊥
+IsOldRefusal entries k move NoFreeName = ⊥
+IsOldRefusal entries k move OutOfMemory = ⊤
+
+-- why move number k is refused for what is at its new path
+abbrev pub IsNewRefusal : List Move → List Entry → ℕ → Move → Refusal → Type 0
+IsNewRefusal moves entries k move (NoFileName j) = ⊥
+IsNewRefusal moves entries k move (LeavesRoot j) = ⊥
+IsNewRefusal moves entries k move (IntoItself j) = ⊥
+IsNewRefusal moves entries k move (NotPlain j) = ⊥
+IsNewRefusal moves entries k move (OwnName j) = ⊥
+IsNewRefusal moves entries k move (SameOld i j) = ⊥
+IsNewRefusal moves entries k move (NotThere j) = ⊥
+IsNewRefusal moves entries k move (ForeignName j) = ⊥
+IsNewRefusal moves entries k move (SameNew i j) = ⊥
+IsNewRefusal moves entries k move (Taken j) = (j ≡ k) × IsTaken moves entries move.new
+IsNewRefusal moves entries k move (Collision d e) = ⊥
+IsNewRefusal moves entries k move (BelowFile j) = ⊥
+IsNewRefusal moves entries k move (BelowUnread j) = ⊥
+IsNewRefusal moves entries k move NoFreeName = ⊥
+IsNewRefusal moves entries k move OutOfMemory = ⊤
+
+-- why no table can be made of the moves
+abbrev pub IsTableRefusal : List Move → Refusal → Type 0
+IsTableRefusal moves (NoFileName j) = ⊥
+IsTableRefusal moves (LeavesRoot j) = ⊥
+IsTableRefusal moves (IntoItself j) = ⊥
+IsTableRefusal moves (NotPlain j) = ⊥
+IsTableRefusal moves (OwnName j) = ⊥
+IsTableRefusal moves (SameOld i j) = IsFirstPair moves i j
+IsTableRefusal moves (NotThere j) = ⊥
+IsTableRefusal moves (ForeignName j) = ⊥
+IsTableRefusal moves (SameNew i j) = ⊥
+IsTableRefusal moves (Taken j) = ⊥
+IsTableRefusal moves (Collision d e) = ⊥
+IsTableRefusal moves (BelowFile j) = ⊥
+IsTableRefusal moves (BelowUnread j) = ⊥
+IsTableRefusal moves NoFreeName = ⊥
+IsTableRefusal moves OutOfMemory = ⊤
+
+-- the moves, turned: each from its new path to its old one
+abbrev pub turned : List Move → List Move
+turned moves = map (λ move. move_of move.new move.old) moves
+
+-- why no table can be made of moves that were turned
+abbrev pub IsSameNewRefusal : List Move → Refusal → Type 0
+IsSameNewRefusal moves (NoFileName j) = ⊥
+IsSameNewRefusal moves (LeavesRoot j) = ⊥
+IsSameNewRefusal moves (IntoItself j) = ⊥
+IsSameNewRefusal moves (NotPlain j) = ⊥
+IsSameNewRefusal moves (OwnName j) = ⊥
+IsSameNewRefusal moves (SameOld i j) = ⊥
+IsSameNewRefusal moves (NotThere j) = ⊥
+IsSameNewRefusal moves (ForeignName j) = ⊥
+IsSameNewRefusal moves (SameNew i j) = IsFirstPair moves i j
+IsSameNewRefusal moves (Taken j) = ⊥
+IsSameNewRefusal moves (Collision d e) = ⊥
+IsSameNewRefusal moves (BelowFile j) = ⊥
+IsSameNewRefusal moves (BelowUnread j) = ⊥
+IsSameNewRefusal moves NoFreeName = ⊥
+IsSameNewRefusal moves OutOfMemory = ⊤
+
+-- why the paths after the moves are refused
+abbrev pub IsCollisionRefusal : List (List Step) → Refusal → Type 0
+IsCollisionRefusal paths (NoFileName j) = ⊥
+IsCollisionRefusal paths (LeavesRoot j) = ⊥
+IsCollisionRefusal paths (IntoItself j) = ⊥
+IsCollisionRefusal paths (NotPlain j) = ⊥
+IsCollisionRefusal paths (OwnName j) = ⊥
+IsCollisionRefusal paths (SameOld i j) = ⊥
+IsCollisionRefusal paths (NotThere j) = ⊥
+IsCollisionRefusal paths (ForeignName j) = ⊥
+IsCollisionRefusal paths (SameNew i j) = ⊥
+IsCollisionRefusal paths (Taken j) = ⊥
+IsCollisionRefusal paths (Collision d e) = IsFirstCollision paths d e
+IsCollisionRefusal paths (BelowFile j) = ⊥
+IsCollisionRefusal paths (BelowUnread j) = ⊥
+IsCollisionRefusal paths NoFreeName = ⊥
+IsCollisionRefusal paths OutOfMemory = ⊤
+
+-- the refusal of move number k, if its new path is below such a barrier
+abbrev pub refusal_below : Barrier → ℕ → Refusal
+refusal_below Files = BelowFile
+refusal_below UnreadDirectories = BelowUnread
+
+-- why move number k is refused for what is above its new path. A failed allocation says nothing of the move
+abbrev pub IsAboveRefusal : Barrier → List Move → List Entry → ℕ → Move → Refusal → Type 0
+IsAboveRefusal barrier moves entries k move refusal =
+    (refusal ≡ OutOfMemory)
+    ⊎ (refusal ≡ refusal_below barrier k) × IsBelowSome (is_barrier barrier) moves entries move.new

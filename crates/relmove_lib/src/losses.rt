@@ -1,0 +1,181 @@
+//! Paths that lead to something before moves, and to nothing or to something else after them.
+use crate::layout::{Layout, layout_after, layout_before};
+use crate::seen::find;
+use crate::tree::{EntryKind, Tree, has_dot_name};
+use crate::walk::end_of;
+use relative_path::RelativePath;
+use relative_path_moves::TreeMoves;
+use relmove_plan::Plan;
+use relmove_run::{Fault, Store};
+use std::alloc::{AllocError, Global};
+
+/// Where a path leads after moves that led to something else before them.
+#[derive(Clone, Copy, Debug, PartialEq, Eq)]
+pub enum Loss {
+    /// To nothing.
+    Nowhere,
+    /// To something else.
+    Elsewhere,
+}
+
+/// What is asked for of links beside what a plan says of them.
+#[derive(Drop)]
+pub(crate) struct Watch<'a> {
+    /// The tree.
+    pub tree: &'a Tree,
+    /// Whether its file system takes a name for one in another case.
+    pub ignores_case: bool,
+    // Whether it has a symbolic link, or a directory that can't be listed.
+    has_symlink: bool,
+    // Whether it has a directory whose name begins with a dot.
+    has_dot_directory: bool,
+    table: &'a TreeMoves<'a>,
+    plan: &'a Plan,
+    // The tree before the moves and after them, once it was asked for.
+    both: Option<(Layout<'a>, Layout<'a>)>,
+}
+
+impl<'a> Watch<'a> {
+    /// What is asked for of links of this tree.
+    pub fn new<S: Store>(
+        store: &mut S,
+        tree: &'a Tree,
+        table: &'a TreeMoves<'a>,
+        plan: &'a Plan,
+    ) -> Result<Watch<'a>, Fault> {
+        Ok(Watch {
+            tree,
+            ignores_case: ignores_case(store, tree)?,
+            has_symlink: has_symlink(tree),
+            has_dot_directory: has_dot_directory(tree),
+            table,
+            plan,
+            both: None,
+        })
+    }
+
+    /// Whether anything is asked for of a link that the plan changes or lets stay.
+    pub fn sees_links(&self) -> bool {
+        self.ignores_case || self.has_symlink || self.has_dot_directory
+    }
+
+    /// Whether anything is asked for of such a link, whose target is written so.
+    pub fn sees(&self, written: &str) -> bool {
+        self.ignores_case
+            || self.has_symlink
+            || self.has_dot_directory && may_have_dot_name(written)
+    }
+
+    /// Where a path leads after the moves, if it led to something else before them. A path that leads nowhere has nothing
+    /// to lose.
+    pub fn loss_of<S: Store>(&mut self, store: &mut S, path: &str) -> Result<Option<Loss>, Fault> {
+        let alloc = store.alloc();
+        let both = match self.both.take() {
+            Some(both) => both,
+            None => (
+                layout_before(alloc, self.tree)?,
+                layout_after(alloc, self.tree, self.table, self.plan)?,
+            ),
+        };
+        let loss = loss_between(store, &both.0, &both.1, self.table, path)?;
+        self.both = Some(both);
+        Ok(loss)
+    }
+}
+
+// Whether a tree has a symbolic link, or a directory that can't be listed.
+fn has_symlink(tree: &Tree) -> bool {
+    !tree.unlisted.is_empty()
+        || tree
+            .entries
+            .values()
+            .any(|kind| matches!(kind, EntryKind::Link(_)))
+}
+
+// Whether a tree has a directory whose name begins with a dot.
+fn has_dot_directory(tree: &Tree) -> bool {
+    tree.entries.iter().any(|(path, kind)| *kind == EntryKind::Directory
+        && has_dot_name(path.as_str()))
+}
+
+// Whether a target that is written so may have a path with a name that begins with a dot, other than `.` and `..`. What may
+// stand for another character counts as a dot.
+fn may_have_dot_name(written: &str) -> bool {
+    written
+        .bytes()
+        .any(|byte| byte <= b' ' || matches!(byte, b'%' | b'&' | b'\\'))
+        || written.split('/').any(|name| name.starts_with('.') && name != "." && name != "..")
+}
+
+// Whether the file system takes a name for one in another case. Asks for one name: the first one that has an ASCII letter,
+// with the first of its letters in the other case.
+fn ignores_case<S: Store>(store: &mut S, tree: &Tree) -> Result<bool, Fault> {
+    for path in tree.entries.keys() {
+        if let Some(other) = in_other_case(store.alloc(), path.as_str())? {
+            let is_entry = tree.entries.contains_key(other.as_str());
+            return Ok(!is_entry && find(store, other.as_str())?.is_some());
+        }
+    }
+    Ok(false)
+}
+
+// A path with the first ASCII letter of its last name in the other case, if that name has one.
+fn in_other_case(alloc: Global, path: &str) -> Result<Option<String>, AllocError> {
+    let start = match path.rfind('/') {
+        Some(slash) => slash,
+        None => 0,
+    };
+    for (at, letter) in path.char_indices() {
+        if start <= at && letter.is_ascii_alphabetic() {
+            return Ok(Some(with_other_case(alloc, path, at, letter)?));
+        }
+    }
+    Ok(None)
+}
+
+// A path with the letter at this offset in the other case.
+fn with_other_case(
+    alloc: Global,
+    path: &str,
+    at: usize,
+    letter: char,
+) -> Result<String, AllocError> {
+    let other = if letter.is_ascii_lowercase() {
+        letter.to_ascii_uppercase()
+    } else {
+        letter.to_ascii_lowercase()
+    };
+    let mut full = String::from_str(alloc, path.get(..at).unwrap_or(""))?;
+    full.push(other)?;
+    full.push_str(
+        path.get(at..)
+            .unwrap_or("")
+            .strip_prefix(letter)
+            .unwrap_or(""),
+    )?;
+    Ok(full)
+}
+
+// Where a path leads after the moves, if it led to something else before them.
+fn loss_between<S: Store>(
+    store: &mut S,
+    before: &Layout<'_>,
+    after: &Layout<'_>,
+    table: &TreeMoves<'_>,
+    path: &str,
+) -> Result<Option<Loss>, Fault> {
+    let alloc = store.alloc();
+    let Some(file) = end_of(store, before, path)? else {
+        return Ok(None);
+    };
+    let now = table.path_after(alloc, RelativePath::new(path))?;
+    let Some(end) = end_of(store, after, now.as_relative_path().as_str())? else {
+        return Ok(Some(Loss::Nowhere));
+    };
+    let file = table.path_after(alloc, RelativePath::new(file.as_str()))?;
+    if file.as_relative_path().as_str() == end.as_str() {
+        Ok(None)
+    } else {
+        Ok(Some(Loss::Elsewhere))
+    }
+}

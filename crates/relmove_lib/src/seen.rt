@@ -1,0 +1,52 @@
+//! What the system says is at a path.
+use relmove_run::{Fault, Found, FoundKind, Store};
+use std::io::{self, ErrorKind};
+
+// What a walk finds at a path.
+#[derive(Drop)]
+pub(crate) enum Seen {
+    // Nothing, or what can't be looked up.
+    Nothing,
+    // A file, or anything else that holds no names.
+    File,
+    // A directory.
+    Directory,
+    // The root itself, to which a path led from outside.
+    Root,
+    // A symbolic link, and the path in it.
+    Symlink(String),
+}
+
+// What the system says is at a path, or `None` if nothing is there. What can't be looked up isn't there.
+pub(crate) fn find<S: Store>(store: &mut S, path: &str) -> Result<Option<Found>, Fault> {
+    let found = store.find(path);
+    known(found)
+}
+
+// What a call says, or `None` if it failed. Fails only for lack of memory.
+pub(crate) fn known<T: Drop>(outcome: io::Result<Option<T>>) -> Result<Option<T>, Fault> {
+    match outcome {
+        Ok(value) => Ok(value),
+        Err(error) if error.kind() == ErrorKind::OutOfMemory => Err(Fault::OutOfMemory),
+        Err(_) => Ok(None),
+    }
+}
+
+// What a walk finds at a path, as the system says it.
+pub(crate) fn seen_by_system<S: Store>(store: &mut S, path: &str) -> Result<Seen, Fault> {
+    let Some(found) = find(store, path)? else {
+        return Ok(Seen::Nothing);
+    };
+    match found.kind {
+        FoundKind::Directory => Ok(Seen::Directory),
+        FoundKind::File => Ok(Seen::File),
+        FoundKind::Other => Ok(Seen::File),
+        FoundKind::Symlink => {
+            let read = store.read_link(path);
+            match known(read)? {
+                Some(text) => Ok(Seen::Symlink(text)),
+                None => Ok(Seen::Nothing),
+            }
+        }
+    }
+}

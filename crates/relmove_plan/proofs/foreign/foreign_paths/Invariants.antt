@@ -1,9 +1,0 @@
--- The paths of such directories among the entries so far.
-use Rattle.std.proofs.Common.{◌≡◌, map, take}
-use Rattle.relmove_plan.specs.declared.entry.Entry.{Entry}
-use Rattle.relmove_plan.specs.Trees.{foreign_directories}
-use Rattle.relmove_plan.proofs.foreign.foreign_paths.Given as goal
-
-abbrev pub invariant-loop-entry : goal.invariant-loop-entry
-invariant-loop-entry l =
-    l.paths.items ≡ map (λ (entry : Entry). entry.path) (foreign_directories (take l.entry-index l.entries))

@@ -1,8 +1,0 @@
--- The index has the paths so far.
-use Rattle.std.proofs.Common.{take}
-use Rattle.relative_path_moves.specs.PlaceIndex.{Indexes}
-use Rattle.relmove_plan.specs.Steps.{changed_paths}
-use Rattle.relmove_plan.proofs.pages.changed_index.Given as goal
-
-abbrev pub invariant-loop-number : goal.invariant-loop-number
-invariant-loop-number l = Indexes (take l.number (changed_paths l.pages l.changed)) l.index

@@ -1,9 +1,0 @@
--- Each move is fine, or is the first that isn't.
-use Rattle.relmove_plan.specs.Moves.{HasFinePaths}
-use Rattle.relmove_plan.proofs.MovesLemmas.{EachMove-next}
-use Rattle.relmove_plan.proofs.refused.check_paths.Goals as goal
-
-pub loop-number-preserved : goal.loop-number-preserved
-loop-number-preserved c =
-    EachMove-next (HasFinePaths c.args.any_name) c.args.moves.now c.loop-number.number _
-    c.loop-number-test.true c.loop-number.invariant c.in_ok-check_move.ensures.fine

@@ -1,8 +1,0 @@
--- Each move so far is fine.
-use Rattle.std.proofs.Common.{ℕ, ◌<◌}
-use Rattle.relative_path_moves.specs.Moves.{moves_of, move_at}
-use Rattle.relmove_plan.specs.Moves.{HasFinePaths}
-use Rattle.relmove_plan.proofs.refused.check_paths.Given as goal
-
-abbrev pub invariant-loop-number : goal.invariant-loop-number
-invariant-loop-number l = (j : ℕ) → j < l.number → HasFinePaths l.any_name (move_at (moves_of l.moves) j)

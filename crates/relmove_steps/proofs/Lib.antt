@@ -1,0 +1,10 @@
+mod PagesLemmas
+mod OrderLemmas
+mod StepsLemmas
+mod CarryLemmas
+mod OnlyLemmas
+mod NamesLemmas
+mod NewFilesLemmas
+mod OnceLemmas
+mod DirectoriesLemmas
+pub mod ForCallers

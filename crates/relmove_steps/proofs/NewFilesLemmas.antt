@@ -1,0 +1,266 @@
+-- New files: each one's name has a number of its own, and each is next to its page.
+use Rattle.std.proofs.Common.{false, ◌≡◌, ◌≢◌, ℕ, ◌<◌, ◌≤◌, ◌+◌, ◌%◌, ◌^◌, List, [], ◌∷◌, ◌++◌, Some, inl, inr, All, AllPairs, IsPermutation, codes, length, map, take, drop, get_or, refl, sym, ap, subst, ◌∙◌, append_assoc, append-nil, take-append-drop, arith}
+use Rattle.std.specs.Prelude.{decimal}
+use Rattle.std.specs.List.{AllZip, filter}
+use Rattle.std.proofs.lemmas.Bool.{cases_Bool, eqb-true}
+use Rattle.std.proofs.lemmas.Fmt.{decimal_by_steps}
+use Rattle.std.proofs.lemmas.List.Elements.{All-append, All-cons, All-from_recursion, All-nil, All-push, All-take, All-weaker, recursion_from_All}
+use Rattle.std.proofs.lemmas.List.Quantifiers.{all_pairs_push}
+use Rattle.std.proofs.lemmas.List.Sorted.{All-permutation, IsPermutation-map}
+use Rattle.std.proofs.lemmas.List.Splits.{slice_split_none}
+use Rattle.std.proofs.lemmas.List.{take_more}
+use Rattle.std.proofs.lemmas.Slice.Zip.{all_zipped_more}
+use Rattle.std.proofs.lemmas.Option.{same_Some}
+use Rattle.relative_path.specs.Editing.{kept_len, pushed}
+use Rattle.relative_path.specs.Naming.{last_name}
+use Rattle.relative_path.specs.Normalizing.{IsNormal, IsNormalText, IsNormalTextOf}
+use Rattle.relative_path.specs.Steps.{Step, cur, up, name, is_slash, is_not_empty, step_text, classed, components, spell, SpellsItself, SpellThemselves}
+use Rattle.relative_path.specs.Walk.{IsSame}
+use Rattle.relative_path.proofs.ForCallers.{IsNormal-append_left, IsNormal-push_name, IsSame-refl, SpellThemselves-components, components-pushed, last_name-name, spell-pushed}
+use Rattle.relative_path.proofs.OnLiterals.{relative_path_on_literals}
+use Rattle.relative_path_moves.specs.Places.{directory}
+use Rattle.relative_path_moves.specs.PlaceIndex.{Indexes, IsNoneAt, path_at}
+use Rattle.relative_path_moves.specs.declared.place_index.PlaceIndex.{PlaceIndex}
+use Rattle.relmove_checks.proofs.ForCallers.{components-nil}
+use Rattle.relmove_steps.specs.declared.between.FreeNames.{FreeNames}
+use Rattle.relmove_steps.specs.BetweenNames.{numbered_name, IsNumbered, AreDrawn, AreFreeNames, IsDrawn, IsDrawnIn}
+use Rattle.relmove_steps.specs.NewFiles.{IsOneOf, IsNextTo, HaveOwnFiles, EndsBelow, AreFilesDrawn}
+use Rattle.relmove_steps.specs.Steps.{StepTexts, WritesPage, WritesPages, with_text, names_left, pages_written}
+use Rattle.relmove_steps.proofs.NamesLemmas.{bytes_eq-false, numbered_name-other}
+
+-- ---- a numbered name is one component
+
+is_slash-digit : (d : ℕ) → d < 10 → is_slash (48 + d) ≡ false
+is_slash-digit d small = elim (cases_Bool (is_slash (48 + d))) [
+  | inl is ↦ let same = eqb-true (48 + d) 47 is in absurd (omega (arith, same))
+  | inr differs ↦ differs
+]
+
+no_slash-decimal : (n : ℕ) → n < 2 ^ 64 → All (λ b. is_slash b ≡ false) (decimal n)
+no_slash-decimal n fits =
+    decimal_by_steps (λ m digits. All (λ b. is_slash b ≡ false) digits)
+    (λ m small. All-cons (λ b. is_slash b ≡ false) (48 + m) [] (is_slash-digit m small) (All-nil (λ b. is_slash b ≡ false)))
+    (λ m digits large none. All-push (λ b. is_slash b ≡ false) digits (48 + m % 10) none
+    (is_slash-digit (m % 10) (omega arith))) n fits
+
+no_slash-numbered_name : (n : ℕ) → n < 2 ^ 64 → All (λ b. is_slash b ≡ false) (numbered_name n)
+no_slash-numbered_name n fits =
+    All-append (λ b. is_slash b ≡ false) (codes ".relmove-") (decimal n)
+    (All-from_recursion (λ b. is_slash b ≡ false) (codes ".relmove-")
+    (refl, (refl, (refl, (refl, (refl, (refl, (refl, (refl, (refl, tt))))))))))
+    (no_slash-decimal n fits)
+
+-- a text of at least two bytes, the second one not a dot
+classed-name : (a b : ℕ) (bs : List ℕ) → b ≢ 46 → classed (a ∷ b ∷ bs) ≡ name (a ∷ b ∷ bs)
+classed-name a b bs other =
+    let not_here = bytes_eq-false (a ∷ b ∷ bs) (step_text cur) (λ same. absurd (cc)) in
+    let not_above = bytes_eq-false (a ∷ b ∷ bs) (step_text up)
+    (λ same. let second : b ≡ 46 = cc in other second) in
+    rw (not_here, not_above) refl
+
+pub components-numbered_name : (n : ℕ) → n < 2 ^ 64 → components (numbered_name n) ≡ name (numbered_name n) ∷ []
+unfolding relative_path_on_literals
+components-numbered_name n fits =
+    ap (λ pieces. map classed (filter is_not_empty pieces))
+    (slice_split_none is_slash (numbered_name n) (no_slash-numbered_name n fits))
+    ∙ ap (λ c. c ∷ []) (classed-name 46 114 (codes "elmove-" ++ decimal n) (λ same. absurd (omega (arith, same))))
+
+-- new texts of the pages up to the next are written
+pub WritesPages-next : (paths : List (List Step)) (k : ℕ) (cs : List Step) (steps more : StepTexts) → k < length paths
+    → path_at paths k ≡ cs → WritesPage cs steps more → WritesPages (take k paths) steps → WritesPages (take (k + 1) paths) more
+WritesPages-next paths k cs steps more within here (page, is, written) so_far =
+    subst (AllZip IsNormalTextOf (take (k + 1) paths)) (sym written)
+    (subst (λ all. AllZip IsNormalTextOf all (pages_written steps ++ page ∷ [])) (sym (take_more paths k [] within))
+    (all_zipped_more IsNormalTextOf (take k paths) (pages_written steps) (path_at paths k) page so_far
+    (subst (λ ds. IsNormalTextOf ds page) (sym here) is)))
+
+-- names in between are one component each
+pub components-free : (paths : List (List Step)) (names : List (List ℕ)) → AreFreeNames paths names
+    → All (λ between. components between ≡ name between ∷ []) names
+components-free paths names free = λ k d l.
+    let (number, fits, is) = free.numbered k d l in
+    subst (λ between. components between ≡ name between ∷ []) (sym is) (components-numbered_name number fits)
+
+-- ---- the text that spells components
+
+spelled_from : (text : List ℕ) (cs : List Step) → text ≡ spell (components text) → SpellThemselves cs
+    → (all : List ℕ) × (components all ≡ components text ++ cs) × (all ≡ spell (components all))
+spelled_from text [] is proper = (text, sym (append-nil (components text)), is)
+spelled_from text (c ∷ cs) is proper =
+    let next_is : components (pushed text (step_text c)) ≡ components text ++ c ∷ [] =
+    components-pushed text (step_text c) ∙ ap (λ last. components text ++ last) proper.0 in
+    let (all, here, spelled) =
+    spelled_from (pushed text (step_text c)) cs (spell-pushed text c is proper.0 ∙ ap spell (sym next_is)) proper.1 in
+    (all, here ∙ ap (λ front. front ++ cs) next_is ∙ append_assoc (components text) (c ∷ []) cs, spelled)
+
+-- normal components are those of their normal text
+components-normal : (cs : List Step) (text : List ℕ) → SpellThemselves cs → IsNormal cs → IsNormalTextOf cs text
+    → components text ≡ cs
+components-normal cs text proper normal is =
+    let (other, here, spelled) = spelled_from [] cs (ap spell (sym components-nil)) proper in
+    let here_is : components other ≡ cs = here ∙ ap (λ front. front ++ cs) components-nil in
+    let same : other ≡ text =
+    is.only other (record { spelled = spelled; normal = subst IsNormal (sym here_is) normal })
+    (subst (IsSame cs) (sym here_is) (IsSame-refl cs)) in
+    ap components (sym same) ∙ here_is
+
+pub components-next_to : (page file : List ℕ) (number : ℕ) → number < 2 ^ 64 → IsNormalText page
+    → IsNormalTextOf (directory (components page) ++ components (numbered_name number)) file
+    → components file ≡ directory (components page) ++ name (numbered_name number) ∷ []
+components-next_to page file number fits normal is =
+    let cs = components page in
+    let k = kept_len cs in
+    let last = name (numbered_name number) in
+    let one = components-numbered_name number fits in
+    let proper = All-take SpellsItself k cs (All-from_recursion SpellsItself cs (SpellThemselves-components page)) in
+    let front = IsNormal-append_left (take k cs) (drop k cs)
+    (subst IsNormal (sym (take-append-drop k cs)) normal.normal) in
+    components-normal (take k cs ++ last ∷ []) file
+    (recursion_from_All SpellsItself (take k cs ++ last ∷ []) (All-push SpellsItself (take k cs) last proper one))
+    (IsNormal-push_name (take k cs) (numbered_name number) front)
+    (subst (λ more. IsNormalTextOf (take k cs ++ more) file) one is)
+
+-- ---- texts with another number are other texts
+
+pub EndsBelow-other : (one other : List ℕ) (next number : ℕ) → EndsBelow next one → next ≤ number → number < 2 ^ 64
+    → (above : List Step) → components other ≡ above ++ name (numbered_name number) ∷ [] → one ≢ other
+EndsBelow-other one other next number is late fits above ends same =
+    let below = is.below in
+    let all : is.above ++ name (numbered_name is.number) ∷ [] ≡ above ++ name (numbered_name number) ∷ [] =
+    sym is.ends ∙ ap components same ∙ ends in
+    let last : Some (numbered_name is.number) ≡ Some (numbered_name number) =
+    sym (last_name-name is.above (numbered_name is.number)) ∙ ap last_name all
+    ∙ last_name-name above (numbered_name number) in
+    numbered_name-other is.number number is.fits fits (omega (arith, below, late)) (same_Some _ _ last)
+
+EndsBelow-later : (before after : ℕ) (text : List ℕ) → before ≤ after → EndsBelow before text → EndsBelow after text
+EndsBelow-later before after text later is =
+    let below = is.below in
+    record { number = is.number; below = omega (arith, below, later); fits = is.fits; above = is.above; ends = is.ends }
+
+EndsBelow-IsNumbered : (next : ℕ) (text : List ℕ) → IsNumbered next text → EndsBelow next text
+EndsBelow-IsNumbered next text is = record {
+  number = is.number;
+  below = is.below;
+  fits = is.fits;
+  above = [];
+  ends = ap components is.name_is ∙ components-numbered_name is.number is.fits;
+}
+
+-- ---- drawing new files
+
+pub AreFilesDrawn-none : (index : PlaceIndex) (pages : List (List Step)) (free : FreeNames) (steps : StepTexts)
+    → steps.texts ≡ [] → AreFilesDrawn index pages free steps
+AreFilesDrawn-none index pages free steps none = record {
+  numbered = none_of (λ new. EndsBelow free.next new.1);
+  own = λ entries has. record {
+    of_pages = none_of (λ new. IsOneOf pages new.0);
+    next_to = none_of (λ new. IsNextTo new.0 new.1);
+    unused = none_of (λ new. IsNoneAt entries (components new.1));
+    different = subst (AllPairs (λ (one other : List ℕ × List ℕ × List ℕ). one.1 ≢ other.1)) (sym none)
+        (λ i j d l within. absurd (let w : j < 0 = within in omega (arith, w)));
+    no_name = none_of (λ new. All (λ between. new.1 ≢ between) (names_left steps));
+  };
+}
+  where
+    none_of : (P : List ℕ × List ℕ × List ℕ → Type 0) → All P steps.texts
+    none_of P = subst (All P) (sym none) (All-nil P)
+
+-- one new file more
+pub AreFilesDrawn-file : (index : PlaceIndex) (pages : List (List Step)) (before after : FreeNames) (steps : StepTexts)
+    (page file text : List ℕ) → IsDrawnIn (directory (components page)) before after file → IsNormalText page
+    → IsOneOf pages page → AreDrawn index before (names_left steps) → AreFilesDrawn index pages before steps
+    → AreFilesDrawn index pages after (with_text steps page file text)
+AreFilesDrawn-file index pages before after steps page file text next normal one drawn files =
+    let new : List ℕ × List ℕ × List ℕ = (page, file, text) in
+    let late = next.late in
+    let next_is = next.next in
+    let ends = components-next_to page file next.number next.fits normal next.file_of in
+    record {
+      numbered = All-push (λ (new : List ℕ × List ℕ × List ℕ). EndsBelow after.next new.1) steps.texts new
+          (All-weaker (λ (new : List ℕ × List ℕ × List ℕ). EndsBelow before.next new.1)
+          (λ (new : List ℕ × List ℕ × List ℕ). EndsBelow after.next new.1)
+          (λ new. EndsBelow-later before.next after.next new.1 (omega (arith, late, next_is))) steps.texts files.numbered)
+          (record {
+            number = next.number;
+            below = omega (arith, next_is);
+            fits = next.fits;
+            above = directory (components page);
+            ends = ends;
+          });
+      own = λ entries has.
+          let so_far = files.own entries has in
+          record {
+            of_pages = All-push (λ (new : List ℕ × List ℕ × List ℕ). IsOneOf pages new.0) steps.texts new so_far.of_pages
+                one;
+            next_to = All-push (λ (new : List ℕ × List ℕ × List ℕ). IsNextTo new.0 new.1) steps.texts new so_far.next_to
+                (record { number = next.number; next = ends; spelled = next.file_of.normal_text.spelled });
+            unused = All-push (λ (new : List ℕ × List ℕ × List ℕ). IsNoneAt entries (components new.1)) steps.texts new
+                so_far.unused
+                (next.unused entries (subst (Indexes entries) (sym drawn.entries) has));
+            different = all_pairs_push (λ (one other : List ℕ × List ℕ × List ℕ). one.1 ≢ other.1) steps.texts new
+                so_far.different
+                (λ k d l. EndsBelow-other (get_or steps.texts k d).1 file before.next next.number (files.numbered k d l)
+                next.late next.fits (directory (components page)) ends);
+            no_name = All-push (λ (new : List ℕ × List ℕ × List ℕ). All (λ between. new.1 ≢ between) (names_left steps))
+                steps.texts new so_far.no_name
+                (All-weaker (IsNumbered before.next) (λ between. file ≢ between)
+                (λ between is same. EndsBelow-other between file before.next next.number
+                (EndsBelow-IsNumbered before.next between is) next.late next.fits (directory (components page)) ends
+                (sym same)) (names_left steps) drawn.numbered);
+          };
+    }
+
+-- one name in between more
+pub AreFilesDrawn-name : (index : PlaceIndex) (pages : List (List Step)) (before after : FreeNames) (steps more : StepTexts)
+    (between : List ℕ) → IsDrawn before after between → more.texts ≡ steps.texts
+    → names_left more ≡ names_left steps ++ between ∷ [] → AreFilesDrawn index pages before steps
+    → AreFilesDrawn index pages after more
+AreFilesDrawn-name index pages before after steps more between next texts left files =
+    let late = next.late in
+    let next_is = next.next in
+    let ends : components between ≡ [] ++ name (numbered_name next.number) ∷ [] =
+    ap components next.name_is ∙ components-numbered_name next.number next.fits in
+    record {
+      numbered = same_texts (λ new. EndsBelow after.next new.1)
+          (All-weaker (λ (new : List ℕ × List ℕ × List ℕ). EndsBelow before.next new.1)
+          (λ (new : List ℕ × List ℕ × List ℕ). EndsBelow after.next new.1)
+          (λ new. EndsBelow-later before.next after.next new.1 (omega (arith, late, next_is))) steps.texts files.numbered);
+      own = λ entries has.
+          let so_far = files.own entries has in
+          record {
+            of_pages = same_texts (λ new. IsOneOf pages new.0) so_far.of_pages;
+            next_to = same_texts (λ new. IsNextTo new.0 new.1) so_far.next_to;
+            unused = same_texts (λ new. IsNoneAt entries (components new.1)) so_far.unused;
+            different = subst (AllPairs (λ (one other : List ℕ × List ℕ × List ℕ). one.1 ≢ other.1)) (sym texts)
+                so_far.different;
+            no_name = same_texts (λ new. All (λ between. new.1 ≢ between) (names_left more))
+                (λ k d l. subst (All (λ between. (get_or steps.texts k d).1 ≢ between)) (sym left)
+                (All-push (λ between. (get_or steps.texts k d).1 ≢ between) (names_left steps) between
+                (so_far.no_name k d l)
+                (EndsBelow-other (get_or steps.texts k d).1 between before.next next.number (files.numbered k d l) next.late
+                next.fits [] ends)));
+          };
+    }
+  where
+    same_texts : (P : List ℕ × List ℕ × List ℕ → Type 0) → All P steps.texts → All P more.texts
+    same_texts P = subst (All P) (sym texts)
+
+-- the same in another order
+pub HaveOwnFiles-reordered : (entries pages : List (List Step)) (steps more : StepTexts)
+    → IsPermutation steps.apart more.apart → more.texts ≡ steps.texts → HaveOwnFiles entries pages steps
+    → HaveOwnFiles entries pages more
+HaveOwnFiles-reordered entries pages steps more moved texts own = record {
+  of_pages = same_texts (λ new. IsOneOf pages new.0) own.of_pages;
+  next_to = same_texts (λ new. IsNextTo new.0 new.1) own.next_to;
+  unused = same_texts (λ new. IsNoneAt entries (components new.1)) own.unused;
+  different = subst (AllPairs (λ (one other : List ℕ × List ℕ × List ℕ). one.1 ≢ other.1)) (sym texts) own.different;
+  no_name = same_texts (λ new. All (λ between. new.1 ≢ between) (names_left more))
+      (All-weaker (λ (new : List ℕ × List ℕ × List ℕ). All (λ between. new.1 ≢ between) (names_left steps))
+      (λ (new : List ℕ × List ℕ × List ℕ). All (λ between. new.1 ≢ between) (names_left more))
+      (λ new all. All-permutation (λ between. new.1 ≢ between) (names_left steps) (names_left more)
+      (IsPermutation-map (λ (step : List ℕ × List ℕ). step.1) steps.apart more.apart moved) all) steps.texts own.no_name);
+}
+  where
+    same_texts : (P : List ℕ × List ℕ × List ℕ → Type 0) → All P steps.texts → All P more.texts
+    same_texts P = subst (All P) (sym texts)

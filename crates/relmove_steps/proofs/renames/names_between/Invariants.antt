@@ -1,0 +1,11 @@
+-- Each turn draws one name.
+use Rattle.std.proofs.Common.{◌≡◌, [], length, map, string_bytes}
+use Rattle.relative_path_moves.specs.declared.place_index.PlaceIndex.{PlaceIndex}
+use Rattle.relmove_steps.specs.BetweenNames.{AreDrawn}
+use Rattle.relmove_steps.proofs.renames.names_between.Given as goal
+
+abbrev pub invariant-loop : goal.invariant-loop
+invariant-loop l = record {
+  count : length l.between.items ≡ l.counter;
+  free : (index : PlaceIndex) → AreDrawn index l.fn.names [] → AreDrawn index l.names (map string_bytes l.between.items);
+}

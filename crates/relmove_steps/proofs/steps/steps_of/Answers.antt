@@ -1,0 +1,136 @@
+-- What the renames do, the same renames in order do too.
+use Rattle.std.proofs.Common.{Global, Vec, List, ℕ, map, string_bytes, refl}
+use Rattle.std.proofs.lemmas.List.Elements.{All-weaker}
+use Rattle.std.proofs.lemmas.List.Sorted.{IsPermutation-map}
+use Rattle.relative_path_moves.specs.Moves.{moves_of, move_at}
+use Rattle.relmove_steps.specs.declared.renames.Renames.{Renames}
+use Rattle.relmove_actions.specs.declared.steps.Rename.{Rename}
+use Rattle.relmove_steps.specs.Steps.{StepTexts, RemovesAt, changed_paths, names_left, new_text, rename_text, rename_texts, to_name}
+use Rattle.relmove_steps.proofs.StepsLemmas.{LosesNothing-reordered}
+use Rattle.relmove_steps.proofs.CarryLemmas.{AreAmong-reordered, DoesMove-among, RemovesAt-among, ReplacesPages-among}
+use Rattle.relmove_steps.proofs.NamesLemmas.{AreFreeNames-IsPermutation}
+use Rattle.relmove_steps.proofs.OnlyLemmas.{OnlyTheseLeave-reordered}
+use Rattle.relmove_steps.proofs.NewFilesLemmas.{HaveOwnFiles-reordered}
+use Rattle.relmove_steps.proofs.OnceLemmas.{LeaveOnce-IsPermutation}
+use Rattle.relmove_steps.proofs.DirectoriesLemmas.{AreApart-moves_to_names, AreNamed-moves_to_names, LeaveToNames-among}
+use Rattle.relmove_steps.proofs.steps.steps_of.Goals as goal
+
+-- the renames in order
+abbrev in_order : Renames → Vec Rename Global → Vec Rename Global → StepTexts
+in_order renames apart together = record {
+  texts = map new_text renames.texts.items;
+  apart = map rename_text apart.items;
+  together = map rename_text together.items;
+  removed = map string_bytes renames.removed.items;
+}
+
+pub directories_made-requires-clause-named : goal.directories_made-requires-clause-named
+directories_made-requires-clause-named c =
+    let leave = rw c.deref.ensures.value at c.in_ok-renames.ensures.named in
+    let drawn = c.in_ok-between.ensures.free c.args.now.index.now c.new-names.ensures in
+    rw c.deref-2.ensures.value
+    (AreNamed-moves_to_names (moves_of c.args.moves.now) (map string_bytes c.in_ok-between.between.items) _ leave.count
+    c.requires.named drawn.numbered)
+
+pub directories_made-requires-clause-apart : goal.directories_made-requires-clause-apart
+directories_made-requires-clause-apart c =
+    let leave = rw c.deref.ensures.value at c.in_ok-renames.ensures.named in
+    rw c.deref-2.ensures.value
+    (AreApart-moves_to_names (moves_of c.args.moves.now) (map string_bytes c.in_ok-between.between.items) leave.count
+    c.requires.news_apart)
+
+pub returns-clause-kept : goal.returns-clause-kept
+returns-clause-kept c =
+    let renames = c.in_ok-renames.renames in
+    let steps = in_order renames c.in_ok-below_first.field-0 c.in_ok-above_first.field-0 in
+    LosesNothing-reordered (rename_texts renames) steps c.in_ok-below_first.ensures.same
+    c.in_ok-above_first.ensures.same refl c.in_ok-renames.ensures.kept
+
+pub returns-clause-moved : goal.returns-clause-moved
+returns-clause-moved c =
+    let renames = c.in_ok-renames.renames in
+    let steps = in_order renames c.in_ok-below_first.field-0 c.in_ok-above_first.field-0 in
+    let among =
+    AreAmong-reordered (rename_texts renames) steps c.in_ok-below_first.ensures.same c.in_ok-above_first.ensures.same
+    refl refl in
+    λ k l. DoesMove-among (rename_texts renames) steps among
+    (changed_paths c.args.pages.now c.args.now.changed.now) (move_at (moves_of c.args.moves.now) k)
+    (c.in_ok-renames.ensures.moved k l)
+
+pub returns-clause-replaced : goal.returns-clause-replaced
+returns-clause-replaced c =
+    let renames = c.in_ok-renames.renames in
+    let steps = in_order renames c.in_ok-below_first.field-0 c.in_ok-above_first.field-0 in
+    let among =
+    AreAmong-reordered (rename_texts renames) steps c.in_ok-below_first.ensures.same c.in_ok-above_first.ensures.same
+    refl refl in
+    ReplacesPages-among c.args.pages.now c.args.now.pages.now c.args.now.changed.now (rename_texts renames) steps among
+    c.in_ok-renames.ensures.replaced
+
+pub returns-clause-removed : goal.returns-clause-removed
+returns-clause-removed c =
+    let renames = c.in_ok-renames.renames in
+    let steps = in_order renames c.in_ok-below_first.field-0 c.in_ok-above_first.field-0 in
+    let among =
+    AreAmong-reordered (rename_texts renames) steps c.in_ok-below_first.ensures.same c.in_ok-above_first.ensures.same
+    refl refl in
+    All-weaker (RemovesAt (rename_texts renames)) (RemovesAt steps) (RemovesAt-among (rename_texts renames) steps among)
+    (changed_paths c.args.pages.now c.args.now.changed.now) c.in_ok-renames.ensures.removed
+
+pub returns-clause-names : goal.returns-clause-names
+returns-clause-names c = λ paths has.
+    let index = c.args.now.index.now in
+    let renames = c.in_ok-renames.renames in
+    let apart = map rename_text c.in_ok-below_first.field-0.items in
+    let between = c.in_ok-between.ensures.free index c.new-names.ensures in
+    let drawn = c.in_ok-renames.ensures.free index (rw c.deref.ensures.value between) in
+    AreFreeNames-IsPermutation paths (names_left (rename_texts renames)) (map (λ (step : List ℕ × List ℕ). step.1) apart)
+    (IsPermutation-map (λ (step : List ℕ × List ℕ). step.1)
+    (map to_name renames.leaving.items) apart c.in_ok-below_first.ensures.same)
+    (drawn.fresh paths has)
+
+pub returns-clause-only : goal.returns-clause-only
+returns-clause-only c =
+    let renames = c.in_ok-renames.renames in
+    let steps : StepTexts = record {
+      texts = map new_text renames.texts.items;
+      apart = map rename_text c.in_ok-below_first.field-0.items;
+      together = map rename_text c.in_ok-above_first.field-0.items;
+      removed = map string_bytes renames.removed.items;
+    } in
+    OnlyTheseLeave-reordered (moves_of c.args.moves.now) (changed_paths c.args.pages.now c.args.now.changed.now)
+    (rename_texts renames) steps c.in_ok-below_first.ensures.same refl c.in_ok-renames.ensures.only
+
+pub returns-clause-files : goal.returns-clause-files
+returns-clause-files c = λ paths has.
+    let index = c.args.now.index.now in
+    let renames = c.in_ok-renames.renames in
+    let steps = in_order renames c.in_ok-below_first.field-0 c.in_ok-above_first.field-0 in
+    let between = c.in_ok-between.ensures.free index c.new-names.ensures in
+    let drawn = c.in_ok-renames.ensures.files index (rw c.deref.ensures.value between) in
+    HaveOwnFiles-reordered paths (changed_paths c.args.pages.now c.args.now.changed.now) (rename_texts renames) steps
+    c.in_ok-below_first.ensures.same refl (drawn.own paths has)
+
+pub returns-clause-once : goal.returns-clause-once
+returns-clause-once c = λ paths has leave.
+    let index = c.args.now.index.now in
+    let renames = c.in_ok-renames.renames in
+    let steps = in_order renames c.in_ok-below_first.field-0 c.in_ok-above_first.field-0 in
+    let between = c.in_ok-between.ensures.free index c.new-names.ensures in
+    LeaveOnce-IsPermutation (rename_texts renames) steps c.in_ok-below_first.ensures.same
+    (c.in_ok-renames.ensures.once index paths has leave (rw c.deref.ensures.value between))
+
+pub returns-clause-made : goal.returns-clause-made
+returns-clause-made c = λ paths has.
+    let renames = c.in_ok-renames.renames in
+    let steps = in_order renames c.in_ok-below_first.field-0 c.in_ok-above_first.field-0 in
+    let names = map (string_bytes {Z = Global}) c.in_ok-between.between.items in
+    let among =
+    AreAmong-reordered (rename_texts renames) steps c.in_ok-below_first.ensures.same c.in_ok-above_first.ensures.same
+    refl refl in
+    record {
+      between = names;
+      leave = LeaveToNames-among (rename_texts renames) steps among (moves_of c.args.moves.now) names
+          (rw c.deref.ensures.value at c.in_ok-renames.ensures.named);
+      are_made = rw c.deref-2.ensures.value at (c.in_ok-directories_made.ensures paths has);
+    }

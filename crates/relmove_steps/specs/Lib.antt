@@ -1,0 +1,5 @@
+pub mod Pages
+pub mod Steps
+pub mod BetweenNames
+pub mod Directories
+pub mod NewFiles

@@ -1,0 +1,310 @@
+//! Links that lead to something before a run, and to nothing or to something else after it.
+use crate::tests::reading::answers;
+use crate::tests::{same, words_of};
+use relmove_disk::{Content, Disk, DiskMachine, Place, disk_of};
+use relmove_lib::{Status, answer};
+use std::alloc::Global;
+use std::test::Fail;
+
+// A symbolic link: its path from the top of the disk, and the path in it.
+type Symlink = (&'static str, &'static str);
+
+// A call on a tree with symbolic links, and what it prints. After it `--check` finds as many dead links as are named.
+#[derive(Clone, Copy)]
+struct Case {
+    case: &'static str,
+    places: &'static [Place],
+    symlinks: &'static [Symlink],
+    moves: &'static [&'static str],
+    // What is printed before the last line.
+    printed: &'static str,
+    // The last line of a call that moves, from the number of pages on.
+    end: &'static str,
+    status: Status,
+    // What `--check` prints afterwards.
+    dead: &'static str,
+}
+
+const LOST: [Case; 6] = [
+    Case {
+        case: "a directory, through a symbolic link",
+        places: &[
+            ("d", None),
+            ("d/a.md", Some("aa")),
+            ("d/b.md", Some("bb")),
+            ("p.md", Some("[x](lnk/a.md) [y](lnk/b.md)")),
+        ],
+        symlinks: &[("site/lnk", "d")],
+        moves: &["d/a.md", "a.md"],
+        printed: "site/p.md:1:5: lnk/a.md leads through a symbolic link, and to nothing after the moves\n",
+        end: "0 pages changed, 1 file moved.\n",
+        status: Status::LinksLeft,
+        dead: "site/p.md:1:5: lnk/a.md: nothing is there\n",
+    },
+    Case {
+        case: "an absolute symbolic link",
+        places: &[("a.md", Some("aa")), ("p.md", Some("\n[x](s.md)"))],
+        symlinks: &[("site/s.md", "/site/a.md")],
+        moves: &["a.md", "b.md"],
+        printed: "site/p.md:2:5: s.md leads through a symbolic link, and to nothing after the moves\nsite/s.md: this symbolic link leads to nothing after the moves, left as it is\n",
+        end: "0 pages changed, 1 file moved.\n",
+        status: Status::LinksLeft,
+        dead: "site/p.md:2:5: s.md: nothing is there\n",
+    },
+    Case {
+        case: "a directory that is emptied, through a symbolic link",
+        places: &[
+            ("d", None),
+            ("d/e", None),
+            ("d/e/a.md", Some("aa")),
+            ("p.md", Some("[x](lnk/)")),
+        ],
+        symlinks: &[("site/lnk", "d/e")],
+        moves: &["d/e/a.md", "a.md"],
+        printed: "site/p.md:1:5: lnk/ leads through a symbolic link, and to nothing after the moves\nsite/lnk: this symbolic link leads to nothing after the moves, left as it is\n",
+        end: "0 pages changed, 1 file moved.\n",
+        status: Status::LinksLeft,
+        dead: "site/p.md:1:5: lnk/: nothing is there\n",
+    },
+    Case {
+        case: "a symbolic link in a directory that isn't read",
+        places: &[
+            (".github", None),
+            ("README.md", Some("rr")),
+            (
+                "p.md",
+                Some(
+                    "[x](.github/README.md) [y](.github/none.md) [e](%2Egithub/README.md) [r](&#46;github/README.md) [b](\\.github/README.md)",
+                ),
+            ),
+        ],
+        symlinks: &[("site/.github/README.md", "../README.md")],
+        moves: &["README.md", "docs/README.md"],
+        printed: "site/p.md:1:5: .github/README.md leads through a symbolic link, and to nothing after the moves\nsite/p.md:1:49: %2Egithub/README.md leads through a symbolic link, and to nothing after the moves\nsite/p.md:1:74: &#46;github/README.md leads through a symbolic link, and to nothing after the moves\nsite/p.md:1:101: \\.github/README.md leads through a symbolic link, and to nothing after the moves\n",
+        end: "0 pages changed, 1 file moved.\n",
+        status: Status::LinksLeft,
+        dead: "site/p.md:1:5: .github/README.md: nothing is there\nsite/p.md:1:28: .github/none.md: nothing is there\nsite/p.md:1:49: %2Egithub/README.md: nothing is there\nsite/p.md:1:74: &#46;github/README.md: nothing is there\nsite/p.md:1:101: \\.github/README.md: nothing is there\n",
+    },
+    Case {
+        case: "out of the root and back",
+        places: &[("a.md", Some("aa")), ("p.md", Some("[x](s/a.md)"))],
+        symlinks: &[("site/s", "../o"), ("o", "/./site/../site")],
+        moves: &["a.md", "b.md"],
+        printed: "site/p.md:1:5: s/a.md leads through a symbolic link, and to nothing after the moves\n",
+        end: "0 pages changed, 1 file moved.\n",
+        status: Status::LinksLeft,
+        dead: "site/p.md:1:5: s/a.md: nothing is there\n",
+    },
+    Case {
+        case: "another file comes to its place",
+        places: &[
+            ("a.md", Some("aa")),
+            ("b.md", Some("bb")),
+            ("p.md", Some("[x](t)")),
+        ],
+        symlinks: &[("site/s", "a.md"), ("site/t", "s")],
+        moves: &["a.md", "c.md", "b.md", "a.md"],
+        printed: "site/p.md:1:5: t leads through a symbolic link, and to something else after the moves\nsite/s: this symbolic link leads to what moves, left as it is\nsite/t: this symbolic link leads to something else after the moves, left as it is\n",
+        end: "0 pages changed, 2 files moved.\n",
+        status: Status::LinksLeft,
+        dead: "",
+    },
+];
+
+// Links through symbolic links that keep what they lead to.
+const KEPT: [Case; 4] = [
+    Case {
+        case: "what a symbolic link leads to stays",
+        places: &[
+            ("a.md", Some("aa")),
+            ("d", None),
+            ("d/b.md", Some("bb")),
+            ("p.md", Some("[x](lnk/b.md) [a](a.md)")),
+        ],
+        symlinks: &[("site/lnk", "d")],
+        moves: &["a.md", "d/a.md"],
+        printed: "site/p.md: 1 link\n",
+        end: "1 page changed, 1 file moved.\n",
+        status: Status::Kept,
+        dead: "",
+    },
+    Case {
+        case: "a symbolic link moves with its directory, and the page does",
+        places: &[
+            ("d", None),
+            ("d/a.md", Some("aa")),
+            ("d/p.md", Some("[x](lnk.md)")),
+        ],
+        symlinks: &[("site/d/lnk.md", "a.md")],
+        moves: &["d", "e"],
+        printed: "site/d/lnk.md: this symbolic link moves and leads to what moves, left as it is\n",
+        end: "0 pages changed, 1 directory moved.\n",
+        status: Status::LinksLeft,
+        dead: "",
+    },
+    Case {
+        case: "a link that leads nowhere before the moves",
+        places: &[("a.md", Some("aa")), ("p.md", Some("[x](s/b.md) [y](t)"))],
+        symlinks: &[("site/s", "/none"), ("site/t", "t")],
+        moves: &["a.md", "b.md"],
+        printed: "",
+        end: "0 pages changed, 1 file moved.\n",
+        status: Status::Kept,
+        dead: "site/p.md:1:5: s/b.md: nothing is there\nsite/p.md:1:17: t: nothing is there\n",
+    },
+    Case {
+        case: "outside of the root",
+        places: &[
+            ("../o", None),
+            ("../o/x.md", Some("xx")),
+            ("a.md", Some("aa")),
+            ("p.md", Some("[x](s/x.md)")),
+        ],
+        symlinks: &[("site/s", "../o")],
+        moves: &["a.md", "b.md"],
+        printed: "",
+        end: "0 pages changed, 1 file moved.\n",
+        status: Status::Kept,
+        dead: "",
+    },
+];
+
+// The disk of a case.
+fn disk_with(alloc: Global, case: &Case) -> Result<Disk, Fail> {
+    let disk = disk_of(alloc, case.places)?;
+    for (path, text) in case.symlinks {
+        disk.add(path, Content::Symlink(String::from_str(alloc, text)?))?;
+    }
+    Ok(disk)
+}
+
+// Whether a call names what it loses before it moves anything, and `--check` finds nothing else afterwards.
+fn names_losses(alloc: Global, case: &Case) -> Result<(), Fail> {
+    let disk = disk_with(alloc, case)?;
+    let before = disk.listing()?;
+    let printed = printed_by(alloc, case)?;
+    let would = would_print(alloc, printed.as_str())?;
+    let words = words_of(alloc, &["site"], case.moves)?;
+    answers(alloc, &disk, &words, (case.status, would.as_str(), ""))?;
+    same(case.case, &disk.listing()?, &before)?;
+    let words = words_of(alloc, &["--write", "site"], case.moves)?;
+    answers(alloc, &disk, &words, (case.status, printed.as_str(), ""))?;
+    let status = if case.dead.is_empty() {
+        Status::Kept
+    } else {
+        Status::LinksLeft
+    };
+    answers(alloc, &disk, &["--check", "site"], (status, case.dead, ""))
+}
+
+// What the call of a case prints.
+fn printed_by(alloc: Global, case: &Case) -> Result<String, Fail> {
+    let mut printed = String::from_str(alloc, case.printed)?;
+    printed.push_str(case.end)?;
+    Ok(printed)
+}
+
+// What a call prints without `--write` where it prints this with it.
+fn would_print(alloc: Global, printed: &str) -> Result<String, Fail> {
+    let mut would = String::new(alloc);
+    for line in printed.split_inclusive('\n') {
+        match line.strip_suffix(" moved.\n") {
+            Some(counts) => {
+                let (pages, rest) = counts.split_once(" changed, ").ok_or("counts")?;
+                would.push_str(pages)?;
+                would.push_str(" would change, ")?;
+                would.push_str(rest)?;
+                would.push_str(" would move. Nothing is written: add --write.\n")?;
+            }
+            None => would.push_str(line)?,
+        }
+    }
+    Ok(would)
+}
+
+#[test]
+fn names_links_that_lose_their_file(rt: HostRuntime) -> Result<(), Fail> {
+    for case in &LOST {
+        names_losses(rt.alloc(), case)?;
+    }
+    Ok(())
+}
+
+#[test]
+fn names_no_link_that_keeps_its_file(rt: HostRuntime) -> Result<(), Fail> {
+    for case in &KEPT {
+        names_losses(rt.alloc(), case)?;
+    }
+    Ok(())
+}
+
+const AS_JSON: &str =
+    "{\"column\":5,\"line\":2,\"page\":\"p.md\",\"target\":\"s.md\",\"why\":\"leads through a symbolic link, and to nothing after the moves\"}\n{\"link\":\"s.md\",\"why\":\"leads to nothing after the moves\"}\n";
+
+#[test]
+fn names_losses_as_json(rt: HostRuntime) -> Result<(), Fail> {
+    let disk = disk_with(rt.alloc(), &LOST[1])?;
+    let expected = (Status::LinksLeft, AS_JSON, "");
+    answers(
+        rt.alloc(),
+        &disk,
+        &["--json", "site", "a.md", "b.md"],
+        expected,
+    )
+}
+
+const SPELLED: &[Place] = &[
+    ("a.md", Some("aa")),
+    ("d", None),
+    ("d/b.md", Some("bb")),
+    ("p.md", Some("[x](A.md) [y](a.md) [z](D/b.md) [n](none.md)")),
+];
+
+const SPELLED_DEAD: &str =
+    "site/p.md:1:5: A.md: the name there has another case or form\nsite/p.md:1:25: D/b.md: the name there has another case or form\nsite/p.md:1:37: none.md: nothing is there\n";
+
+const SPELLED_LEFT: &str =
+    "site/p.md: 1 link\nsite/p.md:1:5: A.md leads to a name in another case or form, and may lead to nothing after the moves\nsite/p.md:1:25: D/b.md leads to a name in another case or form, and may lead to nothing after the moves\n1 page would change, 1 file would move. Nothing is written: add --write.\n";
+
+#[test]
+fn names_links_in_another_case(rt: HostRuntime) -> Result<(), Fail> {
+    let disk = disk_of(rt.alloc(), SPELLED)?;
+    disk.ignore_case()?;
+    let expected = (Status::LinksLeft, SPELLED_DEAD, "");
+    answers(rt.alloc(), &disk, &["--check", "site"], expected)?;
+    let expected = (Status::LinksLeft, SPELLED_LEFT, "");
+    answers(rt.alloc(), &disk, &["site", "a.md", "b.md"], expected)
+}
+
+const DISTINCT_DEAD: &str =
+    "site/p.md:1:5: A.md: nothing is there\nsite/p.md:1:25: D/b.md: nothing is there\nsite/p.md:1:37: none.md: nothing is there\n";
+
+#[test]
+fn tells_names_of_two_cases_apart(rt: HostRuntime) -> Result<(), Fail> {
+    let disk = disk_of(rt.alloc(), SPELLED)?;
+    let expected = (Status::LinksLeft, DISTINCT_DEAD, "");
+    answers(rt.alloc(), &disk, &["--check", "site"], expected)?;
+    let printed =
+        "site/p.md: 1 link\n1 page would change, 1 file would move. Nothing is written: add --write.\n";
+    let expected = (Status::Kept, printed, "");
+    answers(rt.alloc(), &disk, &["site", "a.md", "b.md"], expected)
+}
+
+// How many calls of the file system a call makes that only prints. The page has this text.
+fn calls_with(alloc: Global, text: &'static str) -> Result<u32, Fail> {
+    let disk = disk_of(alloc, &[("a.md", Some("aa")), ("p.md", Some(text))])?;
+    let (mut out, mut errors) = (Vec::new(alloc), Vec::new(alloc));
+    let words = ["site", "a.md", "b.md"];
+    answer(&DiskMachine(&disk), &words, &mut out, &mut errors);
+    Ok(disk.calls())
+}
+
+#[test]
+fn asks_for_no_link_where_no_symbolic_link_is(rt: HostRuntime) -> Result<(), Fail> {
+    let alone = calls_with(rt.alloc(), "[a](a.md)")?;
+    let many = calls_with(
+        rt.alloc(),
+        "[a](a.md) [p](p.md) [n](none.md) [m](d/none.md) [u](../u)",
+    )?;
+    same("the calls", &many, &alone)
+}
