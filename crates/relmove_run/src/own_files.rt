@@ -607,8 +607,21 @@ pub(crate) fn take_directory<S: Store>(
         remove_file(store, ways, END)?;
     }
     match create(store, ways, END, PRIVATE, &mut own.end) {
-        Err(Fault::OutOfMemory) => Err(Fault::OutOfMemory),
-        _ => Ok(()),
+        Err(Fault::OutOfMemory) => return Err(Fault::OutOfMemory),
+        Err(Fault::Exchanged(path)) => return Err(Fault::Exchanged(path)),
+        _ => {}
+    }
+    if own.end == OwnFile::Unknown {
+        own.end = made_file(store, END)?;
+    }
+    Ok(())
+}
+
+// The file that a call made which reported a failure, if it made one.
+fn made_file<S: Store>(store: &mut S, path: &str) -> Result<OwnFile, Fault> {
+    match find(store, path)? {
+        Some(found) => Ok(OwnFile::Inode(found.inode)),
+        None => Ok(OwnFile::None),
     }
 }
 
