@@ -38,7 +38,7 @@ fn goes_through_no_symlink(rt: HostRuntime) -> Result<(), Fail> {
 // A directory in the root becomes a link to a directory outside, which has these places. That happens while a run works, or
 // while a run is taken back that was killed at this stage. Something outside changes only if it happens before one of so many
 // calls: between the last question for the directory and a change below it stand the questions for what is below the
-// directory, and the change itself.
+// directory, for the run's own directory and for the new path, and the change itself.
 #[derive(Clone, Copy)]
 struct Exchange {
     what: &'static str,
@@ -72,7 +72,7 @@ const EXCHANGES: [Exchange; 7] = [
         undone_from: None,
         directory: "site/a",
         outside: &[("x.md", Some("outside"))],
-        calls: 2,
+        calls: 3,
     },
     Exchange {
         what: "a file is placed",
@@ -99,12 +99,12 @@ const EXCHANGES: [Exchange; 7] = [
         calls: 1,
     },
     Exchange {
-        what: "a new text is erased",
+        what: "who ends the run takes its directory, and a new text is erased",
         case: cases::PAGE_IN_A_DIRECTORY,
         undone_from: Some(Stage::Staging),
         directory: "site/.relmove-run",
         outside: &[("9", Some("[x](../../x)"))],
-        calls: 1,
+        calls: 2,
     },
 ];
 
