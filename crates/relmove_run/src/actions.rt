@@ -154,7 +154,7 @@ fn rename<S: Store>(
 }
 
 // Whether two paths are names of one file. A loss of power can keep both names of a file that was renamed.
-fn are_names_of_one_file(one: &Found, other: &Found) -> bool {
+pub(crate) fn are_names_of_one_file(one: &Found, other: &Found) -> bool {
     one.is_same(other) && one.links > 1 && one.kind != FoundKind::Directory
 }
 

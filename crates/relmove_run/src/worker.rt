@@ -1,8 +1,8 @@
 //! Does the work of a run, from any stage on. Each step asks first whether it is done.
 use crate::actions::{
-    OwnFile, PageChange, Ways, Written, carry, copy_of, digest_at, digest_found, find,
-    find_to_remove, is_there, make_directory, need_own_directory, remove_directory, remove_file,
-    unmake_directory, write_text,
+    OwnFile, PageChange, Ways, Written, are_names_of_one_file, carry, copy_of, digest_at,
+    digest_found, find, find_to_remove, is_there, make_directory, need_own_directory,
+    remove_directory, remove_file, unmake_directory, write_text,
 };
 use crate::fault::Fault;
 use crate::near::look_near;
@@ -277,17 +277,25 @@ fn act<S: Store>(
     }
 }
 
-// Gives what is at its new path its staging name again, unless something has that name.
+// Gives what is at its new path its staging name again, unless something has that name. If something else is at the new path
+// then, this is noted: the journal doesn't say which of the two is the run's.
 fn unplace<S: Store>(
     store: &mut S,
     ways: &mut Ways,
     rename: &Rename,
     remarks: &mut Vec<Remark>,
 ) -> Result<(), Fault> {
-    if is_there(store, rename.from.as_str())? {
-        return Ok(());
+    let (from, to) = (rename.from.as_str(), rename.to.as_str());
+    let Some(found) = find(store, from)? else {
+        return carry_back(store, ways, rename, remarks);
+    };
+    if let Some(other) = find(store, to)?
+        && !are_names_of_one_file(&found, &other)
+    {
+        let (from, to) = (copy_of(store, from)?, copy_of(store, to)?);
+        remarks.push(Remark::AtBoth { from, to })?;
     }
-    carry_back(store, ways, rename, remarks)
+    Ok(())
 }
 
 // Takes back a rename, unless that is done. Notes what is at neither path.

@@ -96,6 +96,26 @@ fn goes_back_beside_a_file_at_a_staging_name(rt: HostRuntime) -> Result<(), Fail
     holds(alloc, "taken back", &disk, case.before)
 }
 
+// A file comes to a staging name after what had it was placed. The run goes back, and says that something was at both.
+#[test]
+fn says_what_is_at_a_staging_name_and_at_a_new_path(rt: HostRuntime) -> Result<(), Fail> {
+    let (alloc, case) = (rt.alloc(), &cases::FILE_MOVES);
+    let number = first_call_with(alloc, case, "site/b/c/z.md")?;
+    let (_, disk) = run_and_fail(alloc, case, number, Way::Killed)?;
+    disk.add("site/.relmove-run/1", file_of(alloc, "mine")?)?;
+    let ended = undo_on(&disk);
+    same("back", &end_of(&ended), &End::TakenBack)?;
+    let is_said = match remarks_of(&ended) {
+        [Remark::AtBoth { from, to }] => {
+            from.as_str() == ".relmove-run/1" && to.as_str() == "b/c/z.md"
+        }
+        _ => false,
+    };
+    same("said", &is_said, &true)?;
+    same("the file", &disk.is_file("site/a/x.md", "mine")?, &true)?;
+    same("the run's", &disk.is_file("site/b/c/z.md", "xx")?, &true)
+}
+
 // The journal doesn't say which of two files is the run's. Whichever is removed or renamed, the other one goes back.
 #[test]
 fn names_both_files_of_a_rename(rt: HostRuntime) -> Result<(), Fail> {

@@ -188,6 +188,11 @@ fn prints_the_paths_of_remarks(rt: HostRuntime) -> Result<(), Fail> {
     let text = Remark::Kept(path(alloc)?).to_string(alloc)?;
     let words = "a\\u{1b} is kept: another program changed it, or put it there";
     same("kept", &text.as_str(), &words)?;
+    let (from, to) = (path(alloc)?, other_path(alloc)?);
+    let text = Remark::AtBoth { from, to }.to_string(alloc)?;
+    let words =
+        "something was at a\\u{1b} and at b\\u{7}: the first went back to the old path, and the second is kept";
+    same("at both", &text.as_str(), &words)?;
     let near = Remark::Near {
         path: path(alloc)?,
         owner: 7,
