@@ -65,6 +65,13 @@ const NEW: &[Place] = &[("b", None), ("b/a.md", Some("aa"))];
 
 const GONE: &[Place] = &[(".relmove-run", None), ("x", Some("xx"))];
 
+// Who was to end the run holds its directory.
+const GONE_TAKEN: &[Place] = &[
+    (".relmove-run", None),
+    (".relmove-run/end", Some("")),
+    ("x", Some("xx")),
+];
+
 const GONE_AFTER: &[Place] = &[("x", Some("xx"))];
 
 // Journals of a run that moves `a.md` to `b/a.md`, at each stage. The last line has the digest that `sha256sum` prints.
@@ -285,7 +292,7 @@ const SPECIAL: [Row<'static>; 4] = [
         journal: STAGING,
         words: &["--resume", "--trust-journal", "--write", "site"],
         before: GONE,
-        after: GONE,
+        after: GONE_TAKEN,
         keeps_journal: true,
         status: Status::Stopped,
         printed: "site: rename a.md to .relmove-run/1\nsite: make the directory b\nsite: rename .relmove-run/1 to b/a.md\n",
