@@ -47,7 +47,7 @@ fn work(alloc: Global) -> Result<Work, AllocError> {
     })
 }
 
-// Requests: 18 8 36 8 72 8 64 144 288 8 64 576 8 64 8 16 32 64 128 = 1
+// Requests: 18 8 36 8 8 72 8 8 8 64 144 288 8 64 576 8 64 8 16 32 64 128 = 1
 #[test]
 fn the_text_of_a_journal(rt: HostRuntime) -> Result<(), Fail> {
     let work = work(rt.alloc())?;
@@ -60,8 +60,8 @@ fn the_text_of_a_journal(rt: HostRuntime) -> Result<(), Fail> {
     }
 }
 
-// Requests: 8 16 256 8 8 16 192 8 16 8 16 8 16 8 192 8 16 288 18 8 36 8 72 8 64 144 288 8 64 576 8 64 8 16 32 64 128
-// 16 64 32 16 64 64 32 16 = 12
+// Requests: 8 16 256 8 8 16 192 8 16 8 192 8 16 288 18 8 36 8 8 72 8 8 8 64 144 288 8 64 576 8 64 8 16 32 64 128
+// 16 16 64 16 64 64 16 64 64 16 16 = 10
 #[test]
 fn the_journal_of_a_text(rt: HostRuntime) -> Result<(), Fail> {
     let expected = work(rt.alloc())?;
@@ -76,7 +76,7 @@ fn the_journal_of_a_text(rt: HostRuntime) -> Result<(), Fail> {
     same("the work", &is_read, &true)
 }
 
-// Requests: 16 64 32 16 64 64 32 16 = 0
+// Requests: 16 16 64 16 64 64 16 64 64 16 16 = 0
 #[test]
 fn whether_work_is_a_run_s(rt: HostRuntime) -> Result<(), Fail> {
     let work = work(rt.alloc())?;
