@@ -150,3 +150,12 @@ fn says_nothing_where_the_caller_is_not_known(rt: HostRuntime) -> Result<(), Fai
     disk.remove("proc")?;
     says_why(rt.alloc(), &CASES[0], &disk, "")
 }
+
+#[test]
+fn gives_another_name_to_a_directory_that_cannot_be_changed(rt: HostRuntime) -> Result<(), Fail> {
+    let disk = disk_of(rt.alloc(), PLACES)?;
+    disk.set_mode("site/f", 0o555)?;
+    let printed = "0 pages changed, 1 directory moved.\n";
+    let expected = (Status::Kept, printed, "");
+    answers(rt.alloc(), &disk, &["--write", "site", "f", "g"], expected)
+}

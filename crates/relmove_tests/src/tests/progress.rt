@@ -1,12 +1,16 @@
 //! What a long call prints of its progress, and a run that stopped.
 use crate::tests::moving::{MOVED_SITE, SITE, WRITE};
 use crate::tests::{holds, same};
-use relmove_disk::{DiskMachine, disk_of};
+use relmove_disk::{Content, Disk, DiskMachine, DiskStore, Place, disk_of};
 use relmove_lib::report::print_end;
 use relmove_lib::{Progress, Status, WithProgress, answer};
-use relmove_run::{Call, Ended, Fault, Remark, Stage};
-use std::alloc::Global;
+use relmove_run::{Call, Ended, Fault, Machine, Remark, Stage};
+use std::alloc::{Alloc, AllocError, Global};
+use std::cell::Cell;
+use std::fmt::Display;
+use std::io::{self, Eprint};
 use std::test::Fail;
+use std::time::{Clock, Duration};
 
 // The call opens the two pages, the first journal, the spare one, two new texts and the next journal, and renames that.
 // It renames two pages and their new texts, and opens the two old texts to compare them. It opens and renames the
@@ -177,4 +181,118 @@ fn says_only_why_a_run_went_back_that_left_nothing(rt: HostRuntime) -> Result<()
     let expected =
         "relmove: d/: a.md was changed while the run worked, so the run was taken back\n";
     same("went back", &out.as_slice(), &expected.as_bytes())
+}
+
+// A disk whose clock goes on by 100 milliseconds each time it is read.
+#[derive(Drop)]
+struct Slow<'a> {
+    disk: DiskMachine<'a>,
+    time: Cell<u64>,
+}
+
+impl Alloc for Slow<'_> {
+    type A = Global;
+
+    fn alloc(&self) -> Global {
+        self.disk.alloc()
+    }
+}
+
+impl Clock for Slow<'_> {
+    fn monotonic(&self) -> io::Result<Duration> {
+        self.time.set(self.time.get().saturating_add(100));
+        Ok(Duration::from_millis(self.time.get()))
+    }
+
+    fn since_1970(&self) -> io::Result<Duration> {
+        self.disk.since_1970()
+    }
+}
+
+impl Eprint for Slow<'_> {
+    fn eprint<D: Display + Drop>(&self, value: D) -> io::Result<()> {
+        self.disk.eprint(value)
+    }
+
+    fn eprintln<D: Display + Drop>(&self, value: D) -> io::Result<()> {
+        self.disk.eprintln(value)
+    }
+}
+
+impl<'a> Machine for Slow<'a> {
+    type Store = DiskStore<'a>;
+
+    fn store_at(&self, root: &str) -> Result<DiskStore<'a>, AllocError> {
+        self.disk.store_at(root)
+    }
+}
+
+// Ten pages. The sixth is opened 500 milliseconds after the first one.
+const TEN: &[Place] = &[
+    ("0.md", Some("")),
+    ("1.md", Some("")),
+    ("2.md", Some("")),
+    ("3.md", Some("")),
+    ("4.md", Some("")),
+    ("5.md", Some("")),
+    ("6.md", Some("")),
+    ("7.md", Some("")),
+    ("8.md", Some("")),
+    ("9.md", Some("")),
+];
+
+#[test]
+fn prints_progress_after_half_a_second(rt: HostRuntime) -> Result<(), Fail> {
+    let disk = disk_of(rt.alloc(), TEN)?;
+    let slow = Slow {
+        disk: DiskMachine(&disk),
+        time: Cell::new(0),
+    };
+    let progress = Progress::new();
+    let watched = WithProgress::new(&slow, &progress);
+    let (mut out, mut errors) = (Vec::new(rt.alloc()), Vec::new(rt.alloc()));
+    let status = answer(
+        &watched,
+        &["--check", "site"],
+        &mut out,
+        &mut errors,
+    );
+    same("the status", &status, &Status::Kept)?;
+    let lines = "relmove: 6 files opened, 0 renamed\n";
+    same("what was printed", &disk.has_printed(lines)?, &true)
+}
+
+// A site with symbolic links, and pages that lead through them.
+fn site_with_symlinks(alloc: Global) -> Result<Disk, Fail> {
+    let disk = disk_of(alloc, SITE)?;
+    for (path, text) in [("site/s", "guide"), ("site/t", "nowhere")] {
+        disk.add(path, Content::Symlink(String::from_str(alloc, text)?))?;
+    }
+    let page = Vec::from_slice(alloc, b"[s](s/o.md) [t](t)")?;
+    disk.add("site/p.md", Content::File(page))?;
+    disk.set_mode("site/index.md", 0o600)?;
+    Ok(disk)
+}
+
+// Whether a call does with progress what it does without, by as many calls of the file system.
+fn does_the_same(alloc: Global, words: &[&str]) -> Result<(), Fail> {
+    let (one, other) = (site_with_symlinks(alloc)?, site_with_symlinks(alloc)?);
+    let (mut out, mut errors) = (Vec::new(alloc), Vec::new(alloc));
+    let status = answer(&DiskMachine(&one), words, &mut out, &mut errors);
+    let (machine, progress) = (DiskMachine(&other), Progress::new());
+    let watched = WithProgress::new(&machine, &progress);
+    let (mut other_out, mut other_errors) = (Vec::new(alloc), Vec::new(alloc));
+    let other_status = answer(&watched, words, &mut other_out, &mut other_errors);
+    same("the status", &other_status, &status)?;
+    same("output", &other_out.as_slice(), &out.as_slice())?;
+    same("errors", &other_errors.as_slice(), &errors.as_slice())?;
+    same("the tree", &other.listing()?, &one.listing()?)?;
+    same("a page's rights", &other.rights("site/index.md")?, &one.rights("site/index.md")?)?;
+    same("calls", &other.calls(), &one.calls())
+}
+
+#[test]
+fn works_with_progress_as_without(rt: HostRuntime) -> Result<(), Fail> {
+    does_the_same(rt.alloc(), WRITE)?;
+    does_the_same(rt.alloc(), &["--check", "site"])
 }
