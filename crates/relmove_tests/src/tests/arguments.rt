@@ -166,7 +166,10 @@ const MESSAGES: [(&[&str], &str); 8] = [
         "--write isn't an option of this command",
     ),
     (&[], "ROOT is missing"),
-    (&["--check", ""], "ROOT is empty: the current directory is ."),
+    (
+        &["--check", ""],
+        "ROOT is empty: the current directory is .",
+    ),
     (&["docs"], "OLD and NEW are missing"),
     (&["docs", "a\n"], "NEW is missing after a\\u{a}"),
     (&["--undo", "docs", "b"], "b after ROOT is too much"),

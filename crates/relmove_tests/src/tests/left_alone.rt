@@ -247,7 +247,11 @@ fn moves_a_directory_beside_a_name_that_is_not_utf_8(rt: HostRuntime) -> Result<
     let places: &[Place] = &[("NOT-UTF-8", Some("nn")), ("d", None), ("d/a", Some("aa"))];
     let disk = disk_of(rt.alloc(), places)?;
     let unread = "relmove: a name in the directory site can't be read, or isn't UTF-8\n";
-    let expected = (Status::Kept, "0 pages changed, 1 directory moved.\n", unread);
+    let expected = (
+        Status::Kept,
+        "0 pages changed, 1 directory moved.\n",
+        unread,
+    );
     answers(rt.alloc(), &disk, &["--write", "site", "d", "e"], expected)
 }
 

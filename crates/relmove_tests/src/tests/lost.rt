@@ -424,12 +424,7 @@ fn names_no_link_to_a_directory_that_stays(rt: HostRuntime) -> Result<(), Fail> 
     let printed = "0 pages changed, 1 file moved.\n";
     let errors = "relmove: a name in the directory d can't be read, or isn't UTF-8\n";
     let words = ["--write", "site", "d/a.md", "b.md"];
-    answers(
-        rt.alloc(),
-        &disk,
-        &words,
-        (Status::Kept, printed, errors),
-    )
+    answers(rt.alloc(), &disk, &words, (Status::Kept, printed, errors))
 }
 
 // What a relative symbolic link leads to outside of the root is a FIFO.

@@ -615,30 +615,6 @@ fn ends_a_run_that_was_killed(rt: HostRuntime) -> Result<(), Fail> {
     Err(Fail::new("no run stopped"))
 }
 
-// Another program writes a page before this call. Whether the run made so many calls. What the program wrote is there.
-fn keeps_what_is_written(alloc: Global, number: u32) -> Result<bool, Fail> {
-    let disk = disk_of(alloc, SITE)?;
-    let text = Vec::from_slice(alloc, b"theirs")?;
-    disk.add_before(number, "site/index.md", Content::File(text))?;
-    written(alloc, &disk);
-    let path = "site/index.md";
-    same(
-        "what another program wrote",
-        &disk.has_file(path, path, "theirs")?,
-        &(number <= disk.calls()),
-    )?;
-    Ok(number <= disk.calls())
-}
-
-#[test]
-fn keeps_what_is_written_while_it_works(rt: HostRuntime) -> Result<(), Fail> {
-    let mut number = 1u32;
-    while number < 200 && keeps_what_is_written(rt.alloc(), number)? {
-        number = number.saturating_add(1);
-    }
-    same("calls", &(number > 10), &true)
-}
-
 // Removes a directory that isn't read before this call. Whether the call made so many calls. It prints what it does.
 fn is_planned_while_a_directory_goes(alloc: Global, number: u32) -> Result<bool, Fail> {
     let disk = disk_of(alloc, CLOSED)?;

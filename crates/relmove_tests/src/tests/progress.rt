@@ -251,12 +251,7 @@ fn prints_progress_after_half_a_second(rt: HostRuntime) -> Result<(), Fail> {
     let progress = Progress::new();
     let watched = WithProgress::new(&slow, &progress);
     let (mut out, mut errors) = (Vec::new(rt.alloc()), Vec::new(rt.alloc()));
-    let status = answer(
-        &watched,
-        &["--check", "site"],
-        &mut out,
-        &mut errors,
-    );
+    let status = answer(&watched, &["--check", "site"], &mut out, &mut errors);
     same("the status", &status, &Status::Kept)?;
     let lines = "relmove: 6 files opened, 0 renamed\n";
     same("what was printed", &disk.has_printed(lines)?, &true)
@@ -287,7 +282,11 @@ fn does_the_same(alloc: Global, words: &[&str]) -> Result<(), Fail> {
     same("output", &other_out.as_slice(), &out.as_slice())?;
     same("errors", &other_errors.as_slice(), &errors.as_slice())?;
     same("the tree", &other.listing()?, &one.listing()?)?;
-    same("a page's rights", &other.rights("site/index.md")?, &one.rights("site/index.md")?)?;
+    same(
+        "a page's rights",
+        &other.rights("site/index.md")?,
+        &one.rights("site/index.md")?,
+    )?;
     same("calls", &other.calls(), &one.calls())
 }
 
