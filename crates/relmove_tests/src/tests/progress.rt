@@ -269,25 +269,45 @@ fn site_with_symlinks(alloc: Global) -> Result<Disk, Fail> {
     Ok(disk)
 }
 
-// Whether a call does with progress what it does without, by as many calls of the file system.
+// What a call does: its status, what it prints, the tree and a page's rights after it, and how often it calls the file
+// system.
+#[derive(Debug, PartialEq, Eq, Drop)]
+struct Outcome {
+    status: Status,
+    out: Vec<u8>,
+    errors: Vec<u8>,
+    listing: String,
+    rights: (u32, u32, u32),
+    calls: u32,
+}
+
+// What a call does on a disk.
+fn outcome_of<R: Machine>(
+    alloc: Global,
+    machine: &R,
+    disk: &Disk,
+    words: &[&str],
+) -> Result<Outcome, Fail> {
+    let (mut out, mut errors) = (Vec::new(alloc), Vec::new(alloc));
+    let status = answer(machine, words, &mut out, &mut errors);
+    Ok(Outcome {
+        status,
+        out,
+        errors,
+        listing: disk.listing()?,
+        rights: disk.rights("site/index.md")?,
+        calls: disk.calls(),
+    })
+}
+
+// Whether a call does with progress what it does without.
 fn does_the_same(alloc: Global, words: &[&str]) -> Result<(), Fail> {
     let (one, other) = (site_with_symlinks(alloc)?, site_with_symlinks(alloc)?);
-    let (mut out, mut errors) = (Vec::new(alloc), Vec::new(alloc));
-    let status = answer(&DiskMachine(&one), words, &mut out, &mut errors);
+    let expected = outcome_of(alloc, &DiskMachine(&one), &one, words)?;
     let (machine, progress) = (DiskMachine(&other), Progress::new());
     let watched = WithProgress::new(&machine, &progress);
-    let (mut other_out, mut other_errors) = (Vec::new(alloc), Vec::new(alloc));
-    let other_status = answer(&watched, words, &mut other_out, &mut other_errors);
-    same("the status", &other_status, &status)?;
-    same("output", &other_out.as_slice(), &out.as_slice())?;
-    same("errors", &other_errors.as_slice(), &errors.as_slice())?;
-    same("the tree", &other.listing()?, &one.listing()?)?;
-    same(
-        "a page's rights",
-        &other.rights("site/index.md")?,
-        &one.rights("site/index.md")?,
-    )?;
-    same("calls", &other.calls(), &one.calls())
+    let outcome = outcome_of(alloc, &watched, &other, words)?;
+    same("with progress", &outcome, &expected)
 }
 
 #[test]
