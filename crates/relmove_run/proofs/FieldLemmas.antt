@@ -69,7 +69,8 @@ hex_plain (d ∷ ds) all =
     digit d is = grind (arith, nat_tests)
 
 -- bytes in hexadecimal are written as they are
-pub escaped-encode_lower : (bytes : List ℕ) → length bytes ≡ 32 → IsBytes bytes → escaped (encode_lower bytes) ≡ encode_lower bytes
+pub escaped-encode_lower : (bytes : List ℕ) → length bytes ≡ 32 → IsBytes bytes
+    → escaped (encode_lower bytes) ≡ encode_lower bytes
 escaped-encode_lower bytes long are =
     escaped-plain (encode_lower bytes) (hex_plain (encode_lower bytes)
     ((IsOk-decode_sized (encode_lower bytes) 32).0 (rw (decode_sized-encode_lower bytes 32 long are) refl)).1)
@@ -98,7 +99,8 @@ escaped_character-written c = go (c == 92) (c == 9) (c == 10)
   where
     go : (backslash tab feed : Bool)
         → (if backslash then codes "\\\\" else if tab then codes "\\t" else if feed then codes "\\n" else encode c)
-        ≡ encodes (if backslash then 92 ∷ 92 ∷ [] else if tab then 92 ∷ 116 ∷ [] else if feed then 92 ∷ 110 ∷ [] else c ∷ [])
+        ≡ encodes (if backslash then 92 ∷ 92 ∷ [] else if tab then 92 ∷ 116 ∷ []
+        else if feed then 92 ∷ 110 ∷ [] else c ∷ [])
     go true tab feed = refl
     go false true feed = refl
     go false false true = refl
@@ -121,7 +123,8 @@ scalars-written (c ∷ cs) all =
     scalars-append (written c) (flat_map written cs) (go (c == 92) (c == 9) (c == 10) first) (scalars-written cs others)
   where
     go : (backslash tab feed : Bool) → scalar c ≡ true
-        → scalars (if backslash then 92 ∷ 92 ∷ [] else if tab then 92 ∷ 116 ∷ [] else if feed then 92 ∷ 110 ∷ [] else c ∷ []) ≡ true
+        → scalars (if backslash then 92 ∷ 92 ∷ [] else if tab then 92 ∷ 116 ∷ []
+        else if feed then 92 ∷ 110 ∷ [] else c ∷ []) ≡ true
     go true tab feed is = refl
     go false true feed is = refl
     go false false true is = refl
@@ -222,8 +225,8 @@ IsReadSoFar-backslash d cs so_far path is so =
     record { left = so.left; written_left = ap (λ c. c ∷ cs) (sym is) ∙ so.written_left; joined = so.joined }
 
 -- what a call returns that knows what stands after a backslash
-pub StandsFor-gives : {E : Type 0} (d c : ℕ) (r : Result ℕ E) → StandsFor d c → (d ≡ 92 → r ≡ Ok 92) → (d ≡ 116 → r ≡ Ok 9)
-    → (d ≡ 110 → r ≡ Ok 10) → r ≡ Ok c
+pub StandsFor-gives : {E : Type 0} (d c : ℕ) (r : Result ℕ E) → StandsFor d c → (d ≡ 92 → r ≡ Ok 92)
+    → (d ≡ 116 → r ≡ Ok 9) → (d ≡ 110 → r ≡ Ok 10) → r ≡ Ok c
 StandsFor-gives d c r (inl (one, other)) backslash tab feed = backslash one ∙ ap Ok (sym other)
 StandsFor-gives d c r (inr (inl (one, other))) backslash tab feed = tab one ∙ ap Ok (sym other)
 StandsFor-gives d c r (inr (inr (one, other))) backslash tab feed = feed one ∙ ap Ok (sym other)

@@ -239,7 +239,8 @@ of_work-say content [] = refl
 of_work-say content (l ∷ ls) = of_work-say (with_line content (OfWork l)) ls
 
 -- the lines of a journal say it
-pub lines-say : (content : Content) → content.work ≡ no_work → (origin : Origin) (stage : Stage) (w : WorkParts) (size digest : List ℕ)
+pub lines-say : (content : Content) → content.work ≡ no_work → (origin : Origin) (stage : Stage) (w : WorkParts)
+    (size digest : List ℕ)
     → fold with_line content (lines origin stage w size digest) ≡ record { origin = origin; stage = stage; work = w }
 lines-say content none origin stage w size digest =
     let begun : Content = record { origin = origin; stage = stage; work = content.work } in

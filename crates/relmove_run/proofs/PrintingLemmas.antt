@@ -44,7 +44,8 @@ number_text c = codes "\\u{" ++ digits 16 false c ++ codes "}"
 number_changes_nothing : (c : ℕ) → c < 2 ^ 32 → IsAscii (number_text c) × (list_any changes_text (number_text c) ≡ false)
 number_changes_nothing c small =
     let (ascii, none) = digits_change_nothing (digits 16 false c) (digits_is_IsNumeral 16 false (lit< tt) (lit< tt) c (omega arith)).0.1 in
-    let start = IsAscii-cons 92 (117 ∷ 123 ∷ []) (lit< tt) (IsAscii-cons 117 (123 ∷ []) (lit< tt) (IsAscii-cons 123 [] (lit< tt) IsAscii-nil)) in
+    let start = IsAscii-cons 92 (117 ∷ 123 ∷ []) (lit< tt)
+    (IsAscii-cons 117 (123 ∷ []) (lit< tt) (IsAscii-cons 123 [] (lit< tt) IsAscii-nil)) in
     let end = IsAscii-cons 125 [] (lit< tt) IsAscii-nil in (
       IsAscii-append (codes "\\u{" ++ digits 16 false c) (codes "}") (IsAscii-append (codes "\\u{") (digits 16 false c) start ascii) end,
       any-append changes_text (codes "\\u{" ++ digits 16 false c) (codes "}")
@@ -57,14 +58,16 @@ character_changes_nothing : (c : ℕ) → IsScalar c
 character_changes_nothing c is = go (changes_text c) refl
   where
     go : (b : Bool) → changes_text c ≡ b
-        → IsUtf8 (if b then number_text c else encode_utf8 c) × (list_any changes_text (chars (if b then number_text c else encode_utf8 c)) ≡ false)
+        → IsUtf8 (if b then number_text c else encode_utf8 c)
+        × (list_any changes_text (chars (if b then number_text c else encode_utf8 c)) ≡ false)
     go true changes =
         let (ascii, none) = number_changes_nothing c (scalar_fits c is) in
         (IsUtf8-from_ascii (number_text c) ascii, ap (list_any changes_text) (chars-IsAscii (number_text c) ascii) ∙ none)
     go false same =
         let utf8 = IsUtf8-encode c is in (
           utf8,
-          ap (list_any changes_text) (chars_past_char (encode_utf8 c) [] c utf8 (sym (append-nil (encode_utf8 c))) ∙ ap (λ l. c ∷ l) chars-nil)
+          ap (list_any changes_text)
+              (chars_past_char (encode_utf8 c) [] c utf8 (sym (append-nil (encode_utf8 c))) ∙ ap (λ l. c ∷ l) chars-nil)
               ∙ ap (λ b. b || false) same,
         )
 

@@ -10,4 +10,5 @@ returns c =
     let pages = c.args.pages.now in
     let none_left = drop_all c.loop-page.page-index pages (grind (arith, c.loop-page-test.false)) in
     subst (AreTargetsOf (λ (page : Page). string_bytes page.text) pages) (append-nil c.loop-page.found.items)
-    (c.loop-page.invariant [] (subst (λ (rest : List Page). AreTargetsOf (λ (page : Page). string_bytes page.text) rest []) (sym none_left) tt))
+    (c.loop-page.invariant []
+    (subst (λ (rest : List Page). AreTargetsOf (λ (page : Page). string_bytes page.text) rest []) (sym none_left) tt))

@@ -5,4 +5,5 @@ use Rattle.relmove_run.proofs.shape.count_removed.Given as goal
 
 abbrev pub invariant-loop-leftover : goal.invariant-loop-leftover
 invariant-loop-leftover l =
-    (l.count ≤ l.leftover-index) × (l.count + length (removed_paths (drop l.leftover-index l.leftovers)) ≡ length (removed_paths l.leftovers))
+    (l.count ≤ l.leftover-index)
+    × (l.count + length (removed_paths (drop l.leftover-index l.leftovers)) ≡ length (removed_paths l.leftovers))
