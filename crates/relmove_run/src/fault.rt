@@ -245,6 +245,7 @@ fn words_alone(fault: &Fault) -> &'static str {
 impl Error for Fault {}
 
 impl From<AllocError> for Fault {
+    // a failed allocation becomes `OutOfMemory`
     ghost from_gives = { λ _ fault. fault ≡ OutOfMemory };
 
     fn from(_: AllocError) -> Fault {
@@ -253,6 +254,7 @@ impl From<AllocError> for Fault {
 }
 
 impl<T: Drop> From<AllocFailed<T>> for Fault {
+    // a failed allocation becomes `OutOfMemory`
     ghost from_gives = { λ _ fault. fault ≡ OutOfMemory };
 
     fn from(_: AllocFailed<T>) -> Fault {

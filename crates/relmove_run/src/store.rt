@@ -44,6 +44,7 @@ pub struct Found {
 impl Found {
     /// Whether this is the same thing as another one, maybe under another name.
     pub fn is_same(&self, other: &Found) -> bool
+        // whether device and inode are equal
         ensures same { result ≡ (self.now.device == other.now.device && self.now.inode == other.now.inode) }
     {
         self.device == other.device && self.inode == other.inode
