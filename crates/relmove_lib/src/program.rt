@@ -239,6 +239,7 @@ fn old_texts<'a>(
             texts.push(PageText {
                 path: page.path.as_str(),
                 text: page.text.as_str(),
+                file: page.file,
             })?;
         }
     }

@@ -39,8 +39,8 @@ isn't changed. Links in other files, such as HTML, aren't changed. Fragments are
 followed.
 
 A directory that a run leaves empty is removed, unless a link of a page leads to it. A run with --write first locks
-ROOT and writes the file ROOT/.relmove, its journal. The run gives all that moves and all pages that change the names
-.relmove-1, .relmove-2 and so on, and then their new paths. At its end the run removes the journal. If a run stops in
+ROOT and writes the file ROOT/.relmove, its journal. The run gives all that moves and all pages that change names
+in its own directory, ROOT/.relmove-run, and then their new paths. At its end the run removes both. If a run stops in
 the middle, also by a loss of power, --resume or --undo ends this run, and no file is lost. One thing isn't safe: another
 program that puts a file at a path while relmove renames a file to it. A text that somebody changes during the run is
 kept, and printed.

@@ -18,6 +18,8 @@ mod impossible_paths;
 mod journal;
 mod journals_near;
 mod lock;
+mod other_users;
+mod own_directory;
 mod own_names;
 mod power;
 mod printing;

@@ -7,15 +7,15 @@ use crate::tests::runs::{
 };
 use crate::tests::{holds, same};
 use relmove_disk::{Disk, Way, below_site, disk_of, file_of};
-use relmove_run::{Ended, Fault, Remark, Stage};
+use relmove_run::{Ended, Fault, Remark, Stage, directory_of};
 use std::alloc::Global;
 use std::test::Fail;
 
-// Puts a file at a path before a call of a run, if nothing is there. Whether the file stays. If it does, the run can be
+// Puts a file at a path before a call of a run, if nothing is there, and its directory is. Whether the file stays. If it does, the run can be
 // taken back after the file is removed.
 fn stays(alloc: Global, case: &Case, path: &str, number: u32) -> Result<bool, Fail> {
     let (_, disk) = run_and_fail(alloc, case, number, Way::Killed)?;
-    if disk.has(path)? {
+    if disk.has(path)? || !disk.has(directory_of(path))? {
         return Ok(true);
     }
     let disk = disk_of(alloc, case.before)?;
@@ -50,7 +50,7 @@ fn keeps_what_comes_to_a_new_path(rt: HostRuntime) -> Result<(), Fail> {
 
 #[test]
 fn keeps_what_comes_to_a_staging_name(rt: HostRuntime) -> Result<(), Fail> {
-    stay(rt.alloc(), &cases::PAGE_CHANGES, ".relmove-1", 1)
+    stay(rt.alloc(), &cases::PAGE_CHANGES, ".relmove-run/1", 1)
 }
 
 #[test]
@@ -59,7 +59,8 @@ fn keeps_what_comes_to_the_names_of_its_own_files(rt: HostRuntime) -> Result<(),
         ".relmove",
         ".relmove-journal",
         ".relmove-spare",
-        ".relmove-9",
+        ".relmove-run",
+        ".relmove-run/9",
     ] {
         stay(rt.alloc(), &cases::PAGE_CHANGES, path, 0)?;
     }
@@ -74,43 +75,65 @@ fn disk_with_file(alloc: Global, case: &Case, path: &str) -> Result<Disk, Fail> 
     Ok(disk)
 }
 
-// Whether the run goes back if a file comes to the staging name of one of its texts. The file stays, and this is said.
-fn goes_back_beside(alloc: Global, path: &str) -> Result<(), Fail> {
-    let case = &cases::PAGE_CHANGES;
-    let disk = disk_with_file(alloc, case, path)?;
+// The run goes back if a file comes to the staging name of a page. The file stays, and this is said.
+#[test]
+fn goes_back_beside_a_file_at_a_staging_name(rt: HostRuntime) -> Result<(), Fail> {
+    let (alloc, case) = (rt.alloc(), &cases::PAGE_CHANGES);
+    let disk = disk_with_file(alloc, case, ".relmove-run/1")?;
     let ended = undo_on(&disk);
-    same(path, &end_of(&ended), &End::TakenBack)?;
-    let full = below_site(alloc, path)?;
+    same("back", &end_of(&ended), &End::TakenBack)?;
     let is_said = match remarks_of(&ended) {
-        [Remark::Kept(kept)] => kept.as_str() == path,
+        [Remark::Kept(kept), Remark::Stays(_)] => kept.as_str() == ".relmove-run/1",
         _ => false,
     };
     same("said", &is_said, &true)?;
-    same("it stays", &disk.is_file(full.as_str(), "mine")?, &true)?;
-    disk.remove(full.as_str())?;
+    same(
+        "it stays",
+        &disk.is_file("site/.relmove-run/1", "mine")?,
+        &true,
+    )?;
+    disk.remove("site/.relmove-run")?;
     holds(alloc, "taken back", &disk, case.before)
 }
 
+// A file comes to a staging name after what had it was placed. The run goes back, and says that something was at both.
 #[test]
-fn goes_back_beside_a_file_at_a_staging_name(rt: HostRuntime) -> Result<(), Fail> {
-    goes_back_beside(rt.alloc(), ".relmove-1")?;
-    goes_back_beside(rt.alloc(), ".relmove-2")
+fn says_what_is_at_a_staging_name_and_at_a_new_path(rt: HostRuntime) -> Result<(), Fail> {
+    let (alloc, case) = (rt.alloc(), &cases::FILE_MOVES);
+    let number = first_call_with(alloc, case, "site/b/c/z.md")?;
+    let (_, disk) = run_and_fail(alloc, case, number, Way::Killed)?;
+    disk.add("site/.relmove-run/1", file_of(alloc, "mine")?)?;
+    let ended = undo_on(&disk);
+    same("back", &end_of(&ended), &End::TakenBack)?;
+    let is_said = match remarks_of(&ended) {
+        [Remark::AtBoth { from, to }] => {
+            from.as_str() == ".relmove-run/1" && to.as_str() == "b/c/z.md"
+        }
+        _ => false,
+    };
+    same("said", &is_said, &true)?;
+    same("the file", &disk.is_file("site/a/x.md", "mine")?, &true)?;
+    same("the run's", &disk.is_file("site/b/c/z.md", "xx")?, &true)
 }
 
 // The journal doesn't say which of two files is the run's. Whichever is removed or renamed, the other one goes back.
 #[test]
 fn names_both_files_of_a_rename(rt: HostRuntime) -> Result<(), Fail> {
     let alloc = rt.alloc();
-    let disk = disk_with_file(alloc, &cases::FILE_MOVES, ".relmove-1")?;
+    let disk = disk_with_file(alloc, &cases::FILE_MOVES, ".relmove-run/1")?;
     let words = match &undo_on(&disk) {
         Ended::Stopped { fault, .. } => format!(in alloc; "{fault}")?,
         _ => String::new(alloc),
     };
     let expected =
-        "can't rename .relmove-1 to a/x.md: something is at both paths. Rename or remove the one that isn't the run's";
+        "can't rename .relmove-run/1 to a/x.md: something is at both paths. Rename or remove the one that isn't the run's";
     same("said", &words.as_str(), &expected)?;
-    same("it stays", &disk.is_file("site/.relmove-1", "mine")?, &true)?;
-    disk.remove("site/.relmove-1")?;
+    same(
+        "it stays",
+        &disk.is_file("site/.relmove-run/1", "mine")?,
+        &true,
+    )?;
+    disk.remove("site/.relmove-run/1")?;
     can_be_undone(alloc, &cases::FILE_MOVES, &disk)
 }
 
@@ -168,19 +191,28 @@ fn keeps_what_comes_in_the_place_of_its_spare_journal(rt: HostRuntime) -> Result
     stay_in_place(rt.alloc(), "site/.relmove-spare", 2)
 }
 
-// A file that comes right before a run makes the one of its new text. The fault names it, and there is nothing else to say.
+// A file that comes right before a run makes the one of its new text. The fault names it, and the directory stays.
 #[test]
-fn says_nothing_more_of_a_file_at_the_name_of_a_text(rt: HostRuntime) -> Result<(), Fail> {
+fn says_that_its_directory_stays_with_a_file_at_the_name_of_a_text(
+    rt: HostRuntime,
+) -> Result<(), Fail> {
     let (alloc, case) = (rt.alloc(), &cases::PAGE_CHANGES);
-    let number = first_call_with(alloc, case, "site/.relmove-9")?;
+    let number = first_call_with(alloc, case, "site/.relmove-run/9")?;
     let disk = disk_of(alloc, case.before)?;
     disk.add_before(
         number.saturating_sub(1),
-        "site/.relmove-9",
+        "site/.relmove-run/9",
         file_of(alloc, "mine")?,
     )?;
-    same("refused", &end_of(&run(alloc, case, &disk)?), &End::Refused)?;
-    same("it stays", &disk.is_file("site/.relmove-9", "mine")?, &true)
+    let ended = run(alloc, case, &disk)?;
+    same("back", &end_of(&ended), &End::TakenBack)?;
+    let is_said = matches!(remarks_of(&ended), [Remark::Stays(_)]);
+    same("said", &is_said, &true)?;
+    same(
+        "it stays",
+        &disk.is_file("site/.relmove-run/9", "mine")?,
+        &true,
+    )
 }
 
 // Whether a journal that comes before a call of a run is told. `None` if the run's own is there already.

@@ -112,14 +112,18 @@ fn keeps_two_files_that_have_two_names(rt: HostRuntime) -> Result<(), Fail> {
     let disk = stopped_at(alloc, &cases::FILE_MOVES, Stage::Staging)?;
     disk.add_link("site/a/x.md", "o")?;
     disk.add("p", file_of(alloc, "mine")?)?;
-    disk.add_link("p", "site/.relmove-1")?;
+    disk.add_link("p", "site/.relmove-run/1")?;
     same(
         "both",
         &end_of(&resume_on(&disk)),
         &End::Stopped(Stage::Staging),
     )?;
     same("the old path", &disk.is_file("site/a/x.md", "xx")?, &true)?;
-    same("the name", &disk.is_file("site/.relmove-1", "mine")?, &true)
+    same(
+        "the name",
+        &disk.is_file("site/.relmove-run/1", "mine")?,
+        &true,
+    )
 }
 
 // A file with two names is taken back beside another file at its new path.
@@ -127,7 +131,7 @@ fn keeps_two_files_that_have_two_names(rt: HostRuntime) -> Result<(), Fail> {
 fn keeps_a_file_at_the_new_path_of_one_with_two_names(rt: HostRuntime) -> Result<(), Fail> {
     let alloc = rt.alloc();
     let disk = stopped_at(alloc, &cases::FILE_MOVES, Stage::Placing)?;
-    disk.add_link("site/.relmove-1", "o")?;
+    disk.add_link("site/.relmove-run/1", "o")?;
     disk.add("site/b/c/z.md", file_of(alloc, "mine")?)?;
     same("back", &end_of(&undo_on(&disk)), &End::TakenBack)?;
     same("it stays", &disk.is_file("site/b/c/z.md", "mine")?, &true)?;
@@ -138,7 +142,7 @@ fn keeps_a_file_at_the_new_path_of_one_with_two_names(rt: HostRuntime) -> Result
 fn keeps_arrival(alloc: Global, first: u32, number: u32) -> Result<bool, Fail> {
     let (_, disk) = run_and_fail(alloc, &cases::FILE_MOVES, first, Way::Killed)?;
     disk.add("site/a/n", file_of(alloc, "nn")?)?;
-    disk.add_link("site/a/x.md", "site/.relmove-1")?;
+    disk.add_link("site/a/x.md", "site/.relmove-run/1")?;
     disk.replace_before(number, "site/a/x.md", file_of(alloc, "mine")?)?;
     resume_on(&disk);
     if disk.calls() < number {

@@ -10,24 +10,22 @@ use relmove_run::{
 use std::alloc::{AllocError, Global};
 use std::test::Fail;
 
-const STAGED: &str =
-    "rename a to .relmove-1\nrename d/.relmove-9 to .relmove-2\nrename d/p to .relmove-3\n";
+const STAGED: &str = "rename a to .relmove-run/1\nrename d/p to .relmove-run/3\n";
 
 const MADE: &str = "make the directory e\nmake the directory e/f\n";
 
-const PLACED: &str = "rename .relmove-1 to e/f/a\nrename .relmove-2 to d/p\n";
+const PLACED: &str = "rename .relmove-run/1 to e/f/a\nrename .relmove-run/9 to d/p\n";
 
-const CLEANED: &str = "remove .relmove-3\nif it is empty, remove the directory g\n";
+const CLEANED: &str = "remove .relmove-run/3\nif it is empty, remove the directory g\n";
 
-const UNPLACED: &str = "rename d/p to .relmove-2\nrename e/f/a to .relmove-1\n";
+const UNPLACED: &str = "rename d/p to .relmove-run/9\nrename e/f/a to .relmove-run/1\n";
 
 const UNMADE: &str =
     "if it is empty, remove the directory e/f\nif it is empty, remove the directory e\n";
 
-const UNSTAGED: &str =
-    "rename .relmove-3 to d/p\nrename .relmove-2 to d/.relmove-9\nrename .relmove-1 to a\n";
+const UNSTAGED: &str = "rename .relmove-run/3 to d/p\nrename .relmove-run/1 to a\n";
 
-const ERASED: &str = "remove d/.relmove-9\n";
+const ERASED: &str = "remove .relmove-run/9\n";
 
 // A rename.
 fn rename(alloc: Global, from: &str, to: &str) -> Result<Rename, AllocError> {
@@ -48,17 +46,15 @@ fn text_file(alloc: Global, path: &str) -> Result<TextFile, AllocError> {
 // Work with two steps of each kind that can have two.
 fn work(alloc: Global) -> Result<Work, AllocError> {
     let mut work = Work::new(alloc);
-    work.texts.push(text_file(alloc, "d/.relmove-9")?)?;
-    work.staged.push(rename(alloc, "a", ".relmove-1")?)?;
-    work.staged
-        .push(rename(alloc, "d/.relmove-9", ".relmove-2")?)?;
-    work.staged.push(rename(alloc, "d/p", ".relmove-3")?)?;
+    work.texts.push(text_file(alloc, ".relmove-run/9")?)?;
+    work.staged.push(rename(alloc, "a", ".relmove-run/1")?)?;
+    work.staged.push(rename(alloc, "d/p", ".relmove-run/3")?)?;
     work.made.push(String::from_str(alloc, "e")?)?;
     work.made.push(String::from_str(alloc, "e/f")?)?;
-    work.placed.push(rename(alloc, ".relmove-1", "e/f/a")?)?;
-    work.placed.push(rename(alloc, ".relmove-2", "d/p")?)?;
+    work.placed.push(rename(alloc, ".relmove-run/1", "e/f/a")?)?;
+    work.placed.push(rename(alloc, ".relmove-run/9", "d/p")?)?;
     work.cleaned
-        .push(Leftover::Text(text_file(alloc, ".relmove-3")?))?;
+        .push(Leftover::Text(text_file(alloc, ".relmove-run/3")?))?;
     work.cleaned
         .push(Leftover::Directory(String::from_str(alloc, "g")?))?;
     Ok(work)
@@ -67,7 +63,13 @@ fn work(alloc: Global) -> Result<Work, AllocError> {
 // What is said to change, a line for each change, or why nothing is.
 fn changes_at(alloc: Global, stage: Stage, way: Way) -> Result<String, Fail> {
     let disk = disk_of(alloc, &[])?;
-    let origin = Origin { root: 0, file: 0 };
+    let origin = Origin {
+        root: 0,
+        file: 0,
+        run: 0,
+        owner: 0,
+        time: 0,
+    };
     let text = journal_text(alloc, origin, stage, &work(alloc)?)?;
     disk.add("site/.relmove", file_of(alloc, text.as_str())?)?;
     let before = disk.listing()?;

@@ -12,17 +12,17 @@ use std::test::Fail;
 
 // Whether a text is in a file on the disk.
 fn is_somewhere(disk: &Disk, text: &str) -> Result<bool, Fail> {
-    for path in [
-        "site/a.md",
-        "site/.relmove-1",
-        "site/.relmove-2",
-        "site/.relmove-9",
-    ] {
+    for path in ["site/a.md", "site/.relmove-run/1", "site/.relmove-run/9"] {
         if disk.is_file(path, text)? {
             return Ok(true);
         }
     }
     Ok(false)
+}
+
+// Whether the remarks say that a text is kept in the run's own directory, and so the directory stays.
+fn is_kept(remarks: &[Remark]) -> bool {
+    matches!(remarks, [Remark::Kept(_), Remark::Stays(_)])
 }
 
 // Edits a page before a call of a run. Whether the edit is kept.
@@ -63,7 +63,7 @@ fn takes_a_run_back_if_a_page_was_edited(rt: HostRuntime) -> Result<(), Fail> {
 // the run went back since it failed: then it says that it kept the edit.
 fn keeps_edit_of_a_text(alloc: Global, number: u32, failed: u32) -> Result<bool, Fail> {
     let disk = disk_of(alloc, cases::PAGE_CHANGES.before)?;
-    disk.add_before(number, "site/.relmove-9", file_of(alloc, "edited")?)?;
+    disk.add_before(number, "site/.relmove-run/9", file_of(alloc, "edited")?)?;
     disk.fail_at(failed, Way::Refused);
     let ended = run(alloc, &cases::PAGE_CHANGES, &disk)?;
     let is_cause = matches!(
@@ -74,8 +74,7 @@ fn keeps_edit_of_a_text(alloc: Global, number: u32, failed: u32) -> Result<bool,
         }
     );
     if is_cause {
-        let is_said = matches!(remarks_of(&ended), [Remark::Kept(_)]);
-        same("said", &is_said, &true)?;
+        same("said", &is_kept(remarks_of(&ended)), &true)?;
     }
     same("the edit", &is_somewhere(&disk, "edited")?, &true)?;
     Ok(is_cause)
@@ -85,8 +84,8 @@ fn keeps_edit_of_a_text(alloc: Global, number: u32, failed: u32) -> Result<bool,
 fn first_whole(alloc: Global) -> Result<u32, Fail> {
     for number in 1..=calls_of(alloc, &cases::PAGE_CHANGES)? {
         let (_, disk) = run_and_fail(alloc, &cases::PAGE_CHANGES, number, Way::Killed)?;
-        let is_whole = disk.has("site/.relmove-9")?
-            && disk.is_file("site/.relmove-9", "[x](y/x.md) more")?;
+        let is_whole = disk.has("site/.relmove-run/9")?
+            && disk.is_file("site/.relmove-run/9", "[x](y/x.md) more")?;
         if is_whole {
             return Ok(number);
         }
@@ -111,12 +110,11 @@ fn keeps_a_whole_text_that_is_edited(rt: HostRuntime) -> Result<(), Fail> {
 // Edits a new text after a kill, and ends the run. The edit has as many bytes as the text.
 fn keeps_edit_after_kill(alloc: Global, number: u32, ending: Ending) -> Result<(), Fail> {
     let (_, disk) = run_and_fail(alloc, &cases::PAGE_CHANGES, number, Way::Killed)?;
-    disk.add("site/.relmove-9", file_of(alloc, "[x](y/x.md) mine")?)?;
+    disk.add("site/.relmove-run/9", file_of(alloc, "[x](y/x.md) mine")?)?;
     let ended = ending.on(&disk);
     same("back", &end_of(&ended), &End::TakenBack)?;
-    let is_said = matches!(remarks_of(&ended), [Remark::Kept(_)]);
-    same("said", &is_said, &true)?;
-    let is_kept = disk.is_file("site/.relmove-9", "[x](y/x.md) mine")?;
+    same("said", &is_kept(remarks_of(&ended)), &true)?;
+    let is_kept = disk.is_file("site/.relmove-run/9", "[x](y/x.md) mine")?;
     same("the edit", &is_kept, &true)
 }
 
@@ -130,7 +128,7 @@ fn keeps_a_whole_text_that_is_edited_after_a_kill(rt: HostRuntime) -> Result<(),
 // Removes a page before a call of a run, once it has its staging name. Whether the run went back by itself.
 fn goes_back_without(alloc: Global, number: u32) -> Result<bool, Fail> {
     let disk = disk_of(alloc, cases::PAGE_CHANGES.before)?;
-    disk.remove_before(number, "site/.relmove-1")?;
+    disk.remove_before(number, "site/.relmove-run/1")?;
     let ended = run(alloc, &cases::PAGE_CHANGES, &disk)?;
     if !is_changed(&ended) || disk.has("site/a.md")? {
         return Ok(false);
@@ -163,8 +161,7 @@ fn keeps_edit_in_undo(alloc: Global, number: u32) -> Result<(), Fail> {
         // The journal may say the next stage already.
         Ended::Refused(Fault::TooLate) => Ok(()),
         Ended::TakenBack { remarks, .. } => {
-            let is_said = matches!(remarks.as_slice(), [Remark::Kept(_)]);
-            same("said", &is_said, &true)?;
+            same("said", &is_kept(&remarks), &true)?;
             same("the edit", &is_somewhere(&disk, "edited")?, &true)
         }
         other => Err(Fail::new(format_args!("{other:?}"))),
@@ -183,7 +180,7 @@ fn keeps_a_new_text_that_is_edited(rt: HostRuntime) -> Result<(), Fail> {
 fn tells_what_is_gone(rt: HostRuntime) -> Result<(), Fail> {
     let alloc = rt.alloc();
     let disk = stopped_at(alloc, &cases::SWAP, Stage::Making)?;
-    disk.remove("site/.relmove-1")?;
+    disk.remove("site/.relmove-run/1")?;
     let ended = resume_on(&disk);
     let is_missing = matches!(
         &ended,
@@ -208,7 +205,7 @@ fn tells_what_is_gone(rt: HostRuntime) -> Result<(), Fail> {
 // Fails a call of what takes a run back, in which a file is gone. Whether the run stopped when all else was back.
 fn stops_without(alloc: Global, first: u32, number: u32) -> Result<bool, Fail> {
     let (_, disk) = run_and_fail(alloc, &cases::SWAP, first, Way::Killed)?;
-    disk.remove("site/.relmove-1")?;
+    disk.remove("site/.relmove-run/1")?;
     disk.fail_at(number, Way::Refused);
     let ended = undo_on(&disk);
     if end_of(&ended) != End::Stopped(Stage::Erasing) {
@@ -234,10 +231,10 @@ fn tells_what_is_gone_if_it_stops(rt: HostRuntime) -> Result<(), Fail> {
 // Edits a new text after a kill, and fails a call of what takes the run back. The edit has as many bytes as the text.
 fn keeps_edit_after_fault(alloc: Global, first: u32, number: u32) -> Result<(), Fail> {
     let (_, disk) = run_and_fail(alloc, &cases::PAGE_CHANGES, first, Way::Killed)?;
-    disk.add("site/.relmove-9", file_of(alloc, "[x](y/x.md) mine")?)?;
+    disk.add("site/.relmove-run/9", file_of(alloc, "[x](y/x.md) mine")?)?;
     disk.fail_at(number, Way::Refused);
     undo_on(&disk);
-    let is_kept = disk.is_file("site/.relmove-9", "[x](y/x.md) mine")?;
+    let is_kept = disk.is_file("site/.relmove-run/9", "[x](y/x.md) mine")?;
     same("the edit", &is_kept, &true)
 }
 
@@ -257,37 +254,43 @@ fn keeps_a_file_in_the_place_of_a_text(rt: HostRuntime) -> Result<(), Fail> {
     let (alloc, case) = (rt.alloc(), &cases::PAGE_CHANGES);
     let number = first_whole(alloc)?.saturating_sub(1);
     let disk = disk_of(alloc, case.before)?;
-    disk.replace_before(number, "site/.relmove-9", file_of(alloc, "mine")?)?;
+    disk.replace_before(number, "site/.relmove-run/9", file_of(alloc, "mine")?)?;
     disk.fail_at(number, Way::Refused);
     let ended = run(alloc, case, &disk)?;
-    let is_said = matches!(remarks_of(&ended), [Remark::Kept(_)]);
-    same("said", &is_said, &true)?;
-    same("it stays", &disk.is_file("site/.relmove-9", "mine")?, &true)
+    same("said", &is_kept(remarks_of(&ended)), &true)?;
+    same(
+        "it stays",
+        &disk.is_file("site/.relmove-run/9", "mine")?,
+        &true,
+    )
 }
 
 // Takes a run back that was killed while it wrote a text, at whose name something else is then. It stays, and this is said.
 fn keeps_stranger(disk: &Disk) -> Result<(), Fail> {
     let ended = undo_on(disk);
     same("back", &end_of(&ended), &End::TakenBack)?;
-    let is_said = matches!(remarks_of(&ended), [Remark::Kept(_)]);
-    same("said", &is_said, &true)?;
-    same("it stays", &disk.has("site/.relmove-9")?, &true)
+    same("said", &is_kept(remarks_of(&ended)), &true)?;
+    same("it stays", &disk.has("site/.relmove-run/9")?, &true)
 }
 
-// A part of a text is a regular file with one name.
+// A part of a text is a regular file in the run's own directory. A second name of another file is removed there, and the file
+// stays.
 #[test]
 fn keeps_what_is_no_part_of_a_text(rt: HostRuntime) -> Result<(), Fail> {
     let (alloc, case) = (rt.alloc(), &cases::PAGE_CHANGES);
-    let number = first_call_with(alloc, case, "site/.relmove-9")?;
+    let number = first_call_with(alloc, case, "site/.relmove-run/9")?;
     let (_, disk) = run_and_fail(alloc, case, number, Way::Killed)?;
     let target = String::from_str(alloc, "../o")?;
-    disk.add("site/.relmove-9", Content::Symlink(target))?;
+    disk.add("site/.relmove-run/9", Content::Symlink(target))?;
     keeps_stranger(&disk)?;
     let (_, disk) = run_and_fail(alloc, case, number, Way::Killed)?;
-    disk.remove("site/.relmove-9")?;
+    disk.remove("site/.relmove-run/9")?;
     disk.add("o", file_of(alloc, "mine")?)?;
-    disk.add_link("o", "site/.relmove-9")?;
-    keeps_stranger(&disk)
+    disk.add_link("o", "site/.relmove-run/9")?;
+    same("back", &end_of(&undo_on(&disk)), &End::TakenBack)?;
+    same("the file", &disk.is_file("o", "mine")?, &true)?;
+    disk.remove("o")?;
+    holds(alloc, "taken back", &disk, case.before)
 }
 
 // A page that is gone, or is no regular file any more, refuses the run.

@@ -21,16 +21,14 @@ fn rename(alloc: Global, from: &str, to: &str) -> Result<Rename, AllocError> {
 fn work(alloc: Global) -> Result<Work, AllocError> {
     let mut work = Work::new(alloc);
     work.texts.push(TextFile {
-        path: String::from_str(alloc, "f/.relmove-9")?,
+        path: String::from_str(alloc, ".relmove-run/9")?,
         digest: TextDigest::of(b""),
     })?;
-    work.staged.push(rename(alloc, "f/a", ".relmove-1")?)?;
-    work.staged
-        .push(rename(alloc, "f/.relmove-9", ".relmove-2")?)?;
+    work.staged.push(rename(alloc, "f/a", ".relmove-run/1")?)?;
     work.made.push(String::from_str(alloc, "f/d")?)?;
-    work.placed.push(rename(alloc, ".relmove-2", "f/b")?)?;
+    work.placed.push(rename(alloc, ".relmove-run/9", "f/b")?)?;
     work.cleaned.push(Leftover::Text(TextFile {
-        path: String::from_str(alloc, ".relmove-1")?,
+        path: String::from_str(alloc, ".relmove-run/1")?,
         digest: TextDigest::of(b"aa"),
     }))?;
     work.cleaned
@@ -42,10 +40,20 @@ fn work(alloc: Global) -> Result<Work, AllocError> {
 fn ends(alloc: Global, stage: Stage, expected: End) -> Result<(), Fail> {
     let disk = disk_of(
         alloc,
-        &[(".relmove-1", Some("aa")), (".relmove-2", Some(""))],
+        &[
+            (".relmove-run", None),
+            (".relmove-run/1", Some("aa")),
+            (".relmove-run/9", Some("")),
+        ],
     )?;
     disk.add("site/f", Content::Other)?;
-    let origin = Origin { root: 0, file: 0 };
+    let origin = Origin {
+        root: 0,
+        file: 0,
+        run: 0,
+        owner: 0,
+        time: 0,
+    };
     let text = journal_text(alloc, origin, stage, &work(alloc)?)?;
     disk.add("site/.relmove", file_of(alloc, text.as_str())?)?;
     let ended = resume(lock(&disk)?, Trust::AnyFolder);

@@ -34,7 +34,13 @@ fn believes_no_journal_of_another_directory(rt: HostRuntime) -> Result<(), Fail>
     let alloc = rt.alloc();
     let disk = stopped_at(alloc, &cases::SWAP, Stage::Placing)?;
     disk.add("copy", Content::Directory)?;
-    for name in [".relmove", ".relmove-spare", ".relmove-1", ".relmove-2"] {
+    disk.add("copy/.relmove-run", Content::Directory)?;
+    for name in [
+        ".relmove",
+        ".relmove-spare",
+        ".relmove-run/1",
+        ".relmove-run/2",
+    ] {
         let from = format!(in alloc; "site/{name}")?;
         let to = format!(in alloc; "copy/{name}")?;
         if disk.has(from.as_str())? {
@@ -43,7 +49,13 @@ fn believes_no_journal_of_another_directory(rt: HostRuntime) -> Result<(), Fail>
     }
     disk.remove("site")?;
     disk.add("site", Content::Directory)?;
-    for name in [".relmove", ".relmove-spare", ".relmove-1", ".relmove-2"] {
+    disk.add("site/.relmove-run", Content::Directory)?;
+    for name in [
+        ".relmove",
+        ".relmove-spare",
+        ".relmove-run/1",
+        ".relmove-run/2",
+    ] {
         let from = format!(in alloc; "copy/{name}")?;
         let to = format!(in alloc; "site/{name}")?;
         if disk.has(from.as_str())? {

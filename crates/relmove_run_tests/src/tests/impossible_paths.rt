@@ -2,7 +2,7 @@
 use crate::tests::reasons::gives_reason;
 use crate::tests::runs::{End, end_of, lock, run};
 use crate::tests::{cases, holds, same};
-use relmove_actions::{NewText, Rename, Steps};
+use relmove_actions::{Rename, Steps};
 use relmove_disk::{Disk, DiskStore, disk_of, file_of};
 use relmove_run::{
     Ended, Fault, Origin, Stage, Trust, Work, carry_out, journal_text, need_possible, undo,
@@ -67,17 +67,6 @@ fn steps_with_directory(alloc: Global, path: &str) -> Result<Steps, AllocError> 
     Ok(steps)
 }
 
-// Steps that write a new text.
-fn steps_with_text(alloc: Global, path: &str) -> Result<Steps, AllocError> {
-    let mut steps = no_steps(alloc);
-    steps.texts.push(NewText {
-        page: String::from_str(alloc, "a")?,
-        file: String::from_str(alloc, path)?,
-        text: String::new(alloc),
-    })?;
-    Ok(steps)
-}
-
 // What is said of steps, or an empty text.
 fn words_of(alloc: Global, disk: &Disk, steps: &Steps) -> Result<String, Fail> {
     let mut store = DiskStore::new(disk, "site")?;
@@ -92,9 +81,7 @@ fn are_too_long(alloc: Global, path: &str) -> Result<(), Fail> {
     let disk = disk_of(alloc, cases::SWAP.before)?;
     let words = format!(in alloc; "{path} is too long, or a name in it is")?;
     let found = words_of(alloc, &disk, &steps_to(alloc, path)?)?;
-    same("a new path", &found, &words)?;
-    let found = words_of(alloc, &disk, &steps_with_text(alloc, path)?)?;
-    same("a new text", &found, &words)
+    same("a new path", &found, &words)
 }
 
 #[test]
@@ -232,19 +219,29 @@ fn moves_files_of_a_directory_that_cannot_be_listed(rt: HostRuntime) -> Result<(
 
 // Takes a run back that stopped before it could make a directory, or that found none there.
 fn goes_back_from(alloc: Global, directory: &str, makes: bool) -> Result<(), Fail> {
-    let disk = disk_of(alloc, &[(".relmove-1", Some("aa"))])?;
+    let disk = disk_of(
+        alloc,
+        &[(".relmove-run", None), (".relmove-run/1", Some("aa"))],
+    )?;
     let mut work = Work::new(alloc);
-    let Steps {
-        apart,
-        together,
-        ..
-    } = steps_to(alloc, format!(in alloc; "{directory}/x")?.as_str())?;
-    work.staged = apart;
+    work.staged.push(Rename {
+        from: String::from_str(alloc, "a")?,
+        to: String::from_str(alloc, ".relmove-run/1")?,
+    })?;
     if makes {
         work.made.push(String::from_str(alloc, directory)?)?;
     }
-    work.placed = together;
-    let origin = Origin { root: 0, file: 0 };
+    work.placed.push(Rename {
+        from: String::from_str(alloc, ".relmove-run/1")?,
+        to: format!(in alloc; "{directory}/x")?,
+    })?;
+    let origin = Origin {
+        root: 0,
+        file: 0,
+        run: 0,
+        owner: 0,
+        time: 0,
+    };
     let text = journal_text(alloc, origin, Stage::Placing, &work)?;
     disk.add("site/.relmove", file_of(alloc, text.as_str())?)?;
     let ended = undo(lock(&disk)?, Trust::AnyFolder);

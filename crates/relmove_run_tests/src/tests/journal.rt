@@ -10,6 +10,9 @@ use std::test::Fail;
 const ORIGIN: Origin = Origin {
     root: u64::MAX,
     file: 7,
+    run: 8,
+    owner: 9,
+    time: 10,
 };
 
 // The digest of the text `abc`, as `sha256sum` prints it.
@@ -51,7 +54,7 @@ fn text_file(alloc: Global, path: &str, digest: TextDigest) -> Result<TextFile, 
 // What is removed at the end of the run.
 fn cleaned(alloc: Global) -> Result<Vec<Leftover>, AllocError> {
     let mut cleaned = Vec::new(alloc);
-    cleaned.push(Leftover::Text(text_file(alloc, ".relmove-3", EMPTY)?))?;
+    cleaned.push(Leftover::Text(text_file(alloc, ".relmove-run/3", EMPTY)?))?;
     cleaned.push(Leftover::Directory(String::from_str(alloc, "end")?))?;
     cleaned.push(Leftover::Directory(String::from_str(alloc, " /b")?))?;
     Ok(cleaned)
@@ -60,23 +63,25 @@ fn cleaned(alloc: Global) -> Result<Vec<Leftover>, AllocError> {
 // Work with each kind of step, and paths with all that is escaped.
 fn work(alloc: Global) -> Result<Work, AllocError> {
     let mut work = Work::new(alloc);
-    work.texts.push(text_file(alloc, "d/.relmove-9", ABC)?)?;
-    work.staged.push(rename(alloc, "a\tb\nc\\", ".relmove-1")?)?;
+    work.texts.push(text_file(alloc, ".relmove-run/9", ABC)?)?;
     work.staged
-        .push(rename(alloc, "d/.relmove-9", ".relmove-2")?)?;
-    work.staged.push(rename(alloc, "d/é\\n", ".relmove-3")?)?;
+        .push(rename(alloc, "a\tb\nc\\", ".relmove-run/1")?)?;
+    work.staged
+        .push(rename(alloc, "d/é\\n", ".relmove-run/3")?)?;
     work.made.push(String::from_str(alloc, "x\r")?)?;
-    work.placed.push(rename(alloc, ".relmove-1", "\\t/\\\\n")?)?;
-    work.placed.push(rename(alloc, ".relmove-2", "d/é\\n")?)?;
+    work.placed
+        .push(rename(alloc, ".relmove-run/1", "\\t/\\\\n")?)?;
+    work.placed
+        .push(rename(alloc, ".relmove-run/9", "d/é\\n")?)?;
     work.cleaned = cleaned(alloc)?;
     Ok(work)
 }
 
 const LINES: &str =
-    "relmove journal 2\nroot\t18446744073709551615\nfile\t7\nstage\tplacing\ntext\td/.relmove-9\t3\tba7816bf8f01cfea414140de5dae2223b00361a396177a9cb410ff61f20015ad\nstaged\ta\\tb\\nc\\\\\t.relmove-1\nstaged\td/.relmove-9\t.relmove-2\nstaged\td/é\\\\n\t.relmove-3\nmade\tx\r\nplaced\t.relmove-1\t\\\\t/\\\\\\\\n\nplaced\t.relmove-2\td/é\\\\n\nremoved\t.relmove-3\t0\te3b0c44298fc1c149afbf4c8996fb92427ae41e4649b934ca495991b7852b855\nemptied\tend\nemptied\t /b\n";
+    "relmove journal 3\nroot\t18446744073709551615\nfile\t7\nrun\t8\nowner\t9\ntime\t10\nstage\tplacing\ntext\t.relmove-run/9\t3\tba7816bf8f01cfea414140de5dae2223b00361a396177a9cb410ff61f20015ad\nstaged\ta\\tb\\nc\\\\\t.relmove-run/1\nstaged\td/é\\\\n\t.relmove-run/3\nmade\tx\r\nplaced\t.relmove-run/1\t\\\\t/\\\\\\\\n\nplaced\t.relmove-run/9\td/é\\\\n\nremoved\t.relmove-run/3\t0\te3b0c44298fc1c149afbf4c8996fb92427ae41e4649b934ca495991b7852b855\nemptied\tend\nemptied\t /b\n";
 
 // The digest is what `sha256sum` prints of the lines before.
-const END: &str = "end\t407\t970bfddbf3eb6391a3603b379ecac152f8e4a3c2e1a23b71e3319d2832faf8d2\n";
+const END: &str = "end\t420\t3a55198636a12f6576acb373338275463999e11109d7388b2d35a6fe4a33989a\n";
 
 // The journal of the work.
 fn pinned(alloc: Global) -> Result<String, AllocError> {
@@ -148,8 +153,8 @@ fn is_none_with(alloc: Global, index: usize, byte: u8) -> Result<(), Fail> {
         return Ok(());
     };
     let text = text.as_str();
-    let is_of_first_version = text.starts_with("relmove journal 1");
-    if is_of_first_version || text == pinned(alloc)?.as_str() {
+    let is_older = text.starts_with("relmove journal 1") || text.starts_with("relmove journal 2");
+    if is_older || text == pinned(alloc)?.as_str() {
         return Ok(());
     }
     is_none(alloc, "a journal with another byte", text)
@@ -166,8 +171,13 @@ fn reads_no_journal_with_another_byte(rt: HostRuntime) -> Result<(), Fail> {
 }
 
 #[test]
-fn tells_a_journal_of_the_first_version(rt: HostRuntime) -> Result<(), Fail> {
-    let text = "relmove journal 1\nstage\tparting\nend\n";
-    let read = journal_of(rt.alloc(), text);
-    same("old", &matches!(&read, Err(Fault::OldJournal)), &true)
+fn tells_a_journal_of_an_older_version(rt: HostRuntime) -> Result<(), Fail> {
+    for text in [
+        "relmove journal 1\nstage\tparting\nend\n",
+        "relmove journal 2\nroot\t1\nfile\t2\nstage\tstaging\n",
+    ] {
+        let read = journal_of(rt.alloc(), text);
+        same(text, &matches!(&read, Err(Fault::OldJournal)), &true)?;
+    }
+    Ok(())
 }

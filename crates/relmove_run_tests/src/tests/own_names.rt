@@ -34,7 +34,7 @@ const STRANGERS: [Stranger; 5] = [
 // A disk with a stranger at a path. The file outside the root begins as a journal does.
 fn disk_with(alloc: Global, path: &str, stranger: Stranger) -> Result<Disk, Fail> {
     let disk = disk_of(alloc, cases::SWAP.before)?;
-    disk.add("o", file_of(alloc, "relmove journal 2\n")?)?;
+    disk.add("o", file_of(alloc, "relmove journal 3\n")?)?;
     match stranger {
         Stranger::File => disk.add(path, file_of(alloc, "mine")?)?,
         Stranger::Symlink => {
@@ -121,7 +121,7 @@ fn gives_its_journal_one_name(rt: HostRuntime) -> Result<(), Fail> {
     let (alloc, case) = (rt.alloc(), &cases::PAGE_CHANGES);
     for number in 1..=calls_of(alloc, case)? {
         let (_, disk) = run_and_fail(alloc, case, number, Way::Killed)?;
-        if disk.has("site/.relmove-9")? {
+        if disk.has("site/.relmove-run/9")? {
             same("a journal", &disk.has("site/.relmove")?, &true)?;
             return same(
                 "its second name",
@@ -133,21 +133,47 @@ fn gives_its_journal_one_name(rt: HostRuntime) -> Result<(), Fail> {
     Err(Fail::new("no text was written"))
 }
 
-// Whether a run is refused if this is at a name that it needs, and changes nothing.
-fn needs_name(alloc: Global, path: &str, content: Content) -> Result<(), Fail> {
-    let disk = disk_of(alloc, cases::PAGE_CHANGES.before)?;
-    disk.add(below_site(alloc, path)?.as_str(), content)?;
-    let reason = format!(in alloc; "Taken({path:?})")?;
-    is_refused(alloc, &cases::PAGE_CHANGES, &disk, reason.as_str())
+#[test]
+fn opens_no_directory_of_its_name_that_is_there(rt: HostRuntime) -> Result<(), Fail> {
+    let alloc = rt.alloc();
+    let reason = "OwnName(\".relmove-run\")";
+    for stranger in &STRANGERS {
+        if *stranger != Stranger::Directory {
+            refuses(alloc, "site/.relmove-run", *stranger, reason, reason)?;
+        }
+    }
+    Ok(())
 }
 
+// A directory in which something is was left by no run that was killed before it had a journal.
 #[test]
-fn begins_only_if_its_names_are_free(rt: HostRuntime) -> Result<(), Fail> {
-    let alloc = rt.alloc();
-    for path in [".relmove-1", ".relmove-9"] {
-        needs_name(alloc, path, file_of(alloc, "mine")?)?;
-        let target = String::from_str(alloc, "nowhere")?;
-        needs_name(alloc, path, Content::Symlink(target))?;
+fn keeps_what_is_in_a_directory_of_its_name(rt: HostRuntime) -> Result<(), Fail> {
+    let (alloc, case) = (rt.alloc(), &cases::SWAP);
+    let reason = "OwnName(\".relmove-run\")";
+    let disk = disk_of(alloc, case.before)?;
+    disk.add("site/.relmove-run", Content::Directory)?;
+    disk.add("site/.relmove-run/1", file_of(alloc, "mine")?)?;
+    is_refused(alloc, case, &disk, reason)?;
+    gives_reason(alloc, &resume_on(&disk), reason)?;
+    gives_reason(alloc, &undo_on(&disk), reason)?;
+    same(
+        "it stays",
+        &disk.is_file("site/.relmove-run/1", "mine")?,
+        &true,
+    )
+}
+
+// A run that was killed right after it made its directory left it empty, maybe without its permissions.
+#[test]
+fn removes_an_empty_directory_of_its_name(rt: HostRuntime) -> Result<(), Fail> {
+    let (alloc, case) = (rt.alloc(), &cases::SWAP);
+    for mode in [0o700, 0o100, 0] {
+        let disk = disk_of(alloc, case.before)?;
+        disk.add("site/.relmove-run", Content::Directory)?;
+        disk.set_mode("site/.relmove-run", mode)?;
+        is_refused(alloc, case, &disk, "LeftOver(\".relmove-run\")")?;
+        gives_reason(alloc, &undo_on(&disk), "NoJournal")?;
+        holds(alloc, "an empty directory", &disk, case.before)?;
     }
     Ok(())
 }
@@ -163,6 +189,32 @@ fn tells_what_a_killed_run_left(rt: HostRuntime) -> Result<(), Fail> {
             below_site(alloc, name)?.as_str(),
             file_of(alloc, "relmove j")?,
         )?;
+        let reason = format!(in alloc; "LeftOver({name:?})")?;
+        is_refused(alloc, case, &disk, reason.as_str())?;
+        gives_reason(alloc, &undo_on(&disk), "NoJournal")?;
+        holds(alloc, name, &disk, case.before)?;
+    }
+    Ok(())
+}
+
+// A file of 200 GB that takes no room.
+const HOLE: u64 = 200_000_000_000;
+
+// Of a file at a name of a run's own only as much is read as a journal can have.
+#[test]
+fn reads_no_more_than_a_journal_can_have(rt: HostRuntime) -> Result<(), Fail> {
+    let (alloc, case) = (rt.alloc(), &cases::SWAP);
+    let disk = disk_of(alloc, case.before)?;
+    disk.add("site/.relmove", file_of(alloc, "relmove journal 3\n")?)?;
+    disk.add_hole("site/.relmove", HOLE)?;
+    let reason = reason_of(alloc, Stranger::File)?;
+    is_refused(alloc, case, &disk, reason.as_str())?;
+    gives_reason(alloc, &undo_on(&disk), "NotAJournal")?;
+    for name in [".relmove-journal", ".relmove-spare"] {
+        let path = below_site(alloc, name)?;
+        let disk = disk_of(alloc, case.before)?;
+        disk.add(path.as_str(), file_of(alloc, "relmove journal 3\n")?)?;
+        disk.add_hole(path.as_str(), HOLE)?;
         let reason = format!(in alloc; "LeftOver({name:?})")?;
         is_refused(alloc, case, &disk, reason.as_str())?;
         gives_reason(alloc, &undo_on(&disk), "NoJournal")?;

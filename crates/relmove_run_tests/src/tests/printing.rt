@@ -106,27 +106,29 @@ fn names_each_call(rt: HostRuntime) -> Result<(), Fail> {
 fn fault_at(alloc: Global, kind: usize) -> Result<Fault, AllocError> {
     let path = path(alloc)?;
     Ok(match kind {
-        0 => Fault::Taken(path),
-        1 => Fault::Missing(path),
+        0 => Fault::Missing(path),
+        1 => Fault::OtherText(path),
         2 => Fault::NotADirectory(path),
         3 => Fault::TooLong(path),
         4 => Fault::OtherDevice(path),
         5 => Fault::Changed(path),
         6 => Fault::JournalNear(path),
         7 => Fault::OwnName(path),
+        8 => Fault::Exchanged(path),
         _ => Fault::LeftOver(path),
     })
 }
 
-const WITH_PATH: [&str; 9] = [
-    "a\\u{1b} is there already",
+const WITH_PATH: [&str; 10] = [
     "a\\u{1b} isn't there",
+    "a\\u{1b} isn't the text that the run wrote: another program changed it, or put it there",
     "a\\u{1b} is no directory: a symbolic link or a file is there",
     "a\\u{1b} is too long, or a name in it is",
     "a\\u{1b} is on another file system than ROOT",
     "a\\u{1b} was changed while the run worked, so the run was taken back",
-    "a\\u{1b} is the journal of a run that didn't end: end that run first",
+    "a\\u{1b} is the journal of a run that didn't end. If it was your run, end it first. If the folder came from elsewhere, the journal may have come with it: then remove it",
     "a\\u{1b} has a name of relmove's own, and relmove didn't leave it: remove or rename it",
+    "a\\u{1b} isn't the directory that the run made: another program removed or exchanged it",
     "a\\u{1b} was left by a run that was killed: call relmove --undo ROOT to remove it",
 ];
 
@@ -145,14 +147,16 @@ fn fault_alone(kind: usize) -> Fault {
         0 => Fault::OutOfMemory,
         1 => Fault::AtWork,
         2 => Fault::LinkedJournal,
+        3 => Fault::OthersJournal(7),
         _ => Fault::NotAPlan,
     }
 }
 
-const ALONE: [&str; 4] = [
+const ALONE: [&str; 5] = [
     "memory ran out",
     "another call of relmove is at work here",
     "the journal .relmove has another name too, as cp -al and some backups give to a file. Add --trust-journal to see what it asks for",
+    "the journal .relmove is of a run of another user, of the number 7: only this user ends it, or root with --trust-journal",
     "the steps aren't those of a plan",
 ];
 
@@ -184,6 +188,17 @@ fn prints_the_paths_of_remarks(rt: HostRuntime) -> Result<(), Fail> {
     let text = Remark::Kept(path(alloc)?).to_string(alloc)?;
     let words = "a\\u{1b} is kept: another program changed it, or put it there";
     same("kept", &text.as_str(), &words)?;
+    let (from, to) = (path(alloc)?, other_path(alloc)?);
+    let text = Remark::AtBoth { from, to }.to_string(alloc)?;
+    let words =
+        "something was at a\\u{1b} and at b\\u{7}: the first went back to the old path, and the second is kept";
+    same("at both", &text.as_str(), &words)?;
+    let near = Remark::Near {
+        path: path(alloc)?,
+        owner: 7,
+    };
+    let words = "a\\u{1b} is the journal of a run that didn't end, of the user of the number 7";
+    same("near", &near.to_string(alloc)?.as_str(), &words)?;
     let (from, to) = (path(alloc)?, other_path(alloc)?);
     let text = Remark::Gone { from, to }.to_string(alloc)?;
     let words = "neither a\\u{1b} nor b\\u{7} is there: another program removed it";

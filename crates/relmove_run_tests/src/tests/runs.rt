@@ -2,7 +2,9 @@
 use crate::tests::cases::Case;
 use crate::tests::{holds, same};
 use relmove_disk::{Disk, DiskStore, Way, below_site, disk_of, file_of};
-use relmove_run::{Ended, Fault, Locked, PageText, Remark, Stage, Trust, carry_out, resume, undo};
+use relmove_run::{
+    Ended, Fault, Locked, PageFile, PageText, Remark, Stage, Trust, carry_out, resume, undo,
+};
 use std::alloc::Global;
 use std::test::Fail;
 
@@ -63,6 +65,20 @@ fn text_before(case: &Case, page: &str) -> &'static str {
     ""
 }
 
+// The file of a page, or one that is nowhere.
+fn page_file(disk: &Disk, path: &str) -> Result<PageFile, Fail> {
+    match DiskStore::new(disk, "site")?.seen(path)? {
+        Some(found) => Ok(PageFile::of(&found)),
+        None => Ok(PageFile {
+            device: 0,
+            inode: 0,
+            mode: 0,
+            owner: 0,
+            group: 0,
+        }),
+    }
+}
+
 /// Does the steps of a case on a disk.
 pub fn run(alloc: Global, case: &Case, disk: &Disk) -> Result<Ended, Fail> {
     let steps = case.steps(alloc)?;
@@ -71,6 +87,7 @@ pub fn run(alloc: Global, case: &Case, disk: &Disk) -> Result<Ended, Fail> {
         pages.push(PageText {
             path,
             text: text_before(case, path),
+            file: page_file(disk, path)?,
         })?;
     }
     let mut directories = Vec::new(alloc);

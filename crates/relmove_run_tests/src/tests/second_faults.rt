@@ -160,8 +160,8 @@ fn names_where_it_stops(rt: HostRuntime) -> Result<(), Fail> {
     let disk = stopped_at(alloc, case, Stage::Placing)?;
     disk.remove("site/b")?;
     stops_with(alloc, &resume_on(&disk), "b isn't there")?;
-    disk.remove("site/.relmove-1")?;
-    stops_with(alloc, &resume_on(&disk), ".relmove-1 isn't there")?;
+    disk.remove("site/.relmove-run/1")?;
+    stops_with(alloc, &resume_on(&disk), ".relmove-run/1 isn't there")?;
     let disk = stopped_at(alloc, case, Stage::Making)?;
     disk.add("site/b", file_of(alloc, "mine")?)?;
     let words = "b is no directory: a symbolic link or a file is there";
@@ -207,7 +207,7 @@ fn stops_if_it_cannot_say_that_it_goes_back(rt: HostRuntime) -> Result<(), Fail>
     let ended = run(alloc, case, &disk)?;
     disk.fail_at(0, Way::Refused);
     same("stopped", &end_of(&ended), &End::Stopped(Stage::Staging))?;
-    same("a text", &disk.has("site/.relmove-9")?, &true)?;
+    same("a text", &disk.has("site/.relmove-run/9")?, &true)?;
     can_be_undone(alloc, case, &disk)
 }
 

@@ -5,7 +5,8 @@ use std::alloc::{AllocError, Global};
 use std::test::Fail;
 
 // Lines that a run may write, in one list.
-const HEAD: &str = "relmove journal 2\nroot\t1\nfile\t2\nstage\tstaging\n";
+const HEAD: &str =
+    "relmove journal 3\nroot\t1\nfile\t2\nrun\t3\nowner\t4\ntime\t5\nstage\tstaging\n";
 
 // Two digits for each byte.
 fn push_hexadecimal(text: &mut String, bytes: &[u8]) -> Result<(), AllocError> {
@@ -56,20 +57,26 @@ fn are_journals(
 
 const FINE: [(&str, &str); 8] = [
     ("nothing to do", ""),
-    ("a move", "staged\ta\t.relmove-1\nplaced\t.relmove-1\tb/c\n"),
+    (
+        "a move",
+        "staged\ta\t.relmove-run/1\nplaced\t.relmove-run/1\tb/c\n",
+    ),
     (
         "a page",
-        "text\td/.relmove-9\t0\te3b0c44298fc1c149afbf4c8996fb92427ae41e4649b934ca495991b7852b855\nstaged\td/.relmove-9\t.relmove-1\nstaged\td/a\t.relmove-2\nplaced\t.relmove-1\td/a\nremoved\t.relmove-2\t0\te3b0c44298fc1c149afbf4c8996fb92427ae41e4649b934ca495991b7852b855\n",
+        "text\t.relmove-run/9\t0\te3b0c44298fc1c149afbf4c8996fb92427ae41e4649b934ca495991b7852b855\nstaged\td/a\t.relmove-run/2\nplaced\t.relmove-run/9\td/a\nremoved\t.relmove-run/2\t0\te3b0c44298fc1c149afbf4c8996fb92427ae41e4649b934ca495991b7852b855\n",
     ),
     (
         "two pages",
-        "text\t.relmove-8\t0\te3b0c44298fc1c149afbf4c8996fb92427ae41e4649b934ca495991b7852b855\ntext\t.relmove-9\t0\te3b0c44298fc1c149afbf4c8996fb92427ae41e4649b934ca495991b7852b855\nstaged\ta\t.relmove-1\nstaged\t.relmove-8\t.relmove-2\nstaged\tb\t.relmove-3\nstaged\t.relmove-9\t.relmove-4\nplaced\t.relmove-2\ta\nplaced\t.relmove-4\tb\nremoved\t.relmove-1\t0\te3b0c44298fc1c149afbf4c8996fb92427ae41e4649b934ca495991b7852b855\nremoved\t.relmove-3\t0\te3b0c44298fc1c149afbf4c8996fb92427ae41e4649b934ca495991b7852b855\n",
+        "text\t.relmove-run/8\t0\te3b0c44298fc1c149afbf4c8996fb92427ae41e4649b934ca495991b7852b855\ntext\t.relmove-run/9\t0\te3b0c44298fc1c149afbf4c8996fb92427ae41e4649b934ca495991b7852b855\nstaged\ta\t.relmove-run/1\nstaged\tb\t.relmove-run/3\nplaced\t.relmove-run/8\ta\nplaced\t.relmove-run/9\tb\nremoved\t.relmove-run/1\t0\te3b0c44298fc1c149afbf4c8996fb92427ae41e4649b934ca495991b7852b855\nremoved\t.relmove-run/3\t0\te3b0c44298fc1c149afbf4c8996fb92427ae41e4649b934ca495991b7852b855\n",
     ),
     ("a directory", "made\ta/b\n"),
-    ("a directory below a staging name", "made\t.relmove-1/b\n"),
+    (
+        "a directory below a staging name",
+        "made\t.relmove-run/1/b\n",
+    ),
     (
         "a name with a dot",
-        "staged\t.a\t.relmove-1\nplaced\t.relmove-1\tb/.c\n",
+        "staged\t.a\t.relmove-run/1\nplaced\t.relmove-run/1\tb/.c\n",
     ),
     ("an emptied directory", "emptied\ta/b\n"),
 ];
@@ -79,51 +86,66 @@ fn reads_what_a_run_writes(rt: HostRuntime) -> Result<(), Fail> {
     are_journals(rt.alloc(), &FINE, true)
 }
 
-const BAD_STAGED: [(&str, &str); 12] = [
+const BAD_STAGED: [(&str, &str); 15] = [
     (
         "from above",
-        "staged\t../a\t.relmove-1\nplaced\t.relmove-1\tb\n",
+        "staged\t../a\t.relmove-run/1\nplaced\t.relmove-run/1\tb\n",
     ),
     (
         "from the top",
-        "staged\t/a\t.relmove-1\nplaced\t.relmove-1\tb\n",
+        "staged\t/a\t.relmove-run/1\nplaced\t.relmove-run/1\tb\n",
     ),
     (
         "from the root",
-        "staged\t\t.relmove-1\nplaced\t.relmove-1\tb\n",
+        "staged\t\t.relmove-run/1\nplaced\t.relmove-run/1\tb\n",
     ),
     (
         "from a dot",
-        "staged\t.\t.relmove-1\nplaced\t.relmove-1\tb\n",
+        "staged\t.\t.relmove-run/1\nplaced\t.relmove-run/1\tb\n",
     ),
     (
         "through a dot",
-        "staged\t./a\t.relmove-1\nplaced\t.relmove-1\tb\n",
+        "staged\t./a\t.relmove-run/1\nplaced\t.relmove-run/1\tb\n",
     ),
     (
         "from an own name",
-        "staged\t.relmove\t.relmove-1\nplaced\t.relmove-1\tb\n",
+        "staged\t.relmove\t.relmove-run/1\nplaced\t.relmove-run/1\tb\n",
     ),
     (
         "from a directory with a dot",
-        "staged\t.git/a\t.relmove-1\nplaced\t.relmove-1\tb\n",
+        "staged\t.git/a\t.relmove-run/1\nplaced\t.relmove-run/1\tb\n",
     ),
     (
         "to another name",
-        "staged\ta\t.relmove-x\nplaced\t.relmove-x\tb\n",
+        "staged\ta\t.relmove-run/x\nplaced\t.relmove-run/x\tb\n",
     ),
     (
         "to no number",
-        "staged\ta\t.relmove-\nplaced\t.relmove-\tb\n",
+        "staged\ta\t.relmove-run/\nplaced\t.relmove-run/\tb\n",
     ),
     (
-        "to a name in a directory",
-        "staged\ta\td/.relmove-1\nplaced\td/.relmove-1\tb\n",
+        "to the own directory",
+        "staged\ta\t.relmove-run\nplaced\t.relmove-run\tb\n",
     ),
-    ("a NUL", "staged\ta\0\t.relmove-1\nplaced\t.relmove-1\tb\n"),
     (
-        "a text that isn't written",
-        "staged\td/.relmove-9\t.relmove-1\nplaced\t.relmove-1\tb\n",
+        "to a name of another directory",
+        "staged\ta\td/.relmove-run/1\nplaced\td/.relmove-run/1\tb\n",
+    ),
+    (
+        "to a name in a directory there",
+        "staged\ta\t.relmove-run/1/2\nplaced\t.relmove-run/1/2\tb\n",
+    ),
+    (
+        "to a name of another version",
+        "staged\ta\t.relmove-1\nplaced\t.relmove-1\tb\n",
+    ),
+    (
+        "a NUL",
+        "staged\ta\0\t.relmove-run/1\nplaced\t.relmove-run/1\tb\n",
+    ),
+    (
+        "what is staged",
+        "staged\t.relmove-run/9\t.relmove-run/1\nplaced\t.relmove-run/1\tb\n",
     ),
 ];
 
@@ -133,33 +155,39 @@ fn reads_no_other_staging(rt: HostRuntime) -> Result<(), Fail> {
 }
 
 const BAD_PLACED: [(&str, &str); 9] = [
-    ("above", "staged\ta\t.relmove-1\nplaced\t.relmove-1\t../b\n"),
+    (
+        "above",
+        "staged\ta\t.relmove-run/1\nplaced\t.relmove-run/1\t../b\n",
+    ),
     (
         "in the middle above",
-        "staged\ta\t.relmove-1\nplaced\t.relmove-1\tc/../b\n",
+        "staged\ta\t.relmove-run/1\nplaced\t.relmove-run/1\tc/../b\n",
     ),
     (
         "at the top",
-        "staged\ta\t.relmove-1\nplaced\t.relmove-1\t/b\n",
+        "staged\ta\t.relmove-run/1\nplaced\t.relmove-run/1\t/b\n",
     ),
     (
         "to an own name",
-        "staged\ta\t.relmove-1\nplaced\t.relmove-1\t.relmove-journal\n",
+        "staged\ta\t.relmove-run/1\nplaced\t.relmove-run/1\t.relmove-journal\n",
     ),
     (
         "to a hook",
-        "staged\ta\t.relmove-1\nplaced\t.relmove-1\t.git/hooks/b\n",
+        "staged\ta\t.relmove-run/1\nplaced\t.relmove-run/1\t.git/hooks/b\n",
     ),
-    ("from another name", "staged\ta\t.relmove-1\nplaced\tb\tc\n"),
+    (
+        "from another name",
+        "staged\ta\t.relmove-run/1\nplaced\tb\tc\n",
+    ),
     (
         "what wasn't staged",
-        "staged\ta\t.relmove-1\nplaced\t.relmove-2\tb\n",
+        "staged\ta\t.relmove-run/1\nplaced\t.relmove-run/2\tb\n",
     ),
     (
         "twice",
-        "staged\ta\t.relmove-1\nplaced\t.relmove-1\tb\nplaced\t.relmove-1\tc\n",
+        "staged\ta\t.relmove-run/1\nplaced\t.relmove-run/1\tb\nplaced\t.relmove-run/1\tc\n",
     ),
-    ("never", "staged\ta\t.relmove-1\n"),
+    ("never", "staged\ta\t.relmove-run/1\n"),
 ];
 
 #[test]
@@ -167,29 +195,30 @@ fn reads_no_other_placing(rt: HostRuntime) -> Result<(), Fail> {
     are_journals(rt.alloc(), &BAD_PLACED, false)
 }
 
-const BAD_REST: [(&str, &str); 11] = [
+const BAD_REST: [(&str, &str); 12] = [
     (
         "staged twice",
-        "staged\ta\t.relmove-1\nstaged\tb\t.relmove-1\nplaced\t.relmove-1\tc\nplaced\t.relmove-1\td\n",
+        "staged\ta\t.relmove-run/1\nstaged\tb\t.relmove-run/1\nplaced\t.relmove-run/1\tc\nplaced\t.relmove-run/1\td\n",
     ),
     ("made above", "made\t../a\n"),
     ("made with a dot", "made\t.git/a\n"),
-    ("made at an own name", "made\t.relmove-1\n"),
-    ("made above a staging name", "made\t.relmove-1/../a\n"),
+    ("made at a staging name", "made\t.relmove-run/1\n"),
+    ("made in the own directory", "made\t.relmove-run/a\n"),
+    ("made above a staging name", "made\t.relmove-run/1/../a\n"),
     ("emptied above", "emptied\t..\n"),
     ("emptied with a dot", "emptied\t.git\n"),
-    ("emptied at a staging name", "emptied\t.relmove-1\n"),
+    ("emptied at a staging name", "emptied\t.relmove-run/1\n"),
     (
         "removed elsewhere",
-        "staged\ta\t.relmove-1\nremoved\ta\t0\te3b0c44298fc1c149afbf4c8996fb92427ae41e4649b934ca495991b7852b855\n",
+        "staged\ta\t.relmove-run/1\nremoved\ta\t0\te3b0c44298fc1c149afbf4c8996fb92427ae41e4649b934ca495991b7852b855\n",
     ),
     (
         "a text with another name",
-        "text\td/a\t0\te3b0c44298fc1c149afbf4c8996fb92427ae41e4649b934ca495991b7852b855\nstaged\td/a\t.relmove-1\nplaced\t.relmove-1\tb\n",
+        "text\td/a\t0\te3b0c44298fc1c149afbf4c8996fb92427ae41e4649b934ca495991b7852b855\nplaced\td/a\tb\n",
     ),
     (
-        "a text that isn't staged",
-        "text\td/.relmove-9\t0\te3b0c44298fc1c149afbf4c8996fb92427ae41e4649b934ca495991b7852b855\n",
+        "a text that isn't placed",
+        "text\t.relmove-run/9\t0\te3b0c44298fc1c149afbf4c8996fb92427ae41e4649b934ca495991b7852b855\n",
     ),
 ];
 
@@ -198,18 +227,30 @@ fn reads_no_other_work(rt: HostRuntime) -> Result<(), Fail> {
     are_journals(rt.alloc(), &BAD_REST, false)
 }
 
-const BAD_REMOVED: [(&str, &str); 3] = [
+const BAD_REMOVED: [(&str, &str); 6] = [
+    (
+        "a new text is removed, and a page is placed",
+        "text\t.relmove-run/9\t0\te3b0c44298fc1c149afbf4c8996fb92427ae41e4649b934ca495991b7852b855\nstaged\ta\t.relmove-run/1\nplaced\t.relmove-run/1\tb\nremoved\t.relmove-run/9\t0\te3b0c44298fc1c149afbf4c8996fb92427ae41e4649b934ca495991b7852b855\n",
+    ),
+    (
+        "a new text has the name of a page",
+        "text\t.relmove-run/1\t0\te3b0c44298fc1c149afbf4c8996fb92427ae41e4649b934ca495991b7852b855\nstaged\ta\t.relmove-run/1\nplaced\t.relmove-run/1\ta\nremoved\t.relmove-run/1\t0\te3b0c44298fc1c149afbf4c8996fb92427ae41e4649b934ca495991b7852b855\n",
+    ),
+    (
+        "a new text is placed twice",
+        "text\t.relmove-run/9\t0\te3b0c44298fc1c149afbf4c8996fb92427ae41e4649b934ca495991b7852b855\nstaged\ta\t.relmove-run/1\nplaced\t.relmove-run/9\ta\nplaced\t.relmove-run/9\tb\nremoved\t.relmove-run/1\t0\te3b0c44298fc1c149afbf4c8996fb92427ae41e4649b934ca495991b7852b855\n",
+    ),
     (
         "a text is removed, and no new text comes",
-        "staged\ta\t.relmove-1\nremoved\t.relmove-1\t0\te3b0c44298fc1c149afbf4c8996fb92427ae41e4649b934ca495991b7852b855\n",
+        "staged\ta\t.relmove-run/1\nremoved\t.relmove-run/1\t0\te3b0c44298fc1c149afbf4c8996fb92427ae41e4649b934ca495991b7852b855\n",
     ),
     (
         "a new text comes, and no text is removed",
-        "text\td/.relmove-9\t0\te3b0c44298fc1c149afbf4c8996fb92427ae41e4649b934ca495991b7852b855\nstaged\td/.relmove-9\t.relmove-1\nplaced\t.relmove-1\td/a\n",
+        "text\t.relmove-run/9\t0\te3b0c44298fc1c149afbf4c8996fb92427ae41e4649b934ca495991b7852b855\nplaced\t.relmove-run/9\td/a\n",
     ),
     (
         "two texts are removed, and one new text comes",
-        "text\td/.relmove-9\t0\te3b0c44298fc1c149afbf4c8996fb92427ae41e4649b934ca495991b7852b855\nstaged\td/.relmove-9\t.relmove-1\nstaged\td/a\t.relmove-2\nstaged\tb\t.relmove-3\nplaced\t.relmove-1\td/a\nremoved\t.relmove-2\t0\te3b0c44298fc1c149afbf4c8996fb92427ae41e4649b934ca495991b7852b855\nremoved\t.relmove-3\t0\te3b0c44298fc1c149afbf4c8996fb92427ae41e4649b934ca495991b7852b855\n",
+        "text\t.relmove-run/9\t0\te3b0c44298fc1c149afbf4c8996fb92427ae41e4649b934ca495991b7852b855\nstaged\td/a\t.relmove-run/2\nstaged\tb\t.relmove-run/3\nplaced\t.relmove-run/9\td/a\nremoved\t.relmove-run/2\t0\te3b0c44298fc1c149afbf4c8996fb92427ae41e4649b934ca495991b7852b855\nremoved\t.relmove-run/3\t0\te3b0c44298fc1c149afbf4c8996fb92427ae41e4649b934ca495991b7852b855\n",
     ),
 ];
 
@@ -228,7 +269,7 @@ const BAD_LINES: [(&str, &str); 8] = [
     ("no word", "\n"),
     (
         "a digest in capitals",
-        "removed\t.relmove-1\t0\tE3B0C44298FC1C149AFBF4C8996FB92427AE41E4649B934CA495991B7852B855\n",
+        "removed\t.relmove-run/1\t0\tE3B0C44298FC1C149AFBF4C8996FB92427AE41E4649B934CA495991B7852B855\n",
     ),
 ];
 
@@ -237,21 +278,34 @@ fn reads_no_other_lines(rt: HostRuntime) -> Result<(), Fail> {
     are_journals(rt.alloc(), &BAD_LINES, false)
 }
 
-const BAD_HEADS: [(&str, &str); 6] = [
-    ("no head", "root\t1\nfile\t2\nstage\tstaging\n"),
+const BAD_HEADS: [(&str, &str); 7] = [
+    (
+        "no head",
+        "root\t1\nfile\t2\nrun\t3\nowner\t4\ntime\t5\nstage\tstaging\n",
+    ),
     (
         "another version",
-        "relmove journal 3\nroot\t1\nfile\t2\nstage\tstaging\n",
+        "relmove journal 4\nroot\t1\nfile\t2\nrun\t3\nowner\t4\ntime\t5\nstage\tstaging\n",
     ),
-    ("no root", "relmove journal 2\nfile\t2\nstage\tstaging\n"),
-    ("no stage", "relmove journal 2\nroot\t1\nfile\t2\n"),
+    (
+        "no root",
+        "relmove journal 3\nfile\t2\nrun\t3\nowner\t4\ntime\t5\nstage\tstaging\n",
+    ),
+    (
+        "no own directory",
+        "relmove journal 3\nroot\t1\nfile\t2\nowner\t4\ntime\t5\nstage\tstaging\n",
+    ),
+    (
+        "no stage",
+        "relmove journal 3\nroot\t1\nfile\t2\nrun\t3\nowner\t4\ntime\t5\n",
+    ),
     (
         "another stage",
-        "relmove journal 2\nroot\t1\nfile\t2\nstage\tparting\n",
+        "relmove journal 3\nroot\t1\nfile\t2\nrun\t3\nowner\t4\ntime\t5\nstage\tparting\n",
     ),
     (
         "a number with a zero",
-        "relmove journal 2\nroot\t01\nfile\t2\nstage\tstaging\n",
+        "relmove journal 3\nroot\t01\nfile\t2\nrun\t3\nowner\t4\ntime\t5\nstage\tstaging\n",
     ),
 ];
 

@@ -22,7 +22,7 @@ fn goes_through_no_symlink(rt: HostRuntime) -> Result<(), Fail> {
     let case = &cases::INTO_A_MOVED_DIRECTORY;
     for number in 1..=calls_of(alloc, &cases::FILE_MOVES)? {
         let (ended, disk) = run_and_fail(alloc, &cases::FILE_MOVES, number, Way::Killed)?;
-        let is_left = disk.has("site/.relmove-1")?;
+        let is_left = disk.has("site/.relmove-run/1")?;
         if is_left && end_of(&ended) == End::Stopped(Stage::Placing) {
             disk.add("out", Content::Directory)?;
             disk.add("out/c", Content::Directory)?;
@@ -38,7 +38,7 @@ fn goes_through_no_symlink(rt: HostRuntime) -> Result<(), Fail> {
 // A directory in the root becomes a link to a directory outside, which has these places. That happens while a run works, or
 // while a run is taken back that was killed at this stage. Something outside changes only if it happens before one of so many
 // calls: between the last question for the directory and a change below it stand the questions for what is below the
-// directory, and the change itself.
+// directory, for the run's own directory and for the new path, and the change itself.
 #[derive(Clone, Copy)]
 struct Exchange {
     what: &'static str,
@@ -51,7 +51,7 @@ struct Exchange {
 
 const EXCHANGES: [Exchange; 7] = [
     Exchange {
-        what: "a new text is written, and an old page is staged",
+        what: "an old page is staged",
         case: cases::PAGE_IN_A_DIRECTORY,
         undone_from: None,
         directory: "site/docs",
@@ -59,7 +59,7 @@ const EXCHANGES: [Exchange; 7] = [
         calls: 3,
     },
     Exchange {
-        what: "a new text is written, and an old page is staged, in a directory of the link",
+        what: "an old page is staged, in a directory of the link",
         case: cases::PAGE_LEAVES,
         undone_from: None,
         directory: "site/docs",
@@ -72,7 +72,7 @@ const EXCHANGES: [Exchange; 7] = [
         undone_from: None,
         directory: "site/a",
         outside: &[("x.md", Some("outside"))],
-        calls: 2,
+        calls: 3,
     },
     Exchange {
         what: "a file is placed",
@@ -99,12 +99,12 @@ const EXCHANGES: [Exchange; 7] = [
         calls: 1,
     },
     Exchange {
-        what: "a new text is erased",
+        what: "who ends the run takes its directory, and a new text is erased",
         case: cases::PAGE_IN_A_DIRECTORY,
         undone_from: Some(Stage::Staging),
-        directory: "site/docs",
-        outside: &[(".relmove-9", Some("[x](../../x)"))],
-        calls: 1,
+        directory: "site/.relmove-run",
+        outside: &[("9", Some("[x](../../x)"))],
+        calls: 2,
     },
 ];
 
@@ -177,12 +177,19 @@ fn rename(alloc: Global, from: &str, to: &str) -> Result<Rename, AllocError> {
 
 // Ends a run with this work, whose first stage was begun, in a folder with the link `d` to a directory outside.
 fn resume_with(alloc: Global, work: &Work) -> Result<(Ended, Disk), Fail> {
-    let disk = disk_of(alloc, &[("x", Some("xx")), ("y", Some("yy"))])?;
+    let places = [("x", Some("xx")), ("y", Some("yy")), (".relmove-run", None)];
+    let disk = disk_of(alloc, &places)?;
     disk.add("out", Content::Directory)?;
     disk.add("out/x", file_of(alloc, "outside")?)?;
     disk.add("out/e", Content::Directory)?;
     disk.add("site/d", symlink(alloc, "../out")?)?;
-    let origin = Origin { root: 0, file: 0 };
+    let origin = Origin {
+        root: 0,
+        file: 0,
+        run: 0,
+        owner: 0,
+        time: 0,
+    };
     let text = journal_text(alloc, origin, Stage::Staging, work)?;
     disk.add("site/.relmove", file_of(alloc, text.as_str())?)?;
     let ended = resume(lock(&disk)?, Trust::AnyFolder);
@@ -202,12 +209,12 @@ fn is_refused_at_once(alloc: Global, case: &str, work: &Work) -> Result<(), Fail
 fn ends_no_run_through_a_symlink(rt: HostRuntime) -> Result<(), Fail> {
     let alloc = rt.alloc();
     let mut work = Work::new(alloc);
-    work.staged.push(rename(alloc, "d/x", ".relmove-1")?)?;
-    work.placed.push(rename(alloc, ".relmove-1", "z")?)?;
+    work.staged.push(rename(alloc, "d/x", ".relmove-run/1")?)?;
+    work.placed.push(rename(alloc, ".relmove-run/1", "z")?)?;
     is_refused_at_once(alloc, "an old path", &work)?;
     let mut work = Work::new(alloc);
-    work.staged.push(rename(alloc, "x", ".relmove-1")?)?;
-    work.placed.push(rename(alloc, ".relmove-1", "d/z")?)?;
+    work.staged.push(rename(alloc, "x", ".relmove-run/1")?)?;
+    work.placed.push(rename(alloc, ".relmove-run/1", "d/z")?)?;
     is_refused_at_once(alloc, "a new path", &work)?;
     let mut work = Work::new(alloc);
     work.made.push(String::from_str(alloc, "d/z")?)?;
@@ -223,11 +230,11 @@ fn ends_no_run_through_a_symlink(rt: HostRuntime) -> Result<(), Fail> {
 fn ends_a_run_that_moves_a_symlink(rt: HostRuntime) -> Result<(), Fail> {
     let alloc = rt.alloc();
     let mut work = Work::new(alloc);
-    work.staged.push(rename(alloc, "d", ".relmove-1")?)?;
-    work.staged.push(rename(alloc, "x", ".relmove-2")?)?;
+    work.staged.push(rename(alloc, "d", ".relmove-run/1")?)?;
+    work.staged.push(rename(alloc, "x", ".relmove-run/2")?)?;
     work.made.push(String::from_str(alloc, "d")?)?;
-    work.placed.push(rename(alloc, ".relmove-1", "l")?)?;
-    work.placed.push(rename(alloc, ".relmove-2", "d/x")?)?;
+    work.placed.push(rename(alloc, ".relmove-run/1", "l")?)?;
+    work.placed.push(rename(alloc, ".relmove-run/2", "d/x")?)?;
     let (ended, disk) = resume_with(alloc, &work)?;
     same("moved", &end_of(&ended), &End::Done)?;
     same("moved", &disk.is_file("site/d/x", "xx")?, &true)?;
@@ -242,9 +249,9 @@ fn removes_no_second_name_through_a_symlink(rt: HostRuntime) -> Result<(), Fail>
     let number = first_call_at(alloc, case, Stage::Making)?.saturating_sub(3);
     let (_, disk) = run_and_fail(alloc, case, number, Way::Killed)?;
     disk.add("out", Content::Directory)?;
-    disk.add_link("site/.relmove-1", "out/a.md")?;
-    disk.add("site/.relmove-3", symlink(alloc, "../out")?)?;
-    let words = ".relmove-3 is no directory: a symbolic link or a file is there";
+    disk.add_link("site/.relmove-run/1", "out/a.md")?;
+    disk.add("site/.relmove-run/3", symlink(alloc, "../../out")?)?;
+    let words = ".relmove-run/3 is no directory: a symbolic link or a file is there";
     stops_with(alloc, &resume_on(&disk), words)?;
     same("outside", &disk.has("out/a.md")?, &true)
 }

@@ -1,9 +1,10 @@
-//! A file system without second names: the first journal is renamed to its place.
+//! A file system without second names: the first journal is renamed to its place. Or one on which each name of a file has an
+//! inode of its own.
 use crate::tests::cases::{self, Case};
-use crate::tests::runs::{calls_of, can_be_undone, loses_nothing, run};
+use crate::tests::runs::{calls_of, can_be_undone, first_call_at, loses_nothing, run};
 use crate::tests::{holds, same};
 use relmove_disk::{Disk, Way, disk_of, file_of};
-use relmove_run::Ended;
+use relmove_run::{Ended, Stage};
 use std::alloc::Global;
 use std::io::ErrorKind;
 use std::test::Fail;
@@ -82,4 +83,32 @@ fn goes_on_without_links(rt: HostRuntime) -> Result<(), Fail> {
         holds(rt.alloc(), "done", &disk, case.after)?;
     }
     Ok(())
+}
+
+// A file system with an inode for each path: the journal has another inode in its place than under the name under which it
+// was written.
+#[test]
+fn goes_on_with_an_inode_for_each_path(rt: HostRuntime) -> Result<(), Fail> {
+    let alloc = rt.alloc();
+    for case in [&cases::SWAP, &cases::PAGE_CHANGES] {
+        let disk = disk_of(alloc, case.before)?;
+        disk.set_inode_for_each_path();
+        let ended = run(alloc, case, &disk)?;
+        same("done", &matches!(&ended, Ended::Done(_)), &true)?;
+        holds(alloc, case.name, &disk, case.after)?;
+    }
+    Ok(())
+}
+
+// There too a file that comes in the place of the journal stays.
+#[test]
+fn keeps_what_comes_to_a_journal_with_an_inode_for_each_path(rt: HostRuntime) -> Result<(), Fail> {
+    let (alloc, case) = (rt.alloc(), &cases::SWAP);
+    let number = first_call_at(alloc, case, Stage::Making)?;
+    let disk = disk_of(alloc, case.before)?;
+    disk.set_inode_for_each_path();
+    disk.replace_before(number, "site/.relmove", file_of(alloc, "mine")?)?;
+    let ended = run(alloc, case, &disk)?;
+    same("stopped", &matches!(&ended, Ended::Stopped { .. }), &true)?;
+    same("it stays", &disk.is_file("site/.relmove", "mine")?, &true)
 }

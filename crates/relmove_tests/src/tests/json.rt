@@ -81,7 +81,7 @@ fn prints_what_a_run_leaves(rt: HostRuntime) -> Result<(), Fail> {
 
 // What a run prints that was taken back without a page that somebody removed.
 const GONE: &str =
-    "{\"remark\":\"neither guide/o.md nor .relmove-1 is there: another program removed it\"}\n";
+    "{\"remark\":\"neither guide/o.md nor .relmove-run/1 is there: another program removed it\"}\n";
 
 const TAKEN_BACK: &str =
     "relmove: site: guide/o.md was changed while the run worked, so the run was taken back\nsite: the run was taken back, and all else is as before\n";

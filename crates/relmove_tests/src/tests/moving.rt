@@ -321,7 +321,7 @@ const STOPPED_BELOW: &[Place] = &[
 fn names_no_file_of_a_run_below(rt: HostRuntime) -> Result<(), Fail> {
     let disk = disk_of(rt.alloc(), STOPPED_BELOW)?;
     let printed =
-        "relmove: site: d/.relmove is the journal of a run that didn't end: end that run first\n";
+        "relmove: site: d/.relmove is the journal of a run that didn't end. If it was your run, end it first. If the folder came from elsewhere, the journal may have come with it: then remove it\n";
     let expected = (Status::Refused, "", printed);
     let words = ["--write", "site", "a.md", "b.md"];
     answers(rt.alloc(), &disk, &words, expected)?;
@@ -478,7 +478,7 @@ fn stops_in_the_middle(rt: HostRuntime) -> Result<(), Fail> {
 pub const PLANNED: &str = "site/n.md, from site/guide/o.md: 1 link\nsite/index.md: 2 links\n";
 
 /// The staging name of what moves first.
-pub const STAGED: &str = "site/.relmove-1";
+pub const STAGED: &str = "site/.relmove-run/1";
 
 // Removes a page before a call of the run, once it has its staging name. Whether the run went back by itself and said so.
 fn says_what_is_gone(alloc: Global, number: u32) -> Result<bool, Fail> {

@@ -9,16 +9,16 @@ use std::alloc::Global;
 use std::test::Fail;
 
 // The call opens the two pages, the first journal, the spare one, two new texts and the next journal, and renames that.
-// It renames two pages and their new texts, and opens the two old texts to compare them. It opens and renames the
-// journal twice, renames the new texts, and opens and renames the journal. It opens the old texts again, and removes
+// It renames two pages, and opens the two old texts to compare them. It opens and renames the journal twice. It opens the
+// two new texts to compare them, renames them, and opens and renames the journal. It opens the old texts again, and removes
 // them. From the first of these calls on, each third call is 600 milliseconds after the last line.
 const LINES: &str = "relmove: 4 files opened, 0 renamed
 relmove: 7 files opened, 0 renamed
 relmove: 7 files opened, 3 renamed
-relmove: 8 files opened, 5 renamed
-relmove: 10 files opened, 6 renamed
-relmove: 11 files opened, 8 renamed
-relmove: 12 files opened, 10 renamed
+relmove: 10 files opened, 3 renamed
+relmove: 11 files opened, 5 renamed
+relmove: 13 files opened, 6 renamed
+relmove: 14 files opened, 8 renamed
 ";
 
 #[test]
