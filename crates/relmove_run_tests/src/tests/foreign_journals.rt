@@ -1,9 +1,9 @@
 //! A journal is believed only in the folder in which it was written.
-use crate::tests::reasons::gives_reason;
-use crate::tests::runs::{End, end_of, lock, resume_on, stopped_at, undo_on};
-use crate::tests::{cases, holds, same};
 use relmove_disk::{Content, Disk, file_of};
 use relmove_run::{Stage, StoppedRun, Trust, Way, undo};
+use relmove_run_cases::{
+    End, cases, end_of, gives_reason, holds, lock, resume_on, same, stopped_at, undo_on,
+};
 use std::alloc::Global;
 use std::test::Fail;
 

@@ -1,11 +1,9 @@
 //! Paths that the system can't have: a run is refused before it changes anything, and a run that stopped goes back.
-use crate::tests::reasons::gives_reason;
-use crate::tests::runs::{End, end_of, lock, run};
-use crate::tests::{cases, holds, same};
 use relmove_actions::{Rename, Steps};
-use relmove_disk::{Disk, DiskStore, disk_of, file_of};
-use relmove_run::{
-    Ended, Fault, Origin, Stage, Trust, Work, carry_out, journal_text, need_possible, undo,
+use relmove_disk::{Disk, DiskStore, disk_of};
+use relmove_run::{Ended, Fault, Stage, Trust, carry_out, need_possible, undo};
+use relmove_run_cases::{
+    End, Row, cases, end_of, gives_reason, holds, lock, put_journal, run, same,
 };
 use std::alloc::{AllocError, Global};
 use std::test::Fail;
@@ -219,31 +217,17 @@ fn moves_files_of_a_directory_that_cannot_be_listed(rt: HostRuntime) -> Result<(
 
 // Takes a run back that stopped before it could make a directory, or that found none there.
 fn goes_back_from(alloc: Global, directory: &str, makes: bool) -> Result<(), Fail> {
-    let disk = disk_of(
-        alloc,
-        &[(".relmove-run", None), (".relmove-run/1", Some("aa"))],
-    )?;
-    let mut work = Work::new(alloc);
-    work.staged.push(Rename {
-        from: String::from_str(alloc, "a")?,
-        to: String::from_str(alloc, ".relmove-run/1")?,
-    })?;
+    let places = [(".relmove-run", None), (".relmove-run/1", Some("aa"))];
+    let disk = disk_of(alloc, &places)?;
+    let path = format!(in alloc; "{directory}/x")?;
+    let staged = Row::Staged("a", ".relmove-run/1");
+    let placed = Row::Placed(".relmove-run/1", path.as_str());
     if makes {
-        work.made.push(String::from_str(alloc, directory)?)?;
+        let rows = [staged, Row::Made(directory), placed];
+        put_journal(alloc, &disk, Stage::Placing, &rows)?;
+    } else {
+        put_journal(alloc, &disk, Stage::Placing, &[staged, placed])?;
     }
-    work.placed.push(Rename {
-        from: String::from_str(alloc, ".relmove-run/1")?,
-        to: format!(in alloc; "{directory}/x")?,
-    })?;
-    let origin = Origin {
-        root: 0,
-        file: 0,
-        run: 0,
-        owner: 0,
-        time: 0,
-    };
-    let text = journal_text(alloc, origin, Stage::Placing, &work)?;
-    disk.add("site/.relmove", file_of(alloc, text.as_str())?)?;
     let ended = undo(lock(&disk)?, Trust::AnyFolder);
     same(directory, &end_of(&ended), &End::TakenBack)?;
     holds(alloc, directory, &disk, &[("a", Some("aa"))])

@@ -1,9 +1,9 @@
 //! A journal in a directory below the root, or above it, refuses a run.
-use crate::tests::reasons::is_refused;
-use crate::tests::runs::{End, calls_of, end_of, run, run_and_fail};
-use crate::tests::{cases, holds, same};
 use relmove_disk::{Content, DiskStore, Way, disk_of, file_of};
 use relmove_run::{need_no_journal_near, need_rest};
+use relmove_run_cases::{
+    End, calls_of, cases, end_of, has_text, holds, is_refused, run, run_and_fail, same,
+};
 use std::alloc::Global;
 use std::test::Fail;
 
@@ -52,7 +52,7 @@ fn sees_journal_before(alloc: Global, path: &str, number: u32) -> Result<(), Fai
     let disk = disk_of(alloc, case.before)?;
     disk.add_before(number, path, file_of(alloc, "jj")?)?;
     same(path, &end_of(&run(alloc, case, &disk)?), &End::Refused)?;
-    same(path, &disk.is_file(path, "jj")?, &true)?;
+    has_text(&disk, path, "jj")?;
     disk.remove(path)?;
     holds(alloc, path, &disk, case.before)
 }

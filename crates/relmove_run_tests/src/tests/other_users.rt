@@ -1,13 +1,9 @@
 //! A journal that another user wrote is believed by nobody but root, and one that was written to another file by nobody.
-use crate::tests::reasons::{gives_reason, is_refused};
-use crate::tests::runs::{
-    End, end_of, first_call_with, lock, remarks_of, resume_on, run, run_and_fail, stopped_at,
-    undo_on,
-};
-use crate::tests::{cases, holds, same};
 use relmove_disk::{Disk, DiskStore, Way, disk_of, file_of};
-use relmove_run::{
-    Found, Journal, Origin, Remark, Stage, Trust, journal_of, journal_text, need_rest, undo,
+use relmove_run::{Found, Journal, Origin, Remark, Stage, Trust, journal_text, need_rest, undo};
+use relmove_run_cases::{
+    End, cases, end_of, first_call_with, gives_reason, holds, is_refused, journal_on, lock,
+    remarks_of, resume_on, run, run_and_fail, same, stopped_at, undo_on,
 };
 use std::alloc::Global;
 use std::test::Fail;
@@ -18,12 +14,6 @@ fn found_at(disk: &Disk, path: &str) -> Result<Found, Fail> {
         Some(found) => Ok(found),
         None => Err(Fail::new("nothing is there")),
     }
-}
-
-// The journal on a disk.
-fn journal_on(alloc: Global, disk: &Disk) -> Result<Journal, Fail> {
-    let text = String::from_utf8(disk.text_at("site/.relmove")?)?;
-    Ok(journal_of(alloc, text.as_str())?)
 }
 
 // Puts a journal with another origin and the same work in the place of the journal. The file stays the same.

@@ -1,9 +1,10 @@
 //! What no run left at the names of a run's own files: each call is refused, and nothing is opened or changed.
-use crate::tests::reasons::{gives_reason, is_refused};
-use crate::tests::runs::{calls_of, resume_on, run, run_and_fail, undo_on};
-use crate::tests::{cases, holds, same};
 use relmove_disk::{Content, Disk, Way, below_site, disk_of, file_of};
 use relmove_run::Fault;
+use relmove_run_cases::{
+    calls_of, cases, gives_reason, has_text, holds, is_refused, resume_on, run, run_and_fail, same,
+    undo_on,
+};
 use std::alloc::{AllocError, Global};
 use std::test::Fail;
 use std::time::{Duration, SystemTime};
@@ -156,11 +157,7 @@ fn keeps_what_is_in_a_directory_of_its_name(rt: HostRuntime) -> Result<(), Fail>
     is_refused(alloc, case, &disk, reason)?;
     gives_reason(alloc, &resume_on(&disk), reason)?;
     gives_reason(alloc, &undo_on(&disk), reason)?;
-    same(
-        "it stays",
-        &disk.is_file("site/.relmove-run/1", "mine")?,
-        &true,
-    )
+    has_text(&disk, "site/.relmove-run/1", "mine")
 }
 
 // A run that was killed right after it made its directory left it empty, maybe without its permissions.

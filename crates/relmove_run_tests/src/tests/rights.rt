@@ -1,11 +1,10 @@
 //! Owners and permissions of the files that a run makes.
-use crate::tests::reasons::gives_reason;
-use crate::tests::runs::{
-    End, calls_of, can_be_resumed, can_be_undone, end_of, resume_on, run, stopped_at,
-};
-use crate::tests::{cases, holds, same};
 use relmove_disk::{Content, Disk, Way, disk_of, file_of};
 use relmove_run::{Ended, Stage};
+use relmove_run_cases::{
+    End, calls_of, can_be_resumed, can_be_undone, cases, end_of, gives_reason, has_text, holds,
+    resume_on, run, same, stopped_at,
+};
 use std::alloc::Global;
 use std::test::Fail;
 
@@ -158,7 +157,7 @@ fn makes_no_directory_anew_that_is_in_use(rt: HostRuntime) -> Result<(), Fail> {
     disk.add("site/y/n", file_of(alloc, "mine")?)?;
     disk.set_mode("site/y", 0o300)?;
     same("done", &end_of(&resume_on(&disk)), &End::Done)?;
-    same("it stays", &disk.is_file("site/y/n", "mine")?, &true)
+    has_text(&disk, "site/y/n", "mine")
 }
 
 // Puts another file with the same text, which everybody may change, in the place of a page before a call of a run.

@@ -1,10 +1,10 @@
 //! A file system without second names: the first journal is renamed to its place. Or one on which each name of a file has an
 //! inode of its own.
-use crate::tests::cases::{self, Case};
-use crate::tests::runs::{calls_of, can_be_undone, first_call_at, loses_nothing, run};
-use crate::tests::{holds, same};
 use relmove_disk::{Disk, Way, disk_of, file_of};
 use relmove_run::{Ended, Stage};
+use relmove_run_cases::{
+    Case, calls_of, can_be_undone, cases, first_call_at, has_text, holds, loses_nothing, run, same,
+};
 use std::alloc::Global;
 use std::io::ErrorKind;
 use std::test::Fail;
@@ -110,5 +110,5 @@ fn keeps_what_comes_to_a_journal_with_an_inode_for_each_path(rt: HostRuntime) ->
     disk.replace_before(number, "site/.relmove", file_of(alloc, "mine")?)?;
     let ended = run(alloc, case, &disk)?;
     same("stopped", &matches!(&ended, Ended::Stopped { .. }), &true)?;
-    same("it stays", &disk.is_file("site/.relmove", "mine")?, &true)
+    has_text(&disk, "site/.relmove", "mine")
 }

@@ -1,12 +1,10 @@
 //! A loss of power after which a file that was renamed has both names: what ends the run removes the name that is to be left.
-use crate::tests::cases::{self, Case};
-use crate::tests::runs::{
-    End, calls_of, can_be_resumed, can_be_undone, end_of, first_call_at, loses_nothing, resume_on,
-    run_and_fail, stopped_at, undo_on,
-};
-use crate::tests::same;
 use relmove_disk::{Disk, Way, file_of};
 use relmove_run::Stage;
+use relmove_run_cases::{
+    Case, End, calls_of, can_be_resumed, can_be_undone, cases, end_of, first_call_at, has_text,
+    loses_nothing, resume_on, run_and_fail, same, stopped_at, undo_on,
+};
 use std::alloc::Global;
 use std::test::Fail;
 
@@ -118,12 +116,8 @@ fn keeps_two_files_that_have_two_names(rt: HostRuntime) -> Result<(), Fail> {
         &end_of(&resume_on(&disk)),
         &End::Stopped(Stage::Staging),
     )?;
-    same("the old path", &disk.is_file("site/a/x.md", "xx")?, &true)?;
-    same(
-        "the name",
-        &disk.is_file("site/.relmove-run/1", "mine")?,
-        &true,
-    )
+    has_text(&disk, "site/a/x.md", "xx")?;
+    has_text(&disk, "site/.relmove-run/1", "mine")
 }
 
 // A file with two names is taken back beside another file at its new path.
@@ -134,8 +128,8 @@ fn keeps_a_file_at_the_new_path_of_one_with_two_names(rt: HostRuntime) -> Result
     disk.add_link("site/.relmove-run/1", "o")?;
     disk.add("site/b/c/z.md", file_of(alloc, "mine")?)?;
     same("back", &end_of(&undo_on(&disk)), &End::TakenBack)?;
-    same("it stays", &disk.is_file("site/b/c/z.md", "mine")?, &true)?;
-    same("the old path", &disk.is_file("site/a/x.md", "xx")?, &true)
+    has_text(&disk, "site/b/c/z.md", "mine")?;
+    has_text(&disk, "site/a/x.md", "xx")
 }
 
 // Ends a run whose file has both names, and puts another file at the old path before a call. Whether that file stays.
@@ -148,7 +142,7 @@ fn keeps_arrival(alloc: Global, first: u32, number: u32) -> Result<bool, Fail> {
     if disk.calls() < number {
         return Ok(true);
     }
-    Ok(disk.has("site/a/x.md")? && disk.is_file("site/a/x.md", "mine")?)
+    Ok(disk.is_file("site/a/x.md", "mine")?)
 }
 
 // The old name is compared right before it is removed.

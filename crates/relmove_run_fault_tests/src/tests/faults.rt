@@ -1,12 +1,10 @@
 //! Each call of a run fails in turn. After each fault no byte is lost, and the run can be ended and taken back.
-use crate::tests::cases::{self, Case};
-use crate::tests::runs::{
-    End, calls_of, can_be_resumed, can_be_undone, end_of, is_done, loses_nothing, remarks_of,
-    resume_on, run, run_and_fail,
-};
-use crate::tests::{holds, same};
 use relmove_disk::{Disk, Way, disk_of};
 use relmove_run::{Ended, Fault};
+use relmove_run_cases::{
+    Case, End, calls_of, can_be_resumed, can_be_undone, cases, end_of, holds, is_done,
+    loses_nothing, remarks_of, resume_on, run, run_and_fail, same,
+};
 use std::alloc::Global;
 use std::test::Fail;
 

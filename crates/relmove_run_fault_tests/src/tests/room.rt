@@ -1,10 +1,10 @@
 //! A run on a disk that gets full.
-use crate::tests::runs::{
-    End, end_of, first_call_with, is_done, run, run_and_fail, stopped_at, undo_on,
-};
-use crate::tests::{cases, holds, same};
 use relmove_disk::{Way, disk_of};
 use relmove_run::{Ended, Stage};
+use relmove_run_cases::{
+    End, cases, end_of, first_call_with, holds, is_done, run, run_and_fail, same, stopped_at,
+    undo_on,
+};
 use std::alloc::Global;
 use std::test::Fail;
 

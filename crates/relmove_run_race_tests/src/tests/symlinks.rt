@@ -1,13 +1,10 @@
 //! A run goes through no symbolic link, whenever one comes.
-use crate::tests::cases::{self, Case};
-use crate::tests::reasons::{gives_reason, stops_with};
-use crate::tests::runs::{
-    End, calls_of, end_of, first_call_at, lock, resume_on, run, run_and_fail, stopped_at, undo_on,
-};
-use crate::tests::same;
-use relmove_actions::Rename;
 use relmove_disk::{Content, Disk, Place, Way, disk_of, file_of};
-use relmove_run::{Ended, Leftover, Origin, Stage, Trust, Work, journal_text, resume};
+use relmove_run::{Ended, Stage, Trust, resume};
+use relmove_run_cases::{
+    Case, End, Row, calls_of, cases, end_of, first_call_at, gives_reason, has_text, lock,
+    put_journal, resume_on, run, run_and_fail, same, stopped_at, stops_with, undo_on,
+};
 use std::alloc::{AllocError, Global};
 use std::test::Fail;
 
@@ -167,78 +164,69 @@ fn asks_for_the_way_before_each_change(rt: HostRuntime) -> Result<(), Fail> {
     Ok(())
 }
 
-// A rename.
-fn rename(alloc: Global, from: &str, to: &str) -> Result<Rename, AllocError> {
-    Ok(Rename {
-        from: String::from_str(alloc, from)?,
-        to: String::from_str(alloc, to)?,
-    })
-}
-
 // Ends a run with this work, whose first stage was begun, in a folder with the link `d` to a directory outside.
-fn resume_with(alloc: Global, work: &Work) -> Result<(Ended, Disk), Fail> {
+fn resume_with(alloc: Global, rows: &[Row<'static>]) -> Result<(Ended, Disk), Fail> {
     let places = [("x", Some("xx")), ("y", Some("yy")), (".relmove-run", None)];
     let disk = disk_of(alloc, &places)?;
     disk.add("out", Content::Directory)?;
     disk.add("out/x", file_of(alloc, "outside")?)?;
     disk.add("out/e", Content::Directory)?;
     disk.add("site/d", symlink(alloc, "../out")?)?;
-    let origin = Origin {
-        root: 0,
-        file: 0,
-        run: 0,
-        owner: 0,
-        time: 0,
-    };
-    let text = journal_text(alloc, origin, Stage::Staging, work)?;
-    disk.add("site/.relmove", file_of(alloc, text.as_str())?)?;
+    put_journal(alloc, &disk, Stage::Staging, rows)?;
     let ended = resume(lock(&disk)?, Trust::AnyFolder);
     Ok((ended, disk))
 }
 
+const THROUGH_A_LINK: [(&str, &[Row<'static>]); 4] = [
+    (
+        "an old path",
+        &[
+            Row::Staged("d/x", ".relmove-run/1"),
+            Row::Placed(".relmove-run/1", "z"),
+        ],
+    ),
+    (
+        "a new path",
+        &[
+            Row::Staged("x", ".relmove-run/1"),
+            Row::Placed(".relmove-run/1", "d/z"),
+        ],
+    ),
+    ("a new directory", &[Row::Made("d/z")]),
+    ("an emptied directory", &[Row::Emptied("d/e")]),
+];
+
 // Whether a run with this work isn't ended through the link, and nothing moves.
-fn is_refused_at_once(alloc: Global, case: &str, work: &Work) -> Result<(), Fail> {
-    let (ended, disk) = resume_with(alloc, work)?;
+fn is_refused_at_once(alloc: Global, case: &str, rows: &[Row<'static>]) -> Result<(), Fail> {
+    let (ended, disk) = resume_with(alloc, rows)?;
     gives_reason(alloc, &ended, "NotADirectory(\"d\")")?;
-    same(case, &disk.is_file("site/x", "xx")?, &true)?;
-    same(case, &disk.is_file("out/x", "outside")?, &true)?;
+    has_text(&disk, "site/x", "xx")?;
+    has_text(&disk, "out/x", "outside")?;
     same(case, &disk.has("out/e")?, &true)
 }
 
 #[test]
 fn ends_no_run_through_a_symlink(rt: HostRuntime) -> Result<(), Fail> {
-    let alloc = rt.alloc();
-    let mut work = Work::new(alloc);
-    work.staged.push(rename(alloc, "d/x", ".relmove-run/1")?)?;
-    work.placed.push(rename(alloc, ".relmove-run/1", "z")?)?;
-    is_refused_at_once(alloc, "an old path", &work)?;
-    let mut work = Work::new(alloc);
-    work.staged.push(rename(alloc, "x", ".relmove-run/1")?)?;
-    work.placed.push(rename(alloc, ".relmove-run/1", "d/z")?)?;
-    is_refused_at_once(alloc, "a new path", &work)?;
-    let mut work = Work::new(alloc);
-    work.made.push(String::from_str(alloc, "d/z")?)?;
-    is_refused_at_once(alloc, "a new directory", &work)?;
-    let mut work = Work::new(alloc);
-    work.cleaned
-        .push(Leftover::Directory(String::from_str(alloc, "d/e")?))?;
-    is_refused_at_once(alloc, "an emptied directory", &work)
+    for (case, rows) in &THROUGH_A_LINK {
+        is_refused_at_once(rt.alloc(), case, rows)?;
+    }
+    Ok(())
 }
 
 // A link may be on the way if it moves itself, and a directory takes its name.
 #[test]
 fn ends_a_run_that_moves_a_symlink(rt: HostRuntime) -> Result<(), Fail> {
-    let alloc = rt.alloc();
-    let mut work = Work::new(alloc);
-    work.staged.push(rename(alloc, "d", ".relmove-run/1")?)?;
-    work.staged.push(rename(alloc, "x", ".relmove-run/2")?)?;
-    work.made.push(String::from_str(alloc, "d")?)?;
-    work.placed.push(rename(alloc, ".relmove-run/1", "l")?)?;
-    work.placed.push(rename(alloc, ".relmove-run/2", "d/x")?)?;
-    let (ended, disk) = resume_with(alloc, &work)?;
+    let rows = [
+        Row::Staged("d", ".relmove-run/1"),
+        Row::Staged("x", ".relmove-run/2"),
+        Row::Made("d"),
+        Row::Placed(".relmove-run/1", "l"),
+        Row::Placed(".relmove-run/2", "d/x"),
+    ];
+    let (ended, disk) = resume_with(rt.alloc(), &rows)?;
     same("moved", &end_of(&ended), &End::Done)?;
-    same("moved", &disk.is_file("site/d/x", "xx")?, &true)?;
-    same("outside", &disk.is_file("out/x", "outside")?, &true)
+    has_text(&disk, "site/d/x", "xx")?;
+    has_text(&disk, "out/x", "outside")
 }
 
 // A directory that moved became a link to a directory outside, where the page has a second name.

@@ -1,14 +1,11 @@
 //! The run's own directory, in which staging names are: nobody else sees what is there, and nothing foreign leaves it for a
 //! new path.
-use crate::tests::cases::{self, Case};
-use crate::tests::reasons::stops_with;
-use crate::tests::runs::{
-    End, Ending, calls_of, can_be_undone, end_of, first_call_at, remarks_of, resume_on, run,
-    run_and_fail, stopped_at, undo_on,
-};
-use crate::tests::{holds, same};
 use relmove_disk::{Content, Disk, Way, disk_of, file_of};
 use relmove_run::{Remark, Stage};
+use relmove_run_cases::{
+    Case, End, Ending, calls_of, can_be_undone, cases, end_of, first_call_at, has_text, holds,
+    remarks_of, resume_on, run, run_and_fail, same, stopped_at, stops_with, undo_on,
+};
 use std::alloc::Global;
 use std::test::Fail;
 
@@ -36,7 +33,7 @@ fn stops_exchanged(alloc: Global, stage: Stage, ending: Ending) -> Result<(), Fa
     stops_with(alloc, &ending.on(&disk), EXCHANGED)?;
     for name in ["1", "2", "3", "9"] {
         let path = format!(in alloc; "site/.relmove-run/{name}")?;
-        same(name, &disk.is_file(path.as_str(), "foreign")?, &true)?;
+        has_text(&disk, path.as_str(), "foreign")?;
     }
     Ok(())
 }
@@ -105,7 +102,7 @@ fn places_foreign(alloc: Global, case: &Case, number: u32) -> Result<bool, Fail>
         file_of(alloc, "foreign")?,
     )?;
     run(alloc, case, &disk)?;
-    Ok(disk.has("site/b/c/z.md")? && disk.is_file("site/b/c/z.md", "foreign")?)
+    Ok(disk.is_file("site/b/c/z.md", "foreign")?)
 }
 
 // Between the last question for the directory and the rename stand the questions for the new path.
@@ -155,8 +152,7 @@ fn keeps_what_is_in_its_directory_at_its_end(rt: HostRuntime) -> Result<(), Fail
         same("an end", &end_of(&ended), &end)?;
         let is_said = matches!(remarks_of(&ended), [Remark::Stays(_)]);
         same("said", &is_said, &true)?;
-        let is_kept = disk.is_file("site/.relmove-run/x", "mine")?;
-        same("it stays", &is_kept, &true)?;
+        has_text(&disk, "site/.relmove-run/x", "mine")?;
         same("no journal", &disk.has("site/.relmove")?, &false)?;
     }
     Ok(())
@@ -188,8 +184,7 @@ fn moves_a_file_of_another_user_below_a_sticky_root(rt: HostRuntime) -> Result<(
         if killed_at > 0 {
             can_be_undone(alloc, case, &disk)?;
         } else {
-            let is_moved = disk.has("site/b/c/z.md")? && disk.is_file("site/b/c/z.md", "xx")?;
-            same("moved", &is_moved, &true)?;
+            has_text(&disk, "site/b/c/z.md", "xx")?;
         }
     }
     Ok(())

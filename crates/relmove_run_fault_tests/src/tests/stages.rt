@@ -1,10 +1,8 @@
 //! A call that stopped says the stage that its journal says, also if the call that put the journal there was reported as
 //! failed.
-use crate::tests::cases::{self, Case};
-use crate::tests::runs::{resume_on, run, run_and_fail, undo_on};
-use crate::tests::same;
 use relmove_disk::{Disk, Way, disk_of};
-use relmove_run::{Ended, Stage, journal_of};
+use relmove_run::{Ended, Stage};
+use relmove_run_cases::{Case, Ending, calls_of, cases, journal_on, run, run_and_fail, same};
 use std::alloc::Global;
 use std::test::Fail;
 
@@ -13,8 +11,7 @@ fn stage_on(alloc: Global, disk: &Disk) -> Result<Option<Stage>, Fail> {
     if !disk.has("site/.relmove")? {
         return Ok(None);
     }
-    let text = String::from_utf8(disk.text_at("site/.relmove")?)?;
-    Ok(Some(journal_of(alloc, text.as_str())?.stage))
+    Ok(Some(journal_on(alloc, disk)?.stage))
 }
 
 // Whether a call stopped. If it did, it has to say the stage of its journal.
@@ -38,13 +35,6 @@ fn stops_truly(alloc: Global, case: &Case, number: u32, way: Way) -> Result<bool
     stopped_truly(alloc, &ended, &disk)
 }
 
-// How many calls a run makes.
-fn calls_of(alloc: Global, case: &Case) -> Result<u32, Fail> {
-    let disk = disk_of(alloc, case.before)?;
-    run(alloc, case, &disk)?;
-    Ok(disk.calls())
-}
-
 #[test]
 fn a_run_says_the_stage_of_its_journal(rt: HostRuntime) -> Result<(), Fail> {
     let mut stops = 0u32;
@@ -58,20 +48,11 @@ fn a_run_says_the_stage_of_its_journal(rt: HostRuntime) -> Result<(), Fail> {
     same("some stop", &(stops > 0), &true)
 }
 
-// Ends the run that stopped on a disk.
-fn end_on(disk: &Disk, is_undo: bool) -> Ended {
-    if is_undo {
-        undo_on(disk)
-    } else {
-        resume_on(disk)
-    }
-}
-
 // Kills a run at a call, and fails its end at another one. Whether that is later than the end's last call.
-fn ends_truly(alloc: Global, is_undo: bool, first: u32, second: u32) -> Result<bool, Fail> {
+fn ends_truly(alloc: Global, ending: Ending, first: u32, second: u32) -> Result<bool, Fail> {
     let (_, disk) = run_and_fail(alloc, &cases::FILE_MOVES, first, Way::Killed)?;
     disk.fail_at(second, Way::DoneAndFailed);
-    let ended = end_on(&disk, is_undo);
+    let ended = ending.on(&disk);
     let is_last = disk.calls() < second;
     disk.fail_at(0, Way::Refused);
     stopped_truly(alloc, &ended, &disk)?;
@@ -79,9 +60,9 @@ fn ends_truly(alloc: Global, is_undo: bool, first: u32, second: u32) -> Result<b
 }
 
 // Kills a run at a call, and fails its end at each call.
-fn each_end_is_true(alloc: Global, is_undo: bool, first: u32) -> Result<(), Fail> {
+fn each_end_is_true(alloc: Global, ending: Ending, first: u32) -> Result<(), Fail> {
     for second in 1..1000 {
-        if ends_truly(alloc, is_undo, first, second)? {
+        if ends_truly(alloc, ending, first, second)? {
             break;
         }
     }
@@ -91,8 +72,8 @@ fn each_end_is_true(alloc: Global, is_undo: bool, first: u32) -> Result<(), Fail
 #[test]
 fn an_end_says_the_stage_of_its_journal(rt: HostRuntime) -> Result<(), Fail> {
     for first in 1..=calls_of(rt.alloc(), &cases::FILE_MOVES)? {
-        each_end_is_true(rt.alloc(), false, first)?;
-        each_end_is_true(rt.alloc(), true, first)?;
+        each_end_is_true(rt.alloc(), Ending::Resume, first)?;
+        each_end_is_true(rt.alloc(), Ending::Undo, first)?;
     }
     Ok(())
 }

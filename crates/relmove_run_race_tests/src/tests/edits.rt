@@ -1,12 +1,10 @@
 //! What another process does to the files of a run: no byte that it wrote is lost.
-use crate::tests::reasons::is_refused;
-use crate::tests::runs::{
-    End, Ending, calls_of, end_of, first_call_at, first_call_with, is_changed, remarks_of,
-    resume_on, run, run_and_fail, stopped_at, undo_on,
-};
-use crate::tests::{cases, holds, same};
 use relmove_disk::{Content, Disk, Way, disk_of, file_of};
 use relmove_run::{Ended, Fault, Remark, Stage};
+use relmove_run_cases::{
+    End, Ending, calls_of, cases, end_of, first_call_at, first_call_with, has_text, holds,
+    is_changed, is_refused, remarks_of, resume_on, run, run_and_fail, same, stopped_at, undo_on,
+};
 use std::alloc::Global;
 use std::test::Fail;
 
@@ -84,8 +82,7 @@ fn keeps_edit_of_a_text(alloc: Global, number: u32, failed: u32) -> Result<bool,
 fn first_whole(alloc: Global) -> Result<u32, Fail> {
     for number in 1..=calls_of(alloc, &cases::PAGE_CHANGES)? {
         let (_, disk) = run_and_fail(alloc, &cases::PAGE_CHANGES, number, Way::Killed)?;
-        let is_whole = disk.has("site/.relmove-run/9")?
-            && disk.is_file("site/.relmove-run/9", "[x](y/x.md) more")?;
+        let is_whole = disk.is_file("site/.relmove-run/9", "[x](y/x.md) more")?;
         if is_whole {
             return Ok(number);
         }
@@ -114,8 +111,7 @@ fn keeps_edit_after_kill(alloc: Global, number: u32, ending: Ending) -> Result<(
     let ended = ending.on(&disk);
     same("back", &end_of(&ended), &End::TakenBack)?;
     same("said", &is_kept(remarks_of(&ended)), &true)?;
-    let is_kept = disk.is_file("site/.relmove-run/9", "[x](y/x.md) mine")?;
-    same("the edit", &is_kept, &true)
+    has_text(&disk, "site/.relmove-run/9", "[x](y/x.md) mine")
 }
 
 #[test]
@@ -234,8 +230,7 @@ fn keeps_edit_after_fault(alloc: Global, first: u32, number: u32) -> Result<(), 
     disk.add("site/.relmove-run/9", file_of(alloc, "[x](y/x.md) mine")?)?;
     disk.fail_at(number, Way::Refused);
     undo_on(&disk);
-    let is_kept = disk.is_file("site/.relmove-run/9", "[x](y/x.md) mine")?;
-    same("the edit", &is_kept, &true)
+    has_text(&disk, "site/.relmove-run/9", "[x](y/x.md) mine")
 }
 
 // A text that can't be read for another reason than its permissions may be whole.
@@ -258,11 +253,7 @@ fn keeps_a_file_in_the_place_of_a_text(rt: HostRuntime) -> Result<(), Fail> {
     disk.fail_at(number, Way::Refused);
     let ended = run(alloc, case, &disk)?;
     same("said", &is_kept(remarks_of(&ended)), &true)?;
-    same(
-        "it stays",
-        &disk.is_file("site/.relmove-run/9", "mine")?,
-        &true,
-    )
+    has_text(&disk, "site/.relmove-run/9", "mine")
 }
 
 // Takes a run back that was killed while it wrote a text, at whose name something else is then. It stays, and this is said.
@@ -288,7 +279,7 @@ fn keeps_what_is_no_part_of_a_text(rt: HostRuntime) -> Result<(), Fail> {
     disk.add("o", file_of(alloc, "mine")?)?;
     disk.add_link("o", "site/.relmove-run/9")?;
     same("back", &end_of(&undo_on(&disk)), &End::TakenBack)?;
-    same("the file", &disk.is_file("o", "mine")?, &true)?;
+    has_text(&disk, "o", "mine")?;
     disk.remove("o")?;
     holds(alloc, "taken back", &disk, case.before)
 }

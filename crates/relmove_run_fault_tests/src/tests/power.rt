@@ -1,13 +1,11 @@
 //! The power is lost before each call of a run, or of what ends it, and each number of changes that weren't synced is on
 //! the disk. Then the run can be ended and taken back, and no byte is lost.
-use crate::tests::cases::{self, Case};
-use crate::tests::runs::{
-    End, Ending, calls_of, can_be_resumed, can_be_undone, end_of, is_done, loses_nothing,
-    moments_of, names_on, run, run_and_fail, stopped_at,
-};
-use crate::tests::{holds, same};
 use relmove_disk::{Disk, Way, disk_of};
 use relmove_run::{Ended, Stage};
+use relmove_run_cases::{
+    Case, End, Ending, calls_of, can_be_resumed, can_be_undone, cases, end_of, holds, is_done,
+    loses_nothing, moments_of, names_on, run, run_and_fail, same, stopped_at,
+};
 use std::alloc::Global;
 use std::io::ErrorKind;
 use std::test::Fail;

@@ -1,14 +1,12 @@
 //! A run is killed, and then each call of its end, or of its undoing, fails in turn. After both no byte is lost, and the
 //! run can be ended and taken back.
-use crate::tests::cases::{self, Case};
-use crate::tests::reasons::stops_with;
-use crate::tests::runs::{
-    End, Ending, calls_of, can_be_resumed, can_be_undone, end_of, first_call_at, is_done,
-    loses_nothing, moments_of, resume_on, run, run_and_fail, stopped_at,
-};
-use crate::tests::{holds, same};
 use relmove_disk::{Disk, Way, disk_of, file_of};
 use relmove_run::{Ended, Stage};
+use relmove_run_cases::{
+    Case, End, Ending, calls_of, can_be_resumed, can_be_undone, cases, end_of, first_call_at,
+    holds, is_done, loses_nothing, moments_of, resume_on, run, run_and_fail, same, stopped_at,
+    stops_with,
+};
 use std::alloc::Global;
 use std::test::Fail;
 

@@ -1,11 +1,10 @@
 //! One process works on a root at a time.
-use crate::tests::reasons::{gives_reason, is_refused};
-use crate::tests::runs::{
-    End, can_be_undone, end_of, first_call_at, lock, resume_on, run, run_and_fail, undo_on,
-};
-use crate::tests::{cases, same};
 use relmove_disk::{DiskStore, Way, disk_of, file_of};
 use relmove_run::{Ended, Fault, Stage, need_rest};
+use relmove_run_cases::{
+    End, can_be_undone, cases, end_of, first_call_at, gives_reason, is_refused, lock, resume_on,
+    run, run_and_fail, same, undo_on,
+};
 use std::alloc::Global;
 use std::test::Fail;
 

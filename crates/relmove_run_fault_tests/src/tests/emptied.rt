@@ -1,8 +1,7 @@
 //! A directory that a run emptied stays if it can't be removed, or if something came to it.
-use crate::tests::runs::{calls_of, resume_on, run_and_fail, stopped_at};
-use crate::tests::{cases, same};
 use relmove_disk::{Way, file_of};
 use relmove_run::{Ended, Remark, Stage};
+use relmove_run_cases::{calls_of, cases, has_text, resume_on, run_and_fail, same, stopped_at};
 use std::test::Fail;
 
 #[test]
@@ -30,5 +29,5 @@ fn leaves_a_directory_to_which_a_file_came(rt: HostRuntime) -> Result<(), Fail> 
         return Err(Fail::new("not done"));
     };
     same("nothing to say", &remarks.len(), &0)?;
-    same("it stays", &disk.is_file("site/a/n", "mine")?, &true)
+    has_text(&disk, "site/a/n", "mine")
 }

@@ -1,13 +1,11 @@
 //! Files that come to a path while a run works: they stay, but for those that come between a question and a rename.
-use crate::tests::cases::{self, Case};
-use crate::tests::reasons::{gives_reason, stops_with};
-use crate::tests::runs::{
-    End, calls_of, can_be_undone, end_of, first_call_at, first_call_with, loses_nothing,
-    remarks_of, run, run_and_fail, undo_on,
-};
-use crate::tests::{holds, same};
 use relmove_disk::{Disk, Way, below_site, disk_of, file_of};
 use relmove_run::{Ended, Fault, Remark, Stage, directory_of};
+use relmove_run_cases::{
+    Case, End, calls_of, can_be_undone, cases, end_of, first_call_at, first_call_with,
+    gives_reason, has_text, holds, loses_nothing, remarks_of, run, run_and_fail, same, stops_with,
+    undo_on,
+};
 use std::alloc::Global;
 use std::test::Fail;
 
@@ -87,11 +85,7 @@ fn goes_back_beside_a_file_at_a_staging_name(rt: HostRuntime) -> Result<(), Fail
         _ => false,
     };
     same("said", &is_said, &true)?;
-    same(
-        "it stays",
-        &disk.is_file("site/.relmove-run/1", "mine")?,
-        &true,
-    )?;
+    has_text(&disk, "site/.relmove-run/1", "mine")?;
     disk.remove("site/.relmove-run")?;
     holds(alloc, "taken back", &disk, case.before)
 }
@@ -112,8 +106,8 @@ fn says_what_is_at_a_staging_name_and_at_a_new_path(rt: HostRuntime) -> Result<(
         _ => false,
     };
     same("said", &is_said, &true)?;
-    same("the file", &disk.is_file("site/a/x.md", "mine")?, &true)?;
-    same("the run's", &disk.is_file("site/b/c/z.md", "xx")?, &true)
+    has_text(&disk, "site/a/x.md", "mine")?;
+    has_text(&disk, "site/b/c/z.md", "xx")
 }
 
 // The journal doesn't say which of two files is the run's. Whichever is removed or renamed, the other one goes back.
@@ -128,11 +122,7 @@ fn names_both_files_of_a_rename(rt: HostRuntime) -> Result<(), Fail> {
     let expected =
         "can't rename .relmove-run/1 to a/x.md: something is at both paths. Rename or remove the one that isn't the run's";
     same("said", &words.as_str(), &expected)?;
-    same(
-        "it stays",
-        &disk.is_file("site/.relmove-run/1", "mine")?,
-        &true,
-    )?;
+    has_text(&disk, "site/.relmove-run/1", "mine")?;
     disk.remove("site/.relmove-run/1")?;
     can_be_undone(alloc, &cases::FILE_MOVES, &disk)
 }
@@ -142,7 +132,7 @@ fn stays_as_journal(alloc: Global, number: u32) -> Result<bool, Fail> {
     let disk = disk_of(alloc, cases::PAGE_CHANGES.before)?;
     disk.replace_before(number, "site/.relmove", file_of(alloc, "mine")?)?;
     run(alloc, &cases::PAGE_CHANGES, &disk)?;
-    Ok(disk.has("site/.relmove")? && disk.is_file("site/.relmove", "mine")?)
+    Ok(disk.is_file("site/.relmove", "mine")?)
 }
 
 // Four times a next journal takes the place of the one before: after the question for that one come the question for the
@@ -163,7 +153,7 @@ fn stays_in_place(alloc: Global, path: &str, number: u32) -> Result<bool, Fail> 
     let disk = disk_of(alloc, cases::PAGE_CHANGES.before)?;
     disk.replace_before(number, path, file_of(alloc, "mine")?)?;
     run(alloc, &cases::PAGE_CHANGES, &disk)?;
-    Ok(disk.has(path)? && disk.is_file(path, "mine")?)
+    Ok(disk.is_file(path, "mine")?)
 }
 
 // Whether files that come in the place of what is at a path stay, but for those that come before so many calls of a run.
@@ -208,11 +198,7 @@ fn says_that_its_directory_stays_with_a_file_at_the_name_of_a_text(
     same("back", &end_of(&ended), &End::TakenBack)?;
     let is_said = matches!(remarks_of(&ended), [Remark::Stays(_)]);
     same("said", &is_said, &true)?;
-    same(
-        "it stays",
-        &disk.is_file("site/.relmove-run/9", "mine")?,
-        &true,
-    )
+    has_text(&disk, "site/.relmove-run/9", "mine")
 }
 
 // Whether a journal that comes before a call of a run is told. `None` if the run's own is there already.
@@ -267,5 +253,5 @@ fn removes_what_may_be_its_own_journal(rt: HostRuntime) -> Result<(), Fail> {
     disk.fail_at(number, Way::DoneAndFailed);
     disk.replace_before(number.saturating_add(1), path, file_of(alloc, "mine")?)?;
     run(alloc, case, &disk)?;
-    same("another file", &disk.is_file(path, "mine")?, &true)
+    has_text(&disk, path, "mine")
 }

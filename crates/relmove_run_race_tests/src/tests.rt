@@ -1,0 +1,7 @@
+//! Tests of what no contract says: what a run does beside another program, over a file system in memory.
+
+mod arrivals;
+mod edits;
+mod lock;
+mod own_directory;
+mod symlinks;
