@@ -62,7 +62,7 @@ impl Model for RelativePathBuf {
     // contracts see a text and its room
     ghost Value = { Buffer };
 
-    // the bytes and the capacity of the `String`
+    // the `String`'s bytes and capacity
     ghost view = { λ b. record { text = string_bytes b.text; room = string_capacity b.text } };
 }
 
@@ -122,12 +122,12 @@ impl RelativePathBuf {
     /// assert_eq!(rt; buf.as_relative_path().as_str(), "foo/bar");
     /// ```
     pub fn from_path(alloc: Global, path: Path<'_>) -> Result<RelativePathBuf, FromPathError>
-        // no text that begins with a slash succeeds
+        // no text with a leading slash succeeds
         ensures relative { IfOk result (λ buf. has_root (path_bytes path.entry) ≡ false) }
         // the components but `.`, joined by single slashes
         ensures ok { IfOk result (λ buf.
             buf.text ≡ spell (without_cur_dirs (unix_components (path_bytes path.entry)))) }
-        // `NonRelative` for a slash at the start, else `OutOfMemory`
+        // `NonRelative` for a leading slash, else `OutOfMemory`
         ensures kind { IfErr result (λ error. from_path_kind error
             ≡ (if has_root (path_bytes path.entry) then NonRelative else OutOfMemory)) }
     {
@@ -234,7 +234,7 @@ impl RelativePathBuf {
         // the second path's file name, if any
         ensures file_name { OnOk result (IsSome (file_name_of (path_text path.entry))
             → file_name_of self.new.text ≡ file_name_of (path_text path.entry)) }
-        // before a file name: the first path, then the second's directory
+        // if the second has a file name: the first path, then its directory
         ensures directory { OnOk result (IsSome (file_name_of (path_text path.entry))
             → kept (components self.new.text)
             ≡ components self.old.text ++ kept (path_components path.entry)) }
@@ -284,7 +284,7 @@ impl RelativePathBuf {
     pub fn set_file_name(&mut self, file_name: &str) -> Result<(), AllocError>
         // the new name, pushed onto the path without its file name
         ensures ok { OnOk result (IsNamed self.old.text file_name.now self.new.text) }
-        // the directory, or all without a file name, then the new name
+        // the path's components without its file name, then the new name's
         ensures components { OnOk result (components self.new.text
             ≡ base_components (components self.old.text) ++ components file_name.now) }
         // a single name becomes the file name
@@ -429,7 +429,7 @@ impl RelativePathBuf {
         // followed by the file name, equivalent to the path
         ensures rejoined { (n : List ℕ) → file_name_of self.old.text ≡ Some n
             → IsSame (components self.new.text ++ name n ∷ []) (components self.old.text) }
-        // it leads somewhere from each base from which the path does
+        // it leads somewhere from wherever the path does
         ensures leads { (base : List (List ℕ)) → IsSome (walk base (components self.old.text))
             → IsSome (walk base (components self.new.text)) }
         // the room stays
@@ -493,7 +493,7 @@ impl RelativePathBuf {
         // all paths are pushed, in order
         ensures ok { OnOk result
             (PushesAll I.into_iter_gives I.IntoIter.next_gives paths self.old.text self.new.text) }
-        // after an error: all paths before one that doesn't fit are pushed
+        // after an error: all paths before one that doesn't fit
         ensures err { OnErr result
             (PushesUntilFull I.into_iter_gives I.IntoIter.next_gives paths self.old self.new) }
         // any list of the paths' texts is pushed, in order
@@ -613,7 +613,7 @@ impl PartialOrd for RelativePathBuf {
 }
 
 impl Ord for RelativePathBuf {
-    // by the first difference: `.`, then `..`, then names by their bytes
+    // by the first difference: `.`, `..`, then names by bytes
     ghost cmp = { on buffer_components steps_cmp };
 
     ghost total = { (by_components buffer_components).total };
@@ -642,7 +642,7 @@ impl fmt::Display for RelativePathBuf {
     // the path's text
     ghost output = { λ buf. Some buf.text };
 
-    // the same, cut and padded as the format says
+    // the same, cut and padded as asked
     ghost styled_output = { λ buf spec. Some (styled_text spec buf.text) };
 
     fn fmt<W: fmt::Write>(&self, f: &mut fmt::Formatter<W>) -> fmt::Result {

@@ -106,7 +106,7 @@ pub fn push(out: &mut [u8], len: usize, path: RelativePath<'_>) -> Result<usize,
     // the second path's file name, if any
     ensures file_name { IfOk result (λ longer. IsSome (file_name_of (path_text path.entry))
         → file_name_of (take longer out.new) ≡ file_name_of (path_text path.entry)) }
-    // before a file name: the first path, then the second's directory
+    // if the second has a file name: the first path, then its directory
     ensures directory { IfOk result (λ longer. IsSome (file_name_of (path_text path.entry))
         → kept (components (take longer out.new))
         ≡ components (take len out.old) ++ kept (path_components path.entry)) }

@@ -95,7 +95,7 @@ impl PartialOrd for Component<'_> {
 }
 
 impl Ord for Component<'_> {
-    // by the first difference: `.`, then `..`, then names by their bytes
+    // by the first difference: `.`, `..`, then names by bytes
     ghost cmp = { on step_of step_cmp };
 
     ghost total = { (by_component step_of).total };
@@ -206,10 +206,10 @@ impl PartialEq for Components<'_> {
 impl<'a> Iterator for Components<'a> {
     type Item = Component<'a>;
 
-    // the first component, if any; the rest is left without leading slashes
+    // the first component, if any, leaving what follows its slashes
     ghost next_gives = { λ s taken t. TakesFirst (text_left s) taken (text_left t) };
 
-    // no more items come than components are left
+    // no more items than components left
     ghost remaining = { item_count components_left };
 
     /// Takes the first component off the text that is left.
@@ -226,7 +226,7 @@ impl<'a> Iterator for Components<'a> {
 }
 
 impl<'a> DoubleEndedIterator for Components<'a> {
-    // the last component, if any; the shortest prefix with the others is left
+    // the last component, if any, leaving the shortest prefix with the others
     ghost next_back_gives = { λ s taken t. TakesLast (text_left s) taken (text_left t) };
 
     /// Takes the last component off the text that is left.
@@ -288,10 +288,10 @@ impl Clone for Iter<'_> {
 impl<'a> Iterator for Iter<'a> {
     type Item = &'a str;
 
-    // the first component, if any; the rest is left without leading slashes
+    // the first component, if any, leaving what follows its slashes
     ghost next_gives = { λ s taken t. TakesFirstText (iter_text_left s) taken (iter_text_left t) };
 
-    // no more items come than components are left
+    // no more items than components left
     ghost remaining = { item_count texts_left };
 
     /// Takes the first component off the text that is left, and returns its text.
@@ -301,7 +301,7 @@ impl<'a> Iterator for Iter<'a> {
 }
 
 impl<'a> DoubleEndedIterator for Iter<'a> {
-    // the last component, if any; the shortest prefix with the others is left
+    // the last component, if any, leaving the shortest prefix with the others
     ghost next_back_gives = { λ s taken t. TakesLastText (iter_text_left s) taken (iter_text_left t) };
 
     /// Takes the last component off the text that is left, and returns its text.

@@ -95,7 +95,7 @@ impl fmt::Display for FromPathError {
     // the words for the error
     ghost output = { λ error. Some (from_path_words (from_path_kind error)) };
 
-    // the same, cut and padded as the format says
+    // the same, cut and padded as asked
     ghost styled_output = { λ error spec. Some (styled_text spec (from_path_words (from_path_kind error))) };
 
     fn fmt<W: fmt::Write>(&self, f: &mut fmt::Formatter<W>) -> fmt::Result {
@@ -194,7 +194,7 @@ impl fmt::Display for RelativeToError {
     // the words for the error
     ghost output = { λ error. Some (relative_to_words (relative_to_kind error)) };
 
-    // the same, cut and padded as the format says
+    // the same, cut and padded as asked
     ghost styled_output = { λ error spec. Some (styled_text spec (relative_to_words (relative_to_kind error))) };
 
     fn fmt<W: fmt::Write>(&self, f: &mut fmt::Formatter<W>) -> fmt::Result {
@@ -236,7 +236,7 @@ impl fmt::Display for WriteError {
     // the words for the error
     ghost output = { λ error. Some (write_words error) };
 
-    // the same, cut and padded as the format says
+    // the same, cut and padded as asked
     ghost styled_output = { λ error spec. Some (styled_text spec (write_words error)) };
 
     fn fmt<W: fmt::Write>(&self, f: &mut fmt::Formatter<W>) -> fmt::Result {

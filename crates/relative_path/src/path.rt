@@ -81,7 +81,7 @@ impl<'a> RelativePath<'a> {
     /// assert_eq!(rt; path.as_str(), "./foo//bar");
     /// ```
     pub fn from_path(path: Path<'a>) -> Result<RelativePath<'a>, FromPathError>
-        // it fails exactly for a slash at the start
+        // it fails exactly for a leading slash
         ensures relative { IsErr result ↔ IsTrue (has_root (path_bytes path.entry)) }
         // a path with the same text
         ensures ok { IfOk result (λ view. path_text view ≡ path_bytes path.entry) }
@@ -136,7 +136,7 @@ impl<'a> RelativePath<'a> {
         // the first path's components, then the second's
         ensures components { IfOk result
             (λ joined. components joined.text ≡ path_components self.entry ++ path_components path.entry) }
-        // it leads where both paths lead in turn
+        // it leads where both lead in turn
         ensures in_turn { IfOk result (λ joined. LeadsInTurn (path_components self.entry)
             (path_components path.entry) (components joined.text)) }
         // below the first path, if the second doesn't climb
@@ -145,7 +145,7 @@ impl<'a> RelativePath<'a> {
         // the second path's file name, if any
         ensures file_name { IfOk result (λ joined. IsSome (file_name_of (path_text path.entry))
             → file_name_of joined.text ≡ file_name_of (path_text path.entry)) }
-        // before a file name: the first path, then the second's directory
+        // if the second has a file name: the first path, then its directory
         ensures directory { IfOk result (λ joined. IsSome (file_name_of (path_text path.entry))
             → kept (components joined.text)
             ≡ path_components self.entry ++ kept (path_components path.entry)) }
@@ -165,7 +165,7 @@ impl<'a> RelativePath<'a> {
     pub fn components(self) -> Components<'a>
         // the whole text is left
         ensures text { text_left result ≡ path_text self.entry }
-        // calls of `next` give the components left, in order
+        // calls of `next` give the components, in order
         ensures runs { GivesComponents }
         // no more components than bytes
         ensures count { length (path_components self.entry) ≤ length (path_text self.entry) }
@@ -186,7 +186,7 @@ impl<'a> RelativePath<'a> {
     pub fn iter(self) -> Iter<'a>
         // the whole text is left
         ensures text { iter_text_left result ≡ path_text self.entry }
-        // calls of `next` give the texts of the components left, in order
+        // calls of `next` give the components' texts, in order
         ensures runs { GivesTextsOfComponents }
         // no more components than bytes
         ensures count { length (path_components self.entry) ≤ length (path_text self.entry) }
@@ -268,7 +268,7 @@ impl<'a> RelativePath<'a> {
         ensures rejoined { IfSome result (λ parent. (n : List ℕ)
             → file_name_of (path_text self.entry) ≡ Some n
             → IsSame (path_components parent ++ name n ∷ []) (path_components self.entry)) }
-        // it leads somewhere from each base from which the path does
+        // it leads somewhere from wherever the path does
         ensures leads { IfSome result (λ parent. (base : List (List ℕ))
             → IsSome (walk base (path_components self.entry))
             → IsSome (walk base (path_components parent))) }
@@ -289,12 +289,12 @@ impl<'a> RelativePath<'a> {
     /// assert_eq!(rt; RelativePath::new("foo/..").file_name(), None);
     /// ```
     pub fn file_name(self) -> Option<&'a str>
-        // the last component but `.`, if that is a name
+        // the last component but `.`, if a name
         ensures text { option_copied result ≡ file_name_of (path_text self.entry) }
         // the component after the directory
         ensures placed { IfSome result (λ file_name. slice_get (path_components self.entry)
             (kept_len (path_components self.entry)) ≡ Some (name file_name.now)) }
-        // as a path it is this one name
+        // as a path: this one name
         ensures alone { IfSome result
             (λ file_name. components file_name.now ≡ name file_name.now ∷ []) }
     {
@@ -319,7 +319,7 @@ impl<'a> RelativePath<'a> {
         // what follows the base's components and their slashes
         ensures text { IfOk result (λ rest. IsDropped (path_text self.entry)
             (length (path_components base.entry)) (path_text rest)) }
-        // the rest of the path's components, after the base's
+        // the path's components after the base's
         ensures components { IfOk result (λ rest. path_components self.entry
             ≡ path_components base.entry ++ path_components rest) }
     {
@@ -431,7 +431,7 @@ impl<'a> RelativePath<'a> {
         // the new name, pushed onto the path without its file name
         ensures text { IfOk result
             (λ named. IsNamed (path_text self.entry) file_name.now named.text) }
-        // the directory, or all without a file name, then the new name
+        // the path's components without its file name, then the new name's
         ensures components { IfOk result (λ named. components named.text
             ≡ base_components (path_components self.entry) ++ components file_name.now) }
         // a single name becomes the file name
@@ -557,10 +557,10 @@ impl<'a> RelativePath<'a> {
         // the only normal text equivalent to both paths in turn
         ensures normal_form { IfOk result (λ normal. IsNormalTextOf
             (path_components self.entry ++ path_components path.entry) normal.text) }
-        // it leads where both paths lead in turn
+        // it leads where both lead in turn
         ensures in_turn { IfOk result (λ normal. LeadsInTurn (path_components self.entry)
             (path_components path.entry) (components normal.text)) }
-        // it leads as far below the first path as the second below the top
+        // as far below the first path as the second below the top
         ensures below { IfOk result (λ normal. (place : List (List ℕ))
             → walk [] (path_components path.entry) ≡ Some place
             → LeadsBelow (path_components self.entry) place (components normal.text)) }
@@ -658,18 +658,18 @@ impl<'a> RelativePath<'a> {
         alloc: Global,
         to: RelativePath<'_>,
     ) -> Result<RelativePathBuf, AllocError>
-        // the shortest path to the target; empty if none leads there
+        // the shortest path to the target, empty if none leads there
         ensures way { IfOk result
             (λ way. IsWayText (path_components self.entry) (path_components to.entry) way.text) }
-        // the shortest also from each path whose normal text the source is
+        // also from each path whose normal text the source is
         ensures shortest_from { IfOk result (λ way. (from : List Step)
             → IsNormalTextOf from (path_text self.entry) → IsReachable from (path_components to.entry)
             → IsShortestText from (path_components to.entry) way.text) }
-        // the shortest also to each path whose normal text the target is
+        // also to each path whose normal text the target is
         ensures shortest_to { IfOk result (λ way. (target : List Step)
             → IsNormalTextOf target (path_text to.entry) → IsReachable (path_components self.entry) target
             → IsShortestText (path_components self.entry) target way.text) }
-        // a path leads to the target exactly if the source climbs no more
+        // a path leads there exactly if the source climbs no more
         ensures climbs { (from_steps to_steps : List Step)
             → IsNormalForm (path_components self.entry) from_steps
             → IsNormalForm (path_components to.entry) to_steps
@@ -713,11 +713,11 @@ impl<'a> RelativePath<'a> {
         ensures shortest { IfOk result
             (λ found. IfSome found
             (λ way. IsShortestText (path_components self.entry) (path_components to.entry) way.text)) }
-        // the shortest also from each path whose normal text the source is
+        // also from each path whose normal text the source is
         ensures shortest_from { IfOk result (λ found. IfSome found (λ way. (from : List Step)
             → IsNormalTextOf from (path_text self.entry)
             → IsShortestText from (path_components to.entry) way.text)) }
-        // the shortest also to each path whose normal text the target is
+        // also to each path whose normal text the target is
         ensures shortest_to { IfOk result (λ found. IfSome found (λ way. (target : List Step)
             → IsNormalTextOf target (path_text to.entry)
             → IsShortestText (path_components self.entry) target way.text)) }
@@ -755,7 +755,7 @@ impl<'a> RelativePath<'a> {
         ensures none { IfOk result
             (λ apart. IsNone apart
             ↔ IsSame (path_components self.entry) (path_components path.entry)) }
-        // the length of the shortest base that separates the paths
+        // the length of the shortest separating base
         ensures some { IfOk result
             (λ apart. (n : ℕ) → (apart ≡ Some n)
             ↔ LeadsApart (path_components self.entry) (path_components path.entry) n) }
@@ -849,7 +849,7 @@ impl PartialOrd for RelativePath<'_> {
 }
 
 impl Ord for RelativePath<'_> {
-    // by the first difference: `.`, then `..`, then names by their bytes
+    // by the first difference: `.`, `..`, then names by bytes
     ghost cmp = { on path_components steps_cmp };
 
     ghost total = { (by_components path_components).total };
@@ -880,7 +880,7 @@ impl fmt::Display for RelativePath<'_> {
     // the path's text
     ghost output = { λ path. Some (path_text path) };
 
-    // the same, cut and padded as the format says
+    // the same, cut and padded as asked
     ghost styled_output = { λ path spec. Some (styled_text spec (path_text path)) };
 
     fn fmt<W: fmt::Write>(&self, f: &mut fmt::Formatter<W>) -> fmt::Result {
@@ -903,7 +903,7 @@ impl fmt::Display for Display<'_> {
     // the path's text
     ghost output = { λ display. Some (display_text display) };
 
-    // the same, cut and padded as the format says
+    // the same, cut and padded as asked
     ghost styled_output = { λ display spec. Some (styled_text spec (display_text display)) };
 
     fn fmt<W: fmt::Write>(&self, f: &mut fmt::Formatter<W>) -> fmt::Result {

@@ -30,7 +30,7 @@ use std::path::{Path, PathBuf};
 /// assert_eq!(rt; unix::view("./foo//bar")?.as_str(), "./foo//bar");
 /// ```
 pub fn view(text: &str) -> Result<RelativePath<'_>, FromPathError>
-    // it fails exactly for a slash at the start
+    // it fails exactly for a leading slash
     ensures relative { IsErr result ↔ IsTrue (has_root text.now) }
     // a path with the same text
     ensures ok { IfOk result (λ path. path_text path ≡ text.now) }
@@ -51,11 +51,11 @@ pub fn view(text: &str) -> Result<RelativePath<'_>, FromPathError>
 /// assert_eq!(rt; path.as_relative_path().as_str(), "foo/bar");
 /// ```
 pub fn from_path(alloc: Global, text: &str) -> Result<RelativePathBuf, FromPathError>
-    // no text that begins with a slash succeeds
+    // no text with a leading slash succeeds
     ensures relative { IfOk result (λ path. has_root text.now ≡ false) }
     // the components but `.`, joined by single slashes
     ensures ok { IfOk result (λ path. path.text ≡ spell (without_cur_dirs (unix_components text.now))) }
-    // `NonRelative` for a slash at the start, else `OutOfMemory`
+    // `NonRelative` for a leading slash, else `OutOfMemory`
     ensures kind { IfErr result (λ error. from_path_kind error
         ≡ (if has_root text.now then from_path_kinds.NonRelative else from_path_kinds.OutOfMemory)) }
 {
@@ -118,7 +118,7 @@ pub fn relative_to(
     path: &str,
     root: &str,
 ) -> Result<RelativePathBuf, RelativeToError>
-    // `PrefixMismatch` exactly if only one text begins with a slash
+    // `PrefixMismatch` exactly if only one has a root
     ensures prefix_mismatch { IsErrAnd result
         (λ error. relative_to_kind error ≡ relative_to_kinds.PrefixMismatch)
         ↔ (has_root path.now ≢ has_root root.now) }
@@ -160,7 +160,7 @@ pub trait PathExt {
     /// Returns the relative path from `root` to this platform path: what [`relative_to`] returns
     /// for their texts.
     fn relative_to(&self, alloc: Global, root: Path<'_>) -> Result<RelativePathBuf, RelativeToError>
-        // `PrefixMismatch` exactly if only one text begins with a slash
+        // `PrefixMismatch` exactly if only one has a root
         ensures prefix_mismatch { IsErrAnd result
             (λ error. relative_to_kind error ≡ relative_to_kinds.PrefixMismatch)
             ↔ (has_root (text self.now) ≢ has_root (path_bytes root.entry)) }

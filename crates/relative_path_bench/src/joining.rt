@@ -33,7 +33,7 @@ pub fn join_law(
     ensures components { IfOk result
         (λ joined. components joined.text
         ≡ path_components path.entry ++ path_components other.entry) }
-    // it leads where both paths lead in turn
+    // it leads where both lead in turn
     ensures walk { IfOk result (λ joined. LeadsInTurn (path_components path.entry)
         (path_components other.entry) (components joined.text)) }
 {
@@ -86,10 +86,10 @@ pub fn join_normalized_law(
     path: RelativePath<'_>,
     other: RelativePath<'_>,
 ) -> Result<(RelativePathBuf, RelativePathBuf), AllocError>
-    // first: the normal text of both paths in turn
+    // first: the normal text of both in turn
     ensures joined { IfOk result (λ pair. IsNormalTextOf
         (path_components path.entry ++ path_components other.entry) pair.0.text) }
-    // second: the normal text of the joined text
+    // second: the normal text of the join
     ensures normal_form { IfOk result (λ pair. IsNormalTextOf
         (components (pushed (path_text path.entry) (path_text other.entry))) pair.1.text) }
     // both results have the same text
@@ -122,7 +122,7 @@ pub fn associative(
     // first: `a` and `b` joined in normal form, then `c`
     ensures from_the_left { IfOk result (λ pair. IsJoinedFromTheLeft (path_components a.entry)
         (path_components b.entry) (path_components c.entry) pair.0.text) }
-    // second: `b` and `c` joined in normal form, `a` before them
+    // second: `b` and `c` joined in normal form, after `a`
     ensures from_the_right { IfOk result (λ pair. IsJoinedFromTheRight (path_components a.entry)
         (path_components b.entry) (path_components c.entry) pair.1.text) }
     // both results have the same text
@@ -152,10 +152,10 @@ pub fn unit(
 ) -> Result<(RelativePathBuf, RelativePathBuf, RelativePathBuf), AllocError>
     // first: the path's normal text
     ensures normal_form { IfOk result (λ r. IsNormalTextOf (path_components path.entry) r.0.text) }
-    // second: the normal text of the first, then the empty path
+    // second: the first and the empty path, normalised
     ensures empty_after { IfOk result
         (λ r. IsNormalTextOf (components r.0.text ++ components []) r.1.text) }
-    // third: the normal text of the empty path, then the first
+    // third: the empty path and the first, normalised
     ensures empty_before { IfOk result
         (λ r. IsNormalTextOf (components [] ++ components r.0.text) r.2.text) }
     // the second text is the first

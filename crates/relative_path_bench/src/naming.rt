@@ -20,7 +20,7 @@ use std::alloc::{AllocError, Global};
 /// assert_eq!(rt; parts, Some(("foo.tar.gz", "foo.tar", Some("gz"))));
 /// ```
 pub fn stem_law(path: RelativePath<'_>) -> Option<(&str, &str, Option<&str>)>
-    // `None` exactly if there is no file name
+    // `None` exactly without a file name
     ensures found { IsSome result ↔ IsSome (file_name_of (path_text path.entry)) }
     // the path's file name
     ensures file_name { IfSome result
@@ -54,7 +54,7 @@ pub fn extension_law(
     extension: &str,
 ) -> Result<Option<RelativePathBuf>, AllocError>
     requires { IsTrue (is_plain_extension extension.now) }
-    // `None` exactly if there is no file name
+    // `None` exactly without a file name
     ensures found { IfOk result
         (λ set. IsSome set ↔ IsSome (file_name_of (path_text path.entry))) }
     // the text up to its stem's end, then the dotted extension
@@ -82,14 +82,14 @@ pub fn extension_law(
 /// assert!(rt; pair.is_some_and(|(parent, name)| parent.as_str() == "foo/." && name == "bar"));
 /// ```
 pub fn parent_law(path: RelativePath<'_>) -> Option<(RelativePath<'_>, &str)>
-    // `None` exactly if there is no file name
+    // `None` exactly without a file name
     ensures found { IsSome result ↔ IsSome (file_name_of (path_text path.entry)) }
     // the shortest prefix with the directory's components
     ensures parent { IfSome result (λ pair. IsPopped (path_text path.entry) (path_text pair.0)) }
     // the path's file name
     ensures file_name { IfSome result
         (λ pair. file_name_of (path_text path.entry) ≡ Some pair.1.now) }
-    // both results in turn: the path without each `.` at its end
+    // both in turn: the path without each `.` at its end
     ensures joined { IfSome result (λ pair. path_components pair.0 ++ name pair.1.now ∷ []
         ≡ without_last_curs (path_components path.entry)) }
 {

@@ -62,7 +62,7 @@ pub fn normalized_law(
     // second: the path's normal text
     ensures normal_form { IfOk result
         (λ pair. IsNormalTextOf (path_components path.entry) pair.1.text) }
-    // true exactly if the normal text has the path's components
+    // whether the normal text has the path's components
     ensures equal { IfOk result
         (λ pair. IsTrue pair.0 ↔ (path_components path.entry ≡ components pair.1.text)) }
 {

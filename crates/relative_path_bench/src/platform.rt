@@ -27,7 +27,7 @@ pub fn relative_to_law(
     // as many `..` as the root's rest goes down, then the path's rest
     ensures text { IfOk result (λ answer. (way : List Step)
         × (way_to path.now root.now ≡ Some way) × (answer.text ≡ spell way)) }
-    // `PrefixMismatch` exactly if only one text begins with a slash
+    // `PrefixMismatch` exactly if only one has a root
     ensures prefix_mismatch { IsErrAnd result
         (λ error. relative_to_kind error ≡ kinds.PrefixMismatch)
         ↔ (has_root path.now ≢ has_root root.now) }

@@ -31,7 +31,7 @@ pub fn strip_law<'a>(
     // first: what follows the base's components and their slashes
     ensures rest { IfOk result (λ found. IfSome found (λ pair. IsDropped (path_text path.entry)
         (length (path_components base.entry)) (path_text pair.0))) }
-    // second: the base with the first pushed onto it
+    // second: the first pushed onto the base
     ensures joined { IfOk result (λ found. IfSome found (λ pair. pair.1.text
         ≡ pushed (path_text base.entry) (path_text pair.0))) }
     // the second has the path's components

@@ -25,17 +25,17 @@ pub fn leads_back(
     from: RelativePath<'_>,
     to: RelativePath<'_>,
 ) -> Result<(RelativePathBuf, RelativePathBuf), AllocError>
-    // first: the target's normal text, if some path leads there
+    // first: the target's normal text, if a path leads there
     ensures there { IfOk result
         (λ pair. IsReachable (path_components from.entry) (path_components to.entry)
         → IsNormalTextOf (path_components to.entry) pair.0.text) }
-    // first: the source's normal text, if none does
+    // first: otherwise the source's normal text
     ensures stays { IfOk result
         (λ pair. ¬ IsReachable (path_components from.entry) (path_components to.entry)
         → IsNormalTextOf (path_components from.entry) pair.0.text) }
     // second: the target's normal text
     ensures to { IfOk result (λ pair. IsNormalTextOf (path_components to.entry) pair.1.text) }
-    // the same text exactly if some path leads to the target
+    // the same text exactly if a path leads to the target
     ensures same { IfOk result (λ pair. (pair.0.text ≡ pair.1.text)
         ↔ IsReachable (path_components from.entry) (path_components to.entry)) }
 {
@@ -66,10 +66,10 @@ pub fn same_law(
     ensures path { IfOk result (λ r. IsNormalTextOf (path_components path.entry) r.0.text) }
     // second: the second path's normal text
     ensures other { IfOk result (λ r. IsNormalTextOf (path_components other.entry) r.1.text) }
-    // third: the length of the shortest base that separates the paths
+    // third: the length of the shortest separating base
     ensures apart { IfOk result (λ r. (n : ℕ) → (r.2 ≡ Some n)
         ↔ LeadsApart (path_components path.entry) (path_components other.entry) n) }
-    // the texts are the same exactly if the paths are equivalent
+    // the same text exactly if the paths are equivalent
     ensures texts { IfOk result (λ r. (r.0.text ≡ r.1.text)
         ↔ EndAlike (path_components path.entry) (path_components other.entry)) }
     // third: `None` exactly if the paths are equivalent
@@ -149,7 +149,7 @@ pub fn try_law(
     // first: the shortest path to the target
     ensures way { IfOk result (λ found. IfSome found (λ pair.
         IsShortestText (path_components from.entry) (path_components to.entry) pair.0.text)) }
-    // second: the normal text of the source, then the first
+    // second: the source and the first, normalised
     ensures there { IfOk result (λ found. IfSome found (λ pair.
         IsNormalTextOf (path_components from.entry ++ components pair.0.text) pair.1.text)) }
     // second: the target's normal text

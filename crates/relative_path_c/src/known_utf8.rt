@@ -78,7 +78,7 @@ pub extern "C" fn relative_path_str_normalize(alloc: Global, text: &[u8], out: &
     requires utf8 { IsUtf8 text.now }
     // the text has to fit the memory
     requires room { length text.now ≤ length out.old }
-    // the only normal text equivalent to the path
+    // the path's normal text
     ensures normal_form { IsNormalTextOf (components text.now) (take result out.new) }
     // the new text is UTF-8
     ensures utf8 { IsUtf8 (take result out.new) }
@@ -100,7 +100,7 @@ pub extern "C" fn relative_path_str_push(memory: &mut [u8], len: usize, path: &[
     // the first text, a slash if needed, the second without one leading slash
     ensures text { Writes result.status result.len memory.new
         (λ joined. joined ≡ pushed (take len memory.old) path.now) }
-    // at `no_room`: the text's length, which exceeds the memory's
+    // at `no_room`: the text's length, beyond the memory's
     ensures needs { Needs result.status result.len memory.old
         (λ joined. joined ≡ pushed (take len memory.old) path.now) }
     // unless it is done, the call changes nothing

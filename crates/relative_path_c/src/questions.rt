@@ -164,7 +164,7 @@ pub extern "C" fn relative_path_climb(text: &[u8]) -> Count
 /// every base.
 #[unsafe(no_mangle)]
 pub extern "C" fn relative_path_leads_apart(alloc: Global, text: &[u8], other: &[u8]) -> Count
-    // the length of the shortest base that separates the paths
+    // the length of the shortest separating base
     ensures apart { result.status ≡ done
         → LeadsApart (components text.now) (components other.now) result.count }
     // only if the paths are equivalent

@@ -26,7 +26,7 @@ pub extern "C" fn relative_path_join(
 ) -> Written
     // the first text, a slash if needed, the second without one leading slash
     ensures text { Writes result.status result.len out.new (λ joined. joined ≡ pushed text.now path.now) }
-    // at `no_room`: the text's length, which exceeds the memory's
+    // at `no_room`: the text's length, beyond the memory's
     ensures needs { Needs result.status result.len out.old (λ joined. joined ≡ pushed text.now path.now) }
     // never `no_room` with memory for both texts and one byte
     ensures suffices { length text.now + 1 + length path.now ≤ length out.old → result.status ≢ no_room }
@@ -54,10 +54,10 @@ pub extern "C" fn relative_path_join_normalized(
     path: &[u8],
     out: &mut [u8],
 ) -> Written
-    // the only normal text equivalent to both paths in turn
+    // the normal text of both paths in turn
     ensures normal_form { Writes result.status result.len out.new
         (IsNormalTextOf (components text.now ++ components path.now)) }
-    // at `no_room`: the text's length, which exceeds the memory's
+    // at `no_room`: the text's length, beyond the memory's
     ensures needs { Needs result.status result.len out.old
         (IsNormalTextOf (components text.now ++ components path.now)) }
     // never `no_room` with memory for both texts and one byte
@@ -80,9 +80,9 @@ pub extern "C" fn relative_path_join_normalized(
 /// Writes the only normal path that leads where `text` leads.
 #[unsafe(no_mangle)]
 pub extern "C" fn relative_path_normalize(alloc: Global, text: &[u8], out: &mut [u8]) -> Written
-    // the only normal text equivalent to the path
+    // the path's normal text
     ensures normal_form { Writes result.status result.len out.new (IsNormalTextOf (components text.now)) }
-    // at `no_room`: the text's length, which exceeds the memory's
+    // at `no_room`: the text's length, beyond the memory's
     ensures needs { Needs result.status result.len out.old (IsNormalTextOf (components text.now)) }
     // done for a UTF-8 text that fits the memory
     ensures suffices { IsUtf8 text.now → length text.now ≤ length out.old → result.status ≡ done }
@@ -110,7 +110,7 @@ pub extern "C" fn relative_path_with_file_name(
 ) -> Written
     // the new name, pushed onto the path without its file name
     ensures text { Writes result.status result.len out.new (IsNamed text.now file_name.now) }
-    // at `no_room`: the text's length, which exceeds the memory's
+    // at `no_room`: the text's length, beyond the memory's
     ensures needs { Needs result.status result.len out.old (IsNamed text.now file_name.now) }
     // never `no_room` with memory for both texts and one byte
     ensures suffices { length text.now + 1 + length file_name.now ≤ length out.old
@@ -141,7 +141,7 @@ pub extern "C" fn relative_path_with_extension(
 ) -> Written
     // the text up to its stem's end, then the dotted extension, if any
     ensures text { Writes result.status result.len out.new (IsExtended text.now extension.now) }
-    // at `no_room`: the text's length, which exceeds the memory's
+    // at `no_room`: the text's length, beyond the memory's
     ensures needs { Needs result.status result.len out.old (IsExtended text.now extension.now) }
     // never `no_room` with memory for both texts and one byte
     ensures suffices { length text.now + 1 + length extension.now ≤ length out.old
@@ -183,7 +183,7 @@ pub extern "C" fn relative_path_set_extension(
     // the text up to its stem's end, then the dotted extension, if any
     ensures text { Writes result.status result.len memory.new
         (IsExtended (take len memory.old) extension.now) }
-    // at `no_room`: the text's length, which exceeds the memory's
+    // at `no_room`: the text's length, beyond the memory's
     ensures needs { Needs result.status result.len memory.old
         (IsExtended (take len memory.old) extension.now) }
     // done only if the path has a file name
@@ -220,7 +220,7 @@ pub extern "C" fn relative_path_push(memory: &mut [u8], len: usize, path: &[u8])
     // the first text, a slash if needed, the second without one leading slash
     ensures text { Writes result.status result.len memory.new
         (λ joined. joined ≡ pushed (take len memory.old) path.now) }
-    // at `no_room`: the text's length, which exceeds the memory's
+    // at `no_room`: the text's length, beyond the memory's
     ensures needs { Needs result.status result.len memory.old
         (λ joined. joined ≡ pushed (take len memory.old) path.now) }
     // never `no_room` with memory for both texts and one byte
@@ -251,10 +251,10 @@ pub extern "C" fn relative_path_relative(
     to: &[u8],
     out: &mut [u8],
 ) -> Written
-    // the shortest path to the target; empty if none leads there
+    // the shortest path to the target, empty if none leads there
     ensures way { Writes result.status result.len out.new
         (IsWayText (components text.now) (components to.now)) }
-    // at `no_room`: the text's length, which exceeds the memory's
+    // at `no_room`: the text's length, beyond the memory's
     ensures needs { Needs result.status result.len out.old
         (IsWayText (components text.now) (components to.now)) }
     // never `no_room` with memory for twice the source, the target and one byte
@@ -286,7 +286,7 @@ pub extern "C" fn relative_path_try_relative(
     // the shortest path to the target
     ensures shortest { Writes result.status result.len out.new
         (IsShortestText (components text.now) (components to.now)) }
-    // at `no_room`: the text's length, which exceeds the memory's
+    // at `no_room`: the text's length, beyond the memory's
     ensures needs { Needs result.status result.len out.old
         (IsShortestText (components text.now) (components to.now)) }
     // never `no_room` with memory for twice the source, the target and one byte

@@ -18,7 +18,7 @@ use std::alloc::Global;
 /// Hands out the shortest prefix of `text` that has the same root and all its components but the last.
 #[unsafe(no_mangle)]
 pub extern "C" fn relative_path_unix_parent_text<'a>(text: &'a [u8], part: &mut &'a [u8]) -> u32
-    // the shortest prefix without the last component, or the text if there is none
+    // the shortest prefix without the last component; the text if it has none
     ensures above { HandsOut result part.new.now (IsAbove text.now) }
     // exactly if a text isn't UTF-8
     ensures not_utf8 { (result ≡ not_utf8) ↔ (¬ IsUtf8 text.now) }
@@ -41,7 +41,7 @@ pub extern "C" fn relative_path_unix_parent_text<'a>(text: &'a [u8], part: &mut 
 pub extern "C" fn relative_path_unix_view<'a>(text: &'a [u8], part: &mut &'a [u8]) -> u32
     // the whole text
     ensures text { HandsOut result part.new.now (λ view. view ≡ text.now) }
-    // exactly if the text is UTF-8 and begins with a slash
+    // exactly for UTF-8 with a leading slash
     ensures non_relative { (result ≡ non_relative) ↔ (IsUtf8 text.now × IsTrue (has_root text.now)) }
     // exactly if a text isn't UTF-8
     ensures not_utf8 { (result ≡ not_utf8) ↔ (¬ IsUtf8 text.now) }
@@ -71,12 +71,12 @@ pub extern "C" fn relative_path_unix_from_path(
     // the components but `.`, joined by single slashes
     ensures text { Writes result.status result.len out.new
         (λ path. path ≡ spell (without_cur_dirs (unix_components text.now))) }
-    // at `no_room`: the text's length, which exceeds the memory's
+    // at `no_room`: the text's length, beyond the memory's
     ensures needs { Needs result.status result.len out.old
         (λ path. path ≡ spell (without_cur_dirs (unix_components text.now))) }
     // never `no_room` with memory for the text
     ensures suffices { length text.now ≤ length out.old → result.status ≢ no_room }
-    // exactly if the text is UTF-8 and begins with a slash
+    // exactly for UTF-8 with a leading slash
     ensures non_relative { (result.status ≡ non_relative)
         ↔ (IsUtf8 text.now × IsTrue (has_root text.now)) }
     // exactly if a text isn't UTF-8
@@ -111,10 +111,10 @@ pub extern "C" fn relative_path_unix_to_path(
     base: &[u8],
     out: &mut [u8],
 ) -> Written
-    // the base, then each component, after a slash unless it comes first
+    // the base, if any, and each component, joined by slashes
     ensures path { Writes result.status result.len out.new
         (λ path. path ≡ onto base.now (components text.now)) }
-    // at `no_room`: the text's length, which exceeds the memory's
+    // at `no_room`: the text's length, beyond the memory's
     ensures needs { Needs result.status result.len out.old
         (λ path. path ≡ onto base.now (components text.now)) }
     // never `no_room` with memory for both texts and one byte
@@ -145,7 +145,7 @@ pub extern "C" fn relative_path_unix_to_logical_path(
 ) -> Written
     // the base, where each `..` goes up and each name is added
     ensures path { Writes result.status result.len out.new (IsLogical base.now (components text.now)) }
-    // at `no_room`: the text's length, which exceeds the memory's
+    // at `no_room`: the text's length, beyond the memory's
     ensures needs { Needs result.status result.len out.old (IsLogical base.now (components text.now)) }
     // never `no_room` with memory for both texts and one byte
     ensures suffices { length base.now + 1 + length text.now ≤ length out.old → result.status ≢ no_room }
@@ -177,14 +177,14 @@ pub extern "C" fn relative_path_unix_relative_to(
     // as many `..` as the root's rest goes down, then the path's rest
     ensures way { Writes result.status result.len out.new
         (λ path. (way : List Step) × (way_to text.now root.now ≡ Some way) × (path ≡ spell way)) }
-    // at `no_room`: the text's length, which exceeds the memory's
+    // at `no_room`: the text's length, beyond the memory's
     ensures needs { Needs result.status result.len out.old
         (λ path. (way : List Step) × (way_to text.now root.now ≡ Some way) × (path ≡ spell way)) }
     // never `no_room` with memory for twice the source, the target and one byte
     ensures suffices { 2 * length root.now + 1 + length text.now ≤ length out.old → result.status ≢ no_room }
-    // only if one text alone begins with a slash
+    // only if just one has a root
     ensures prefix_mismatch { result.status ≡ prefix_mismatch → has_root text.now ≢ has_root root.now }
-    // only if both or neither do, and the root's rest climbs
+    // only if otherwise the root's rest climbs
     ensures ambiguous_traversal { result.status ≡ ambiguous_traversal
         → (has_root text.now ≡ has_root root.now) × (way_to text.now root.now ≡ None) }
     // exactly if a text isn't UTF-8

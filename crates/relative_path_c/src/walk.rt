@@ -121,7 +121,7 @@ pub extern "C" fn relative_path_next_back<'a>(walk: &mut Components<'a>, part: &
         → components walk.old.left.now ≡ components walk.new.left.now ++ name part.new.now ∷ [] }
     // at 3 the part is UTF-8
     ensures utf8 { result ≡ normal → IsUtf8 part.new.now }
-    // the shortest prefix with all components but the last is left
+    // the shortest prefix with the other components is left
     ensures front { IsFront walk.old.left.now walk.new.left.now }
     // unless the result is 3, the part stays
     ensures kept { result ≢ normal → part.new ≡ part.old }

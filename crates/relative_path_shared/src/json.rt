@@ -33,7 +33,7 @@ impl fmt::Display for FromValueError {
     // the words for the error
     ghost output = { λ error. Some (error_text error) };
 
-    // the same, cut and padded as the format says
+    // the same, cut and padded as asked
     ghost styled_output = { λ error spec. Some (styled_text spec (error_text error)) };
 
     fn fmt<W: fmt::Write>(&self, f: &mut fmt::Formatter<W>) -> fmt::Result {

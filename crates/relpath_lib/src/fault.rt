@@ -48,7 +48,7 @@ impl fmt::Display for Fault {
     // the fault's name
     ghost output = { λ fault. Some (fault_name fault) };
 
-    // the same, cut and padded as the format says
+    // the same, cut and padded as asked
     ghost styled_output = { λ fault spec. Some (styled_text spec (fault_name fault)) };
 
     fn fmt<W: fmt::Write>(&self, f: &mut fmt::Formatter<W>) -> fmt::Result {

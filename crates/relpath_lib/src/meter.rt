@@ -118,16 +118,16 @@ impl<R: Read> Meter<R> {
 
     /// Passes a read on to the reader.
     pub fn read(&mut self, buf: &mut [u8]) -> Result<usize>
-        // the calls counted have to be below the greatest `u64`
+        // there have to be fewer calls than `u64::MAX`
         requires calls { calls_of self.old < u64.MAX }
-        // the failures counted have to be below the greatest `u64`
+        // there have to be fewer failures than `u64::MAX`
         requires failures { failures_of self.old < u64.MAX }
-        // at most as many bytes as the buffer has
+        // no more bytes than the buffer has
         ensures bound { ReadsAtMost result buf.new }
-        // known bytes lose those that were read; an error reads none
+        // known bytes lose what was read
         ensures bytes { ReadConsumes
             (bytes_of R.remaining self.old) (bytes_of R.remaining self.new) result buf.new }
-        // one more call, and one more failure if it failed
+        // one more call, and a failure if it failed
         ensures counts { CountsCall self.old self.new (is_err result) }
     {
         let result = self.inner.read(buf);
@@ -150,16 +150,16 @@ impl<W: Write> Meter<W> {
 
     /// Passes a write on to the writer.
     pub fn write(&mut self, buf: &[u8]) -> Result<usize>
-        // the calls counted have to be below the greatest `u64`
+        // there have to be fewer calls than `u64::MAX`
         requires calls { calls_of self.old < u64.MAX }
-        // the failures counted have to be below the greatest `u64`
+        // there have to be fewer failures than `u64::MAX`
         requires failures { failures_of self.old < u64.MAX }
-        // at most as many bytes as the buffer has
+        // no more bytes than the buffer has
         ensures bound { WritesAtMost result buf.now }
-        // known bytes gain those that were written; an error writes none
+        // known bytes gain what was written
         ensures bytes { WriteAppends
             (bytes_of W.contents self.old) (bytes_of W.contents self.new) result buf.now }
-        // one more call, and one more failure if it failed
+        // one more call, and a failure if it failed
         ensures counts { CountsCall self.old self.new (is_failed_write result buf.now) }
     {
         let result = self.inner.write(buf);
@@ -173,13 +173,13 @@ impl<W: Write> Meter<W> {
 
     /// Passes a flush on to the writer.
     pub fn flush(&mut self) -> Result<()>
-        // the flushes counted have to be below the greatest `u64`
+        // there have to be fewer flushes than `u64::MAX`
         requires flushes { flushes_of self.old < u64.MAX }
-        // the failures counted have to be below the greatest `u64`
+        // there have to be fewer failures than `u64::MAX`
         requires failures { failures_of self.old < u64.MAX }
         // known bytes stay
         ensures bytes { KeepsBytes W.contents self.old self.new }
-        // one more flush, and one more failure if it failed
+        // one more flush, and a failure if it failed
         ensures counts { CountsFlush self.old self.new (is_err result) }
     {
         let result = self.inner.flush();

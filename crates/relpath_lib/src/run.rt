@@ -42,41 +42,41 @@ pub fn run<R: Read, W: Write>(
     // the writer's meter has to be new
     requires writer { IsFresh writer.old }
 
-    // at `Ok` the whole input was read without a failure, and accepted
+    // at `Ok` the whole input was read and accepted
     ensures ok_read { OnOk result (ReadsAll R.remaining reader.old reader.new IsAccepted) }
-    // at `Ok` there was one flush, and no call of the writer failed
+    // at `Ok` one flush was made, and no call of the writer failed
     ensures ok_flushed { OnOk result ((flushes_of writer.new ≡ 1) × (failures_of writer.new ≡ 0)) }
 
-    // `Read` exactly if one call of the reader failed
+    // `Read` exactly if one read failed
     ensures read { IsErrOf result Fault.Read ↔ (failures_of reader.new ≡ 1) }
-    // at `Read` no more bytes than the limit had been read
+    // at `Read` no more bytes than the limit came
     ensures read_came { IsErrOf result Fault.Read →
         CameWithin R.remaining reader.old reader.new }
     // `InputTooLong` exactly if reads succeeded and a known input exceeds the limit
     ensures too_long { IfKnown R.remaining reader.old (λ input.
         IsErrOf result Fault.InputTooLong ↔ IsRead reader.new × IsTooLong input) }
-    // at `InputTooLong` no read failed, and more bytes than the limit came
+    // at `InputTooLong` no read failed, and more than the limit came
     ensures too_long_came { IsErrOf result Fault.InputTooLong →
         (failures_of reader.new ≡ 0) × CameBeyond R.remaining reader.old reader.new }
     // `NotText` exactly if reads succeeded and a known input within the limit isn't UTF-8
     ensures not_text { IfKnown R.remaining reader.old (λ input.
         IsErrOf result Fault.NotText ↔ IsRead reader.new × IsNotText input) }
-    // at `NotText` the whole input was read without a failure, and isn't UTF-8
+    // at `NotText` the whole input was read, and isn't UTF-8
     ensures not_text_came { IsErrOf result Fault.NotText →
         ReadsAll R.remaining reader.old reader.new IsNotText }
-    // at `OutOfMemory` nothing was read, or all of it, and accepted
+    // at `OutOfMemory` nothing was read, or all of it accepted
     ensures out_of_memory_came { IsErrOf result Fault.OutOfMemory →
         (reader.new ≡ reader.old) ⊎ ReadsAll R.remaining reader.old reader.new IsAccepted }
     // `Write` exactly if one call of the writer failed
     ensures write { IsErrOf result Fault.Write ↔ (failures_of writer.new ≡ 1) }
-    // at `Write` the whole input was read without a failure, and accepted
+    // at `Write` the whole input was read and accepted
     ensures write_came { IsErrOf result Fault.Write →
         ReadsAll R.remaining reader.old reader.new IsAccepted }
 
-    // for a known input there is one output, and `Ok` wrote exactly that
+    // a known input has one output, which `Ok` wrote exactly
     ensures written { IfKnown R.remaining reader.old
         (Writes W.contents writer.old writer.new result) }
-    // after a fault other than `Write` the writer is as before
+    // after any fault but `Write` the writer is as before
     ensures untouched { IfErr result (λ fault. fault ≢ Fault.Write → writer.new ≡ writer.old) }
 
     // at most 65,537 reads

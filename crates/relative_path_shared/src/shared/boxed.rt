@@ -145,7 +145,7 @@ impl PartialOrd for BoxedRelativePath {
 }
 
 impl Ord for BoxedRelativePath {
-    // by the first difference: `.`, then `..`, then names by their bytes
+    // by the first difference: `.`, `..`, then names by bytes
     ghost cmp = { on components steps_cmp };
 
     ghost total = { (by_components components).total };

@@ -97,7 +97,7 @@ impl PartialOrd for CowRelativePath<'_> {
 }
 
 impl Ord for CowRelativePath<'_> {
-    // by the first difference: `.`, then `..`, then names by their bytes
+    // by the first difference: `.`, `..`, then names by bytes
     ghost cmp = { on cow_components steps_cmp };
 
     ghost total = { (by_components cow_components).total };

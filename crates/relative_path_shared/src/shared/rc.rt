@@ -137,7 +137,7 @@ impl PartialOrd for RcRelativePath {
 }
 
 impl Ord for RcRelativePath {
-    // by the first difference: `.`, then `..`, then names by their bytes
+    // by the first difference: `.`, `..`, then names by bytes
     ghost cmp = { on components steps_cmp };
 
     ghost total = { (by_components components).total };
