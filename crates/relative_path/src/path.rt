@@ -669,7 +669,7 @@ impl<'a> RelativePath<'a> {
         ensures shortest_to { IfOk result (λ way. (target : List Step)
             → IsNormalTextOf target (path_text to.entry) → IsReachable (path_components self.entry) target
             → IsShortestText (path_components self.entry) target way.text) }
-        // a path leads there exactly if the source climbs no more
+        // a path leads to the target exactly if the source climbs no more
         ensures climbs { (from_steps to_steps : List Step)
             → IsNormalForm (path_components self.entry) from_steps
             → IsNormalForm (path_components to.entry) to_steps

@@ -115,7 +115,7 @@ pub fn triangle(
         → Leads (path_components a.entry) r (path_components b.entry)
         → Leads (path_components b.entry) s (path_components c.entry)
         → Leads (path_components a.entry) (r ++ s) (path_components c.entry) }
-    // the first has no more components than the others, if those exist, together
+    // the first has no more components than the others together, if those exist
     ensures triangle { IfOk result
         (λ ways. IsReachable (path_components a.entry) (path_components b.entry)
         → IsReachable (path_components b.entry) (path_components c.entry)

@@ -83,7 +83,7 @@ pub fn run<R: Read, W: Write>(
     ensures reads { calls_of reader.new ≤ max_input_len + 1 }
     // at most one flush
     ensures flushes { flushes_of reader.new + flushes_of writer.new ≤ 1 }
-    // at most one call that fails
+    // at most one failed call
     ensures failures { failures_of reader.new + failures_of writer.new ≤ 1 }
 {
     let input = read_input(alloc, reader)?;
