@@ -38,6 +38,7 @@ pub struct OneByte {
 }
 
 impl ByteClass for OneByte {
+    // the class has this byte alone
     ghost has = { λ class byte. byte == class.byte };
 
     fn has(&self, byte: u8) -> bool {
@@ -59,7 +60,9 @@ impl ByteClass for OneByte {
 /// ```
 #[tactic(auto, using(crate::proofs::FirstLemmas::position_le))]
 pub fn len_before<C: ByteClass>(class: &C, text: &[u8]) -> usize
+    // the position of the first byte of the class, or the text's length
     ensures first { result ≡ position_or_len (C.has class.now) text.now }
+    // at most the text's length
     ensures within { result ≤ length text.now }
 {
     if text.len() < BLOCK {

@@ -59,8 +59,10 @@ impl Model for RelativePathBuf {
     ghost use Rattle.std.specs.String.{string_capacity};
     ghost use Rattle.relative_path.specs.RelativePathBuf.{Buffer};
 
+    // contracts see a text and its room
     ghost Value = { Buffer };
 
+    // the `String`'s bytes and capacity
     ghost view = { λ b. record { text = string_bytes b.text; room = string_capacity b.text } };
 }
 
@@ -87,7 +89,9 @@ impl RelativePathBuf {
     /// assert_eq!(rt; buf.spare(), 15);
     /// ```
     pub fn with_capacity(alloc: Global, capacity: usize) -> Result<RelativePathBuf, AllocError>
+        // the buffer is empty
         ensures empty { IfOk result (λ buf. buf.text ≡ []) }
+        // exactly the capacity asked for
         ensures room { IfOk result (λ buf. buf.room ≡ capacity) }
     {
         String::with_capacity(alloc, capacity).map(RelativePathBuf::from)
@@ -118,9 +122,12 @@ impl RelativePathBuf {
     /// assert_eq!(rt; buf.as_relative_path().as_str(), "foo/bar");
     /// ```
     pub fn from_path(alloc: Global, path: Path<'_>) -> Result<RelativePathBuf, FromPathError>
+        // no text with a leading slash succeeds
         ensures relative { IfOk result (λ buf. has_root (path_bytes path.entry) ≡ false) }
+        // the components but `.`, joined by single slashes
         ensures ok { IfOk result (λ buf.
             buf.text ≡ spell (without_cur_dirs (unix_components (path_bytes path.entry)))) }
+        // `NonRelative` for a leading slash, else `OutOfMemory`
         ensures kind { IfErr result (λ error. from_path_kind error
             ≡ (if has_root (path_bytes path.entry) then NonRelative else OutOfMemory)) }
     {
@@ -149,10 +156,13 @@ impl RelativePathBuf {
         alloc: Global,
         paths: I,
     ) -> Result<RelativePathBuf, AllocError>
+        // the iterator has to end
         requires ends { IsFiniteIterable
             I.into_iter_gives I.IntoIter.can_next I.IntoIter.remaining paths }
+        // all paths are pushed, in order
         ensures ok { IfOk result
             (λ buf. PushesAll I.into_iter_gives I.IntoIter.next_gives paths [] buf.text) }
+        // any list of the paths' texts is pushed, in order
         ensures runs { IfOk result
             (λ buf. PushesWholeRun I.into_iter_gives I.IntoIter.next_gives paths [] buf.text) }
     {
@@ -213,20 +223,29 @@ impl RelativePathBuf {
     /// assert_eq!(rt; buf.as_relative_path().as_str(), "foo/bar");
     /// ```
     pub fn push(&mut self, path: RelativePath<'_>) -> Result<(), AllocError>
+        // the first text, a slash if needed, the second without one leading slash
         ensures ok { OnOk result (self.new.text ≡ pushed self.old.text (path_text path.entry)) }
+        // the first path's components, then the second's
         ensures components { OnOk result
             (components self.new.text ≡ components self.old.text ++ path_components path.entry) }
+        // below the first path, if the second doesn't climb
         ensures stays_below { OnOk result (IsSome (walk [] (path_components path.entry))
             → StaysBelow (components self.old.text) (components self.new.text)) }
+        // the second path's file name, if any
         ensures file_name { OnOk result (IsSome (file_name_of (path_text path.entry))
             → file_name_of self.new.text ≡ file_name_of (path_text path.entry)) }
+        // if the second has a file name: the first path, then its directory
         ensures directory { OnOk result (IsSome (file_name_of (path_text path.entry))
             → kept (components self.new.text)
             ≡ components self.old.text ++ kept (path_components path.entry)) }
+        // after an error: the old text
         ensures err { OnErr result (self.new.text ≡ self.old.text) }
+        // it fails only if the new text doesn't fit
         ensures full { OnErr result
             (self.old.room < length (pushed self.old.text (path_text path.entry))) }
+        // the room never shrinks
         ensures room { self.old.room ≤ self.new.room }
+        // after an error: the old room
         ensures refused_room { OnErr result (self.new.room ≡ self.old.room) }
     {
         let len = pushed_len(self.text.as_str(), path.as_str());
@@ -263,18 +282,26 @@ impl RelativePathBuf {
     /// assert_eq!(rt; buf.as_relative_path().as_str(), "foo/baz");
     /// ```
     pub fn set_file_name(&mut self, file_name: &str) -> Result<(), AllocError>
+        // the new name, pushed onto the path without its file name
         ensures ok { OnOk result (IsNamed self.old.text file_name.now self.new.text) }
+        // the path's components without its file name, then the new name's
         ensures components { OnOk result (components self.new.text
             ≡ base_components (components self.old.text) ++ components file_name.now) }
+        // a single name becomes the file name
         ensures name { OnOk result (components file_name.now ≡ name file_name.now ∷ []
             → file_name_of self.new.text ≡ Some file_name.now) }
+        // beside the path, if one name replaces another
         ensures beside { OnOk result (IsSome (file_name_of self.old.text)
             → components file_name.now ≡ name file_name.now ∷ []
             → IsBeside (components self.old.text) (components self.new.text)) }
+        // after an error: the old text
         ensures err { OnErr result (self.new.text ≡ self.old.text) }
+        // it fails only if the new text doesn't fit
         ensures full { OnErr result
             (ExceedsRoom (IsNamed self.old.text file_name.now) self.old.room) }
+        // the room never shrinks
         ensures room { self.old.room ≤ self.new.room }
+        // after an error: the old room
         ensures refused_room { OnErr result (self.new.room ≡ self.old.room) }
     {
         let base = base_of(self.text.as_str());
@@ -303,27 +330,40 @@ impl RelativePathBuf {
     /// assert_eq!(rt; buf.as_relative_path().as_str(), "foo.tar.xz");
     /// ```
     pub fn set_extension(&mut self, extension: &str) -> Result<bool, AllocError>
+        // whether the path has a file name
         ensures answer { IfOk result (λ set. IsTrue set ↔ IsSome (file_name_of self.old.text)) }
+        // the text up to its stem's end, then the dotted extension, if any
         ensures ok { OnOk result (IsExtended self.old.text extension.now self.new.text) }
+        // for a non-empty extension without slashes: the directory, then `stem.extension`
         ensures components { OnOk result ((n : List ℕ) → file_name_of self.old.text ≡ Some n
             → IsTrue (is_extension extension.now) → components self.new.text
             ≡ kept (components self.old.text) ++ name (stem_of n ++ dot ∷ extension.now) ∷ []) }
+        // for an empty extension: the directory, then the stem
         ensures bare { OnOk result ((n : List ℕ) → file_name_of self.old.text ≡ Some n
             → extension.now ≡ [] → components self.new.text
             ≡ kept (components self.old.text) ++ classed (stem_of n) ∷ []) }
+        // beside the path, for a non-empty extension without slashes
         ensures beside { OnOk result (IsTrue (is_extension extension.now)
             → IsBeside (components self.old.text) (components self.new.text)) }
+        // a plain extension keeps the stem
         ensures stem { OnOk result (IsTrue (is_plain_extension extension.now)
             → option_map stem_of (file_name_of self.new.text)
             ≡ option_map stem_of (file_name_of self.old.text)) }
+        // a plain extension is then the file name's, if there is one
         ensures extension { IfOk result (λ set. IsTrue set → IsTrue (is_plain_extension extension.now)
             → option_and_then extension_of (file_name_of self.new.text) ≡ Some extension.now) }
+        // after an error: the old text
         ensures err { OnErr result (self.new.text ≡ self.old.text) }
+        // it fails only if the new text doesn't fit
         ensures full { OnErr result
             (ExceedsRoom (IsExtended self.old.text extension.now) self.old.room) }
+        // an empty extension always succeeds
         ensures taken_off { extension.now ≡ [] → IsOk result }
+        // without a file name: it succeeds and changes nothing
         ensures unnamed { file_name_of self.old.text ≡ None → IsOk result × (self.new ≡ self.old) }
+        // the room never shrinks
         ensures room { self.old.room ≤ self.new.room }
+        // after an error: the old room
         ensures refused_room { OnErr result (self.new.room ≡ self.old.room) }
     {
         let Some(front) = without_extension(self.text.as_str()) else {
@@ -380,13 +420,19 @@ impl RelativePathBuf {
     /// assert_eq!(rt; buf.as_relative_path().as_str(), "foo");
     /// ```
     pub fn pop(&mut self) -> bool
+        // whether the text wasn't empty
         ensures popped { IsTrue result ↔ (self.old.text ≢ []) }
+        // the shortest prefix with the directory's components
         ensures text { IsPopped self.old.text self.new.text }
+        // the components of the directory
         ensures components { components self.new.text ≡ kept (components self.old.text) }
+        // followed by the file name, equivalent to the path
         ensures rejoined { (n : List ℕ) → file_name_of self.old.text ≡ Some n
             → IsSame (components self.new.text ++ name n ∷ []) (components self.old.text) }
+        // it leads somewhere from wherever the path does
         ensures leads { (base : List (List ℕ)) → IsSome (walk base (components self.old.text))
             → IsSome (walk base (components self.new.text)) }
+        // the room stays
         ensures room { self.new.room ≡ self.old.room }
     {
         let len = parent_of(self.text.as_str()).len();
@@ -441,16 +487,22 @@ impl RelativePathBuf {
         &mut self,
         paths: I,
     ) -> Result<(), AllocError>
+        // the iterator has to end
         requires ends { IsFiniteIterable
             I.into_iter_gives I.IntoIter.can_next I.IntoIter.remaining paths }
+        // all paths are pushed, in order
         ensures ok { OnOk result
             (PushesAll I.into_iter_gives I.IntoIter.next_gives paths self.old.text self.new.text) }
+        // after an error: all paths before one that doesn't fit
         ensures err { OnErr result
             (PushesUntilFull I.into_iter_gives I.IntoIter.next_gives paths self.old self.new) }
+        // any list of the paths' texts is pushed, in order
         ensures runs { OnOk result (PushesWholeRun
             I.into_iter_gives I.IntoIter.next_gives paths self.old.text self.new.text) }
+        // after an error: the pushes stopped within any list that begins with the paths' texts
         ensures stops { OnErr result
             (StopsRun I.into_iter_gives I.IntoIter.next_gives paths self.old self.new) }
+        // the room never shrinks
         ensures room { self.old.room ≤ self.new.room }
     {
         for path in paths {
@@ -478,7 +530,9 @@ impl RelativePathBuf {
     /// assert_eq!(rt; text.as_str(), "foo//bar");
     /// ```
     pub fn into_string(self) -> String
+        // the buffer's text
         ensures text { string_bytes result ≡ self.text }
+        // the capacity is the buffer's room
         ensures room { string_capacity result ≡ self.room }
     {
         self.text
@@ -493,6 +547,7 @@ impl RelativePathBuf {
 /// assert_eq!(rt; buf.as_relative_path().as_str(), "foo//bar");
 /// ```
 impl From<String> for RelativePathBuf {
+    // the same text and capacity
     ghost from_gives = { λ text buf.
         (buf.text ≡ string_bytes text) × (buf.room ≡ string_capacity text) };
 
@@ -508,6 +563,7 @@ impl From<String> for RelativePathBuf {
 /// assert_eq!(rt; text.as_str(), "foo//bar");
 /// ```
 impl From<RelativePathBuf> for String {
+    // the same text and capacity
     ghost from_gives = { λ buf text.
         (string_bytes text ≡ buf.text) × (string_capacity text ≡ buf.room) };
 
@@ -517,6 +573,7 @@ impl From<RelativePathBuf> for String {
 }
 
 impl fmt::Debug for RelativePathBuf {
+    // the debug form of an ASCII text
     ghost debug_output = { λ buf. debug_str buf.text };
 
     fn fmt<W: fmt::Write>(&self, f: &mut fmt::Formatter<W>) -> fmt::Result {
@@ -525,12 +582,15 @@ impl fmt::Debug for RelativePathBuf {
 }
 
 impl PartialEq for RelativePathBuf {
+    // components are compared by kind and text
     ghost eq = { on buffer_components steps_eq };
 
     ghost laws = { partial_eq_law (by_components buffer_components) };
 
     fn eq(&self, other: &Self) -> bool
+        // the answer of `eq`
         ensures value { result ≡ steps_eq (components self.now.text) (components other.now.text) }
+        // whether the components are equal
         ensures same { IsTrue result ↔ (components self.now.text ≡ components other.now.text) }
     {
         self.as_relative_path() == other.as_relative_path()
@@ -542,6 +602,7 @@ impl Eq for RelativePathBuf {
 }
 
 impl PartialOrd for RelativePathBuf {
+    // always an order, that of `cmp`
     ghost partial_cmp = { as_partial_cmp (on buffer_components steps_cmp) };
 
     ghost laws = { partial_ord_law (by_components buffer_components) };
@@ -552,6 +613,7 @@ impl PartialOrd for RelativePathBuf {
 }
 
 impl Ord for RelativePathBuf {
+    // by the first difference: `.`, `..`, then names by bytes
     ghost cmp = { on buffer_components steps_cmp };
 
     ghost total = { (by_components buffer_components).total };
@@ -566,6 +628,7 @@ impl Ord for RelativePathBuf {
 }
 
 impl Hash for RelativePathBuf {
+    // each component's text, and a slash after it
     ghost hash_input = { fed_by buffer_components };
 
     ghost respects_eq = { fed_alike buffer_components buffer_components };
@@ -576,8 +639,10 @@ impl Hash for RelativePathBuf {
 }
 
 impl fmt::Display for RelativePathBuf {
+    // the path's text
     ghost output = { λ buf. Some buf.text };
 
+    // the same, cut and padded as asked
     ghost styled_output = { λ buf spec. Some (styled_text spec buf.text) };
 
     fn fmt<W: fmt::Write>(&self, f: &mut fmt::Formatter<W>) -> fmt::Result {

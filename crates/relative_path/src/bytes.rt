@@ -40,19 +40,29 @@ const LONG: usize = 128;
 /// assert_eq!(rt; &out[..len], b"b/c".as_slice());
 /// ```
 pub fn normalize(alloc: Global, path: RelativePath<'_>, out: &mut [u8]) -> Result<usize, WriteError>
+    // the only normal text equivalent to the path
     ensures normal_form { IfOk result
         (λ len. IsNormalTextOf (path_components path.entry) (take len out.new)) }
+    // no longer than the path
     ensures no_longer { IfOk result (λ len. len ≤ length (path_text path.entry)) }
+    // a normal path keeps its components
     ensures normal_stays { IfOk result (λ len. IsNormal (path_components path.entry)
         → components (take len out.new) ≡ path_components path.entry) }
+    // the path's file name, if any
     ensures file_name { IfOk result (λ len. IsSome (file_name_of (path_text path.entry))
         → file_name_of (take len out.new) ≡ file_name_of (path_text path.entry)) }
+    // the new text ends within the slice
     ensures within { IfOk result (λ len. len ≤ length out.new) }
+    // the new text is UTF-8
     ensures utf8 { IfOk result (λ len. IsUtf8 (take len out.new)) }
+    // a slice as long as the path suffices
     ensures fits { length (path_text path.entry) ≤ length out.old → IsOk result }
+    // `NoRoom` has the text's length, which exceeds the slice's
     ensures needed { IfErr result (λ error. (needed : ℕ) → error ≡ write_errors.NoRoom needed
         → NeedsRoom (IsNormalTextOf (path_components path.entry)) (length out.old) needed) }
+    // after an error: the old bytes
     ensures unchanged { OnErr result (out.new ≡ out.old) }
+    // the slice's length stays
     ensures size { length out.new ≡ length out.old }
 {
     let text = path.as_str();
@@ -80,26 +90,39 @@ pub fn normalize(alloc: Global, path: RelativePath<'_>, out: &mut [u8]) -> Resul
 /// assert_eq!(rt; &out, b"foo/bar");
 /// ```
 pub fn push(out: &mut [u8], len: usize, path: RelativePath<'_>) -> Result<usize, WriteError>
+    // the old text has to end within the slice
     requires within { len ≤ length out.old }
+    // the old text has to be UTF-8
     requires utf8 { IsUtf8 (take len out.old) }
+    // the first text, a slash if needed, the second without one leading slash
     ensures text { IfOk result
         (λ longer. take longer out.new ≡ pushed (take len out.old) (path_text path.entry)) }
+    // the first path's components, then the second's
     ensures components { IfOk result (λ longer. components (take longer out.new)
         ≡ components (take len out.old) ++ path_components path.entry) }
+    // below the first path, if the second doesn't climb
     ensures stays_below { IfOk result (λ longer. IsSome (walk [] (path_components path.entry))
         → StaysBelow (components (take len out.old)) (components (take longer out.new))) }
+    // the second path's file name, if any
     ensures file_name { IfOk result (λ longer. IsSome (file_name_of (path_text path.entry))
         → file_name_of (take longer out.new) ≡ file_name_of (path_text path.entry)) }
+    // if the second has a file name: the first path, then its directory
     ensures directory { IfOk result (λ longer. IsSome (file_name_of (path_text path.entry))
         → kept (components (take longer out.new))
         ≡ components (take len out.old) ++ kept (path_components path.entry)) }
+    // the new text ends within the slice
     ensures within { IfOk result (λ longer. longer ≤ length out.new) }
+    // the new text is UTF-8
     ensures utf8 { IfOk result (λ longer. IsUtf8 (take longer out.new)) }
+    // the error is `NoRoom` with the new text's length
     ensures needed { IfErr result (λ error. error
         ≡ write_errors.NoRoom (length (pushed (take len out.old) (path_text path.entry)))) }
+    // it fails only if the new text doesn't fit
     ensures full { OnErr result
         (length out.old < length (pushed (take len out.old) (path_text path.entry))) }
+    // after an error: the old bytes
     ensures unchanged { OnErr result (out.new ≡ out.old) }
+    // the slice's length stays
     ensures size { length out.new ≡ length out.old }
 {
     let needed = pushed_len(text_of(out, len), path.as_str());

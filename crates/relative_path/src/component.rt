@@ -61,12 +61,15 @@ impl<'a> Component<'a> {
 }
 
 impl PartialEq for Component<'_> {
+    // components are compared by kind and text
     ghost eq = { on step_of step_eq };
 
     ghost laws = { partial_eq_law (by_component step_of) };
 
     fn eq(&self, other: &Self) -> bool
+        // the answer of `eq`
         ensures value { result ≡ step_eq (step_of self.now) (step_of other.now) }
+        // whether the components are equal
         ensures same { IsTrue result ↔ (step_of self.now ≡ step_of other.now) }
     {
         match (self, other) {
@@ -81,6 +84,7 @@ impl Eq for Component<'_> {
 }
 
 impl PartialOrd for Component<'_> {
+    // always an order, that of `cmp`
     ghost partial_cmp = { as_partial_cmp (on step_of step_cmp) };
 
     ghost laws = { partial_ord_law (by_component step_of) };
@@ -91,6 +95,7 @@ impl PartialOrd for Component<'_> {
 }
 
 impl Ord for Component<'_> {
+    // by the first difference: `.`, `..`, then names by bytes
     ghost cmp = { on step_of step_cmp };
 
     ghost total = { (by_component step_of).total };
@@ -108,6 +113,7 @@ impl Ord for Component<'_> {
 }
 
 impl Hash for Component<'_> {
+    // each component's text, and a slash after it
     ghost hash_input = { λ c. fed (step_of c ∷ []) };
 
     ghost respects_eq = { component_fed_alike step_of step_of };
@@ -170,8 +176,10 @@ impl<'a> Components<'a> {
 }
 
 impl Clone for Components<'_> {
+    // a clone has the same text left
     ghost is_clone = { λ it copy. text_left copy ≡ text_left it };
 
+    // a clone never fails
     ghost is_infallible = { λ _. ⊤ };
 
     fn clone(&self) -> Result<Self, AllocError> {
@@ -180,12 +188,15 @@ impl Clone for Components<'_> {
 }
 
 impl PartialEq for Components<'_> {
+    // components are compared by kind and text
     ghost eq = { on components_left steps_eq };
 
     ghost laws = { partial_eq_law (by_components components_left) };
 
     fn eq(&self, other: &Self) -> bool
+        // the answer of `eq`
         ensures value { result ≡ steps_eq (components_left self.now) (components_left other.now) }
+        // whether the components are equal
         ensures same { IsTrue result ↔ (components_left self.now ≡ components_left other.now) }
     {
         compare(self.left.text, other.left.text).is_eq()
@@ -195,8 +206,10 @@ impl PartialEq for Components<'_> {
 impl<'a> Iterator for Components<'a> {
     type Item = Component<'a>;
 
+    // the first component, if any, leaving what follows its slashes
     ghost next_gives = { λ s taken t. TakesFirst (text_left s) taken (text_left t) };
 
+    // no more items than components left
     ghost remaining = { item_count components_left };
 
     /// Takes the first component off the text that is left.
@@ -213,6 +226,7 @@ impl<'a> Iterator for Components<'a> {
 }
 
 impl<'a> DoubleEndedIterator for Components<'a> {
+    // the last component, if any, leaving the shortest prefix with the others
     ghost next_back_gives = { λ s taken t. TakesLast (text_left s) taken (text_left t) };
 
     /// Takes the last component off the text that is left.
@@ -256,8 +270,10 @@ impl<'a> Iter<'a> {
 }
 
 impl Clone for Iter<'_> {
+    // a clone has the same text left
     ghost is_clone = { λ it copy. iter_text_left copy ≡ iter_text_left it };
 
+    // a clone never fails
     ghost is_infallible = { λ _. ⊤ };
 
     fn clone(&self) -> Result<Self, AllocError> {
@@ -272,8 +288,10 @@ impl Clone for Iter<'_> {
 impl<'a> Iterator for Iter<'a> {
     type Item = &'a str;
 
+    // the first component, if any, leaving what follows its slashes
     ghost next_gives = { λ s taken t. TakesFirstText (iter_text_left s) taken (iter_text_left t) };
 
+    // no more items than components left
     ghost remaining = { item_count texts_left };
 
     /// Takes the first component off the text that is left, and returns its text.
@@ -283,6 +301,7 @@ impl<'a> Iterator for Iter<'a> {
 }
 
 impl<'a> DoubleEndedIterator for Iter<'a> {
+    // the last component, if any, leaving the shortest prefix with the others
     ghost next_back_gives = { λ s taken t. TakesLastText (iter_text_left s) taken (iter_text_left t) };
 
     /// Takes the last component off the text that is left, and returns its text.

@@ -74,6 +74,7 @@ impl FromPathError {
 }
 
 impl From<FromPathErrorKind> for FromPathError {
+    // an error of this kind
     ghost from_gives = { λ kind error. from_path_kind error ≡ kind };
 
     fn from(kind: FromPathErrorKind) -> Self {
@@ -82,6 +83,7 @@ impl From<FromPathErrorKind> for FromPathError {
 }
 
 impl From<AllocError> for FromPathError {
+    // an error of the kind `OutOfMemory`
     ghost from_gives = { λ _ error. from_path_kind error ≡ from_path_kinds.OutOfMemory };
 
     fn from(_: AllocError) -> Self {
@@ -90,8 +92,10 @@ impl From<AllocError> for FromPathError {
 }
 
 impl fmt::Display for FromPathError {
+    // the words for the error
     ghost output = { λ error. Some (from_path_words (from_path_kind error)) };
 
+    // the same, cut and padded as asked
     ghost styled_output = { λ error spec. Some (styled_text spec (from_path_words (from_path_kind error))) };
 
     fn fmt<W: fmt::Write>(&self, f: &mut fmt::Formatter<W>) -> fmt::Result {
@@ -169,6 +173,7 @@ impl RelativeToError {
 }
 
 impl From<RelativeToErrorKind> for RelativeToError {
+    // an error of this kind
     ghost from_gives = { λ kind error. relative_to_kind error ≡ kind };
 
     fn from(kind: RelativeToErrorKind) -> Self {
@@ -177,6 +182,7 @@ impl From<RelativeToErrorKind> for RelativeToError {
 }
 
 impl From<AllocError> for RelativeToError {
+    // an error of the kind `OutOfMemory`
     ghost from_gives = { λ _ error. relative_to_kind error ≡ relative_to_kinds.OutOfMemory };
 
     fn from(_: AllocError) -> Self {
@@ -185,8 +191,10 @@ impl From<AllocError> for RelativeToError {
 }
 
 impl fmt::Display for RelativeToError {
+    // the words for the error
     ghost output = { λ error. Some (relative_to_words (relative_to_kind error)) };
 
+    // the same, cut and padded as asked
     ghost styled_output = { λ error spec. Some (styled_text spec (relative_to_words (relative_to_kind error))) };
 
     fn fmt<W: fmt::Write>(&self, f: &mut fmt::Formatter<W>) -> fmt::Result {
@@ -225,8 +233,10 @@ impl WriteError {
 }
 
 impl fmt::Display for WriteError {
+    // the words for the error
     ghost output = { λ error. Some (write_words error) };
 
+    // the same, cut and padded as asked
     ghost styled_output = { λ error spec. Some (styled_text spec (write_words error)) };
 
     fn fmt<W: fmt::Write>(&self, f: &mut fmt::Formatter<W>) -> fmt::Result {

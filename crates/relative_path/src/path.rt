@@ -81,8 +81,11 @@ impl<'a> RelativePath<'a> {
     /// assert_eq!(rt; path.as_str(), "./foo//bar");
     /// ```
     pub fn from_path(path: Path<'a>) -> Result<RelativePath<'a>, FromPathError>
+        // it fails exactly for a leading slash
         ensures relative { IsErr result ↔ IsTrue (has_root (path_bytes path.entry)) }
+        // a path with the same text
         ensures ok { IfOk result (λ view. path_text view ≡ path_bytes path.entry) }
+        // the only error is `NonRelative`
         ensures kind { IfErr result (λ error. from_path_kind error ≡ NonRelative) }
     {
         let text = path.as_str();
@@ -127,16 +130,22 @@ impl<'a> RelativePath<'a> {
     /// assert_eq!(rt; joined.as_relative_path().as_str(), "foo/bar");
     /// ```
     pub fn join(self, alloc: Global, path: RelativePath<'_>) -> Result<RelativePathBuf, AllocError>
+        // the first text, a slash if needed, the second without one leading slash
         ensures text { IfOk result
             (λ joined. joined.text ≡ pushed (path_text self.entry) (path_text path.entry)) }
+        // the first path's components, then the second's
         ensures components { IfOk result
             (λ joined. components joined.text ≡ path_components self.entry ++ path_components path.entry) }
+        // it leads where both lead in turn
         ensures in_turn { IfOk result (λ joined. LeadsInTurn (path_components self.entry)
             (path_components path.entry) (components joined.text)) }
+        // below the first path, if the second doesn't climb
         ensures stays_below { IfOk result (λ joined. IsSome (walk [] (path_components path.entry))
             → StaysBelow (path_components self.entry) (components joined.text)) }
+        // the second path's file name, if any
         ensures file_name { IfOk result (λ joined. IsSome (file_name_of (path_text path.entry))
             → file_name_of joined.text ≡ file_name_of (path_text path.entry)) }
+        // if the second has a file name: the first path, then its directory
         ensures directory { IfOk result (λ joined. IsSome (file_name_of (path_text path.entry))
             → kept (components joined.text)
             ≡ path_components self.entry ++ kept (path_components path.entry)) }
@@ -154,12 +163,16 @@ impl<'a> RelativePath<'a> {
     /// assert_eq!(rt; components.next_back(), Some(Component::Normal("bar")));
     /// ```
     pub fn components(self) -> Components<'a>
+        // the whole text is left
         ensures text { text_left result ≡ path_text self.entry }
-        // `runs` and `count` say nothing of this result. They stay, since callers take them from here: by `runs` a
-        // `count()` is proved, with no file of proofs, to be the number of components, and by `count` to fit a `usize`.
+        // calls of `next` give the components, in order
         ensures runs { GivesComponents }
+        // no more components than bytes
         ensures count { length (path_components self.entry) ≤ length (path_text self.entry) }
     {
+        // The clauses `runs` and `count` say nothing of this result. They stay, since callers take them from here: by
+        // `runs` a `count()` is proved, with no file of proofs, to be the number of components, and by `count` to fit
+        // a `usize`.
         Components::new(self.text)
     }
 
@@ -171,11 +184,14 @@ impl<'a> RelativePath<'a> {
     /// assert_eq!(rt; texts.next(), Some("foo"));
     /// ```
     pub fn iter(self) -> Iter<'a>
+        // the whole text is left
         ensures text { iter_text_left result ≡ path_text self.entry }
-        // As at `components`, callers take `runs` and `count` from here.
+        // calls of `next` give the components' texts, in order
         ensures runs { GivesTextsOfComponents }
+        // no more components than bytes
         ensures count { length (path_components self.entry) ≤ length (path_text self.entry) }
     {
+        // As at `components`, callers take the clauses `runs` and `count` from here.
         Iter::new(self.text)
     }
 
@@ -238,15 +254,21 @@ impl<'a> RelativePath<'a> {
     /// assert!(rt; parent.is_some_and(|path| path.as_str() == "foo/."));
     /// ```
     pub fn parent(self) -> Option<RelativePath<'a>>
+        // `Some` exactly if the text isn't empty
         ensures some { IsSome result ↔ (path_text self.entry ≢ []) }
+        // `None` only without components
         ensures none { IfNone result (path_components self.entry ≡ []) }
+        // the shortest prefix with the directory's components
         ensures text { IfSome result
             (λ parent. IsPopped (path_text self.entry) (path_text parent)) }
+        // the components of the directory
         ensures components { IfSome result
             (λ parent. path_components parent ≡ kept (path_components self.entry)) }
+        // followed by the file name, equivalent to the path
         ensures rejoined { IfSome result (λ parent. (n : List ℕ)
             → file_name_of (path_text self.entry) ≡ Some n
             → IsSame (path_components parent ++ name n ∷ []) (path_components self.entry)) }
+        // it leads somewhere from wherever the path does
         ensures leads { IfSome result (λ parent. (base : List (List ℕ))
             → IsSome (walk base (path_components self.entry))
             → IsSome (walk base (path_components parent))) }
@@ -267,9 +289,12 @@ impl<'a> RelativePath<'a> {
     /// assert_eq!(rt; RelativePath::new("foo/..").file_name(), None);
     /// ```
     pub fn file_name(self) -> Option<&'a str>
+        // the last component but `.`, if a name
         ensures text { option_copied result ≡ file_name_of (path_text self.entry) }
+        // the component after the directory
         ensures placed { IfSome result (λ file_name. slice_get (path_components self.entry)
             (kept_len (path_components self.entry)) ≡ Some (name file_name.now)) }
+        // as a path: this one name
         ensures alone { IfSome result
             (λ file_name. components file_name.now ≡ name file_name.now ∷ []) }
     {
@@ -288,10 +313,13 @@ impl<'a> RelativePath<'a> {
     /// assert_eq!(rt; rest, Ok("bar/"));
     /// ```
     pub fn strip_prefix(self, base: RelativePath<'_>) -> Result<RelativePath<'a>, StripPrefixError>
+        // it succeeds exactly if the path starts with the base
         ensures found { IsOk result
             ↔ StartsWith (path_components self.entry) (path_components base.entry) }
+        // what follows the base's components and their slashes
         ensures text { IfOk result (λ rest. IsDropped (path_text self.entry)
             (length (path_components base.entry)) (path_text rest)) }
+        // the path's components after the base's
         ensures components { IfOk result (λ rest. path_components self.entry
             ≡ path_components base.entry ++ path_components rest) }
     {
@@ -337,10 +365,13 @@ impl<'a> RelativePath<'a> {
     /// assert_eq!(rt; RelativePath::new("a/../../b/../..").climb(), 2);
     /// ```
     pub fn climb(self) -> usize
+        // the path leads somewhere exactly from bases this long or longer
         ensures place { (base : List (List ℕ)) → IsSome (walk base (path_components self.entry))
             ↔ (result ≤ length base) }
+        // how many `..` the normal form begins with
         ensures normal { (steps : List Step) → IsNormalForm (path_components self.entry) steps
             → result ≡ climb steps }
+        // 0 only if the path stays below its base
         ensures below { result ≡ 0
             → (place : List (List ℕ)) × LeadsBelow [] place (path_components self.entry) }
     {
@@ -397,12 +428,16 @@ impl<'a> RelativePath<'a> {
         alloc: Global,
         file_name: &str,
     ) -> Result<RelativePathBuf, AllocError>
+        // the new name, pushed onto the path without its file name
         ensures text { IfOk result
             (λ named. IsNamed (path_text self.entry) file_name.now named.text) }
+        // the path's components without its file name, then the new name's
         ensures components { IfOk result (λ named. components named.text
             ≡ base_components (path_components self.entry) ++ components file_name.now) }
+        // a single name becomes the file name
         ensures name { IfOk result (λ named. components file_name.now ≡ name file_name.now ∷ []
             → file_name_of named.text ≡ Some file_name.now) }
+        // beside the path, if one name replaces another
         ensures beside { IfOk result (λ named. IsSome (file_name_of (path_text self.entry))
             → components file_name.now ≡ name file_name.now ∷ []
             → IsBeside (path_components self.entry) (components named.text)) }
@@ -420,8 +455,10 @@ impl<'a> RelativePath<'a> {
     /// assert_eq!(rt; RelativePath::new(".foo").file_stem(), Some(".foo"));
     /// ```
     pub fn file_stem(self) -> Option<&'a str>
+        // the file name's stem, if any
         ensures text { option_copied result
             ≡ option_map stem_of (file_name_of (path_text self.entry)) }
+        // the file name: the stem, then any extension after a dot
         ensures joined { IfSome result (λ stem. IfSome (file_name_of (path_text self.entry))
             (λ file_name. IsStemAndExtension file_name stem.now (extension_of file_name))) }
     {
@@ -463,24 +500,31 @@ impl<'a> RelativePath<'a> {
         alloc: Global,
         extension: &str,
     ) -> Result<RelativePathBuf, AllocError>
+        // the text up to its stem's end, then the dotted extension, if any
         ensures text { IfOk result
             (λ extended. IsExtended (path_text self.entry) extension.now extended.text) }
+        // for a non-empty extension without slashes: the directory, then `stem.extension`
         ensures components { IfOk result (λ extended. (n : List ℕ)
             → file_name_of (path_text self.entry) ≡ Some n → IsTrue (is_extension extension.now)
             → components extended.text
             ≡ kept (path_components self.entry) ++ name (stem_of n ++ dot ∷ extension.now) ∷ []) }
+        // for an empty extension: the directory, then the stem
         ensures bare { IfOk result (λ extended. (n : List ℕ)
             → file_name_of (path_text self.entry) ≡ Some n → extension.now ≡ []
             → components extended.text
             ≡ kept (path_components self.entry) ++ classed (stem_of n) ∷ []) }
+        // beside the path, for a non-empty extension without slashes
         ensures beside { IfOk result (λ extended. IsTrue (is_extension extension.now)
             → IsBeside (path_components self.entry) (components extended.text)) }
+        // a plain extension is then the file name's, if there is one
         ensures extension { IfOk result (λ extended. IsSome (file_name_of (path_text self.entry))
             → IsTrue (is_plain_extension extension.now)
             → option_and_then extension_of (file_name_of extended.text) ≡ Some extension.now) }
+        // a plain extension keeps the stem
         ensures stem { IfOk result (λ extended. IsTrue (is_plain_extension extension.now)
             → option_map stem_of (file_name_of extended.text)
             ≡ option_map stem_of (file_name_of (path_text self.entry))) }
+        // without a file name: the same text
         ensures unnamed { IfOk result (λ extended. file_name_of (path_text self.entry) ≡ None
             → extended.text ≡ path_text self.entry) }
     {
@@ -510,17 +554,23 @@ impl<'a> RelativePath<'a> {
         alloc: Global,
         path: RelativePath<'_>,
     ) -> Result<RelativePathBuf, AllocError>
+        // the only normal text equivalent to both paths in turn
         ensures normal_form { IfOk result (λ normal. IsNormalTextOf
             (path_components self.entry ++ path_components path.entry) normal.text) }
+        // it leads where both lead in turn
         ensures in_turn { IfOk result (λ normal. LeadsInTurn (path_components self.entry)
             (path_components path.entry) (components normal.text)) }
+        // as far below the first path as the second below the top
         ensures below { IfOk result (λ normal. (place : List (List ℕ))
             → walk [] (path_components path.entry) ≡ Some place
             → LeadsBelow (path_components self.entry) place (components normal.text)) }
+        // below the first path, if the second doesn't climb
         ensures stays_below { IfOk result (λ normal. IsSome (walk [] (path_components path.entry))
             → StaysBelow (path_components self.entry) (components normal.text)) }
+        // the second path's file name, if any
         ensures file_name { IfOk result (λ normal. IsSome (file_name_of (path_text path.entry))
             → file_name_of normal.text ≡ file_name_of (path_text path.entry)) }
+        // it succeeds if there are no components
         ensures succeeds { path_components self.entry ++ path_components path.entry ≡ []
             → IsOk result }
     {
@@ -539,14 +589,19 @@ impl<'a> RelativePath<'a> {
     /// assert_eq!(rt; normal.as_relative_path().as_str(), "../foo/baz.txt");
     /// ```
     pub fn normalize(self, alloc: Global) -> Result<RelativePathBuf, AllocError>
+        // the only normal text equivalent to the path
         ensures normal_form { IfOk result
             (λ normal. IsNormalTextOf (components (path_text self.entry)) normal.text) }
+        // no longer than the path
         ensures no_longer { IfOk result
             (λ normal. length normal.text ≤ length (path_text self.entry)) }
+        // a normal path keeps its components
         ensures normal_stays { IfOk result (λ normal. IsNormal (path_components self.entry)
             → components normal.text ≡ path_components self.entry) }
+        // the path's file name, if any
         ensures file_name { IfOk result (λ normal. IsSome (file_name_of (path_text self.entry))
             → file_name_of normal.text ≡ file_name_of (path_text self.entry)) }
+        // it succeeds if there are no components
         ensures succeeds { path_components self.entry ≡ [] → IsOk result }
     {
         let normal = NormalForm::of(alloc, self.text)?;
@@ -563,12 +618,18 @@ impl<'a> RelativePath<'a> {
     /// assert_eq!(rt; normal.as_relative_path().as_str(), "c/d");
     /// ```
     pub fn normalize_into(self, out: &mut RelativePathBuf)
+        // the buffer has to be empty
         requires empty { out.old.text ≡ [] }
+        // the path's text has to fit the room
         requires room { length (path_text self) ≤ out.old.room }
+        // the only normal text equivalent to the path
         ensures normal_form { IsNormalTextOf (components (path_text self.entry)) out.new.text }
+        // no longer than the path
         ensures no_longer { length out.new.text ≤ length (path_text self.entry) }
+        // the path's file name, if any
         ensures file_name { IsSome (file_name_of (path_text self.entry))
             → file_name_of out.new.text ≡ file_name_of (path_text self.entry) }
+        // the room never shrinks
         ensures room { out.old.room ≤ out.new.room }
     {
         for component in self.components() {
@@ -597,24 +658,30 @@ impl<'a> RelativePath<'a> {
         alloc: Global,
         to: RelativePath<'_>,
     ) -> Result<RelativePathBuf, AllocError>
+        // the shortest path to the target, empty if none leads there
         ensures way { IfOk result
             (λ way. IsWayText (path_components self.entry) (path_components to.entry) way.text) }
+        // also from each path whose normal text the source is
         ensures shortest_from { IfOk result (λ way. (from : List Step)
             → IsNormalTextOf from (path_text self.entry) → IsReachable from (path_components to.entry)
             → IsShortestText from (path_components to.entry) way.text) }
+        // also to each path whose normal text the target is
         ensures shortest_to { IfOk result (λ way. (target : List Step)
             → IsNormalTextOf target (path_text to.entry) → IsReachable (path_components self.entry) target
             → IsShortestText (path_components self.entry) target way.text) }
-        // `climbs` and `through` say nothing of this result. They stay, since laws are proved from contracts alone.
+        // a path leads to the target exactly if the source climbs no more
         ensures climbs { (from_steps to_steps : List Step)
             → IsNormalForm (path_components self.entry) from_steps
             → IsNormalForm (path_components to.entry) to_steps
             → IsReachable (path_components self.entry) (path_components to.entry)
             ↔ (climb from_steps ≤ climb to_steps) }
+        // two paths over a middle lead in turn to the target
         ensures through { (middle r s : List Step) → Leads (path_components self.entry) r middle
             → Leads middle s (path_components to.entry)
             → Leads (path_components self.entry) (r ++ s) (path_components to.entry) }
     {
+        // The clauses `climbs` and `through` say nothing of this result. They stay, since laws are proved from
+        // contracts alone.
         match self.try_relative(alloc, to)? {
             Some(way) => Ok(way),
             None => Ok(RelativePathBuf::new(alloc)),
@@ -638,18 +705,23 @@ impl<'a> RelativePath<'a> {
         alloc: Global,
         to: RelativePath<'_>,
     ) -> Result<Option<RelativePathBuf>, AllocError>
+        // `None` exactly if no path leads to the target
         ensures none { IfOk result
             (λ way. IsNone way
             ↔ (¬ IsReachable (path_components self.entry) (path_components to.entry))) }
+        // the shortest path to the target
         ensures shortest { IfOk result
             (λ found. IfSome found
             (λ way. IsShortestText (path_components self.entry) (path_components to.entry) way.text)) }
+        // also from each path whose normal text the source is
         ensures shortest_from { IfOk result (λ found. IfSome found (λ way. (from : List Step)
             → IsNormalTextOf from (path_text self.entry)
             → IsShortestText from (path_components to.entry) way.text)) }
+        // also to each path whose normal text the target is
         ensures shortest_to { IfOk result (λ found. IfSome found (λ way. (target : List Step)
             → IsNormalTextOf target (path_text to.entry)
             → IsShortestText (path_components self.entry) target way.text)) }
+        // `Some` for two paths that stay below a common path
         ensures below { IfOk result (λ found. (top : List Step)
             → StaysBelow top (path_components self.entry)
             → StaysBelow top (path_components to.entry) → IsSome found) }
@@ -679,9 +751,11 @@ impl<'a> RelativePath<'a> {
         alloc: Global,
         path: RelativePath<'_>,
     ) -> Result<Option<usize>, AllocError>
+        // `None` exactly if the paths are equivalent
         ensures none { IfOk result
             (λ apart. IsNone apart
             ↔ IsSame (path_components self.entry) (path_components path.entry)) }
+        // the length of the shortest separating base
         ensures some { IfOk result
             (λ apart. (n : ℕ) → (apart ≡ Some n)
             ↔ LeadsApart (path_components self.entry) (path_components path.entry) n) }
@@ -726,6 +800,7 @@ impl<'a> IntoIterator for RelativePath<'a> {
 
     type IntoIter = Iter<'a>;
 
+    // the whole text is left
     ghost into_iter_gives = { λ path iter. iter_text_left iter ≡ path_text path };
 
     fn into_iter(self) -> Iter<'a> {
@@ -734,6 +809,7 @@ impl<'a> IntoIterator for RelativePath<'a> {
 }
 
 impl fmt::Debug for RelativePath<'_> {
+    // the debug form of an ASCII text
     ghost debug_output = { λ path. debug_str (path_text path) };
 
     fn fmt<W: fmt::Write>(&self, f: &mut fmt::Formatter<W>) -> fmt::Result {
@@ -742,12 +818,15 @@ impl fmt::Debug for RelativePath<'_> {
 }
 
 impl PartialEq for RelativePath<'_> {
+    // components are compared by kind and text
     ghost eq = { on path_components steps_eq };
 
     ghost laws = { partial_eq_law (by_components path_components) };
 
     fn eq(&self, other: &Self) -> bool
+        // the answer of `eq`
         ensures value { result ≡ steps_eq (path_components self.now) (path_components other.now) }
+        // whether the components are equal
         ensures same { IsTrue result ↔ (path_components self.now ≡ path_components other.now) }
     {
         self.components() == other.components()
@@ -759,6 +838,7 @@ impl Eq for RelativePath<'_> {
 }
 
 impl PartialOrd for RelativePath<'_> {
+    // always an order, that of `cmp`
     ghost partial_cmp = { as_partial_cmp (on path_components steps_cmp) };
 
     ghost laws = { partial_ord_law (by_components path_components) };
@@ -769,6 +849,7 @@ impl PartialOrd for RelativePath<'_> {
 }
 
 impl Ord for RelativePath<'_> {
+    // by the first difference: `.`, `..`, then names by bytes
     ghost cmp = { on path_components steps_cmp };
 
     ghost total = { (by_components path_components).total };
@@ -783,6 +864,7 @@ impl Ord for RelativePath<'_> {
 }
 
 impl Hash for RelativePath<'_> {
+    // each component's text, and a slash after it
     ghost hash_input = { fed_by path_components };
 
     ghost respects_eq = { fed_alike path_components path_components };
@@ -795,8 +877,10 @@ impl Hash for RelativePath<'_> {
 }
 
 impl fmt::Display for RelativePath<'_> {
+    // the path's text
     ghost output = { λ path. Some (path_text path) };
 
+    // the same, cut and padded as asked
     ghost styled_output = { λ path spec. Some (styled_text spec (path_text path)) };
 
     fn fmt<W: fmt::Write>(&self, f: &mut fmt::Formatter<W>) -> fmt::Result {
@@ -816,8 +900,10 @@ pub struct Display<'a> {
 }
 
 impl fmt::Display for Display<'_> {
+    // the path's text
     ghost output = { λ display. Some (display_text display) };
 
+    // the same, cut and padded as asked
     ghost styled_output = { λ display spec. Some (styled_text spec (display_text display)) };
 
     fn fmt<W: fmt::Write>(&self, f: &mut fmt::Formatter<W>) -> fmt::Result {
@@ -826,6 +912,7 @@ impl fmt::Display for Display<'_> {
 }
 
 impl fmt::Debug for Display<'_> {
+    // the debug form of an ASCII text
     ghost debug_output = { λ display. debug_str (display_text display) };
 
     fn fmt<W: fmt::Write>(&self, f: &mut fmt::Formatter<W>) -> fmt::Result {

@@ -30,8 +30,11 @@ use std::path::{Path, PathBuf};
 /// assert_eq!(rt; unix::view("./foo//bar")?.as_str(), "./foo//bar");
 /// ```
 pub fn view(text: &str) -> Result<RelativePath<'_>, FromPathError>
+    // it fails exactly for a leading slash
     ensures relative { IsErr result ↔ IsTrue (has_root text.now) }
+    // a path with the same text
     ensures ok { IfOk result (λ path. path_text path ≡ text.now) }
+    // the only error is `NonRelative`
     ensures kind { IfErr result (λ error. from_path_kind error ≡ from_path_kinds.NonRelative) }
 {
     RelativePath::from_path(Path::new(text))
@@ -48,8 +51,11 @@ pub fn view(text: &str) -> Result<RelativePath<'_>, FromPathError>
 /// assert_eq!(rt; path.as_relative_path().as_str(), "foo/bar");
 /// ```
 pub fn from_path(alloc: Global, text: &str) -> Result<RelativePathBuf, FromPathError>
+    // no text with a leading slash succeeds
     ensures relative { IfOk result (λ path. has_root text.now ≡ false) }
+    // the components but `.`, joined by single slashes
     ensures ok { IfOk result (λ path. path.text ≡ spell (without_cur_dirs (unix_components text.now))) }
+    // `NonRelative` for a leading slash, else `OutOfMemory`
     ensures kind { IfErr result (λ error. from_path_kind error
         ≡ (if has_root text.now then from_path_kinds.NonRelative else from_path_kinds.OutOfMemory)) }
 {
@@ -112,16 +118,21 @@ pub fn relative_to(
     path: &str,
     root: &str,
 ) -> Result<RelativePathBuf, RelativeToError>
+    // `PrefixMismatch` exactly if only one has a root
     ensures prefix_mismatch { IsErrAnd result
         (λ error. relative_to_kind error ≡ relative_to_kinds.PrefixMismatch)
         ↔ (has_root path.now ≢ has_root root.now) }
+    // `AmbiguousTraversal` exactly if otherwise the root's rest climbs
     ensures ambiguous_traversal { IsErrAnd result
         (λ error. relative_to_kind error ≡ relative_to_kinds.AmbiguousTraversal)
         ↔ ((has_root path.now ≡ has_root root.now) × (way_to path.now root.now ≡ None)) }
+    // never `NonUtf8` or `IllegalComponent`
     ensures kind { IfErr result (λ error. relative_to_kind error ≢ relative_to_kinds.NonUtf8
         × relative_to_kind error ≢ relative_to_kinds.IllegalComponent) }
+    // as many `..` as the root's rest goes down, then the path's rest
     ensures ok { IfOk result (λ answer. (way : List Step) × (way_to path.now root.now ≡ Some way)
         × (answer.text ≡ spell way)) }
+    // after the root, equivalent to the path
     ensures leads { IfOk result (λ answer. IsSame
         (unix_components root.now ++ components answer.text) (unix_components path.now)) }
 {
@@ -149,24 +160,30 @@ pub trait PathExt {
     /// Returns the relative path from `root` to this platform path: what [`relative_to`] returns
     /// for their texts.
     fn relative_to(&self, alloc: Global, root: Path<'_>) -> Result<RelativePathBuf, RelativeToError>
+        // `PrefixMismatch` exactly if only one has a root
         ensures prefix_mismatch { IsErrAnd result
             (λ error. relative_to_kind error ≡ relative_to_kinds.PrefixMismatch)
             ↔ (has_root (text self.now) ≢ has_root (path_bytes root.entry)) }
+        // `AmbiguousTraversal` exactly if otherwise the root's rest climbs
         ensures ambiguous_traversal { IsErrAnd result
             (λ error. relative_to_kind error ≡ relative_to_kinds.AmbiguousTraversal)
             ↔ ((has_root (text self.now) ≡ has_root (path_bytes root.entry))
             × (way_to (text self.now) (path_bytes root.entry) ≡ None)) }
+        // never `NonUtf8` or `IllegalComponent`
         ensures kind { IfErr result (λ error. relative_to_kind error ≢ relative_to_kinds.NonUtf8
             × relative_to_kind error ≢ relative_to_kinds.IllegalComponent) }
+        // as many `..` as the root's rest goes down, then the path's rest
         ensures ok { IfOk result (λ answer. (way : List Step)
             × (way_to (text self.now) (path_bytes root.entry) ≡ Some way)
             × (answer.text ≡ spell way)) }
+        // after the root, equivalent to the path
         ensures leads { IfOk result (λ answer. IsSame
             (unix_components (path_bytes root.entry) ++ components answer.text)
             (unix_components (text self.now))) };
 }
 
 impl PathExt for Path<'_> {
+    // the platform path's text
     ghost text = { path_bytes };
 
     fn relative_to(
@@ -179,6 +196,7 @@ impl PathExt for Path<'_> {
 }
 
 impl PathExt for PathBuf {
+    // the platform path's text
     ghost text = { path_buf_bytes };
 
     fn relative_to(

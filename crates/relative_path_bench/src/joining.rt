@@ -26,11 +26,14 @@ pub fn join_law(
     path: RelativePath<'_>,
     other: RelativePath<'_>,
 ) -> Result<RelativePathBuf, AllocError>
+    // the first text, a slash if needed, the second without one leading slash
     ensures text { IfOk result
         (λ joined. joined.text ≡ pushed (path_text path.entry) (path_text other.entry)) }
+    // the first path's components, then the second's
     ensures components { IfOk result
         (λ joined. components joined.text
         ≡ path_components path.entry ++ path_components other.entry) }
+    // it leads where both lead in turn
     ensures walk { IfOk result (λ joined. LeadsInTurn (path_components path.entry)
         (path_components other.entry) (components joined.text)) }
 {
@@ -51,9 +54,12 @@ pub fn from_paths_law(
     alloc: Global,
     paths: &[RelativePath<'_>],
 ) -> Result<(RelativePathBuf, RelativePathBuf), AllocError>
+    // first: all paths pushed, in order
     ensures at_once { IfOk result (λ pair. pair.0.text ≡ pushed_all [] (map path_text paths.now)) }
+    // second: all paths pushed, in order
     ensures one_by_one { IfOk result
         (λ pair. pair.1.text ≡ pushed_all [] (map path_text paths.now)) }
+    // both results have the same text
     ensures same { IfOk result (λ pair. pair.0.text ≡ pair.1.text) }
 {
     let at_once = RelativePathBuf::from_paths(alloc, paths.iter().copied())?;
@@ -80,10 +86,13 @@ pub fn join_normalized_law(
     path: RelativePath<'_>,
     other: RelativePath<'_>,
 ) -> Result<(RelativePathBuf, RelativePathBuf), AllocError>
+    // first: the normal text of both in turn
     ensures joined { IfOk result (λ pair. IsNormalTextOf
         (path_components path.entry ++ path_components other.entry) pair.0.text) }
+    // second: the normal text of the join
     ensures normal_form { IfOk result (λ pair. IsNormalTextOf
         (components (pushed (path_text path.entry) (path_text other.entry))) pair.1.text) }
+    // both results have the same text
     ensures same { IfOk result (λ pair. pair.0.text ≡ pair.1.text) }
 {
     let joined = path.join_normalized(alloc, other)?;
@@ -110,10 +119,13 @@ pub fn associative(
     b: RelativePath<'_>,
     c: RelativePath<'_>,
 ) -> Result<(RelativePathBuf, RelativePathBuf), AllocError>
+    // first: `a` and `b` joined in normal form, then `c`
     ensures from_the_left { IfOk result (λ pair. IsJoinedFromTheLeft (path_components a.entry)
         (path_components b.entry) (path_components c.entry) pair.0.text) }
+    // second: `b` and `c` joined in normal form, after `a`
     ensures from_the_right { IfOk result (λ pair. IsJoinedFromTheRight (path_components a.entry)
         (path_components b.entry) (path_components c.entry) pair.1.text) }
+    // both results have the same text
     ensures same { IfOk result (λ pair. pair.0.text ≡ pair.1.text) }
 {
     let a_b = a.join_normalized(alloc, b)?;
@@ -138,12 +150,17 @@ pub fn unit(
     alloc: Global,
     path: RelativePath<'_>,
 ) -> Result<(RelativePathBuf, RelativePathBuf, RelativePathBuf), AllocError>
+    // first: the path's normal text
     ensures normal_form { IfOk result (λ r. IsNormalTextOf (path_components path.entry) r.0.text) }
+    // second: the first and the empty path, normalised
     ensures empty_after { IfOk result
         (λ r. IsNormalTextOf (components r.0.text ++ components []) r.1.text) }
+    // third: the empty path and the first, normalised
     ensures empty_before { IfOk result
         (λ r. IsNormalTextOf (components [] ++ components r.0.text) r.2.text) }
+    // the second text is the first
     ensures same_after { IfOk result (λ r. r.1.text ≡ r.0.text) }
+    // the third text is the first
     ensures same_before { IfOk result (λ r. r.2.text ≡ r.0.text) }
 {
     let empty = RelativePath::new("");

@@ -20,11 +20,16 @@ use std::alloc::{AllocError, Global};
 /// assert_eq!(rt; parts, Some(("foo.tar.gz", "foo.tar", Some("gz"))));
 /// ```
 pub fn stem_law(path: RelativePath<'_>) -> Option<(&str, &str, Option<&str>)>
+    // `None` exactly without a file name
     ensures found { IsSome result ↔ IsSome (file_name_of (path_text path.entry)) }
+    // the path's file name
     ensures file_name { IfSome result
         (λ parts. file_name_of (path_text path.entry) ≡ Some parts.0.now) }
+    // the file name's stem
     ensures stem { IfSome result (λ parts. parts.1.now ≡ stem_of parts.0.now) }
+    // the file name's extension, if any
     ensures extension { IfSome result (λ parts. option_copied parts.2 ≡ extension_of parts.0.now) }
+    // the file name: the stem, then any extension after a dot
     ensures joined { IfSome result
         (λ parts. IsStemAndExtension parts.0.now parts.1.now (option_copied parts.2)) }
 {
@@ -49,10 +54,13 @@ pub fn extension_law(
     extension: &str,
 ) -> Result<Option<RelativePathBuf>, AllocError>
     requires { IsTrue (is_plain_extension extension.now) }
+    // `None` exactly without a file name
     ensures found { IfOk result
         (λ set. IsSome set ↔ IsSome (file_name_of (path_text path.entry))) }
+    // the text up to its stem's end, then the dotted extension
     ensures text { IfOk result (λ set. IfSome set
         (λ buf. IsExtended (path_text path.entry) extension.now buf.text)) }
+    // the result has this extension
     ensures extension { IfOk result (λ set. IfSome set (λ buf.
         option_and_then extension_of (file_name_of buf.text) ≡ Some extension.now)) }
 {
@@ -74,10 +82,14 @@ pub fn extension_law(
 /// assert!(rt; pair.is_some_and(|(parent, name)| parent.as_str() == "foo/." && name == "bar"));
 /// ```
 pub fn parent_law(path: RelativePath<'_>) -> Option<(RelativePath<'_>, &str)>
+    // `None` exactly without a file name
     ensures found { IsSome result ↔ IsSome (file_name_of (path_text path.entry)) }
+    // the shortest prefix with the directory's components
     ensures parent { IfSome result (λ pair. IsPopped (path_text path.entry) (path_text pair.0)) }
+    // the path's file name
     ensures file_name { IfSome result
         (λ pair. file_name_of (path_text path.entry) ≡ Some pair.1.now) }
+    // both in turn: the path without each `.` at its end
     ensures joined { IfSome result (λ pair. path_components pair.0 ++ name pair.1.now ∷ []
         ≡ without_last_curs (path_components path.entry)) }
 {

@@ -22,12 +22,18 @@ pub fn normalize_twice(
     alloc: Global,
     path: RelativePath<'_>,
 ) -> Result<(RelativePathBuf, RelativePathBuf), AllocError>
+    // first: the path's normal text
     ensures once { IfOk result (λ pair. IsNormalTextOf (path_components path.entry) pair.0.text) }
+    // second: the first one's normal text
     ensures twice { IfOk result (λ pair. IsNormalTextOf (components pair.0.text) pair.1.text) }
+    // both results have the same text
     ensures same { IfOk result (λ pair. pair.0.text ≡ pair.1.text) }
+    // the first is no longer than the path
     ensures no_longer { IfOk result
         (λ pair. length pair.0.text ≤ length (path_text path.entry)) }
+    // the first has normal components
     ensures normal_components { IfOk result (λ pair. IsNormal (components pair.0.text)) }
+    // each normal text equivalent to the path is the first
     ensures only_normal_text { IfOk result (λ pair. (text : List ℕ) → IsNormalText text
         → IsSame (path_components path.entry) (components text) → text ≡ pair.0.text) }
 {
@@ -50,10 +56,13 @@ pub fn normalized_law(
     alloc: Global,
     path: RelativePath<'_>,
 ) -> Result<(bool, RelativePathBuf), AllocError>
+    // whether the path's components are normal
     ensures is_normal { IfOk result
         (λ pair. IsTrue pair.0 ↔ IsNormal (path_components path.entry)) }
+    // second: the path's normal text
     ensures normal_form { IfOk result
         (λ pair. IsNormalTextOf (path_components path.entry) pair.1.text) }
+    // whether the normal text has the path's components
     ensures equal { IfOk result
         (λ pair. IsTrue pair.0 ↔ (path_components path.entry ≡ components pair.1.text)) }
 {
@@ -77,8 +86,10 @@ pub fn climb_law(
     alloc: Global,
     path: RelativePath<'_>,
 ) -> Result<(usize, RelativePathBuf), AllocError>
+    // second: the path's normal text
     ensures normal_form { IfOk result
         (λ pair. IsNormalTextOf (path_components path.entry) pair.1.text) }
+    // how many `..` the normal text begins with
     ensures climb { IfOk result (λ pair. pair.0 ≡ climb (components pair.1.text)) }
 {
     let normal = path.normalize(alloc)?;

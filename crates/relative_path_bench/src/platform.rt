@@ -24,16 +24,21 @@ pub fn relative_to_law(
     path: &str,
     root: &str,
 ) -> Result<RelativePathBuf, RelativeToError>
+    // as many `..` as the root's rest goes down, then the path's rest
     ensures text { IfOk result (λ answer. (way : List Step)
         × (way_to path.now root.now ≡ Some way) × (answer.text ≡ spell way)) }
+    // `PrefixMismatch` exactly if only one has a root
     ensures prefix_mismatch { IsErrAnd result
         (λ error. relative_to_kind error ≡ kinds.PrefixMismatch)
         ↔ (has_root path.now ≢ has_root root.now) }
+    // `AmbiguousTraversal` exactly if otherwise the root's rest climbs
     ensures ambiguous_traversal { IsErrAnd result
         (λ error. relative_to_kind error ≡ kinds.AmbiguousTraversal)
         ↔ ((has_root path.now ≡ has_root root.now) × (way_to path.now root.now ≡ None)) }
+    // never `NonUtf8` or `IllegalComponent`
     ensures kind { IfErr result (λ error. relative_to_kind error ≢ kinds.NonUtf8
         × relative_to_kind error ≢ kinds.IllegalComponent) }
+    // after the root, equivalent to the path
     ensures leads { IfOk result (λ answer. IsSame
         (unix_components root.now ++ components answer.text) (unix_components path.now)) }
 {

@@ -25,12 +25,16 @@ pub fn strip_law<'a>(
     path: RelativePath<'a>,
     base: RelativePath<'_>,
 ) -> Result<Option<(RelativePath<'a>, RelativePathBuf)>, AllocError>
+    // `Some` exactly if the path starts with the base
     ensures found { IfOk result (λ found. IsSome found
         ↔ StartsWith (path_components path.entry) (path_components base.entry)) }
+    // first: what follows the base's components and their slashes
     ensures rest { IfOk result (λ found. IfSome found (λ pair. IsDropped (path_text path.entry)
         (length (path_components base.entry)) (path_text pair.0))) }
+    // second: the first pushed onto the base
     ensures joined { IfOk result (λ found. IfSome found (λ pair. pair.1.text
         ≡ pushed (path_text base.entry) (path_text pair.0))) }
+    // the second has the path's components
     ensures equal { IfOk result (λ found. IfSome found (λ pair. components pair.1.text
         ≡ path_components path.entry)) }
 {

@@ -25,13 +25,17 @@ pub fn leads_back(
     from: RelativePath<'_>,
     to: RelativePath<'_>,
 ) -> Result<(RelativePathBuf, RelativePathBuf), AllocError>
+    // first: the target's normal text, if a path leads there
     ensures there { IfOk result
         (λ pair. IsReachable (path_components from.entry) (path_components to.entry)
         → IsNormalTextOf (path_components to.entry) pair.0.text) }
+    // first: otherwise the source's normal text
     ensures stays { IfOk result
         (λ pair. ¬ IsReachable (path_components from.entry) (path_components to.entry)
         → IsNormalTextOf (path_components from.entry) pair.0.text) }
+    // second: the target's normal text
     ensures to { IfOk result (λ pair. IsNormalTextOf (path_components to.entry) pair.1.text) }
+    // the same text exactly if a path leads to the target
     ensures same { IfOk result (λ pair. (pair.0.text ≡ pair.1.text)
         ↔ IsReachable (path_components from.entry) (path_components to.entry)) }
 {
@@ -58,12 +62,17 @@ pub fn same_law(
     path: RelativePath<'_>,
     other: RelativePath<'_>,
 ) -> Result<(RelativePathBuf, RelativePathBuf, Option<usize>), AllocError>
+    // first: the first path's normal text
     ensures path { IfOk result (λ r. IsNormalTextOf (path_components path.entry) r.0.text) }
+    // second: the second path's normal text
     ensures other { IfOk result (λ r. IsNormalTextOf (path_components other.entry) r.1.text) }
+    // third: the length of the shortest separating base
     ensures apart { IfOk result (λ r. (n : ℕ) → (r.2 ≡ Some n)
         ↔ LeadsApart (path_components path.entry) (path_components other.entry) n) }
+    // the same text exactly if the paths are equivalent
     ensures texts { IfOk result (λ r. (r.0.text ≡ r.1.text)
         ↔ EndAlike (path_components path.entry) (path_components other.entry)) }
+    // third: `None` exactly if the paths are equivalent
     ensures none { IfOk result (λ r. IsNone r.2
         ↔ EndAlike (path_components path.entry) (path_components other.entry)) }
 {
@@ -92,16 +101,21 @@ pub fn triangle(
     b: RelativePath<'_>,
     c: RelativePath<'_>,
 ) -> Result<(RelativePathBuf, RelativePathBuf, RelativePathBuf), AllocError>
+    // first: the shortest path from `a` to `c`, or empty
     ensures a_c { IfOk result
         (λ ways. IsWayText (path_components a.entry) (path_components c.entry) ways.0.text) }
+    // second: the shortest path from `a` to `b`, or empty
     ensures a_b { IfOk result
         (λ ways. IsWayText (path_components a.entry) (path_components b.entry) ways.1.text) }
+    // third: the shortest path from `b` to `c`, or empty
     ensures b_c { IfOk result
         (λ ways. IsWayText (path_components b.entry) (path_components c.entry) ways.2.text) }
+    // paths from `a` to `b` and on to `c` lead to `c`
     ensures transitive { (r s : List Step)
         → Leads (path_components a.entry) r (path_components b.entry)
         → Leads (path_components b.entry) s (path_components c.entry)
         → Leads (path_components a.entry) (r ++ s) (path_components c.entry) }
+    // the first has no more components than the others together, if those exist
     ensures triangle { IfOk result
         (λ ways. IsReachable (path_components a.entry) (path_components b.entry)
         → IsReachable (path_components b.entry) (path_components c.entry)
@@ -129,12 +143,16 @@ pub fn try_law(
     from: RelativePath<'_>,
     to: RelativePath<'_>,
 ) -> Result<Option<(RelativePathBuf, RelativePathBuf)>, AllocError>
+    // `None` exactly if no path leads to the target
     ensures none { IfOk result (λ found. IsNone found
         ↔ (¬ IsReachable (path_components from.entry) (path_components to.entry))) }
+    // first: the shortest path to the target
     ensures way { IfOk result (λ found. IfSome found (λ pair.
         IsShortestText (path_components from.entry) (path_components to.entry) pair.0.text)) }
+    // second: the source and the first, normalised
     ensures there { IfOk result (λ found. IfSome found (λ pair.
         IsNormalTextOf (path_components from.entry ++ components pair.0.text) pair.1.text)) }
+    // second: the target's normal text
     ensures to { IfOk result (λ found. IfSome found (λ pair.
         IsNormalTextOf (path_components to.entry) pair.1.text)) }
 {

@@ -42,9 +42,12 @@ fn no_count(status: u32) -> Count
 /// Returns whether the components of `text` begin with those of `base`.
 #[unsafe(no_mangle)]
 pub extern "C" fn relative_path_starts_with(text: &[u8], base: &[u8]) -> Answer
+    // whether the path starts with the base
     ensures yes { result.status ≡ done
         → IsTrue result.yes ↔ StartsWith (components text.now) (components base.now) }
+    // exactly if a text isn't UTF-8
     ensures not_utf8 { (result.status ≡ not_utf8) ↔ (¬ (IsUtf8 text.now × IsUtf8 base.now)) }
+    // `done` or `not_utf8`
     ensures status { result.status ≤ not_utf8 }
 {
     let (Some(text), Some(base)) = (view(text), view(base)) else {
@@ -56,9 +59,12 @@ pub extern "C" fn relative_path_starts_with(text: &[u8], base: &[u8]) -> Answer
 /// Returns whether the components of `text` end with those of `child`.
 #[unsafe(no_mangle)]
 pub extern "C" fn relative_path_ends_with(text: &[u8], child: &[u8]) -> Answer
+    // whether the path ends with the child
     ensures yes { result.status ≡ done
         → IsTrue result.yes ↔ EndsWith (components text.now) (components child.now) }
+    // exactly if a text isn't UTF-8
     ensures not_utf8 { (result.status ≡ not_utf8) ↔ (¬ (IsUtf8 text.now × IsUtf8 child.now)) }
+    // `done` or `not_utf8`
     ensures status { result.status ≤ not_utf8 }
 {
     let (Some(text), Some(child)) = (view(text), view(child)) else {
@@ -70,8 +76,11 @@ pub extern "C" fn relative_path_ends_with(text: &[u8], child: &[u8]) -> Answer
 /// Returns whether the components of `text` are `..` first, then names only.
 #[unsafe(no_mangle)]
 pub extern "C" fn relative_path_is_normalized(text: &[u8]) -> Answer
+    // whether the components are normal
     ensures yes { result.status ≡ done → IsTrue result.yes ↔ IsNormal (components text.now) }
+    // exactly if a text isn't UTF-8
     ensures not_utf8 { (result.status ≡ not_utf8) ↔ (¬ IsUtf8 text.now) }
+    // `done` or `not_utf8`
     ensures status { result.status ≤ not_utf8 }
 {
     let Some(text) = view(text) else {
@@ -83,9 +92,12 @@ pub extern "C" fn relative_path_is_normalized(text: &[u8]) -> Answer
 /// Returns whether the two have the same components.
 #[unsafe(no_mangle)]
 pub extern "C" fn relative_path_eq(text: &[u8], other: &[u8]) -> Answer
+    // whether the components are equal
     ensures yes { result.status ≡ done
         → IsTrue result.yes ↔ (components text.now ≡ components other.now) }
+    // exactly if a text isn't UTF-8
     ensures not_utf8 { (result.status ≡ not_utf8) ↔ (¬ (IsUtf8 text.now × IsUtf8 other.now)) }
+    // `done` or `not_utf8`
     ensures status { result.status ≤ not_utf8 }
 {
     let (Some(text), Some(other)) = (view(text), view(other)) else {
@@ -108,9 +120,12 @@ fn number_of(order: Ordering) -> u32
 /// Compares the two by their components.
 #[unsafe(no_mangle)]
 pub extern "C" fn relative_path_cmp(text: &[u8], other: &[u8]) -> Order
+    // the number for the order of the components
     ensures order { result.status ≡ done
         → result.order ≡ order_number (steps_cmp (components text.now) (components other.now)) }
+    // exactly if a text isn't UTF-8
     ensures not_utf8 { (result.status ≡ not_utf8) ↔ (¬ (IsUtf8 text.now × IsUtf8 other.now)) }
+    // `done` or `not_utf8`
     ensures status { result.status ≤ not_utf8 }
 {
     let (Some(text), Some(other)) = (view(text), view(other)) else {
@@ -128,9 +143,12 @@ pub extern "C" fn relative_path_cmp(text: &[u8], other: &[u8]) -> Order
 /// Returns how many names a base needs for `text` to lead to a place from it.
 #[unsafe(no_mangle)]
 pub extern "C" fn relative_path_climb(text: &[u8]) -> Count
+    // how many `..` the normal form begins with
     ensures climb { result.status ≡ done
         → (steps : List Step) → IsNormalForm (components text.now) steps → result.count ≡ climb steps }
+    // exactly if a text isn't UTF-8
     ensures not_utf8 { (result.status ≡ not_utf8) ↔ (¬ IsUtf8 text.now) }
+    // `done` or `not_utf8`
     ensures status { result.status ≤ not_utf8 }
 {
     let Some(text) = view(text) else {
@@ -146,11 +164,16 @@ pub extern "C" fn relative_path_climb(text: &[u8]) -> Count
 /// every base.
 #[unsafe(no_mangle)]
 pub extern "C" fn relative_path_leads_apart(alloc: Global, text: &[u8], other: &[u8]) -> Count
+    // the length of the shortest separating base
     ensures apart { result.status ≡ done
         → LeadsApart (components text.now) (components other.now) result.count }
+    // only if the paths are equivalent
     ensures absent { result.status ≡ absent → IsSame (components text.now) (components other.now) }
+    // exactly if a text isn't UTF-8
     ensures not_utf8 { (result.status ≡ not_utf8) ↔ (¬ (IsUtf8 text.now × IsUtf8 other.now)) }
+    // the status is never `no_room`
     ensures room { ¬ (result.status ≡ no_room) }
+    // `done`, `not_utf8`, `absent`, `no_room` or `out_of_memory`
     ensures status { result.status ≤ out_of_memory }
 {
     let (Some(text), Some(other)) = (view(text), view(other)) else {

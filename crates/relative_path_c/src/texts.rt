@@ -24,12 +24,19 @@ pub extern "C" fn relative_path_join(
     path: &[u8],
     out: &mut [u8],
 ) -> Written
+    // the first text, a slash if needed, the second without one leading slash
     ensures text { Writes result.status result.len out.new (λ joined. joined ≡ pushed text.now path.now) }
+    // at `no_room`: the text's length, beyond the memory's
     ensures needs { Needs result.status result.len out.old (λ joined. joined ≡ pushed text.now path.now) }
+    // never `no_room` with memory for both texts and one byte
     ensures suffices { length text.now + 1 + length path.now ≤ length out.old → result.status ≢ no_room }
+    // exactly if a text isn't UTF-8
     ensures not_utf8 { (result.status ≡ not_utf8) ↔ (¬ (IsUtf8 text.now × IsUtf8 path.now)) }
+    // the memory after a written text stays
     ensures rest { KeepsRest result.status result.len out.old out.new }
+    // unless it is done, the call changes nothing
     ensures kept { result.status ≢ done → out.new ≡ out.old }
+    // `done`, `not_utf8`, `no_room` or `out_of_memory`
     ensures status { (result.status ≤ out_of_memory) × (result.status ≢ absent) }
 {
     let (Some(text), Some(path)) = (view(text), view(path)) else {
@@ -47,14 +54,21 @@ pub extern "C" fn relative_path_join_normalized(
     path: &[u8],
     out: &mut [u8],
 ) -> Written
+    // the normal text of both paths in turn
     ensures normal_form { Writes result.status result.len out.new
         (IsNormalTextOf (components text.now ++ components path.now)) }
+    // at `no_room`: the text's length, beyond the memory's
     ensures needs { Needs result.status result.len out.old
         (IsNormalTextOf (components text.now ++ components path.now)) }
+    // never `no_room` with memory for both texts and one byte
     ensures suffices { length text.now + 1 + length path.now ≤ length out.old → result.status ≢ no_room }
+    // exactly if a text isn't UTF-8
     ensures not_utf8 { (result.status ≡ not_utf8) ↔ (¬ (IsUtf8 text.now × IsUtf8 path.now)) }
+    // the memory after a written text stays
     ensures rest { KeepsRest result.status result.len out.old out.new }
+    // unless it is done, the call changes nothing
     ensures kept { result.status ≢ done → out.new ≡ out.old }
+    // `done`, `not_utf8`, `no_room` or `out_of_memory`
     ensures status { (result.status ≤ out_of_memory) × (result.status ≢ absent) }
 {
     let (Some(text), Some(path)) = (view(text), view(path)) else {
@@ -66,11 +80,17 @@ pub extern "C" fn relative_path_join_normalized(
 /// Writes the only normal path that leads where `text` leads.
 #[unsafe(no_mangle)]
 pub extern "C" fn relative_path_normalize(alloc: Global, text: &[u8], out: &mut [u8]) -> Written
+    // the path's normal text
     ensures normal_form { Writes result.status result.len out.new (IsNormalTextOf (components text.now)) }
+    // at `no_room`: the text's length, beyond the memory's
     ensures needs { Needs result.status result.len out.old (IsNormalTextOf (components text.now)) }
+    // done for a UTF-8 text that fits the memory
     ensures suffices { IsUtf8 text.now → length text.now ≤ length out.old → result.status ≡ done }
+    // exactly if a text isn't UTF-8
     ensures not_utf8 { (result.status ≡ not_utf8) ↔ (¬ IsUtf8 text.now) }
+    // unless it is done, the call changes nothing
     ensures kept { result.status ≢ done → out.new ≡ out.old }
+    // `done`, `not_utf8`, `no_room` or `out_of_memory`
     ensures status { (result.status ≤ out_of_memory) × (result.status ≢ absent) }
 {
     let Some(text) = view(text) else {
@@ -88,13 +108,20 @@ pub extern "C" fn relative_path_with_file_name(
     file_name: &[u8],
     out: &mut [u8],
 ) -> Written
+    // the new name, pushed onto the path without its file name
     ensures text { Writes result.status result.len out.new (IsNamed text.now file_name.now) }
+    // at `no_room`: the text's length, beyond the memory's
     ensures needs { Needs result.status result.len out.old (IsNamed text.now file_name.now) }
+    // never `no_room` with memory for both texts and one byte
     ensures suffices { length text.now + 1 + length file_name.now ≤ length out.old
         → result.status ≢ no_room }
+    // exactly if a text isn't UTF-8
     ensures not_utf8 { (result.status ≡ not_utf8) ↔ (¬ (IsUtf8 text.now × IsUtf8 file_name.now)) }
+    // the memory after a written text stays
     ensures rest { KeepsRest result.status result.len out.old out.new }
+    // unless it is done, the call changes nothing
     ensures kept { result.status ≢ done → out.new ≡ out.old }
+    // `done`, `not_utf8`, `no_room` or `out_of_memory`
     ensures status { (result.status ≤ out_of_memory) × (result.status ≢ absent) }
 {
     let (Some(text), Some(file_name)) = (view(text), view(file_name)) else {
@@ -112,13 +139,20 @@ pub extern "C" fn relative_path_with_extension(
     extension: &[u8],
     out: &mut [u8],
 ) -> Written
+    // the text up to its stem's end, then the dotted extension, if any
     ensures text { Writes result.status result.len out.new (IsExtended text.now extension.now) }
+    // at `no_room`: the text's length, beyond the memory's
     ensures needs { Needs result.status result.len out.old (IsExtended text.now extension.now) }
+    // never `no_room` with memory for both texts and one byte
     ensures suffices { length text.now + 1 + length extension.now ≤ length out.old
         → result.status ≢ no_room }
+    // exactly if a text isn't UTF-8
     ensures not_utf8 { (result.status ≡ not_utf8) ↔ (¬ (IsUtf8 text.now × IsUtf8 extension.now)) }
+    // the memory after a written text stays
     ensures rest { KeepsRest result.status result.len out.old out.new }
+    // unless it is done, the call changes nothing
     ensures kept { result.status ≢ done → out.new ≡ out.old }
+    // `done`, `not_utf8`, `no_room` or `out_of_memory`
     ensures status { (result.status ≤ out_of_memory) × (result.status ≢ absent) }
 {
     let (Some(text), Some(extension)) = (view(text), view(extension)) else {
@@ -146,18 +180,27 @@ pub extern "C" fn relative_path_set_extension(
     len: usize,
     extension: &[u8],
 ) -> Written
+    // the text up to its stem's end, then the dotted extension, if any
     ensures text { Writes result.status result.len memory.new
         (IsExtended (take len memory.old) extension.now) }
+    // at `no_room`: the text's length, beyond the memory's
     ensures needs { Needs result.status result.len memory.old
         (IsExtended (take len memory.old) extension.now) }
+    // done only if the path has a file name
     ensures named { result.status ≡ done → file_name_of (take len memory.old) ≢ None }
+    // only if there is no file name
     ensures absent { result.status ≡ absent → file_name_of (take len memory.old) ≡ None }
+    // never `no_room` with memory for both texts and one byte
     ensures suffices { length (take len memory.old) + 1 + length extension.now ≤ length memory.old
         → result.status ≢ no_room }
+    // exactly if a text isn't UTF-8
     ensures not_utf8 { (result.status ≡ not_utf8)
         ↔ (¬ (IsUtf8 (take len memory.old) × IsUtf8 extension.now)) }
+    // the memory after a written text stays
     ensures rest { KeepsRest result.status result.len memory.old memory.new }
+    // unless it is done, the call changes nothing
     ensures kept { result.status ≢ done → memory.new ≡ memory.old }
+    // `done`, `not_utf8`, `absent`, `no_room` or `out_of_memory`
     ensures status { result.status ≤ out_of_memory }
 {
     let (Some(text), Some(extension)) = (view(start_of(memory, len)), view(extension)) else {
@@ -174,15 +217,21 @@ pub extern "C" fn relative_path_set_extension(
 #[tactic(auto, using(crate::proofs::MemoryLemmas::length_pushed_le))]
 #[unsafe(no_mangle)]
 pub extern "C" fn relative_path_push(memory: &mut [u8], len: usize, path: &[u8]) -> Written
+    // the first text, a slash if needed, the second without one leading slash
     ensures text { Writes result.status result.len memory.new
         (λ joined. joined ≡ pushed (take len memory.old) path.now) }
+    // at `no_room`: the text's length, beyond the memory's
     ensures needs { Needs result.status result.len memory.old
         (λ joined. joined ≡ pushed (take len memory.old) path.now) }
+    // never `no_room` with memory for both texts and one byte
     ensures suffices { length (take len memory.old) + 1 + length path.now ≤ length memory.old
         → result.status ≢ no_room }
+    // exactly if a text isn't UTF-8
     ensures not_utf8 { (result.status ≡ not_utf8)
         ↔ (¬ (IsUtf8 (take len memory.old) × IsUtf8 path.now)) }
+    // unless it is done, the call changes nothing
     ensures kept { result.status ≢ done → memory.new ≡ memory.old }
+    // `done`, `not_utf8` or `no_room`
     ensures status { (result.status ≤ no_room) × (result.status ≢ absent) }
 {
     let text = start_of(memory, len);
@@ -202,14 +251,21 @@ pub extern "C" fn relative_path_relative(
     to: &[u8],
     out: &mut [u8],
 ) -> Written
+    // the shortest path to the target, empty if none leads there
     ensures way { Writes result.status result.len out.new
         (IsWayText (components text.now) (components to.now)) }
+    // at `no_room`: the text's length, beyond the memory's
     ensures needs { Needs result.status result.len out.old
         (IsWayText (components text.now) (components to.now)) }
+    // never `no_room` with memory for twice the source, the target and one byte
     ensures suffices { 2 * length text.now + 1 + length to.now ≤ length out.old → result.status ≢ no_room }
+    // exactly if a text isn't UTF-8
     ensures not_utf8 { (result.status ≡ not_utf8) ↔ (¬ (IsUtf8 text.now × IsUtf8 to.now)) }
+    // the memory after a written text stays
     ensures rest { KeepsRest result.status result.len out.old out.new }
+    // unless it is done, the call changes nothing
     ensures kept { result.status ≢ done → out.new ≡ out.old }
+    // `done`, `not_utf8`, `no_room` or `out_of_memory`
     ensures status { (result.status ≤ out_of_memory) × (result.status ≢ absent) }
 {
     let (Some(text), Some(to)) = (view(text), view(to)) else {
@@ -227,15 +283,23 @@ pub extern "C" fn relative_path_try_relative(
     to: &[u8],
     out: &mut [u8],
 ) -> Written
+    // the shortest path to the target
     ensures shortest { Writes result.status result.len out.new
         (IsShortestText (components text.now) (components to.now)) }
+    // at `no_room`: the text's length, beyond the memory's
     ensures needs { Needs result.status result.len out.old
         (IsShortestText (components text.now) (components to.now)) }
+    // never `no_room` with memory for twice the source, the target and one byte
     ensures suffices { 2 * length text.now + 1 + length to.now ≤ length out.old → result.status ≢ no_room }
+    // only if no path leads to the target
     ensures absent { result.status ≡ absent → ¬ IsReachable (components text.now) (components to.now) }
+    // exactly if a text isn't UTF-8
     ensures not_utf8 { (result.status ≡ not_utf8) ↔ (¬ (IsUtf8 text.now × IsUtf8 to.now)) }
+    // the memory after a written text stays
     ensures rest { KeepsRest result.status result.len out.old out.new }
+    // unless it is done, the call changes nothing
     ensures kept { result.status ≢ done → out.new ≡ out.old }
+    // `done`, `not_utf8`, `absent`, `no_room` or `out_of_memory`
     ensures status { result.status ≤ out_of_memory }
 {
     let (Some(text), Some(to)) = (view(text), view(to)) else {

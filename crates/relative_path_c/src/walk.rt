@@ -55,9 +55,13 @@ fn hand_out_component<'a>(taken: Option<Component<'a>>, part: &mut &'a [u8]) -> 
 /// Begins a walk over the components of `text`.
 #[unsafe(no_mangle)]
 pub extern "C" fn relative_path_components<'a>(text: &'a [u8], walk: &mut Components<'a>) -> u32
+    // once done, the whole text is left
     ensures left { result ≡ done → walk.new.left.now ≡ text.now }
+    // exactly if a text isn't UTF-8
     ensures not_utf8 { (result ≡ not_utf8) ↔ (¬ IsUtf8 text.now) }
+    // unless it is done, the call changes nothing
     ensures kept { result ≢ done → walk.new ≡ walk.old }
+    // `done` or `not_utf8`
     ensures status { result ≤ not_utf8 }
 {
     match std::str::from_utf8(text) {
@@ -74,16 +78,24 @@ pub extern "C" fn relative_path_components<'a>(text: &'a [u8], walk: &mut Compon
 /// Takes the first component off the walk: 0 if there is none, 1 for `.`, 2 for `..`, and 3 for a name, which `part` gets.
 #[unsafe(no_mangle)]
 pub extern "C" fn relative_path_next<'a>(walk: &mut Components<'a>, part: &mut &'a [u8]) -> u32
+    // 0 only if no component was left
     ensures none { result ≡ no_component → components walk.old.left.now ≡ [] }
+    // at 1 a `.` was taken
     ensures cur_dir { result ≡ cur_dir
         → components walk.old.left.now ≡ cur ∷ components walk.new.left.now }
+    // at 2 a `..` was taken
     ensures parent_dir { result ≡ parent_dir
         → components walk.old.left.now ≡ up ∷ components walk.new.left.now }
+    // at 3 the name in the part was taken
     ensures name { result ≡ normal
         → components walk.old.left.now ≡ name part.new.now ∷ components walk.new.left.now }
+    // at 3 the part is UTF-8
     ensures utf8 { result ≡ normal → IsUtf8 part.new.now }
+    // what follows the first component and its slashes is left
     ensures rest { IsRest walk.old.left.now walk.new.left.now }
+    // unless the result is 3, the part stays
     ensures kept { result ≢ normal → part.new ≡ part.old }
+    // a number from 0 to 3
     ensures kind { result ≤ normal }
 {
     let left = unsafe { std::str::from_utf8_unchecked(walk.left) };
@@ -96,16 +108,24 @@ pub extern "C" fn relative_path_next<'a>(walk: &mut Components<'a>, part: &mut &
 /// Takes the last component off the walk, as `relative_path_next` takes the first.
 #[unsafe(no_mangle)]
 pub extern "C" fn relative_path_next_back<'a>(walk: &mut Components<'a>, part: &mut &'a [u8]) -> u32
+    // 0 only if no component was left
     ensures none { result ≡ no_component → components walk.old.left.now ≡ [] }
+    // at 1 a `.` was taken
     ensures cur_dir { result ≡ cur_dir
         → components walk.old.left.now ≡ components walk.new.left.now ++ cur ∷ [] }
+    // at 2 a `..` was taken
     ensures parent_dir { result ≡ parent_dir
         → components walk.old.left.now ≡ components walk.new.left.now ++ up ∷ [] }
+    // at 3 the name in the part was taken
     ensures name { result ≡ normal
         → components walk.old.left.now ≡ components walk.new.left.now ++ name part.new.now ∷ [] }
+    // at 3 the part is UTF-8
     ensures utf8 { result ≡ normal → IsUtf8 part.new.now }
+    // the shortest prefix with the other components is left
     ensures front { IsFront walk.old.left.now walk.new.left.now }
+    // unless the result is 3, the part stays
     ensures kept { result ≢ normal → part.new ≡ part.old }
+    // a number from 0 to 3
     ensures kind { result ≤ normal }
 {
     let left = unsafe { std::str::from_utf8_unchecked(walk.left) };

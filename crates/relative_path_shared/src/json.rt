@@ -30,8 +30,10 @@ pub enum FromValueError {
 }
 
 impl fmt::Display for FromValueError {
+    // the words for the error
     ghost output = { λ error. Some (error_text error) };
 
+    // the same, cut and padded as asked
     ghost styled_output = { λ error spec. Some (styled_text spec (error_text error)) };
 
     fn fmt<W: fmt::Write>(&self, f: &mut fmt::Formatter<W>) -> fmt::Result {
@@ -45,6 +47,7 @@ impl fmt::Display for FromValueError {
 impl Error for FromValueError {}
 
 impl From<AllocError> for FromValueError {
+    // the error `OutOfMemory`
     ghost from_gives = { λ _ error. error ≡ OutOfMemory };
 
     fn from(_: AllocError) -> FromValueError {
@@ -76,7 +79,9 @@ pub fn to_value(alloc: Global, path: RelativePath<'_>) -> Result<Value, AllocErr
 /// assert_eq!(rt; buf.as_relative_path().as_str(), "a/b");
 /// ```
 pub fn from_value(alloc: Global, value: &Value) -> Result<RelativePathBuf, FromValueError>
+    // a path with the string's text
     ensures ok { IfOk result (λ buf. string_text value.now ≡ Some buf.text) }
+    // `NotAString` exactly if the value isn't a string
     ensures not_a_string { IsErrOf result NotAString ↔ (string_text value.now ≡ None) }
 {
     let path = view_value(value)?;
@@ -93,7 +98,9 @@ pub fn from_value(alloc: Global, value: &Value) -> Result<RelativePathBuf, FromV
 /// assert_eq!(rt; boxed.as_relative_path().as_str(), "a/b");
 /// ```
 pub fn boxed_from_value(alloc: Global, value: &Value) -> Result<BoxedRelativePath, FromValueError>
+    // a path with the string's text
     ensures ok { IfOk result (λ boxed. string_text value.now ≡ Some boxed) }
+    // `NotAString` exactly if the value isn't a string
     ensures not_a_string { IsErrOf result NotAString ↔ (string_text value.now ≡ None) }
 {
     let text = view_value(value)?.as_str();
@@ -109,8 +116,11 @@ pub fn boxed_from_value(alloc: Global, value: &Value) -> Result<BoxedRelativePat
 /// assert_eq!(rt; json::view_value(&value)?.as_str(), "a/b");
 /// ```
 pub fn view_value<'a>(value: &'a Value) -> Result<RelativePath<'a>, FromValueError>
+    // a path with the string's text
     ensures ok { IfOk result (λ path. string_text value.now ≡ Some (path_text path)) }
+    // `NotAString` exactly if the value isn't a string
     ensures not_a_string { IsErrOf result NotAString ↔ (string_text value.now ≡ None) }
+    // the only error is `NotAString`
     ensures only_error { IsOkUnless result NotAString }
 {
     let text = value.as_str().ok_or(FromValueError::NotAString)?;

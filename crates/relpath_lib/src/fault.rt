@@ -45,8 +45,10 @@ impl Fault {
 impl fmt::Display for Fault {
     ghost use Rattle.relpath_lib.specs.Fault.{fault_name};
 
+    // the fault's name
     ghost output = { λ fault. Some (fault_name fault) };
 
+    // the same, cut and padded as asked
     ghost styled_output = { λ fault spec. Some (styled_text spec (fault_name fault)) };
 
     fn fmt<W: fmt::Write>(&self, f: &mut fmt::Formatter<W>) -> fmt::Result {
@@ -59,6 +61,7 @@ impl Error for Fault {}
 impl From<AllocError> for Fault {
     ghost use Rattle.relpath_lib.specs.declared.fault.Fault.TheVariants.{OutOfMemory};
 
+    // the fault `OutOfMemory`
     ghost from_gives = { λ _ fault. fault ≡ OutOfMemory };
 
     fn from(_: AllocError) -> Fault {

@@ -35,7 +35,9 @@ impl<T> Meter<T> {
 
     /// Wraps `inner`. All counts are 0.
     pub fn new(inner: T) -> Meter<T>
+        // the meter has this reader or writer
         ensures inner { inner_of result ≡ inner }
+        // all counts are 0
         ensures fresh { IsFresh result }
     {
         Meter {
@@ -116,11 +118,16 @@ impl<R: Read> Meter<R> {
 
     /// Passes a read on to the reader.
     pub fn read(&mut self, buf: &mut [u8]) -> Result<usize>
+        // there have to be fewer calls than `u64::MAX`
         requires calls { calls_of self.old < u64.MAX }
+        // there have to be fewer failures than `u64::MAX`
         requires failures { failures_of self.old < u64.MAX }
+        // no more bytes than the buffer has
         ensures bound { ReadsAtMost result buf.new }
+        // known bytes lose what was read
         ensures bytes { ReadConsumes
             (bytes_of R.remaining self.old) (bytes_of R.remaining self.new) result buf.new }
+        // one more call, and a failure if it failed
         ensures counts { CountsCall self.old self.new (is_err result) }
     {
         let result = self.inner.read(buf);
@@ -143,11 +150,16 @@ impl<W: Write> Meter<W> {
 
     /// Passes a write on to the writer.
     pub fn write(&mut self, buf: &[u8]) -> Result<usize>
+        // there have to be fewer calls than `u64::MAX`
         requires calls { calls_of self.old < u64.MAX }
+        // there have to be fewer failures than `u64::MAX`
         requires failures { failures_of self.old < u64.MAX }
+        // no more bytes than the buffer has
         ensures bound { WritesAtMost result buf.now }
+        // known bytes gain what was written
         ensures bytes { WriteAppends
             (bytes_of W.contents self.old) (bytes_of W.contents self.new) result buf.now }
+        // one more call, and a failure if it failed
         ensures counts { CountsCall self.old self.new (is_failed_write result buf.now) }
     {
         let result = self.inner.write(buf);
@@ -161,9 +173,13 @@ impl<W: Write> Meter<W> {
 
     /// Passes a flush on to the writer.
     pub fn flush(&mut self) -> Result<()>
+        // there have to be fewer flushes than `u64::MAX`
         requires flushes { flushes_of self.old < u64.MAX }
+        // there have to be fewer failures than `u64::MAX`
         requires failures { failures_of self.old < u64.MAX }
+        // known bytes stay
         ensures bytes { KeepsBytes W.contents self.old self.new }
+        // one more flush, and a failure if it failed
         ensures counts { CountsFlush self.old self.new (is_err result) }
     {
         let result = self.inner.flush();

@@ -21,9 +21,12 @@ use std::process::ExitCode;
 /// ```
 pub fn report<W: Write>(ended: Result<(), Fault>, errors: &mut Meter<W>) -> ExitCode
     requires { IsFresh errors.old }
+    // 0 for `Ok`, 1 for a fault
     ensures status { exit_status result ≡ status_of ended }
+    // unless a write fails: a fault's line, nothing for `Ok`
     ensures printed { failures_of errors.new ≡ 0 →
         Appended W.contents errors.old errors.new (report_of ended) }
+    // at `Ok` the meter is as before
     ensures silent { IsOk ended → errors.new ≡ errors.old }
 {
     match ended {

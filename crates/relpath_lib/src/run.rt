@@ -37,39 +37,53 @@ pub fn run<R: Read, W: Write>(
     reader: &mut Meter<R>,
     writer: &mut Meter<W>,
 ) -> Result<(), Fault>
+    // the reader's meter has to be new
     requires reader { IsFresh reader.old }
+    // the writer's meter has to be new
     requires writer { IsFresh writer.old }
 
-    // If the result is `Ok`: the whole input was read and accepted, and its output was flushed once.
+    // at `Ok` the whole input was read and accepted
     ensures ok_read { OnOk result (ReadsAll R.remaining reader.old reader.new IsAccepted) }
+    // at `Ok` one flush was made, and no call of the writer failed
     ensures ok_flushed { OnOk result ((flushes_of writer.new ≡ 1) × (failures_of writer.new ≡ 0)) }
 
-    // Each fault: exactly in which case it is returned, and what was read by then.
+    // `Read` exactly if one read failed
     ensures read { IsErrOf result Fault.Read ↔ (failures_of reader.new ≡ 1) }
+    // at `Read` no more bytes than the limit came
     ensures read_came { IsErrOf result Fault.Read →
         CameWithin R.remaining reader.old reader.new }
+    // `InputTooLong` exactly if reads succeeded and a known input exceeds the limit
     ensures too_long { IfKnown R.remaining reader.old (λ input.
         IsErrOf result Fault.InputTooLong ↔ IsRead reader.new × IsTooLong input) }
+    // at `InputTooLong` no read failed, and more than the limit came
     ensures too_long_came { IsErrOf result Fault.InputTooLong →
         (failures_of reader.new ≡ 0) × CameBeyond R.remaining reader.old reader.new }
+    // `NotText` exactly if reads succeeded and a known input within the limit isn't UTF-8
     ensures not_text { IfKnown R.remaining reader.old (λ input.
         IsErrOf result Fault.NotText ↔ IsRead reader.new × IsNotText input) }
+    // at `NotText` the whole input was read, and isn't UTF-8
     ensures not_text_came { IsErrOf result Fault.NotText →
         ReadsAll R.remaining reader.old reader.new IsNotText }
+    // at `OutOfMemory` nothing was read, or all of it accepted
     ensures out_of_memory_came { IsErrOf result Fault.OutOfMemory →
         (reader.new ≡ reader.old) ⊎ ReadsAll R.remaining reader.old reader.new IsAccepted }
+    // `Write` exactly if one call of the writer failed
     ensures write { IsErrOf result Fault.Write ↔ (failures_of writer.new ≡ 1) }
+    // at `Write` the whole input was read and accepted
     ensures write_came { IsErrOf result Fault.Write →
         ReadsAll R.remaining reader.old reader.new IsAccepted }
 
-    // What is written, whatever the result.
+    // a known input has one output, which `Ok` wrote exactly
     ensures written { IfKnown R.remaining reader.old
         (Writes W.contents writer.old writer.new result) }
+    // after any fault but `Write` the writer is as before
     ensures untouched { IfErr result (λ fault. fault ≢ Fault.Write → writer.new ≡ writer.old) }
 
-    // How many calls are made, whatever the result.
+    // at most 65,537 reads
     ensures reads { calls_of reader.new ≤ max_input_len + 1 }
+    // at most one flush
     ensures flushes { flushes_of reader.new + flushes_of writer.new ≤ 1 }
+    // at most one failed call
     ensures failures { failures_of reader.new + failures_of writer.new ≤ 1 }
 {
     let input = read_input(alloc, reader)?;

@@ -30,8 +30,10 @@ pub struct BoxedRelativePath {
 }
 
 impl Model for BoxedRelativePath {
+    // contracts see a text
     ghost Value = { List ℕ };
 
+    // the bytes of the text that it has
     ghost view = { λ boxed. boxed_str_bytes boxed.text };
 }
 
@@ -64,8 +66,11 @@ impl BoxedRelativePath {
         _alloc: Global,
         buf: RelativePathBuf,
     ) -> Result<BoxedRelativePath, RelativePathBuf>
+        // a path with the buffer's text
         ensures ok { IfOk result (λ boxed. boxed ≡ buf.text) }
+        // an error is the buffer, unchanged
         ensures err { IfErr result (λ kept. kept ≡ buf) }
+        // it always succeeds
         ensures succeeds { IsOk result }
     {
         let text = buf.into_string().into_boxed_str();
@@ -100,6 +105,7 @@ impl BoxedRelativePath {
 }
 
 impl From<BoxedStr> for BoxedRelativePath {
+    // the same text
     ghost from_gives = { λ text boxed. boxed ≡ boxed_str_bytes text };
 
     fn from(text: BoxedStr) -> BoxedRelativePath {
@@ -108,12 +114,15 @@ impl From<BoxedStr> for BoxedRelativePath {
 }
 
 impl PartialEq for BoxedRelativePath {
+    // components are compared by kind and text
     ghost eq = { on components steps_eq };
 
     ghost laws = { partial_eq_law (by_components components) };
 
     fn eq(&self, other: &Self) -> bool
+        // the answer of `eq`
         ensures value { result ≡ steps_eq (components self.now) (components other.now) }
+        // whether the components are equal
         ensures same { IsTrue result ↔ (components self.now ≡ components other.now) }
     {
         self.as_relative_path() == other.as_relative_path()
@@ -125,6 +134,7 @@ impl Eq for BoxedRelativePath {
 }
 
 impl PartialOrd for BoxedRelativePath {
+    // always an order, that of `cmp`
     ghost partial_cmp = { as_partial_cmp (on components steps_cmp) };
 
     ghost laws = { partial_ord_law (by_components components) };
@@ -135,6 +145,7 @@ impl PartialOrd for BoxedRelativePath {
 }
 
 impl Ord for BoxedRelativePath {
+    // by the first difference: `.`, `..`, then names by bytes
     ghost cmp = { on components steps_cmp };
 
     ghost total = { (by_components components).total };
@@ -149,6 +160,7 @@ impl Ord for BoxedRelativePath {
 }
 
 impl Hash for BoxedRelativePath {
+    // each component's text, and a slash after it
     ghost hash_input = { fed_by components };
 
     ghost respects_eq = { fed_alike components components };
@@ -173,12 +185,16 @@ pub trait BufExt {
     /// assert!(rt; boxed.is_ok_and(|path| path.as_relative_path().as_str() == "foo/bar"));
     /// ```
     fn into_boxed_relative_path(self, alloc: Global) -> Result<BoxedRelativePath, RelativePathBuf>
+        // a path with the buffer's text
         ensures ok { IfOk result (λ boxed. boxed ≡ text self) }
+        // an error has the buffer's text
         ensures err { IfErr result (λ kept. kept.text ≡ text self) }
+        // it always succeeds
         ensures succeeds { IsOk result };
 }
 
 impl BufExt for RelativePathBuf {
+    // the buffer's text
     ghost text = { λ buf. buf.text };
 
     fn into_boxed_relative_path(self, alloc: Global) -> Result<BoxedRelativePath, RelativePathBuf> {

@@ -48,6 +48,7 @@ impl CowRelativePath<'_> {
 }
 
 impl<'a> From<RelativePath<'a>> for CowRelativePath<'a> {
+    // the path, borrowed
     ghost from_gives = { λ path cow. cow ≡ Borrowed path };
 
     fn from(path: RelativePath<'a>) -> CowRelativePath<'a> {
@@ -56,6 +57,7 @@ impl<'a> From<RelativePath<'a>> for CowRelativePath<'a> {
 }
 
 impl From<RelativePathBuf> for CowRelativePath<'_> {
+    // the buffer, owned
     ghost from_gives = { λ buf cow. cow ≡ Owned buf };
 
     fn from(buf: RelativePathBuf) -> Self {
@@ -64,12 +66,15 @@ impl From<RelativePathBuf> for CowRelativePath<'_> {
 }
 
 impl PartialEq for CowRelativePath<'_> {
+    // components are compared by kind and text
     ghost eq = { on cow_components steps_eq };
 
     ghost laws = { partial_eq_law (by_components cow_components) };
 
     fn eq(&self, other: &Self) -> bool
+        // the answer of `eq`
         ensures value { result ≡ steps_eq (cow_components self.now) (cow_components other.now) }
+        // whether the components are equal
         ensures same { IsTrue result ↔ (cow_components self.now ≡ cow_components other.now) }
     {
         self.as_relative_path() == other.as_relative_path()
@@ -81,6 +86,7 @@ impl Eq for CowRelativePath<'_> {
 }
 
 impl PartialOrd for CowRelativePath<'_> {
+    // always an order, that of `cmp`
     ghost partial_cmp = { as_partial_cmp (on cow_components steps_cmp) };
 
     ghost laws = { partial_ord_law (by_components cow_components) };
@@ -91,6 +97,7 @@ impl PartialOrd for CowRelativePath<'_> {
 }
 
 impl Ord for CowRelativePath<'_> {
+    // by the first difference: `.`, `..`, then names by bytes
     ghost cmp = { on cow_components steps_cmp };
 
     ghost total = { (by_components cow_components).total };
@@ -105,6 +112,7 @@ impl Ord for CowRelativePath<'_> {
 }
 
 impl Hash for CowRelativePath<'_> {
+    // each component's text, and a slash after it
     ghost hash_input = { fed_by cow_components };
 
     ghost respects_eq = { fed_alike cow_components cow_components };

@@ -31,8 +31,10 @@ pub struct RcRelativePath {
 }
 
 impl Model for RcRelativePath {
+    // contracts see a text
     ghost Value = { List ℕ };
 
+    // the bytes of the text that it has
     ghost view = { λ shared. rc_str_bytes shared.text };
 }
 
@@ -67,7 +69,9 @@ impl RcRelativePath {
     /// assert!(rt; path.is_ok_and(|path| path.as_relative_path().as_str() == "foo/bar"));
     /// ```
     pub fn from_buf(alloc: Global, buf: RelativePathBuf) -> Result<RcRelativePath, RelativePathBuf>
+        // a path with the buffer's text
         ensures ok { IfOk result (λ shared. shared ≡ buf.text) }
+        // an error is the buffer, unchanged
         ensures err { IfErr result (λ kept. kept ≡ buf) }
     {
         RcRelativePath::from_path_text(alloc, buf.as_relative_path()).map_err(|_| buf)
@@ -102,12 +106,15 @@ impl RcRelativePath {
 }
 
 impl PartialEq for RcRelativePath {
+    // components are compared by kind and text
     ghost eq = { on components steps_eq };
 
     ghost laws = { partial_eq_law (by_components components) };
 
     fn eq(&self, other: &Self) -> bool
+        // the answer of `eq`
         ensures value { result ≡ steps_eq (components self.now) (components other.now) }
+        // whether the components are equal
         ensures same { IsTrue result ↔ (components self.now ≡ components other.now) }
     {
         self.as_relative_path() == other.as_relative_path()
@@ -119,6 +126,7 @@ impl Eq for RcRelativePath {
 }
 
 impl PartialOrd for RcRelativePath {
+    // always an order, that of `cmp`
     ghost partial_cmp = { as_partial_cmp (on components steps_cmp) };
 
     ghost laws = { partial_ord_law (by_components components) };
@@ -129,6 +137,7 @@ impl PartialOrd for RcRelativePath {
 }
 
 impl Ord for RcRelativePath {
+    // by the first difference: `.`, `..`, then names by bytes
     ghost cmp = { on components steps_cmp };
 
     ghost total = { (by_components components).total };
@@ -143,6 +152,7 @@ impl Ord for RcRelativePath {
 }
 
 impl Hash for RcRelativePath {
+    // each component's text, and a slash after it
     ghost hash_input = { fed_by components };
 
     ghost respects_eq = { fed_alike components components };
