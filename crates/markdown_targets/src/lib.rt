@@ -50,7 +50,7 @@ use std::alloc::{AllocError, Global};
 /// assert_eq!(rt; found.targets[3].kind, TargetKind::Attribute(Quote::Single));
 /// ```
 pub fn link_targets(alloc: Global, page: &str) -> Result<LinkTargets, AllocError>
-    // spans of the page that cut no character, in order and without overlap
+    // targets are spans of the page, cut no character, and come in order without overlap
     ensures in_order { IfOk result (λ found.
         AreInOrder page.now 0 (map (λ target. target.span) found.targets.items)) }
     // each span of `passed_over` is in the page and cuts no character

@@ -92,13 +92,13 @@ pub struct SiteMap<'a> {
 }
 
 impl<'a> Model for SiteMap<'a> {
-    // contracts see a list of pages
+    // contracts see a `SiteMap` as a list of pages
     ghost Value = { List Page };
 
     // the pages, as components of their paths and whether each is a directory's
     ghost view = { λ site. map page_of site.pages.now };
 
-    // pages have file names and plain names, and the index has their paths
+    // pages of a `SiteMap` have file names and plain names, and are indexed by place
     ghost invariant = { λ site. Indexes (paths_of (map page_of site.pages.now)) site.by_place
         × AreNamedPages (map page_of site.pages.now) × ArePlainPages (map page_of site.pages.now) };
 }

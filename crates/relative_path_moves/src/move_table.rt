@@ -98,13 +98,13 @@ pub struct MoveTable<'a> {
 }
 
 impl<'a> Model for MoveTable<'a> {
-    // contracts see a list of moves
+    // contracts see the table as a list of moves
     ghost Value = { List Move };
 
     // the moves of the table, as components of old and new paths
     ghost view = { λ table. moves_of table.moves.now };
 
-    // file names, no two equivalent old paths, and an index of the old paths
+    // a `MoveTable` has file names, no two equivalent old paths, and an index of these
     ghost invariant = { λ table. IsSound (moves_of table.moves.now) table.by_old };
 }
 

@@ -34,13 +34,13 @@ pub struct NormalPath {
 }
 
 impl Model for NormalPath {
-    // contracts see a text
+    // contracts see a `NormalPath` as its text
     ghost Value = { List ℕ };
 
-    // the text of the path
+    // the text of the `NormalPath`
     ghost view = { λ normal. normal.path.text };
 
-    // the text is normal
+    // the text of a `NormalPath` is normal
     ghost invariant = { λ normal. IsNormalText normal.path.text };
 }
 

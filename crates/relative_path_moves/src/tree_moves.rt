@@ -62,13 +62,13 @@ pub struct TreeMoves<'a> {
 }
 
 impl<'a> Model for TreeMoves<'a> {
-    // contracts see a list of moves
+    // contracts see the table as a list of moves
     ghost Value = { List Move };
 
     // the moves of the table, as components of old and new paths
     ghost view = { λ tree. tree.table };
 
-    // file names, no two equivalent old paths, and the normal form of each new path
+    // a `TreeMoves` has file names, no two equivalent old paths, and its new paths normalised
     ghost invariant = { λ tree. IsSoundTree tree.table tree.news.items };
 }
 
