@@ -105,14 +105,14 @@ pub fn resolve_request(
     root: &str,
     request: &str,
 ) -> Result<ResolvedRequest, RequestError>
-    // `path` is the root, then the names of where the request leads from the top
+    // `path` is the root, then the names of where the request leads
     ensures path { IfOk result (λ found.
         IsBelowRoot root.now (components request.now) (string_bytes found.path)) }
-    // the place where the request leads from the top has plain names alone
+    // the names of where the request leads are plain
     ensures plain { IfOk result (λ _. HasPlainPlace (components request.now)) }
     // `is_directory` exactly if the request ends in a slash or not in a name
     ensures directory { IfOk result (λ found. found.is_directory ≡ means_directory request.now) }
-    // `NotPlain` only if the place where the request leads has a name that isn't plain
+    // `NotPlain` only if the request leads to a name that isn't plain
     ensures refused { IfErr result (IsRequestRefused (components request.now)) }
     // `ClimbsAbove` exactly if the request climbs above the top
     ensures climbs { IsErrOf result RequestError.ClimbsAbove
@@ -150,7 +150,7 @@ pub fn resolve_request_on_unix(
     root: &str,
     request: &str,
 ) -> Result<ResolvedRequest, RequestError>
-    // `path` is the root, then the names of where the request leads from the top
+    // `path` is the root, then the names of where the request leads
     ensures path { IfOk result (λ found.
         IsBelowRoot root.now (components request.now) (string_bytes found.path)) }
     // `is_directory` exactly if the request ends in a slash or not in a name

@@ -92,13 +92,13 @@ pub struct SiteMap<'a> {
 }
 
 impl<'a> Model for SiteMap<'a> {
-    // contracts see a `SiteMap` as a list of pages
+    // contracts see a list of pages
     ghost Value = { List Page };
 
-    // the pages, as components of their paths and whether each is a directory's
+    // the pages, by their components, and which are directories'
     ghost view = { λ site. map page_of site.pages.now };
 
-    // pages of a `SiteMap` have file names and plain names, and are indexed by place
+    // file names, plain names, and an index of the pages
     ghost invariant = { λ site. Indexes (paths_of (map page_of site.pages.now)) site.by_place
         × AreNamedPages (map page_of site.pages.now) × ArePlainPages (map page_of site.pages.now) };
 }
@@ -141,16 +141,16 @@ impl<'a> SiteMap<'a> {
     /// assert_eq!(rt; found, Some(1));
     /// ```
     pub fn new(alloc: Global, pages: &'a [RelativePath<'a>]) -> Result<SiteMap<'a>, SiteMapError>
-        // the site has these pages, in order
+        // these pages, in order
         ensures pages { IfOk result (λ site. site ≡ map page_of pages.now) }
-        // it succeeds only if each page has a file name
+        // each page has a file name
         ensures named { OnOk result (AreNamedPages (map page_of pages.now)) }
-        // it succeeds only if the names of each page are plain
+        // each page's names are plain
         ensures plain { OnOk result (ArePlainPages (map page_of pages.now)) }
-        // `NoFileName` exactly if a page has no file name, with the first such page
+        // `NoFileName` exactly for the first page that lacks a file name
         ensures no_file_name { (k : ℕ) → IsErrOf result (SiteMapError.NoFileName k)
             ↔ IsFirstNamelessPage (map page_of pages.now) k }
-        // `NotPlain` exactly for the first page with a name that isn't plain, given file names
+        // `NotPlain` exactly for the first page that isn't plain, given file names
         ensures not_plain { (k : ℕ) → IsErrOf result (SiteMapError.NotPlain k)
             ↔ (AreNamedPages (map page_of pages.now) × IsFirstOtherPage (map page_of pages.now) k) }
     {
@@ -191,9 +191,9 @@ impl<'a> SiteMap<'a> {
     /// assert_eq!(rt; site.find(alloc, RelativePath::new("guide"))?, None);
     /// ```
     pub fn find(&self, alloc: Global, path: RelativePath<'_>) -> Result<Option<usize>, AllocError>
-        // the number of the first page where the path leads, or `None`
+        // the first page where the path leads, or `None`
         ensures found { IfOk result (IsFoundAt (paths_of self.now) (path_components path.entry)) }
-        // another path finds this page exactly if it is equivalent
+        // a path finds the same page exactly if it is equivalent
         ensures alike { IfOk result (λ found. (k : ℕ) → found ≡ Some k → (other : List Step)
             → IsFirstAt (paths_of self.now) other k ↔ IsSame (path_components path.entry) other) }
     {
@@ -224,20 +224,20 @@ impl<'a> SiteMap<'a> {
     /// assert!(rt; site.href(alloc, 1, 0)?.is_some_and(|href| href.as_str() == "install"));
     /// ```
     pub fn href(&self, alloc: Global, from: usize, to: usize) -> Result<Option<String>, AllocError>
-        // `from` has to be the number of a page
+        // needs the number of a page
         requires from { from < length self.now }
-        // `to` has to be the number of a page
+        // needs the number of a page
         requires to { to < length self.now }
-        // the target for the shortest path that ends in `to`'s name or slash, or `None`
+        // the target of the shortest path ending in `to`'s name or slash, or `None`
         ensures href { IfOk result (λ found. IsHref (page_at self.now from) (page_at self.now to)
             (option_map string_bytes found)) }
-        // RFC 3986 resolves it from `from` to `to`, if both have a place without NUL
+        // RFC 3986 resolves it from `from` to `to`, given places without NUL
         ensures resolves { IfOk result (λ found. IfSome found (λ href. Resolves (page_at self.now from)
             (page_at self.now to) (string_bytes href))) }
-        // it has no byte that ends a target, such as a space or a quote
+        // no byte that ends a target, such as a space
         ensures whole { IfOk result (λ found. IfSome found (λ href.
             list_any ends_target (string_bytes href) ≡ false)) }
-        // the same for all spellings of the two pages
+        // the same for all spellings of both pages
         ensures alike { IfOk result (λ found. (page other : Page)
             → IsSamePage (page_at self.now from) page → IsSamePage (page_at self.now to) other
             → IsHref page other (option_map string_bytes found)) }

@@ -49,7 +49,7 @@ impl ManifestError {
     /// assert_eq!(rt; ManifestError::NoBase.entry(), None);
     /// ```
     pub fn entry(self) -> Option<usize>
-        // the number of the entry that the error is about, or `None`
+        // the number of the error's entry, or `None`
         ensures number { result ≡ entry_of self }
     {
         match self {
@@ -77,7 +77,7 @@ impl ManifestError {
     /// }
     /// ```
     pub fn entry_text(self, manifest: &Value) -> Option<&str>
-        // the text, in the manifest, of the entry that the error is about, or `None`
+        // the text of the error's entry in the manifest, or `None`
         ensures text { option_map (λ text. text.now) result
             ≡ option_and_then (entry_text (view manifest.now)) (entry_of self) }
     {
@@ -160,7 +160,7 @@ impl NameRule {
 /// assert!(rt; manifest_base(&manifest).is_some_and(|base| base.climb() > 0));
 /// ```
 pub fn manifest_base(manifest: &Value) -> Option<RelativePath<'_>>
-    // the text of the member `base`, or `None` if that isn't a string
+    // the text of the member `base`, or `None`
     ensures base { option_map path_text result ≡ base_member (view manifest.now) }
 {
     let base = manifest.get("base").and_then(Value::as_str);
@@ -196,17 +196,17 @@ pub fn manifest_files(
     alloc: Global,
     manifest: &Value,
 ) -> Result<Vec<RelativePathBuf>, ManifestError>
-    // each entry's normal path, in order, which leads by plain names below `base`
+    // each entry's normal path, which leads below `base` by plain names
     ensures files { IfOk result
         (λ files. OfManifest (view manifest.now) (AreFiles IsPlainName (map file_text files.items))) }
-    // an error with a number names the first entry without a file, and says why
+    // numbered errors give the first entry without a file, and why
     ensures refused { IfErr result (IsRefusedManifest IsPlainName (view manifest.now)) }
     // `NoBase` exactly if the member `base` isn't a string
     ensures no_base { IsErrOf result ManifestError.NoBase ↔ (base_member (view manifest.now) ≡ None) }
     // `NoFiles` exactly if `base` is a string and `files` isn't a list
     ensures no_files { IsErrOf result ManifestError.NoFiles
         ↔ (base_member (view manifest.now) ≢ None) × (entries_of (view manifest.now) ≡ None) }
-    // `BaseNotPlain` exactly if both members are there and a name of `base` isn't plain
+    // `BaseNotPlain` exactly if both are there and a name of `base` isn't plain
     ensures base_not_plain { IsErrOf result ManifestError.BaseNotPlain
         ↔ OfManifest (view manifest.now) (HasOtherBase IsPlainName) }
 {
@@ -230,10 +230,10 @@ pub fn manifest_files_on_unix(
     alloc: Global,
     manifest: &Value,
 ) -> Result<Vec<RelativePathBuf>, ManifestError>
-    // each entry's normal path, in order, which leads below `base`
+    // each entry's normal path, which leads below `base`
     ensures files { IfOk result
         (λ files. OfManifest (view manifest.now) (AreFiles IsAnyName (map file_text files.items))) }
-    // an error with a number names the first entry without a file, and says why
+    // numbered errors give the first entry without a file, and why
     ensures refused { IfErr result (IsRefusedManifest IsAnyName (view manifest.now)) }
     // `NoBase` exactly if the member `base` isn't a string
     ensures no_base { IsErrOf result ManifestError.NoBase ↔ (base_member (view manifest.now) ≡ None) }

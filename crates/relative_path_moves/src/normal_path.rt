@@ -34,13 +34,13 @@ pub struct NormalPath {
 }
 
 impl Model for NormalPath {
-    // contracts see a `NormalPath` as its text
+    // contracts see a text
     ghost Value = { List ℕ };
 
-    // the text of the `NormalPath`
+    // the text of the path
     ghost view = { λ normal. normal.path.text };
 
-    // the text of a `NormalPath` is normal
+    // the text is normal
     ghost invariant = { λ normal. IsNormalText normal.path.text };
 }
 
@@ -124,9 +124,9 @@ impl NormalPath {
     /// assert_eq!(rt; page.directory().as_str(), "docs");
     /// ```
     pub fn directory(&self) -> RelativePath<'_>
-        // the components of the path's directory: all before the last that isn't `.`
+        // all components before the last that isn't `.`
         ensures components { path_components result ≡ directory (components self.now) }
-        // the shortest prefix of the text with the components of the directory
+        // the shortest prefix of the text with these components
         ensures text { IsPopped self.now (path_text result) }
     {
         directory(self.as_relative_path())
@@ -152,7 +152,7 @@ impl NormalPath {
     /// assert_eq!(rt; path.as_relative_path().as_str(), "a/b");
     /// ```
     pub fn as_relative_path(&self) -> RelativePath<'_>
-        // the result has the same text
+        // the same text
         ensures text { path_text result ≡ self.now }
         // the text is normal
         ensures normal { IsNormalText self.now }
@@ -167,7 +167,7 @@ impl NormalPath {
     /// assert_eq!(rt; path.as_relative_path().as_str(), "a");
     /// ```
     pub fn into_relative_path_buf(self) -> RelativePathBuf
-        // the result has the same text
+        // the same text
         ensures text { result.text ≡ self }
         // the text is normal
         ensures normal { IsNormalText self }
@@ -203,7 +203,7 @@ impl Eq for NormalPath {
 }
 
 impl fmt::Debug for NormalPath {
-    // a path whose text is ASCII prints the debug form of that text
+    // the debug form of the text, if that is ASCII
     ghost debug_output = { debug_str };
 
     fn fmt<W: fmt::Write>(&self, f: &mut fmt::Formatter<W>) -> fmt::Result {

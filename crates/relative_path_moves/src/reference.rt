@@ -52,7 +52,7 @@ pub fn moved(
     reference: RelativePath<'_>,
 ) -> Result<RelativePathBuf, MoveError>
     requires { i < length moves.now }
-    // `NoFileName` exactly if a path has no file name, with the first such move
+    // `NoFileName` exactly for the first move that lacks a file name
     ensures no_file_name { (k : ℕ) → IsErrOf result (MoveError.NoFileName k)
         ↔ IsFirstNameless (moves_of moves.now) k }
     // `SameOld` exactly for the first two equivalent old paths, given file names and memory
@@ -67,9 +67,9 @@ pub fn moved(
         (AreNamed (moves_of moves.now) × AreApart (moves_of moves.now)
         × ForTarget (moves_of moves.now) i (path_components reference.entry)
         (BelowTop (IsBeyond (moves_of moves.now) i))) }
-    // `OutOfMemory` only if both paths of each move have file names
+    // `OutOfMemory` only if each path has a file name
     ensures out_of_memory { IsErrOf result MoveError.OutOfMemory → AreNamed (moves_of moves.now) }
-    // the path that is returned is the shortest from the new directory to the target
+    // the shortest path from the new directory to the target
     ensures shortest { IfOk result (λ way. AreNamed (moves_of moves.now)
         × AreApart (moves_of moves.now)
         × ForTarget (moves_of moves.now) i (path_components reference.entry)

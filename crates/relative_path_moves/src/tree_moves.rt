@@ -62,13 +62,13 @@ pub struct TreeMoves<'a> {
 }
 
 impl<'a> Model for TreeMoves<'a> {
-    // contracts see the table as a list of moves
+    // contracts see a list of moves
     ghost Value = { List Move };
 
-    // the moves of the table, as components of old and new paths
+    // the moves, by the components of their paths
     ghost view = { λ tree. tree.table };
 
-    // a `TreeMoves` has file names, no two equivalent old paths, and its new paths normalised
+    // file names, no two equivalent old paths, and normalised new paths
     ghost invariant = { λ tree. IsSoundTree tree.table tree.news.items };
 }
 
@@ -101,19 +101,19 @@ impl<'a> TreeMoves<'a> {
         alloc: Global,
         moves: &'a [(RelativePath<'a>, RelativePath<'a>)],
     ) -> Result<TreeMoves<'a>, MoveTableError>
-        // the table has these moves, in order
+        // these moves, in order
         ensures moves { IfOk result (λ tree. tree ≡ moves_of moves.now) }
-        // it succeeds only if both paths of each move have file names
+        // each path has a file name
         ensures named { OnOk result (AreNamed (moves_of moves.now)) }
-        // it succeeds only if no two old paths are equivalent
+        // no two old paths are equivalent
         ensures apart { OnOk result (AreApart (moves_of moves.now)) }
-        // `NoFileName` exactly if a path has no file name, with the first such move
+        // `NoFileName` exactly for the first move that lacks a file name
         ensures no_file_name { (k : ℕ) → IsErrOf result (MoveTableError.NoFileName k)
             ↔ IsFirstNameless (moves_of moves.now) k }
         // `SameOld` exactly for the first two equivalent old paths, given file names and memory
         ensures same_old { (j k : ℕ) → Refuses result (MoveTableError.SameOld j k) MoveTableError.OutOfMemory
             (AreNamed (moves_of moves.now) × IsFirstPair (moves_of moves.now) j k) }
-        // `OutOfMemory` only if both paths of each move have file names
+        // `OutOfMemory` only if each path has a file name
         ensures out_of_memory { IsErrOf result MoveTableError.OutOfMemory → AreNamed (moves_of moves.now) }
     {
         match MoveTable::new(alloc, moves) {
@@ -180,10 +180,10 @@ impl<'a> TreeMoves<'a> {
     /// assert_eq!(rt; page.after.as_relative_path().as_str(), "guide/sub");
     /// ```
     pub fn moved_page(&self, alloc: Global, page: RelativePath<'_>) -> Result<MovedPage, AllocError>
-        // `before` is the normal path of the page's directory before the moves
+        // `before` is the page's normal directory before the moves
         ensures before { IfOk result
             (λ moved. IsNormalTextOf (directory (path_components page.entry)) moved.before) }
-        // `path` and `after` are the normal paths of page and directory after the moves
+        // `path` and `after` are the page's normal path and directory after the moves
         ensures after { IfOk result (λ moved. AtTreePath self.now (path_components page.entry)
             (λ now. IsNormalTextOf now moved.path × IsNormalTextOf (directory now) moved.after)) }
     {
@@ -243,16 +243,16 @@ impl<'a> TreeMoves<'a> {
         page: &MovedPage,
         reference: RelativePath<'_>,
     ) -> Result<Option<RelativePathBuf>, ReferenceError>
-        // `None` only if the reference still leads from the new directory to its target
+        // `None` only if the reference still leads to its target
         ensures stays { IfOk result (λ way. IsNone way
             → AtTreeTarget self.now (components page.now.before) (path_components reference.entry)
             (λ target. Leads (components page.now.after) (path_components reference.entry) target)) }
-        // the shortest path to the target, only if the reference no longer leads there
+        // the shortest path to the target, where the reference no longer leads
         ensures shortest { IfOk result (λ way. IfSome way (λ way.
             AtTreeTarget self.now (components page.now.before) (path_components reference.entry)
             (λ target. (¬ Leads (components page.now.after) (path_components reference.entry) target)
             × BelowTop (λ target. IsShortestText (components page.now.after) target way.text) target))) }
-        // `AboveRoot` only for a target above the root to which the reference no longer leads
+        // `AboveRoot` only for a target above the root, where the reference no longer leads
         ensures above_root { IsErrOf result ReferenceError.AboveRoot
             → AtTreeTarget self.now (components page.now.before) (path_components reference.entry)
             (λ target. (¬ Leads (components page.now.after) (path_components reference.entry) target)
@@ -298,10 +298,10 @@ impl<'a> TreeMoves<'a> {
         alloc: Global,
         files: &[RelativePath<'_>],
     ) -> Result<Option<(usize, usize)>, AllocError>
-        // `None` exactly if no two files collide after the moves
+        // `None` exactly if no pair collides
         ensures none { IfOk result (λ found. IsNone found
             ↔ HoldsNowhere (CollideAfter self.now (map path_components files.now))) }
-        // the lexicographically least pair of files that collide after the moves
+        // the lexicographically least pair that collides
         ensures first { (j k : ℕ) → IfOk result (λ found. (found ≡ Some (j, k))
             ↔ IsLeastPair (CollideAfter self.now (map path_components files.now)) j k) }
     {

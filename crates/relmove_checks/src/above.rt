@@ -8,11 +8,11 @@ use relative_path::RelativePath;
 
 /// Returns the path of the directory above a path. `None` if the path has no more than one component.
 pub fn directory_above<'a>(path: RelativePath<'a>) -> Option<RelativePath<'a>>
-    // the path without its last component, `None` exactly if it has at most one
+    // all components but the last, or `None` exactly if none is left
     ensures front { MatchOption result (length (path_components path.entry) ≤ 1)
         (λ directory. (path_components directory ≢ [])
         × ((last : Step) × (path_components path.entry ≡ path_components directory ++ last ∷ []))) }
-    // if the path is normal, so is the result
+    // normal, if the path is
     ensures normal { IfSome result (λ directory. IsNormalText (path_text path.entry)
         → IsNormalText (path_text directory)) }
 {

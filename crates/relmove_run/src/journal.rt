@@ -132,7 +132,7 @@ pub fn journal_text(
     stage: Stage,
     work: &Work,
 ) -> Result<String, AllocError>
-    // the text of the journal that `journal_bytes` defines
+    // the text that `journal_bytes` defines
     ensures text { IfOk result (λ text. string_bytes text ≡ journal_bytes origin stage work.now) }
 {
     let mut text = String::from_str(alloc, HEAD)?;
@@ -328,7 +328,7 @@ fn push_character(text: &mut String, character: char) -> Result<(), AllocError>
 pub fn journal_of(alloc: Global, text: &str) -> Result<Journal, Fault>
     // the journal's work is one that a run can have
     ensures of_run { IfOk result (λ journal. IsOfRun journal.work) }
-    // the text is exactly the one of the journal that is returned
+    // the text is exactly that of the journal
     ensures text { IfOk result (λ journal.
         text.now ≡ journal_bytes journal.origin journal.stage journal.work) }
     // a text written of a run is read as its journal, given memory

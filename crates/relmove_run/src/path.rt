@@ -8,7 +8,7 @@ use std::alloc::{AllocError, Global};
 ///
 /// Allocates it.
 pub fn join(alloc: Global, directory: &str, path: &str) -> Result<String, AllocError>
-    // the directory and the path, with a slash between where one is needed
+    // the directory, a slash where one is needed, and the path
     ensures path { IfOk result (λ full. string_bytes full ≡ path_below directory.now path.now) }
 {
     let mut full = String::from_str(alloc, directory)?;
@@ -21,7 +21,7 @@ pub fn join(alloc: Global, directory: &str, path: &str) -> Result<String, AllocE
 
 /// The directory in which a path is. The root is the empty path.
 pub fn directory_of(path: &str) -> &str
-    // the text before the last slash, or the empty text without one
+    // what is before the last slash, or nothing
     ensures directory { IsDirectoryOf result.now path.now }
 {
     match path.rsplit_once('/') {
@@ -32,7 +32,7 @@ pub fn directory_of(path: &str) -> &str
 
 /// The name at the end of a path.
 pub fn name_of(path: &str) -> &str
-    // the text after the last slash, or all of it without one
+    // what is after the last slash, or all
     ensures name { IsNameOf result.now path.now }
 {
     match path.rsplit_once('/') {

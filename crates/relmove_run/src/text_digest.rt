@@ -16,9 +16,9 @@ pub struct TextDigest {
 impl TextDigest {
     /// The digest of a text.
     pub fn of(text: &[u8]) -> TextDigest
-        // `length` is how many bytes the text has
+        // how many bytes the text has
         ensures length { result.length ≡ length text.now }
-        // `sha256` is the SHA-256 of the text
+        // the SHA-256 of the text
         ensures sha256 { result.sha256 ≡ sha256 text.now }
     {
         TextDigest {

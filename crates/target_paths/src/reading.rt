@@ -73,9 +73,9 @@ pub fn path_of_target(
     syntax: TargetSyntax,
     target: &str,
 ) -> Result<TargetReading, AllocError>
-    // the defined meaning: not a relative path, a path, or unknown, with the reason
+    // what the definition `meaning` says of the target
     ensures reading { IfOk result (Says (meaning syntax target.now)) }
-    // if a path is read, the target is a tail from `tail_at` on
+    // from `tail_at` on, a path's target is a tail
     ensures tail { IfOk result (λ reading. IfPath reading (λ _ tail_at. IsTailAt syntax target.now tail_at)) }
     // a path isn't empty and doesn't begin with a slash
     ensures relative { IfOk result (λ reading. IfPath reading (λ path _. BeginsRelative path)) }
