@@ -224,9 +224,9 @@ impl<'a> SiteMap<'a> {
     /// assert!(rt; site.href(alloc, 1, 0)?.is_some_and(|href| href.as_str() == "install"));
     /// ```
     pub fn href(&self, alloc: Global, from: usize, to: usize) -> Result<Option<String>, AllocError>
-        // needs the number of a page
+        // it has to be the number of a page
         requires from { from < length self.now }
-        // needs the number of a page
+        // it has to be the number of a page
         requires to { to < length self.now }
         // the target of the shortest path ending in `to`'s name or slash, or `None`
         ensures href { IfOk result (λ found. IsHref (page_at self.now from) (page_at self.now to)
@@ -234,7 +234,7 @@ impl<'a> SiteMap<'a> {
         // RFC 3986 resolves it from `from` to `to`, given places without NUL
         ensures resolves { IfOk result (λ found. IfSome found (λ href. Resolves (page_at self.now from)
             (page_at self.now to) (string_bytes href))) }
-        // no byte that ends a target, such as a space
+        // it has no byte that ends a target, such as a space or a quote
         ensures whole { IfOk result (λ found. IfSome found (λ href.
             list_any ends_target (string_bytes href) ≡ false)) }
         // the same for all spellings of both pages

@@ -189,9 +189,9 @@ impl PartialEq for NormalPath {
     ghost laws = { partial_equiv_from_equiv nat_list_eq_equiv };
 
     fn eq(&self, other: &Self) -> bool
-        // true exactly if the texts are equal
+        // whether the texts are equal
         ensures same { IsTrue result ↔ (self.now ≡ other.now) }
-        // true exactly if the paths are equivalent
+        // whether the paths are equivalent
         ensures leads { IsTrue result ↔ IsSame (components self.now) (components other.now) }
     {
         self.as_relative_path().as_str() == other.as_relative_path().as_str()

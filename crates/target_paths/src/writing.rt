@@ -187,7 +187,7 @@ pub fn target_of_path(alloc: Global, path: &str) -> Result<String, AllocError>
     // with a NUL, each syntax reads it as unknown
     ensures nul { list_any is_nul path.now ≡ true → IfOk result (λ target.
         IsTakenAs (string_bytes target) (unknown EncodedNul)) }
-    // no byte that ends a target, such as a space
+    // it has no byte that ends a target, such as a space or a quote
     ensures whole { IfOk result (λ target. list_any ends_target (string_bytes target) ≡ false) }
     // no `{` or `$` at the start, which may begin a template
     ensures start { IfOk result (λ target. begins_template (string_bytes target) ≡ false) }
