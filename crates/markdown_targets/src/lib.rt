@@ -50,8 +50,10 @@ use std::alloc::{AllocError, Global};
 /// assert_eq!(rt; found.targets[3].kind, TargetKind::Attribute(Quote::Single));
 /// ```
 pub fn link_targets(alloc: Global, page: &str) -> Result<LinkTargets, AllocError>
+    // spans of whole characters of the page, in order, without overlap
     ensures in_order { IfOk result (λ found.
         AreInOrder page.now 0 (map (λ target. target.span) found.targets.items)) }
+    // spans of whole characters of the page
     ensures passed_over { IfOk result (λ found.
         All (λ passed. IsSpanOf page.now passed.span) found.passed_over.items) }
 {

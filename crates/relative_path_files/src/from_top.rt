@@ -21,9 +21,12 @@ pub fn place_from_top(
     alloc: Global,
     path: RelativePath<'_>,
 ) -> Result<Option<RelativePathBuf>, AllocError>
+    // `None` exactly if the path climbs above the top
     ensures none { IfOk result (λ found. IsNone found ↔ (place_of (path_components path.entry) ≡ None)) }
+    // the names of where the path leads from the top, joined by slashes
     ensures some { IfOk result (λ found. IfSome found
         (λ place. SpellsPlace (path_components path.entry) place.text)) }
+    // it fails only for a path that doesn't climb
     ensures err { IfErr result (λ _. place_of (path_components path.entry) ≢ None) }
 {
     if path.climb() > 0 {

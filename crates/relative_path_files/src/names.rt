@@ -55,6 +55,7 @@ const FORKS: [&str; 1] = ["..namedfork"];
 /// assert!(rt; !is_plain_name("con.txt"));
 /// ```
 pub fn is_plain_name(name: &str) -> bool
+    // whether the name is plain
     ensures plain { IsTrue result ↔ IsPlainName name.now }
 {
     !is_unportable(name)
@@ -70,6 +71,7 @@ pub fn is_plain_name(name: &str) -> bool
 /// assert!(rt; !has_plain_names(RelativePath::new("a/nul/b")));
 /// ```
 pub fn has_plain_names(path: RelativePath<'_>) -> bool
+    // whether each name of the path is plain
     ensures plain { IsTrue result ↔ All (IfName IsPlainName) (path_components path.entry) }
 {
     !has_unportable_name(path)
@@ -90,6 +92,7 @@ pub fn has_plain_names(path: RelativePath<'_>) -> bool
 /// assert!(rt; !may_be_short_name("a~b"));
 /// ```
 pub fn may_be_short_name(name: &str) -> bool
+    // whether the name has the form of a short name, such as `PROGRA~1`
     ensures short { result ≡ is_like_short_name name.now }
 {
     let stem = before(name, '.');

@@ -42,6 +42,7 @@ pub enum RequestError {
 impl fmt::Display for RequestError {
     ghost use Rattle.relative_path_files.specs.Router.{request_error_text};
 
+    // an error prints its defined message
     ghost output = { λ error. Some (request_error_text error) };
 
     fn fmt<W: fmt::Write>(&self, f: &mut fmt::Formatter<W>) -> fmt::Result {
@@ -58,6 +59,7 @@ impl Error for RequestError {}
 impl From<AllocError> for RequestError {
     ghost use Rattle.relative_path_files.specs.declared.router.RequestError.TheVariants.{OutOfMemory};
 
+    // a failed allocation becomes `OutOfMemory`
     ghost from_gives = { λ _ error. error ≡ OutOfMemory };
 
     fn from(_: AllocError) -> RequestError {
@@ -103,11 +105,16 @@ pub fn resolve_request(
     root: &str,
     request: &str,
 ) -> Result<ResolvedRequest, RequestError>
+    // `path` is the root, then the names of where the request leads
     ensures path { IfOk result (λ found.
         IsBelowRoot root.now (components request.now) (string_bytes found.path)) }
+    // the names of where the request leads are plain
     ensures plain { IfOk result (λ _. HasPlainPlace (components request.now)) }
+    // `is_directory` exactly if the request ends in a slash or not in a name
     ensures directory { IfOk result (λ found. found.is_directory ≡ means_directory request.now) }
+    // `NotPlain` only if the request leads to a name that isn't plain
     ensures refused { IfErr result (IsRequestRefused (components request.now)) }
+    // `ClimbsAbove` exactly if the request climbs above the top
     ensures climbs { IsErrOf result RequestError.ClimbsAbove
         ↔ (place_of (components request.now) ≡ None) }
 {
@@ -143,10 +150,14 @@ pub fn resolve_request_on_unix(
     root: &str,
     request: &str,
 ) -> Result<ResolvedRequest, RequestError>
+    // `path` is the root, then the names of where the request leads
     ensures path { IfOk result (λ found.
         IsBelowRoot root.now (components request.now) (string_bytes found.path)) }
+    // `is_directory` exactly if the request ends in a slash or not in a name
     ensures directory { IfOk result (λ found. found.is_directory ≡ means_directory request.now) }
+    // the error is never `NotPlain`
     ensures refused { IfErr result (IsRequestRefusedOnUnix (components request.now)) }
+    // `ClimbsAbove` exactly if the request climbs above the top
     ensures climbs { IsErrOf result RequestError.ClimbsAbove
         ↔ (place_of (components request.now) ≡ None) }
 {

@@ -23,6 +23,7 @@ use target_paths::TargetSyntax;
 /// assert_eq!(rt; found.as_slice(), [link, image].as_slice());
 /// ```
 pub fn targets(alloc: Global, page: &str) -> Result<Vec<Target>, AllocError>
+    // spans of whole characters of the page, in order, without overlap
     ensures in_order { IfOk result (λ targets. HasTargets page.now 0 targets.items) }
 {
     let found = link_targets(alloc, page)?;

@@ -108,6 +108,7 @@ pub fn rewrite_links(
     moved: &MovedPage,
 ) -> Result<RewrittenPage, AllocError>
     requires { HasTargets page.now 0 targets.now }
+    // targets become what `IsRewritten` says, and other bytes stay
     ensures rewritten { IfOk result (λ new. IsRewritten (moving tree.now moved.now) page.now targets.now
         (string_bytes new.text) new.unchanged.items) }
 {

@@ -40,6 +40,7 @@ pub enum SiteMapError {
 impl fmt::Display for SiteMapError {
     ghost use Rattle.relative_path_links.specs.SiteMap.{site_map_error_text};
 
+    // an error prints its defined message
     ghost output = { λ refusal. Some (site_map_error_text refusal) };
 
     fn fmt<W: fmt::Write>(&self, f: &mut fmt::Formatter<W>) -> fmt::Result {
@@ -56,6 +57,7 @@ impl Error for SiteMapError {}
 impl From<AllocError> for SiteMapError {
     ghost use Rattle.relative_path_links.specs.declared.site_map.SiteMapError.TheVariants.{OutOfMemory};
 
+    // a failed allocation becomes `OutOfMemory`
     ghost from_gives = { λ _ refusal. refusal ≡ OutOfMemory };
 
     fn from(_: AllocError) -> SiteMapError {
@@ -66,6 +68,7 @@ impl From<AllocError> for SiteMapError {
 impl<T: Drop> From<AllocFailed<T>> for SiteMapError {
     ghost use Rattle.relative_path_links.specs.declared.site_map.SiteMapError.TheVariants.{OutOfMemory};
 
+    // a failed allocation becomes `OutOfMemory`
     ghost from_gives = { λ _ refusal. refusal ≡ OutOfMemory };
 
     fn from(_: AllocFailed<T>) -> SiteMapError {
@@ -89,10 +92,13 @@ pub struct SiteMap<'a> {
 }
 
 impl<'a> Model for SiteMap<'a> {
+    // contracts see a list of pages
     ghost Value = { List Page };
 
+    // the pages, by their components, and which are directories'
     ghost view = { λ site. map page_of site.pages.now };
 
+    // file names, plain names, and an index of the pages
     ghost invariant = { λ site. Indexes (paths_of (map page_of site.pages.now)) site.by_place
         × AreNamedPages (map page_of site.pages.now) × ArePlainPages (map page_of site.pages.now) };
 }
@@ -135,11 +141,16 @@ impl<'a> SiteMap<'a> {
     /// assert_eq!(rt; found, Some(1));
     /// ```
     pub fn new(alloc: Global, pages: &'a [RelativePath<'a>]) -> Result<SiteMap<'a>, SiteMapError>
+        // these pages, in order
         ensures pages { IfOk result (λ site. site ≡ map page_of pages.now) }
+        // each page has a file name
         ensures named { OnOk result (AreNamedPages (map page_of pages.now)) }
+        // each page's names are plain
         ensures plain { OnOk result (ArePlainPages (map page_of pages.now)) }
+        // `NoFileName` exactly for the first page that lacks a file name
         ensures no_file_name { (k : ℕ) → IsErrOf result (SiteMapError.NoFileName k)
             ↔ IsFirstNamelessPage (map page_of pages.now) k }
+        // `NotPlain` exactly for the first page that isn't plain, given file names
         ensures not_plain { (k : ℕ) → IsErrOf result (SiteMapError.NotPlain k)
             ↔ (AreNamedPages (map page_of pages.now) × IsFirstOtherPage (map page_of pages.now) k) }
     {
@@ -180,7 +191,9 @@ impl<'a> SiteMap<'a> {
     /// assert_eq!(rt; site.find(alloc, RelativePath::new("guide"))?, None);
     /// ```
     pub fn find(&self, alloc: Global, path: RelativePath<'_>) -> Result<Option<usize>, AllocError>
+        // the first page where the path leads, or `None`
         ensures found { IfOk result (IsFoundAt (paths_of self.now) (path_components path.entry)) }
+        // a path finds the same page exactly if it is equivalent
         ensures alike { IfOk result (λ found. (k : ℕ) → found ≡ Some k → (other : List Step)
             → IsFirstAt (paths_of self.now) other k ↔ IsSame (path_components path.entry) other) }
     {
@@ -211,14 +224,20 @@ impl<'a> SiteMap<'a> {
     /// assert!(rt; site.href(alloc, 1, 0)?.is_some_and(|href| href.as_str() == "install"));
     /// ```
     pub fn href(&self, alloc: Global, from: usize, to: usize) -> Result<Option<String>, AllocError>
+        // it has to be the number of a page
         requires from { from < length self.now }
+        // it has to be the number of a page
         requires to { to < length self.now }
+        // the target of the shortest path ending in `to`'s name or slash, or `None`
         ensures href { IfOk result (λ found. IsHref (page_at self.now from) (page_at self.now to)
             (option_map string_bytes found)) }
+        // RFC 3986 resolves it from `from` to `to`, given places without NUL
         ensures resolves { IfOk result (λ found. IfSome found (λ href. Resolves (page_at self.now from)
             (page_at self.now to) (string_bytes href))) }
+        // it has no byte that ends a target, such as a space or a quote
         ensures whole { IfOk result (λ found. IfSome found (λ href.
             list_any ends_target (string_bytes href) ≡ false)) }
+        // the same for all spellings of both pages
         ensures alike { IfOk result (λ found. (page other : Page)
             → IsSamePage (page_at self.now from) page → IsSamePage (page_at self.now to) other
             → IsHref page other (option_map string_bytes found)) }

@@ -29,6 +29,7 @@ pub fn manifest_clash(
     alloc: Global,
     files: &[RelativePathBuf],
 ) -> Result<Option<(usize, usize)>, AllocError>
+    // the first repeat of a file, ignoring ASCII case, with that file, or `None`
     ensures clash { IfOk result (IsClashOf (map file_text files.now)) }
 {
     let mut index = BTreeMap::new(alloc);

@@ -49,6 +49,7 @@ impl ManifestError {
     /// assert_eq!(rt; ManifestError::NoBase.entry(), None);
     /// ```
     pub fn entry(self) -> Option<usize>
+        // the number of the error's entry, or `None`
         ensures number { result ≡ entry_of self }
     {
         match self {
@@ -76,6 +77,7 @@ impl ManifestError {
     /// }
     /// ```
     pub fn entry_text(self, manifest: &Value) -> Option<&str>
+        // the text of the error's entry in the manifest, or `None`
         ensures text { option_map (λ text. text.now) result
             ≡ option_and_then (entry_text (view manifest.now)) (entry_of self) }
     {
@@ -87,6 +89,7 @@ impl ManifestError {
 impl fmt::Display for ManifestError {
     ghost use Rattle.relative_path_manifest.specs.Manifest.{manifest_error_text};
 
+    // an error prints its defined message
     ghost output = { λ refusal. Some (manifest_error_text refusal) };
 
     fn fmt<W: fmt::Write>(&self, f: &mut fmt::Formatter<W>) -> fmt::Result {
@@ -108,6 +111,7 @@ impl Error for ManifestError {}
 impl From<AllocError> for ManifestError {
     ghost use Rattle.relative_path_manifest.specs.declared.manifest.ManifestError.TheVariants.{OutOfMemory};
 
+    // a failed allocation becomes `OutOfMemory`
     ghost from_gives = { λ _ refusal. refusal ≡ OutOfMemory };
 
     fn from(_: AllocError) -> ManifestError {
@@ -118,6 +122,7 @@ impl From<AllocError> for ManifestError {
 impl<T: Drop> From<AllocFailed<T>> for ManifestError {
     ghost use Rattle.relative_path_manifest.specs.declared.manifest.ManifestError.TheVariants.{OutOfMemory};
 
+    // a failed allocation becomes `OutOfMemory`
     ghost from_gives = { λ _ refusal. refusal ≡ OutOfMemory };
 
     fn from(_: AllocFailed<T>) -> ManifestError {
@@ -155,6 +160,7 @@ impl NameRule {
 /// assert!(rt; manifest_base(&manifest).is_some_and(|base| base.climb() > 0));
 /// ```
 pub fn manifest_base(manifest: &Value) -> Option<RelativePath<'_>>
+    // the text of the member `base`, or `None`
     ensures base { option_map path_text result ≡ base_member (view manifest.now) }
 {
     let base = manifest.get("base").and_then(Value::as_str);
@@ -190,12 +196,17 @@ pub fn manifest_files(
     alloc: Global,
     manifest: &Value,
 ) -> Result<Vec<RelativePathBuf>, ManifestError>
+    // each entry's normal path, which leads below `base` by plain names
     ensures files { IfOk result
         (λ files. OfManifest (view manifest.now) (AreFiles IsPlainName (map file_text files.items))) }
+    // numbered errors give the first entry without a file, and why
     ensures refused { IfErr result (IsRefusedManifest IsPlainName (view manifest.now)) }
+    // `NoBase` exactly if the member `base` isn't a string
     ensures no_base { IsErrOf result ManifestError.NoBase ↔ (base_member (view manifest.now) ≡ None) }
+    // `NoFiles` exactly if `base` is a string and `files` isn't a list
     ensures no_files { IsErrOf result ManifestError.NoFiles
         ↔ (base_member (view manifest.now) ≢ None) × (entries_of (view manifest.now) ≡ None) }
+    // `BaseNotPlain` exactly if both are there and a name of `base` isn't plain
     ensures base_not_plain { IsErrOf result ManifestError.BaseNotPlain
         ↔ OfManifest (view manifest.now) (HasOtherBase IsPlainName) }
 {
@@ -219,10 +230,14 @@ pub fn manifest_files_on_unix(
     alloc: Global,
     manifest: &Value,
 ) -> Result<Vec<RelativePathBuf>, ManifestError>
+    // each entry's normal path, which leads below `base`
     ensures files { IfOk result
         (λ files. OfManifest (view manifest.now) (AreFiles IsAnyName (map file_text files.items))) }
+    // numbered errors give the first entry without a file, and why
     ensures refused { IfErr result (IsRefusedManifest IsAnyName (view manifest.now)) }
+    // `NoBase` exactly if the member `base` isn't a string
     ensures no_base { IsErrOf result ManifestError.NoBase ↔ (base_member (view manifest.now) ≡ None) }
+    // `NoFiles` exactly if `base` is a string and `files` isn't a list
     ensures no_files { IsErrOf result ManifestError.NoFiles
         ↔ (base_member (view manifest.now) ≢ None) × (entries_of (view manifest.now) ≡ None) }
 {

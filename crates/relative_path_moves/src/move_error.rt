@@ -26,6 +26,7 @@ pub enum MoveTableError {
 }
 
 impl fmt::Display for MoveTableError {
+    // an error prints its defined message
     ghost output = { λ refusal. Some (refusal_text (of_moves refusal)) };
 
     fn fmt<W: fmt::Write>(&self, f: &mut fmt::Formatter<W>) -> fmt::Result {
@@ -38,6 +39,7 @@ impl Error for MoveTableError {}
 impl From<AllocError> for MoveTableError {
     ghost use Rattle.relative_path_moves.specs.declared.move_error.MoveTableError.TheVariants.{OutOfMemory};
 
+    // a failed allocation becomes `OutOfMemory`
     ghost from_gives = { λ _ refusal. refusal ≡ OutOfMemory };
 
     fn from(_: AllocError) -> MoveTableError {
@@ -62,6 +64,7 @@ pub enum ReferenceError {
 }
 
 impl fmt::Display for ReferenceError {
+    // an error prints its defined message
     ghost output = { λ refusal. Some (refusal_text (of_reference refusal)) };
 
     fn fmt<W: fmt::Write>(&self, f: &mut fmt::Formatter<W>) -> fmt::Result {
@@ -74,6 +77,7 @@ impl Error for ReferenceError {}
 impl From<AllocError> for ReferenceError {
     ghost use Rattle.relative_path_moves.specs.declared.move_error.ReferenceError.TheVariants.{OutOfMemory};
 
+    // a failed allocation becomes `OutOfMemory`
     ghost from_gives = { λ _ refusal. refusal ≡ OutOfMemory };
 
     fn from(_: AllocError) -> ReferenceError {
@@ -103,6 +107,7 @@ pub enum MoveError {
 }
 
 impl fmt::Display for MoveError {
+    // an error prints its defined message
     ghost output = { λ refusal. Some (refusal_text refusal) };
 
     fn fmt<W: fmt::Write>(&self, f: &mut fmt::Formatter<W>) -> fmt::Result {
@@ -121,6 +126,7 @@ impl Error for MoveError {}
 impl From<AllocError> for MoveError {
     ghost use Rattle.relative_path_moves.specs.declared.move_error.MoveError.TheVariants.{OutOfMemory};
 
+    // a failed allocation becomes `OutOfMemory`
     ghost from_gives = { λ _ refusal. refusal ≡ OutOfMemory };
 
     fn from(_: AllocError) -> MoveError {
@@ -129,6 +135,7 @@ impl From<AllocError> for MoveError {
 }
 
 impl From<MoveTableError> for MoveError {
+    // the same error as a `MoveError`
     ghost from_gives = { λ error refusal. refusal ≡ of_moves error };
 
     fn from(error: MoveTableError) -> MoveError {
@@ -141,6 +148,7 @@ impl From<MoveTableError> for MoveError {
 }
 
 impl From<ReferenceError> for MoveError {
+    // the same error as a `MoveError`
     ghost from_gives = { λ error refusal. refusal ≡ of_reference error };
 
     fn from(error: ReferenceError) -> MoveError {

@@ -98,10 +98,13 @@ pub struct MoveTable<'a> {
 }
 
 impl<'a> Model for MoveTable<'a> {
+    // contracts see a list of moves
     ghost Value = { List Move };
 
+    // the moves, by the components of their paths
     ghost view = { λ table. moves_of table.moves.now };
 
+    // file names, no two equivalent old paths, and an index of these
     ghost invariant = { λ table. IsSound (moves_of table.moves.now) table.by_old };
 }
 
@@ -122,13 +125,19 @@ impl<'a> MoveTable<'a> {
         alloc: Global,
         moves: &'a [(RelativePath<'a>, RelativePath<'a>)],
     ) -> Result<MoveTable<'a>, MoveTableError>
+        // these moves, in order
         ensures moves { IfOk result (λ table. table ≡ moves_of moves.now) }
+        // each path has a file name
         ensures named { OnOk result (AreNamed (moves_of moves.now)) }
+        // no two old paths are equivalent
         ensures apart { OnOk result (AreApart (moves_of moves.now)) }
+        // `NoFileName` exactly for the first move that lacks a file name
         ensures no_file_name { (k : ℕ) → IsErrOf result (MoveTableError.NoFileName k)
             ↔ IsFirstNameless (moves_of moves.now) k }
+        // `SameOld` exactly for the first two equivalent old paths, given file names and memory
         ensures same_old { (j k : ℕ) → Refuses result (MoveTableError.SameOld j k) MoveTableError.OutOfMemory
             (AreNamed (moves_of moves.now) × IsFirstPair (moves_of moves.now) j k) }
+        // `OutOfMemory` only if each path has a file name
         ensures out_of_memory { IsErrOf result MoveTableError.OutOfMemory → AreNamed (moves_of moves.now) }
     {
         if let Some(k) = first_nameless(moves) {
@@ -179,10 +188,13 @@ impl<'a> MoveTable<'a> {
         reference: RelativePath<'_>,
     ) -> Result<RelativePathBuf, ReferenceError>
         requires { i < length self.now }
+        // `AboveRoot` exactly for a target above the root, given memory
         ensures above_root { Refuses result ReferenceError.AboveRoot ReferenceError.OutOfMemory
             (ForTarget self.now i (path_components reference.entry) ClimbsAbove) }
+        // `NoPath` exactly for an unreachable target in the root, given memory
         ensures no_path { Refuses result ReferenceError.NoPath ReferenceError.OutOfMemory
             (ForTarget self.now i (path_components reference.entry) (BelowTop (IsBeyond self.now i))) }
+        // the shortest path from the new directory to the target
         ensures shortest { IfOk result (λ way.
             ForTarget self.now i (path_components reference.entry)
             (BelowTop (IsMovedText self.now i way.text))) }
@@ -221,15 +233,19 @@ impl<'a> MoveTable<'a> {
         page: RelativePath<'_>,
         reference: RelativePath<'_>,
     ) -> Result<Option<RelativePathBuf>, ReferenceError>
+        // `AboveRoot` exactly for a target above the root, given memory
         ensures above_root { Refuses result ReferenceError.AboveRoot ReferenceError.OutOfMemory
             (ForTargetOfLink self.now (path_components page.entry) (path_components reference.entry)
             (λ _. ClimbsAbove)) }
+        // `NoPath` exactly for an unreachable target in the root, given memory
         ensures no_path { Refuses result ReferenceError.NoPath ReferenceError.OutOfMemory
             (ForTargetOfLink self.now (path_components page.entry) (path_components reference.entry)
             (λ directory. BelowTop (λ target. ¬ IsReachable directory target))) }
+        // `None` exactly if the reference still leads to its target
         ensures stays { IfOk result (λ way. IsNone way
             ↔ ForTargetOfLink self.now (path_components page.entry) (path_components reference.entry)
             (λ directory. Leads directory (path_components reference.entry))) }
+        // the shortest path from the new directory to the target
         ensures shortest { IfOk result (λ way. IfSome way (λ way.
             ForTargetOfLink self.now (path_components page.entry) (path_components reference.entry)
             (λ directory. BelowTop (λ target. IsShortestText directory target way.text)))) }
@@ -261,8 +277,10 @@ impl<'a> MoveTable<'a> {
     /// assert_eq!(rt; table.same_new(alloc)?, None);
     /// ```
     pub fn same_new(&self, alloc: Global) -> Result<Option<(usize, usize)>, AllocError>
+        // `None` exactly if no pair collides
         ensures none { IfOk result (λ found. IsNone found
             ↔ HoldsNowhere (CollideAt (news_of self.now))) }
+        // the lexicographically least pair that collides
         ensures first { (j k : ℕ) → IfOk result (λ found. (found ≡ Some (j, k))
             ↔ IsLeastPair (CollideAt (news_of self.now)) j k) }
     {
@@ -299,8 +317,10 @@ impl<'a> MoveTable<'a> {
         alloc: Global,
         files: &[RelativePath<'_>],
     ) -> Result<Option<(usize, usize)>, AllocError>
+        // `None` exactly if no pair collides
         ensures none { IfOk result (λ found. IsNone found
             ↔ HoldsNowhere (CollideWithFile self.now (map path_components files.now))) }
+        // the lexicographically least pair that collides
         ensures first { (k f : ℕ) → IfOk result (λ found. (found ≡ Some (k, f))
             ↔ IsLeastPair (CollideWithFile self.now (map path_components files.now)) k f) }
     {
@@ -378,8 +398,10 @@ impl<'a> MoveTable<'a> {
         alloc: Global,
         file: RelativePath<'b>,
     ) -> Result<RelativePath<'b>, AllocError>
+        // the components of the file's path after the moves
         ensures target { IfOk result (λ now. (target : List Step)
             → IsTarget self.now (path_components file.entry) target ↔ (target ≡ path_components now)) }
+        // a file that doesn't move keeps the text of its path
         ensures kept { IfOk result (λ now. IsUnmoved self.now (path_components file.entry)
             → path_text now ≡ path_text file.entry) }
     {

@@ -34,10 +34,13 @@ pub struct NormalPath {
 }
 
 impl Model for NormalPath {
+    // contracts see a text
     ghost Value = { List ℕ };
 
+    // the text of the path
     ghost view = { λ normal. normal.path.text };
 
+    // the text is normal
     ghost invariant = { λ normal. IsNormalText normal.path.text };
 }
 
@@ -121,7 +124,9 @@ impl NormalPath {
     /// assert_eq!(rt; page.directory().as_str(), "docs");
     /// ```
     pub fn directory(&self) -> RelativePath<'_>
+        // all components before the last that isn't `.`
         ensures components { path_components result ≡ directory (components self.now) }
+        // the shortest prefix of the text with these components
         ensures text { IsPopped self.now (path_text result) }
     {
         directory(self.as_relative_path())
@@ -147,7 +152,9 @@ impl NormalPath {
     /// assert_eq!(rt; path.as_relative_path().as_str(), "a/b");
     /// ```
     pub fn as_relative_path(&self) -> RelativePath<'_>
+        // the same text
         ensures text { path_text result ≡ self.now }
+        // the text is normal
         ensures normal { IsNormalText self.now }
     {
         self.path.as_relative_path()
@@ -160,7 +167,9 @@ impl NormalPath {
     /// assert_eq!(rt; path.as_relative_path().as_str(), "a");
     /// ```
     pub fn into_relative_path_buf(self) -> RelativePathBuf
+        // the same text
         ensures text { result.text ≡ self }
+        // the text is normal
         ensures normal { IsNormalText self }
     {
         self.path
@@ -174,12 +183,15 @@ impl NormalPath {
 /// assert!(rt; NormalPath::of(alloc, one)? == NormalPath::of(alloc, other)?);
 /// ```
 impl PartialEq for NormalPath {
+    // texts are compared byte by byte
     ghost eq = { pointwise nat_eq };
 
     ghost laws = { partial_equiv_from_equiv nat_list_eq_equiv };
 
     fn eq(&self, other: &Self) -> bool
+        // whether the texts are equal
         ensures same { IsTrue result ↔ (self.now ≡ other.now) }
+        // whether the paths are equivalent
         ensures leads { IsTrue result ↔ IsSame (components self.now) (components other.now) }
     {
         self.as_relative_path().as_str() == other.as_relative_path().as_str()
@@ -191,6 +203,7 @@ impl Eq for NormalPath {
 }
 
 impl fmt::Debug for NormalPath {
+    // the debug form of the text, if that is ASCII
     ghost debug_output = { debug_str };
 
     fn fmt<W: fmt::Write>(&self, f: &mut fmt::Formatter<W>) -> fmt::Result {

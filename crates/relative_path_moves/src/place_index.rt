@@ -63,12 +63,15 @@ impl PlaceIndex {
         path: RelativePath<'_>,
         number: usize,
     ) -> Result<usize, AllocError>
+        // the index has this path too, if `number` counts those before
         ensures indexes { OnOk result ((paths : List (List Step))
             → Indexes paths self.old → length paths ≡ number
             → Indexes (paths ++ path_components path.entry ∷ []) self.new) }
+        // the number of the first equivalent path, if `number` counts those before
         ensures first { IfOk result (λ first. (paths : List (List Step))
             → Indexes paths self.old → length paths ≡ number
             → IsFirstAt (paths ++ path_components path.entry ∷ []) (path_components path.entry) first) }
+        // after an error the index has the same paths
         ensures err { OnErr result ((paths : List (List Step))
             → Indexes paths self.old → Indexes paths self.new) }
     {
@@ -86,8 +89,10 @@ impl PlaceIndex {
     /// assert_eq!(rt; index.get(&path), Some(0));
     /// ```
     pub fn get(&self, path: &NormalPath) -> Option<usize>
+        // the number of the first equivalent path, or `None`
         ensures found { (paths : List (List Step)) (cs : List Step) → Indexes paths self.now
             → IsSame cs (components path.now) → IsFoundAt paths cs result }
+        // the number is less than how many paths there are
         ensures within { IfSome result (λ k. (paths : List (List Step)) → Indexes paths self.now
             → k < length paths) }
     {

@@ -52,18 +52,24 @@ pub fn moved(
     reference: RelativePath<'_>,
 ) -> Result<RelativePathBuf, MoveError>
     requires { i < length moves.now }
+    // `NoFileName` exactly for the first move that lacks a file name
     ensures no_file_name { (k : ℕ) → IsErrOf result (MoveError.NoFileName k)
         ↔ IsFirstNameless (moves_of moves.now) k }
+    // `SameOld` exactly for the first two equivalent old paths, given file names and memory
     ensures same_old { (j k : ℕ) → Refuses result (MoveError.SameOld j k) MoveError.OutOfMemory
         (AreNamed (moves_of moves.now) × IsFirstPair (moves_of moves.now) j k) }
+    // `AboveRoot` exactly for a target above the root, given a table and memory
     ensures above_root { Refuses result MoveError.AboveRoot MoveError.OutOfMemory
         (AreNamed (moves_of moves.now) × AreApart (moves_of moves.now)
         × ForTarget (moves_of moves.now) i (path_components reference.entry) ClimbsAbove) }
+    // `NoPath` exactly for an unreachable target in the root, given a table and memory
     ensures no_path { Refuses result MoveError.NoPath MoveError.OutOfMemory
         (AreNamed (moves_of moves.now) × AreApart (moves_of moves.now)
         × ForTarget (moves_of moves.now) i (path_components reference.entry)
         (BelowTop (IsBeyond (moves_of moves.now) i))) }
+    // `OutOfMemory` only if each path has a file name
     ensures out_of_memory { IsErrOf result MoveError.OutOfMemory → AreNamed (moves_of moves.now) }
+    // the shortest path from the new directory to the target
     ensures shortest { IfOk result (λ way. AreNamed (moves_of moves.now)
         × AreApart (moves_of moves.now)
         × ForTarget (moves_of moves.now) i (path_components reference.entry)

@@ -62,10 +62,13 @@ pub struct TreeMoves<'a> {
 }
 
 impl<'a> Model for TreeMoves<'a> {
+    // contracts see a list of moves
     ghost Value = { List Move };
 
+    // the moves, by the components of their paths
     ghost view = { λ tree. tree.table };
 
+    // file names, no two equivalent old paths, and normalised new paths
     ghost invariant = { λ tree. IsSoundTree tree.table tree.news.items };
 }
 
@@ -98,13 +101,19 @@ impl<'a> TreeMoves<'a> {
         alloc: Global,
         moves: &'a [(RelativePath<'a>, RelativePath<'a>)],
     ) -> Result<TreeMoves<'a>, MoveTableError>
+        // these moves, in order
         ensures moves { IfOk result (λ tree. tree ≡ moves_of moves.now) }
+        // each path has a file name
         ensures named { OnOk result (AreNamed (moves_of moves.now)) }
+        // no two old paths are equivalent
         ensures apart { OnOk result (AreApart (moves_of moves.now)) }
+        // `NoFileName` exactly for the first move that lacks a file name
         ensures no_file_name { (k : ℕ) → IsErrOf result (MoveTableError.NoFileName k)
             ↔ IsFirstNameless (moves_of moves.now) k }
+        // `SameOld` exactly for the first two equivalent old paths, given file names and memory
         ensures same_old { (j k : ℕ) → Refuses result (MoveTableError.SameOld j k) MoveTableError.OutOfMemory
             (AreNamed (moves_of moves.now) × IsFirstPair (moves_of moves.now) j k) }
+        // `OutOfMemory` only if each path has a file name
         ensures out_of_memory { IsErrOf result MoveTableError.OutOfMemory → AreNamed (moves_of moves.now) }
     {
         match MoveTable::new(alloc, moves) {
@@ -171,8 +180,10 @@ impl<'a> TreeMoves<'a> {
     /// assert_eq!(rt; page.after.as_relative_path().as_str(), "guide/sub");
     /// ```
     pub fn moved_page(&self, alloc: Global, page: RelativePath<'_>) -> Result<MovedPage, AllocError>
+        // `before` is the page's normal directory before the moves
         ensures before { IfOk result
             (λ moved. IsNormalTextOf (directory (path_components page.entry)) moved.before) }
+        // `path` and `after` are the page's normal path and directory after the moves
         ensures after { IfOk result (λ moved. AtTreePath self.now (path_components page.entry)
             (λ now. IsNormalTextOf now moved.path × IsNormalTextOf (directory now) moved.after)) }
     {
@@ -232,17 +243,21 @@ impl<'a> TreeMoves<'a> {
         page: &MovedPage,
         reference: RelativePath<'_>,
     ) -> Result<Option<RelativePathBuf>, ReferenceError>
+        // `None` only if the reference still leads to its target
         ensures stays { IfOk result (λ way. IsNone way
             → AtTreeTarget self.now (components page.now.before) (path_components reference.entry)
             (λ target. Leads (components page.now.after) (path_components reference.entry) target)) }
+        // the shortest path to the target, where the reference no longer leads
         ensures shortest { IfOk result (λ way. IfSome way (λ way.
             AtTreeTarget self.now (components page.now.before) (path_components reference.entry)
             (λ target. (¬ Leads (components page.now.after) (path_components reference.entry) target)
             × BelowTop (λ target. IsShortestText (components page.now.after) target way.text) target))) }
+        // `AboveRoot` only for a target above the root, where the reference no longer leads
         ensures above_root { IsErrOf result ReferenceError.AboveRoot
             → AtTreeTarget self.now (components page.now.before) (path_components reference.entry)
             (λ target. (¬ Leads (components page.now.after) (path_components reference.entry) target)
             × ClimbsAbove target) }
+        // `NoPath` only for an unreachable target in the root
         ensures no_path { IsErrOf result ReferenceError.NoPath
             → AtTreeTarget self.now (components page.now.before) (path_components reference.entry)
             (λ target. (¬ Leads (components page.now.after) (path_components reference.entry) target)
@@ -283,8 +298,10 @@ impl<'a> TreeMoves<'a> {
         alloc: Global,
         files: &[RelativePath<'_>],
     ) -> Result<Option<(usize, usize)>, AllocError>
+        // `None` exactly if no pair collides
         ensures none { IfOk result (λ found. IsNone found
             ↔ HoldsNowhere (CollideAfter self.now (map path_components files.now))) }
+        // the lexicographically least pair that collides
         ensures first { (j k : ℕ) → IfOk result (λ found. (found ≡ Some (j, k))
             ↔ IsLeastPair (CollideAfter self.now (map path_components files.now)) j k) }
     {

@@ -8,9 +8,11 @@ use relative_path::RelativePath;
 
 /// Returns the path of the directory above a path. `None` if the path has no more than one component.
 pub fn directory_above<'a>(path: RelativePath<'a>) -> Option<RelativePath<'a>>
+    // all components but the last, or `None` exactly if none is left
     ensures front { MatchOption result (length (path_components path.entry) ≤ 1)
         (λ directory. (path_components directory ≢ [])
         × ((last : Step) × (path_components path.entry ≡ path_components directory ++ last ∷ []))) }
+    // normal, if the path is
     ensures normal { IfSome result (λ directory. IsNormalText (path_text path.entry)
         → IsNormalText (path_text directory)) }
 {

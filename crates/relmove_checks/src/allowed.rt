@@ -28,8 +28,11 @@ pub fn leaving_table<'a>(
     any_name: bool,
 ) -> Result<TreeMoves<'a>, Refusal>
     requires { Indexes (entry_paths entries.now) index.now }
+    // the table of the moves
     ensures table { IfOk result (λ tree. tree ≡ moves_of moves.now) }
+    // paths are allowed, old paths differ, and entries there may move
     ensures fine { OnOk result (MayLeave entries.now (moves_of moves.now) any_name) }
+    // refusals but `OutOfMemory` are of the first failed check, and its first move or entry
     ensures refused { IfErr result (IsRefused entries.now (moves_of moves.now) any_name) }
 {
     check_paths(alloc, moves, any_name)?;
@@ -68,13 +71,19 @@ pub fn coming_index(
     table: &TreeMoves<'_>,
     moves: &[(RelativePath<'_>, RelativePath<'_>)],
 ) -> Result<PlaceIndex, Refusal>
+    // it has to have the paths of the entries, by number
     requires index { Indexes (entry_paths entries.now) index.now }
+    // it has to be the table of the moves
     requires table { table.now ≡ moves_of moves.now }
+    // each path has to have a file name
     requires named { AreNamed (moves_of moves.now) }
+    // moves that passed `leaving_table` pass each check but `NoFreeName`
     ensures fine { OnOk result ((any_name : Bool) → MayLeave entries.now (moves_of moves.now) any_name
         → IsAccepted entries.now (moves_of moves.now) any_name) }
+    // the paths of the entries after the moves, by number
     ensures index { IfOk result (λ index. (after : List (List ℕ)) × AreAfter (moves_of moves.now) entries.now after
         × Indexes (map components after) index) }
+    // as of `leaving_table`, for moves that passed it
     ensures refused { IfErr result (IsRefusedThere entries.now (moves_of moves.now)) }
 {
     check_turned(alloc, moves)?;

@@ -84,6 +84,7 @@ impl From<AllocError> for Refusal {
     ghost use Rattle.std.specs.Prelude.{◌≡◌};
     ghost use Rattle.relmove_checks.specs.declared.refusal.Refusal.TheVariants.{OutOfMemory};
 
+    // a failed allocation becomes `OutOfMemory`
     ghost from_gives = { λ _ refusal. refusal ≡ OutOfMemory };
 
     fn from(_: AllocError) -> Refusal {
@@ -95,6 +96,7 @@ impl<T: Drop> From<AllocFailed<T>> for Refusal {
     ghost use Rattle.std.specs.Prelude.{◌≡◌};
     ghost use Rattle.relmove_checks.specs.declared.refusal.Refusal.TheVariants.{OutOfMemory};
 
+    // a failed allocation becomes `OutOfMemory`
     ghost from_gives = { λ _ refusal. refusal ≡ OutOfMemory };
 
     fn from(_: AllocFailed<T>) -> Refusal {

@@ -55,51 +55,74 @@ pub fn make_plan(
     any_name: bool,
 ) -> Result<Plan, Refusal>
     requires { HaveTargets tree.pages.now }
+    // each relative link still leads to its file, query and fragment kept, or is reported
     ensures links { IfOk result
         (λ plan. KeepTheirLinks (moves_of moves.now) tree.entry.pages.now plan.pages.items) }
+    // exactly the pages whose new text differs, in order
     ensures changed { IfOk result (λ plan. map (λ page. page.number) plan.changed.items
         ≡ changed_from 0 tree.entry.pages.now plan.pages.items) }
+    // the moves pass each check but `NoFreeName`
     ensures accepted { OnOk result (IsAccepted tree.entry.entries.now (moves_of moves.now) any_name) }
+    // what is below a path comes before it
     ensures apart { IfOk result
         (λ plan. BelowFirst (map (λ step. string_bytes step.from) plan.steps.apart.items)) }
+    // what is below a path comes after it
     ensures together { IfOk result
         (λ plan. AboveFirst (map (λ step. string_bytes step.to) plan.steps.together.items)) }
+    // what leaves to a name in between comes from there or is removed, once
     ensures kept { IfOk result (λ plan. LosesNothing (step_texts plan.steps)) }
+    // what moves comes to its new path, changed pages aside
     ensures moved { IfOk result (λ plan. EachMove
         (DoesMove (changed_paths tree.entry.pages.now plan.changed.items) (step_texts plan.steps))
         (moves_of moves.now)) }
+    // each changed page's new text comes by a new file to the page's new path
     ensures replaced { IfOk result (λ plan. ReplacesPages tree.entry.pages.now plan.pages.items
         plan.changed.items (step_texts plan.steps)) }
+    // each changed page's old text goes to a name in between, and is removed
     ensures removed { IfOk result (λ plan. All (RemovesAt (step_texts plan.steps))
         (changed_paths tree.entry.pages.now plan.changed.items)) }
+    // what is below a path comes before it
     ensures emptied { IfOk result (λ plan. BelowFirst (map string_bytes plan.steps.emptied.items)) }
+    // `emptied` has only directories above old paths, where they are after the moves
     ensures left { IfOk result
         (λ plan. AreLeftByMoves (moves_of moves.now) (moves_of moves.now) plan.steps.emptied.items) }
+    // nothing leaves but from old paths, changed pages and the files of new texts
     ensures only { IfOk result (λ plan. OnlyTheseLeave (moves_of moves.now)
         (changed_paths tree.entry.pages.now plan.changed.items) (step_texts plan.steps)) }
+    // names in between are `.relmove-` and a number, all different, and no entry has one
     ensures names { IfOk result
         (λ plan. AreFreeNames (entry_paths tree.entry.entries.now) (names_left (step_texts plan.steps))) }
+    // new texts are written of exactly the changed pages, one for each, in order
     ensures texts { IfOk result (λ plan. WritesPages
         (changed_paths tree.entry.pages.now plan.changed.items) (step_texts plan.steps)) }
+    // in a whole tree nothing leaves a path twice
     ensures once { IfOk result (λ plan. IsWhole tree.entry.entries.now (page_paths tree.entry.pages.now)
         → LeaveOnce (step_texts plan.steps)) }
+    // each new text has its own file, in the page's directory, where no entry is
     ensures files { IfOk result (λ plan. HaveOwnFiles (entry_paths tree.entry.entries.now)
         (changed_paths tree.entry.pages.now plan.changed.items) (step_texts plan.steps)) }
+    // in a whole tree entries come where the moves take them, changed pages aside
     ensures entries_arrive { IfOk result (λ plan. IsWhole tree.entry.entries.now (page_paths tree.entry.pages.now)
         → EntriesArrive (moves_of moves.now) tree.entry.entries.now
         (changed_paths tree.entry.pages.now plan.changed.items) (step_texts plan.steps)) }
+    // in a whole tree new texts come where the moves take their pages
     ensures texts_arrive { IfOk result (λ plan. IsWhole tree.entry.entries.now (page_paths tree.entry.pages.now)
         → TextsArrive (moves_of moves.now) tree.entry.pages.now plan.pages.items plan.changed.items
         (step_texts plan.steps)) }
+    // in a whole tree each rename leads from something to where nothing is
     ensures clear { IfOk result (λ plan. IsWhole tree.entry.entries.now (page_paths tree.entry.pages.now)
         → NothingInTheWay tree.entry.entries.now (step_texts plan.steps)) }
+    // in a whole tree each directory missing above new paths is made, and comes there
     ensures made { IfOk result (λ plan. IsWhole tree.entry.entries.now (page_paths tree.entry.pages.now)
         → MakesDirectories (moves_of moves.now) tree.entry.entries.now (step_texts plan.steps)
         (map string_bytes plan.steps.made.items)) }
+    // in a whole tree directories are made where nothing is, in ones that are there
     ensures can_make { IfOk result (λ plan. IsWhole tree.entry.entries.now (page_paths tree.entry.pages.now)
         → CanBeMade tree.entry.entries.now (step_texts plan.steps) (map string_bytes plan.steps.made.items)) }
+    // in a whole tree `together` leads to where nothing is, in directories that are there
     ensures can_come { IfOk result (λ plan. IsWhole tree.entry.entries.now (page_paths tree.entry.pages.now)
         → CanCome tree.entry.entries.now (step_texts plan.steps) (map string_bytes plan.steps.made.items)) }
+    // refusals but `OutOfMemory` are of the first failed check, and its first move or entry
     ensures refused { IfErr result (IsRefused tree.entry.entries.now (moves_of moves.now) any_name) }
 {
     let index = entry_index(alloc, tree.entries)?;

@@ -260,6 +260,7 @@ fn words_alone(fault: &Fault) -> &'static str {
 impl Error for Fault {}
 
 impl From<AllocError> for Fault {
+    // a failed allocation becomes `OutOfMemory`
     ghost from_gives = { λ _ fault. fault ≡ OutOfMemory };
 
     fn from(_: AllocError) -> Fault {
@@ -268,6 +269,7 @@ impl From<AllocError> for Fault {
 }
 
 impl<T: Drop> From<AllocFailed<T>> for Fault {
+    // a failed allocation becomes `OutOfMemory`
     ghost from_gives = { λ _ fault. fault ≡ OutOfMemory };
 
     fn from(_: AllocFailed<T>) -> Fault {

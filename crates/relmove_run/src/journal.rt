@@ -132,6 +132,7 @@ pub fn journal_text(
     stage: Stage,
     work: &Work,
 ) -> Result<String, AllocError>
+    // the text that `journal_bytes` defines
     ensures text { IfOk result (λ text. string_bytes text ≡ journal_bytes origin stage work.now) }
 {
     let mut text = String::from_str(alloc, HEAD)?;
@@ -325,9 +326,12 @@ fn push_character(text: &mut String, character: char) -> Result<(), AllocError>
 ///
 /// Allocates the journal, and its text once more.
 pub fn journal_of(alloc: Global, text: &str) -> Result<Journal, Fault>
+    // the journal's work is one that a run can have
     ensures of_run { IfOk result (λ journal. IsOfRun journal.work) }
+    // the text is exactly that of the journal
     ensures text { IfOk result (λ journal.
         text.now ≡ journal_bytes journal.origin journal.stage journal.work) }
+    // a text written of a run is read as its journal, given memory
     ensures read { (origin : Origin) (stage : Stage) (work : Work) → IsTextOfRun text.now origin stage work
         → GivenMemory result (λ journal. Says journal origin stage work) }
 {

@@ -8,6 +8,7 @@ use std::alloc::{AllocError, Global};
 ///
 /// Allocates it.
 pub fn join(alloc: Global, directory: &str, path: &str) -> Result<String, AllocError>
+    // the directory, a slash where one is needed, and the path
     ensures path { IfOk result (λ full. string_bytes full ≡ path_below directory.now path.now) }
 {
     let mut full = String::from_str(alloc, directory)?;
@@ -20,6 +21,7 @@ pub fn join(alloc: Global, directory: &str, path: &str) -> Result<String, AllocE
 
 /// The directory in which a path is. The root is the empty path.
 pub fn directory_of(path: &str) -> &str
+    // what is before the last slash, or nothing
     ensures directory { IsDirectoryOf result.now path.now }
 {
     match path.rsplit_once('/') {
@@ -30,6 +32,7 @@ pub fn directory_of(path: &str) -> &str
 
 /// The name at the end of a path.
 pub fn name_of(path: &str) -> &str
+    // what is after the last slash, or all
     ensures name { IsNameOf result.now path.now }
 {
     match path.rsplit_once('/') {

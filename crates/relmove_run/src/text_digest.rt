@@ -16,7 +16,9 @@ pub struct TextDigest {
 impl TextDigest {
     /// The digest of a text.
     pub fn of(text: &[u8]) -> TextDigest
+        // how many bytes the text has
         ensures length { result.length ≡ length text.now }
+        // the SHA-256 of the text
         ensures sha256 { result.sha256 ≡ sha256 text.now }
     {
         TextDigest {

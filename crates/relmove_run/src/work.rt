@@ -66,6 +66,7 @@ pub struct Work {
 impl Work {
     /// Work with nothing to do. Allocates nothing.
     pub fn new(alloc: Global) -> Work
+        // each list is empty
         ensures nothing { parts_of result ≡ no_work }
     {
         Work {

@@ -73,8 +73,11 @@ pub fn path_of_target(
     syntax: TargetSyntax,
     target: &str,
 ) -> Result<TargetReading, AllocError>
+    // what the definition `meaning` says of the target
     ensures reading { IfOk result (Says (meaning syntax target.now)) }
+    // if a path is read, the target is a tail from `tail_at` on
     ensures tail { IfOk result (λ reading. IfPath reading (λ _ tail_at. IsTailAt syntax target.now tail_at)) }
+    // a path isn't empty and doesn't begin with a slash
     ensures relative { IfOk result (λ reading. IfPath reading (λ path _. BeginsRelative path)) }
 {
     match read_target(alloc, syntax, target.as_bytes()) {

@@ -179,13 +179,19 @@ fn path_written(path: &str) -> &str
 /// assert_eq!(rt; target_of_path(alloc, "")?.as_str(), "./");
 /// ```
 pub fn target_of_path(alloc: Global, path: &str) -> Result<String, AllocError>
+    // the defined target of the path
     ensures text { IfOk result (λ target. string_bytes target ≡ target_of path.now) }
+    // without NUL, each syntax reads back the path that is written
     ensures read { list_any is_nul path.now ≡ false → IfOk result (λ target.
         IsTakenAs (string_bytes target) (path_before (path_written path.now) (length (string_bytes target)))) }
+    // with a NUL, each syntax reads it as unknown
     ensures nul { list_any is_nul path.now ≡ true → IfOk result (λ target.
         IsTakenAs (string_bytes target) (unknown EncodedNul)) }
+    // it has no byte that ends a target, such as a space or a quote
     ensures whole { IfOk result (λ target. list_any ends_target (string_bytes target) ≡ false) }
+    // no `{` or `$` at the start, which may begin a template
     ensures start { IfOk result (λ target. begins_template (string_bytes target) ≡ false) }
+    // none of the defined forms with which a block may begin
     ensures block { IfOk result (λ target. begins_block (string_bytes target) ≡ false) }
 {
     spelled(alloc, path_written(path))
@@ -202,8 +208,10 @@ pub fn target_of_path(alloc: Global, path: &str) -> Result<String, AllocError>
 /// assert_eq!(rt; text.as_str(), "[b](my%20b.md");
 /// ```
 pub fn push_target_of_path(text: &mut String, path: &str) -> Result<(), AllocError>
+    // the defined target of the path is appended
     ensures text { IfOk result
         (λ _. string_bytes text.new ≡ string_bytes text.old ++ target_of path.now) }
+    // without NUL, each syntax reads back the path that is written
     ensures read { list_any is_nul path.now ≡ false
         → IsTakenAs (target_of path.now) (path_before (path_written path.now) (length (target_of path.now))) }
 {
