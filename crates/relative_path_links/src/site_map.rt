@@ -40,7 +40,7 @@ pub enum SiteMapError {
 impl fmt::Display for SiteMapError {
     ghost use Rattle.relative_path_links.specs.SiteMap.{site_map_error_text};
 
-    // an error prints its defined message
+    // the words for the error
     ghost output = { λ refusal. Some (site_map_error_text refusal) };
 
     fn fmt<W: fmt::Write>(&self, f: &mut fmt::Formatter<W>) -> fmt::Result {

@@ -89,7 +89,7 @@ impl ManifestError {
 impl fmt::Display for ManifestError {
     ghost use Rattle.relative_path_manifest.specs.Manifest.{manifest_error_text};
 
-    // an error prints its defined message
+    // the words for the error
     ghost output = { λ refusal. Some (manifest_error_text refusal) };
 
     fn fmt<W: fmt::Write>(&self, f: &mut fmt::Formatter<W>) -> fmt::Result {

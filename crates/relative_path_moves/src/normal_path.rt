@@ -203,7 +203,7 @@ impl Eq for NormalPath {
 }
 
 impl fmt::Debug for NormalPath {
-    // the debug form of the text, if that is ASCII
+    // the debug form of an ASCII text
     ghost debug_output = { debug_str };
 
     fn fmt<W: fmt::Write>(&self, f: &mut fmt::Formatter<W>) -> fmt::Result {
