@@ -92,7 +92,7 @@ pub fn has_plain_names(path: RelativePath<'_>) -> bool
 /// assert!(rt; !may_be_short_name("a~b"));
 /// ```
 pub fn may_be_short_name(name: &str) -> bool
-    // whether the name has the form of a short name, such as `PROGRA~1`
+    // whether it looks like a short name, such as `PROGRA~1`
     ensures short { result ≡ is_like_short_name name.now }
 {
     let stem = before(name, '.');

@@ -108,7 +108,7 @@ pub fn resolve_request(
     // `path` is the root, then the names of where the request leads
     ensures path { IfOk result (λ found.
         IsBelowRoot root.now (components request.now) (string_bytes found.path)) }
-    // the names of where the request leads are plain
+    // it succeeds only if the names of where it leads are plain
     ensures plain { IfOk result (λ _. HasPlainPlace (components request.now)) }
     // `is_directory` exactly if the request ends in a slash or not in a name
     ensures directory { IfOk result (λ found. found.is_directory ≡ means_directory request.now) }

@@ -147,7 +147,7 @@ impl<'a> SiteMap<'a> {
         ensures named { OnOk result (AreNamedPages (map page_of pages.now)) }
         // each page's names are plain
         ensures plain { OnOk result (ArePlainPages (map page_of pages.now)) }
-        // `NoFileName` exactly for the first page that lacks a file name
+        // `NoFileName` exactly for the first page without a file name
         ensures no_file_name { (k : ℕ) → IsErrOf result (SiteMapError.NoFileName k)
             ↔ IsFirstNamelessPage (map page_of pages.now) k }
         // `NotPlain` exactly for the first page that isn't plain, given file names
@@ -234,7 +234,7 @@ impl<'a> SiteMap<'a> {
         // RFC 3986 resolves it from `from` to `to`, given places without NUL
         ensures resolves { IfOk result (λ found. IfSome found (λ href. Resolves (page_at self.now from)
             (page_at self.now to) (string_bytes href))) }
-        // it has no byte that ends a target, such as a space or a quote
+        // no byte that ends a target, such as a space
         ensures whole { IfOk result (λ found. IfSome found (λ href.
             list_any ends_target (string_bytes href) ≡ false)) }
         // the same for all spellings of both pages

@@ -77,7 +77,7 @@ impl ManifestError {
     /// }
     /// ```
     pub fn entry_text(self, manifest: &Value) -> Option<&str>
-        // the text of the error's entry in the manifest, or `None`
+        // the text of the error's entry, or `None`
         ensures text { option_map (λ text. text.now) result
             ≡ option_and_then (entry_text (view manifest.now)) (entry_of self) }
     {

@@ -124,9 +124,9 @@ impl NormalPath {
     /// assert_eq!(rt; page.directory().as_str(), "docs");
     /// ```
     pub fn directory(&self) -> RelativePath<'_>
-        // all components before the last that isn't `.`
+        // the components of the directory
         ensures components { path_components result ≡ directory (components self.now) }
-        // the shortest prefix of the text with these components
+        // the shortest prefix with the directory's components
         ensures text { IsPopped self.now (path_text result) }
     {
         directory(self.as_relative_path())

@@ -71,7 +71,7 @@ pub fn coming_index(
     table: &TreeMoves<'_>,
     moves: &[(RelativePath<'_>, RelativePath<'_>)],
 ) -> Result<PlaceIndex, Refusal>
-    // it has to have the paths of the entries, by number
+    // it has to index the entries' paths
     requires index { Indexes (entry_paths entries.now) index.now }
     // it has to be the table of the moves
     requires table { table.now ≡ moves_of moves.now }
@@ -80,7 +80,7 @@ pub fn coming_index(
     // moves that passed `leaving_table` pass each check but `NoFreeName`
     ensures fine { OnOk result ((any_name : Bool) → MayLeave entries.now (moves_of moves.now) any_name
         → IsAccepted entries.now (moves_of moves.now) any_name) }
-    // the paths of the entries after the moves, by number
+    // the entries' paths after the moves, by number
     ensures index { IfOk result (λ index. (after : List (List ℕ)) × AreAfter (moves_of moves.now) entries.now after
         × Indexes (map components after) index) }
     // as of `leaving_table`, for moves that passed it

@@ -75,7 +75,7 @@ pub fn make_plan(
     ensures moved { IfOk result (λ plan. EachMove
         (DoesMove (changed_paths tree.entry.pages.now plan.changed.items) (step_texts plan.steps))
         (moves_of moves.now)) }
-    // each changed page's new text comes by a new file to the page's new path
+    // a changed page's new text comes by a new file to its new path
     ensures replaced { IfOk result (λ plan. ReplacesPages tree.entry.pages.now plan.pages.items
         plan.changed.items (step_texts plan.steps)) }
     // each changed page's old text goes to a name in between, and is removed
@@ -92,7 +92,7 @@ pub fn make_plan(
     // names in between are `.relmove-` and a number, all different, and no entry has one
     ensures names { IfOk result
         (λ plan. AreFreeNames (entry_paths tree.entry.entries.now) (names_left (step_texts plan.steps))) }
-    // new texts are written of exactly the changed pages, one for each, in order
+    // new texts are of exactly the changed pages, in order
     ensures texts { IfOk result (λ plan. WritesPages
         (changed_paths tree.entry.pages.now plan.changed.items) (step_texts plan.steps)) }
     // in a whole tree nothing leaves a path twice

@@ -66,7 +66,7 @@ pub fn steps_of(
     // what moves comes to its new path, changed pages aside
     ensures moved { IfOk result (λ steps. EachMove
         (DoesMove (changed_paths pages.now now.entry.changed.now) (step_texts steps)) (moves_of moves.now)) }
-    // each changed page's new text comes by a new file to the page's new path
+    // a changed page's new text comes by a new file to its new path
     ensures replaced { IfOk result (λ steps. ReplacesPages pages.now now.entry.pages.now
         now.entry.changed.now (step_texts steps)) }
     // each changed page's old text goes to a name in between, and is removed
@@ -83,7 +83,7 @@ pub fn steps_of(
     // names in between are `.relmove-` and a number, all different, and no entry has one
     ensures names { IfOk result (λ steps. (paths : List (List Step)) → Indexes paths now.entry.index.now
         → AreFreeNames paths (names_left (step_texts steps))) }
-    // new texts are written of exactly the changed pages, one for each, in order
+    // new texts are of exactly the changed pages, in order
     ensures texts { IfOk result (λ steps. WritesPages
         (changed_paths pages.now now.entry.changed.now) (step_texts steps)) }
     // nothing leaves a path twice, if old paths, and changed pages, are distinct entries

@@ -187,11 +187,11 @@ pub fn target_of_path(alloc: Global, path: &str) -> Result<String, AllocError>
     // with a NUL, each syntax reads it as unknown
     ensures nul { list_any is_nul path.now ≡ true → IfOk result (λ target.
         IsTakenAs (string_bytes target) (unknown EncodedNul)) }
-    // it has no byte that ends a target, such as a space or a quote
+    // no byte that ends a target, such as a space
     ensures whole { IfOk result (λ target. list_any ends_target (string_bytes target) ≡ false) }
     // no `{` or `$` at the start, which may begin a template
     ensures start { IfOk result (λ target. begins_template (string_bytes target) ≡ false) }
-    // none of the defined forms with which a block may begin
+    // no defined form with which a block may begin
     ensures block { IfOk result (λ target. begins_block (string_bytes target) ≡ false) }
 {
     spelled(alloc, path_written(path))
