@@ -83,7 +83,7 @@ impl From<FromPathErrorKind> for FromPathError {
 }
 
 impl From<AllocError> for FromPathError {
-    // an error of the kind `OutOfMemory`
+    // a failed allocation becomes `OutOfMemory`
     ghost from_gives = { λ _ error. from_path_kind error ≡ from_path_kinds.OutOfMemory };
 
     fn from(_: AllocError) -> Self {
@@ -182,7 +182,7 @@ impl From<RelativeToErrorKind> for RelativeToError {
 }
 
 impl From<AllocError> for RelativeToError {
-    // an error of the kind `OutOfMemory`
+    // a failed allocation becomes `OutOfMemory`
     ghost from_gives = { λ _ error. relative_to_kind error ≡ relative_to_kinds.OutOfMemory };
 
     fn from(_: AllocError) -> Self {

@@ -23,7 +23,7 @@ pub fn place_from_top(
 ) -> Result<Option<RelativePathBuf>, AllocError>
     // `None` exactly if the path climbs above the top
     ensures none { IfOk result (λ found. IsNone found ↔ (place_of (path_components path.entry) ≡ None)) }
-    // the names of where the path leads from the top, joined by slashes
+    // the names of its place from the top, joined by slashes
     ensures some { IfOk result (λ found. IfSome found
         (λ place. SpellsPlace (path_components path.entry) place.text)) }
     // it fails only for a path that doesn't climb

@@ -55,7 +55,7 @@ const FORKS: [&str; 1] = ["..namedfork"];
 /// assert!(rt; !is_plain_name("con.txt"));
 /// ```
 pub fn is_plain_name(name: &str) -> bool
-    // true exactly if the name is plain
+    // whether the name is plain
     ensures plain { IsTrue result ↔ IsPlainName name.now }
 {
     !is_unportable(name)
@@ -71,7 +71,7 @@ pub fn is_plain_name(name: &str) -> bool
 /// assert!(rt; !has_plain_names(RelativePath::new("a/nul/b")));
 /// ```
 pub fn has_plain_names(path: RelativePath<'_>) -> bool
-    // true exactly if each name of the path is plain
+    // whether each name of the path is plain
     ensures plain { IsTrue result ↔ All (IfName IsPlainName) (path_components path.entry) }
 {
     !has_unportable_name(path)
@@ -92,7 +92,7 @@ pub fn has_plain_names(path: RelativePath<'_>) -> bool
 /// assert!(rt; !may_be_short_name("a~b"));
 /// ```
 pub fn may_be_short_name(name: &str) -> bool
-    // true exactly for the form of a short name, such as `PROGRA~1`
+    // whether it looks like a short name, such as `PROGRA~1`
     ensures short { result ≡ is_like_short_name name.now }
 {
     let stem = before(name, '.');

@@ -42,7 +42,7 @@ pub enum RequestError {
 impl fmt::Display for RequestError {
     ghost use Rattle.relative_path_files.specs.Router.{request_error_text};
 
-    // an error prints its defined message
+    // the words for the error
     ghost output = { λ error. Some (request_error_text error) };
 
     fn fmt<W: fmt::Write>(&self, f: &mut fmt::Formatter<W>) -> fmt::Result {
@@ -108,11 +108,11 @@ pub fn resolve_request(
     // `path` is the root, then the names of where the request leads
     ensures path { IfOk result (λ found.
         IsBelowRoot root.now (components request.now) (string_bytes found.path)) }
-    // the names of where the request leads are plain
+    // it succeeds only if the names of where it leads are plain
     ensures plain { IfOk result (λ _. HasPlainPlace (components request.now)) }
     // `is_directory` exactly if the request ends in a slash or not in a name
     ensures directory { IfOk result (λ found. found.is_directory ≡ means_directory request.now) }
-    // `NotPlain` only if the request leads to a name that isn't plain
+    // `NotPlain` only if a name of where it leads isn't plain
     ensures refused { IfErr result (IsRequestRefused (components request.now)) }
     // `ClimbsAbove` exactly if the request climbs above the top
     ensures climbs { IsErrOf result RequestError.ClimbsAbove

@@ -61,7 +61,7 @@ pub fn rewrite_site(
     requires { HaveTargets pages.now }
     // each page as by `rewrite_links`, at its path after the moves
     ensures rewritten { IfOk result (λ new. AreRewritten tree.now pages.now new.items) }
-    // each relative link still leads to its file, or is reported
+    // each relative link still leads to its file, query and fragment kept, or is reported
     ensures links { IfOk result (λ new. KeepTheirLinks tree.now pages.now new.items) }
 {
     let mut moved = Vec::with_capacity(alloc, pages.len())?;

@@ -40,7 +40,7 @@ pub enum SiteMapError {
 impl fmt::Display for SiteMapError {
     ghost use Rattle.relative_path_links.specs.SiteMap.{site_map_error_text};
 
-    // an error prints its defined message
+    // the words for the error
     ghost output = { λ refusal. Some (site_map_error_text refusal) };
 
     fn fmt<W: fmt::Write>(&self, f: &mut fmt::Formatter<W>) -> fmt::Result {
@@ -147,7 +147,7 @@ impl<'a> SiteMap<'a> {
         ensures named { OnOk result (AreNamedPages (map page_of pages.now)) }
         // each page's names are plain
         ensures plain { OnOk result (ArePlainPages (map page_of pages.now)) }
-        // `NoFileName` exactly for the first page that lacks a file name
+        // `NoFileName` exactly for the first page without a file name
         ensures no_file_name { (k : ℕ) → IsErrOf result (SiteMapError.NoFileName k)
             ↔ IsFirstNamelessPage (map page_of pages.now) k }
         // `NotPlain` exactly for the first page that isn't plain, given file names
@@ -224,9 +224,9 @@ impl<'a> SiteMap<'a> {
     /// assert!(rt; site.href(alloc, 1, 0)?.is_some_and(|href| href.as_str() == "install"));
     /// ```
     pub fn href(&self, alloc: Global, from: usize, to: usize) -> Result<Option<String>, AllocError>
-        // needs the number of a page
+        // it has to be the number of a page
         requires from { from < length self.now }
-        // needs the number of a page
+        // it has to be the number of a page
         requires to { to < length self.now }
         // the target of the shortest path ending in `to`'s name or slash, or `None`
         ensures href { IfOk result (λ found. IsHref (page_at self.now from) (page_at self.now to)

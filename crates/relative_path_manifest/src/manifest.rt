@@ -77,7 +77,7 @@ impl ManifestError {
     /// }
     /// ```
     pub fn entry_text(self, manifest: &Value) -> Option<&str>
-        // the text of the error's entry in the manifest, or `None`
+        // the text of the error's entry, or `None`
         ensures text { option_map (λ text. text.now) result
             ≡ option_and_then (entry_text (view manifest.now)) (entry_of self) }
     {
@@ -89,7 +89,7 @@ impl ManifestError {
 impl fmt::Display for ManifestError {
     ghost use Rattle.relative_path_manifest.specs.Manifest.{manifest_error_text};
 
-    // an error prints its defined message
+    // the words for the error
     ghost output = { λ refusal. Some (manifest_error_text refusal) };
 
     fn fmt<W: fmt::Write>(&self, f: &mut fmt::Formatter<W>) -> fmt::Result {

@@ -26,7 +26,7 @@ pub enum MoveTableError {
 }
 
 impl fmt::Display for MoveTableError {
-    // an error prints its defined message
+    // the words for the error
     ghost output = { λ refusal. Some (refusal_text (of_moves refusal)) };
 
     fn fmt<W: fmt::Write>(&self, f: &mut fmt::Formatter<W>) -> fmt::Result {
@@ -64,7 +64,7 @@ pub enum ReferenceError {
 }
 
 impl fmt::Display for ReferenceError {
-    // an error prints its defined message
+    // the words for the error
     ghost output = { λ refusal. Some (refusal_text (of_reference refusal)) };
 
     fn fmt<W: fmt::Write>(&self, f: &mut fmt::Formatter<W>) -> fmt::Result {
@@ -107,7 +107,7 @@ pub enum MoveError {
 }
 
 impl fmt::Display for MoveError {
-    // an error prints its defined message
+    // the words for the error
     ghost output = { λ refusal. Some (refusal_text refusal) };
 
     fn fmt<W: fmt::Write>(&self, f: &mut fmt::Formatter<W>) -> fmt::Result {

@@ -131,7 +131,7 @@ impl<'a> MoveTable<'a> {
         ensures named { OnOk result (AreNamed (moves_of moves.now)) }
         // no two old paths are equivalent
         ensures apart { OnOk result (AreApart (moves_of moves.now)) }
-        // `NoFileName` exactly for the first move that lacks a file name
+        // `NoFileName` exactly for the first move without a file name
         ensures no_file_name { (k : ℕ) → IsErrOf result (MoveTableError.NoFileName k)
             ↔ IsFirstNameless (moves_of moves.now) k }
         // `SameOld` exactly for the first two equivalent old paths, given file names and memory
@@ -401,7 +401,7 @@ impl<'a> MoveTable<'a> {
         // the components of the file's path after the moves
         ensures target { IfOk result (λ now. (target : List Step)
             → IsTarget self.now (path_components file.entry) target ↔ (target ≡ path_components now)) }
-        // a file that doesn't move keeps the text of its path
+        // a file that doesn't move keeps its path's text
         ensures kept { IfOk result (λ now. IsUnmoved self.now (path_components file.entry)
             → path_text now ≡ path_text file.entry) }
     {

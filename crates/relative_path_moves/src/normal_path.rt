@@ -124,9 +124,9 @@ impl NormalPath {
     /// assert_eq!(rt; page.directory().as_str(), "docs");
     /// ```
     pub fn directory(&self) -> RelativePath<'_>
-        // all components before the last that isn't `.`
+        // the components of the directory
         ensures components { path_components result ≡ directory (components self.now) }
-        // the shortest prefix of the text with these components
+        // the shortest prefix with the directory's components
         ensures text { IsPopped self.now (path_text result) }
     {
         directory(self.as_relative_path())
@@ -189,9 +189,9 @@ impl PartialEq for NormalPath {
     ghost laws = { partial_equiv_from_equiv nat_list_eq_equiv };
 
     fn eq(&self, other: &Self) -> bool
-        // true exactly if the texts are equal
+        // whether the texts are equal
         ensures same { IsTrue result ↔ (self.now ≡ other.now) }
-        // true exactly if the paths are equivalent
+        // whether the paths are equivalent
         ensures leads { IsTrue result ↔ IsSame (components self.now) (components other.now) }
     {
         self.as_relative_path().as_str() == other.as_relative_path().as_str()
@@ -203,7 +203,7 @@ impl Eq for NormalPath {
 }
 
 impl fmt::Debug for NormalPath {
-    // the debug form of the text, if that is ASCII
+    // the debug form of an ASCII text
     ghost debug_output = { debug_str };
 
     fn fmt<W: fmt::Write>(&self, f: &mut fmt::Formatter<W>) -> fmt::Result {

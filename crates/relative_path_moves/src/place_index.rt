@@ -71,7 +71,7 @@ impl PlaceIndex {
         ensures first { IfOk result (λ first. (paths : List (List Step))
             → Indexes paths self.old → length paths ≡ number
             → IsFirstAt (paths ++ path_components path.entry ∷ []) (path_components path.entry) first) }
-        // after an error the index has the same paths
+        // after an error: the same paths
         ensures err { OnErr result ((paths : List (List Step))
             → Indexes paths self.old → Indexes paths self.new) }
     {
@@ -92,7 +92,7 @@ impl PlaceIndex {
         // the number of the first equivalent path, or `None`
         ensures found { (paths : List (List Step)) (cs : List Step) → Indexes paths self.now
             → IsSame cs (components path.now) → IsFoundAt paths cs result }
-        // the number is less than how many paths there are
+        // less than the number of paths
         ensures within { IfSome result (λ k. (paths : List (List Step)) → Indexes paths self.now
             → k < length paths) }
     {

@@ -33,9 +33,9 @@ pub fn has_place(path: RelativePath<'_>) -> bool
 /// assert_eq!(rt; directory(RelativePath::new("start.md")).as_str(), "");
 /// ```
 pub fn directory<'a>(file: RelativePath<'a>) -> RelativePath<'a>
-    // all components before the last that isn't `.`
+    // the components of the directory
     ensures components { path_components result ≡ directory (path_components file.entry) }
-    // the shortest prefix of the text with these components
+    // the shortest prefix with the directory's components
     ensures text { IsPopped (path_text file.entry) (path_text result) }
 {
     file.parent().unwrap_or(file)

@@ -52,7 +52,7 @@ pub fn moved(
     reference: RelativePath<'_>,
 ) -> Result<RelativePathBuf, MoveError>
     requires { i < length moves.now }
-    // `NoFileName` exactly for the first move that lacks a file name
+    // `NoFileName` exactly for the first move without a file name
     ensures no_file_name { (k : ℕ) → IsErrOf result (MoveError.NoFileName k)
         ↔ IsFirstNameless (moves_of moves.now) k }
     // `SameOld` exactly for the first two equivalent old paths, given file names and memory

@@ -107,7 +107,7 @@ impl<'a> TreeMoves<'a> {
         ensures named { OnOk result (AreNamed (moves_of moves.now)) }
         // no two old paths are equivalent
         ensures apart { OnOk result (AreApart (moves_of moves.now)) }
-        // `NoFileName` exactly for the first move that lacks a file name
+        // `NoFileName` exactly for the first move without a file name
         ensures no_file_name { (k : ℕ) → IsErrOf result (MoveTableError.NoFileName k)
             ↔ IsFirstNameless (moves_of moves.now) k }
         // `SameOld` exactly for the first two equivalent old paths, given file names and memory

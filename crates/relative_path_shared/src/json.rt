@@ -47,7 +47,7 @@ impl fmt::Display for FromValueError {
 impl Error for FromValueError {}
 
 impl From<AllocError> for FromValueError {
-    // the error `OutOfMemory`
+    // a failed allocation becomes `OutOfMemory`
     ghost from_gives = { λ _ error. error ≡ OutOfMemory };
 
     fn from(_: AllocError) -> FromValueError {

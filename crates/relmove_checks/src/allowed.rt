@@ -71,16 +71,16 @@ pub fn coming_index(
     table: &TreeMoves<'_>,
     moves: &[(RelativePath<'_>, RelativePath<'_>)],
 ) -> Result<PlaceIndex, Refusal>
-    // needs the paths of the entries, by number
+    // it has to index the entries' paths
     requires index { Indexes (entry_paths entries.now) index.now }
-    // needs the table of the moves
+    // it has to be the table of the moves
     requires table { table.now ≡ moves_of moves.now }
-    // needs a file name in each path
+    // each path has to have a file name
     requires named { AreNamed (moves_of moves.now) }
     // moves that passed `leaving_table` pass each check but `NoFreeName`
     ensures fine { OnOk result ((any_name : Bool) → MayLeave entries.now (moves_of moves.now) any_name
         → IsAccepted entries.now (moves_of moves.now) any_name) }
-    // the paths of the entries after the moves, by number
+    // the entries' paths after the moves, by number
     ensures index { IfOk result (λ index. (after : List (List ℕ)) × AreAfter (moves_of moves.now) entries.now after
         × Indexes (map components after) index) }
     // as of `leaving_table`, for moves that passed it

@@ -55,7 +55,7 @@ pub fn make_plan(
     any_name: bool,
 ) -> Result<Plan, Refusal>
     requires { HaveTargets tree.pages.now }
-    // each relative link still leads to its file, or is reported
+    // each relative link still leads to its file, query and fragment kept, or is reported
     ensures links { IfOk result
         (λ plan. KeepTheirLinks (moves_of moves.now) tree.entry.pages.now plan.pages.items) }
     // exactly the pages whose new text differs, in order
@@ -75,10 +75,10 @@ pub fn make_plan(
     ensures moved { IfOk result (λ plan. EachMove
         (DoesMove (changed_paths tree.entry.pages.now plan.changed.items) (step_texts plan.steps))
         (moves_of moves.now)) }
-    // each changed page's new text comes to the page's new path
+    // a changed page's new text comes by a new file to its new path
     ensures replaced { IfOk result (λ plan. ReplacesPages tree.entry.pages.now plan.pages.items
         plan.changed.items (step_texts plan.steps)) }
-    // each changed page's old text is removed
+    // each changed page's old text goes to a name in between, and is removed
     ensures removed { IfOk result (λ plan. All (RemovesAt (step_texts plan.steps))
         (changed_paths tree.entry.pages.now plan.changed.items)) }
     // what is below a path comes before it
@@ -86,19 +86,19 @@ pub fn make_plan(
     // `emptied` has only directories above old paths, where they are after the moves
     ensures left { IfOk result
         (λ plan. AreLeftByMoves (moves_of moves.now) (moves_of moves.now) plan.steps.emptied.items) }
-    // nothing leaves but from old paths, changed pages and new files
+    // nothing leaves but from old paths, changed pages and the files of new texts
     ensures only { IfOk result (λ plan. OnlyTheseLeave (moves_of moves.now)
         (changed_paths tree.entry.pages.now plan.changed.items) (step_texts plan.steps)) }
-    // each name in between is `.relmove-` and its own number, and no entry's
+    // names in between are `.relmove-` and a number, all different, and no entry has one
     ensures names { IfOk result
         (λ plan. AreFreeNames (entry_paths tree.entry.entries.now) (names_left (step_texts plan.steps))) }
-    // new texts of exactly the changed pages, in order
+    // new texts are of exactly the changed pages, in order
     ensures texts { IfOk result (λ plan. WritesPages
         (changed_paths tree.entry.pages.now plan.changed.items) (step_texts plan.steps)) }
     // in a whole tree nothing leaves a path twice
     ensures once { IfOk result (λ plan. IsWhole tree.entry.entries.now (page_paths tree.entry.pages.now)
         → LeaveOnce (step_texts plan.steps)) }
-    // each new text has its own new file next to the page
+    // each new text has its own file, in the page's directory, where no entry is
     ensures files { IfOk result (λ plan. HaveOwnFiles (entry_paths tree.entry.entries.now)
         (changed_paths tree.entry.pages.now plan.changed.items) (step_texts plan.steps)) }
     // in a whole tree entries come where the moves take them, changed pages aside

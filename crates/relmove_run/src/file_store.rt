@@ -299,7 +299,7 @@ fn kind_of(kind: FileType) -> FoundKind {
 
 /// Whether an error says that nothing is at a path.
 pub fn is_absence(kind: ErrorKind) -> bool
-    // true exactly for `NotFound` and `NotADirectory`
+    // whether it is `NotFound` or `NotADirectory`
     ensures absence { IsTrue result ↔ ((kind ≡ NotFound) ⊎ (kind ≡ NotADirectory)) }
 {
     match kind {

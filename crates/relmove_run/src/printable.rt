@@ -13,7 +13,7 @@ use std::fmt;
 pub struct Printable<'a>(pub &'a str);
 
 impl fmt::Display for Printable<'_> {
-    // characters that change the text around them by number, others as they are
+    // each character that changes the text around it is printed by its number
     ghost output = { λ text. Some (printed text.0.now) };
 
     fn fmt<W: fmt::Write>(&self, f: &mut fmt::Formatter<W>) -> fmt::Result {

@@ -12,7 +12,7 @@ use std::alloc::{AllocError, Global};
 ///
 /// Allocates lists of its paths.
 pub fn is_of_run(alloc: Global, work: &Work) -> Result<bool, AllocError>
-    // true exactly for work that a run can have
+    // whether the work is one that a run can have
     ensures of_run { IfOk result (λ yes. IsTrue yes ↔ IsOfRun work.now) }
 {
     Ok(

@@ -46,7 +46,7 @@ pub struct Found {
 impl Found {
     /// Whether this is the same thing as another one, maybe under another name.
     pub fn is_same(&self, other: &Found) -> bool
-        // true exactly if device and inode are equal
+        // whether device and inode are equal
         ensures same { result ≡ (self.now.device == other.now.device && self.now.inode == other.now.inode) }
     {
         self.device == other.device && self.inode == other.inode
@@ -82,7 +82,7 @@ impl PageFile {
 
     /// Whether what is found is this file.
     pub fn is(&self, found: &Found) -> bool
-        // true exactly if device and inode are equal
+        // whether device and inode are equal
         ensures file { result ≡ (self.now.device == found.now.device && self.now.inode == found.now.inode) }
     {
         self.device == found.device && self.inode == found.inode

@@ -47,13 +47,13 @@ pub fn steps_of(
     moves: &[(RelativePath<'_>, RelativePath<'_>)],
     now: After<'_, '_>,
 ) -> Result<Steps, Refusal>
-    // needs changed pages that are among the pages
+    // the changed pages have to be among the pages
     requires within { All (λ page. page.number < length pages.now) now.changed.now }
-    // needs one new page for each page
+    // there has to be one new page for each page
     requires long { length now.pages.now ≡ length pages.now }
-    // needs a file name in each path
+    // each path has to have a file name
     requires named { AreNamed (moves_of moves.now) }
-    // needs no two equivalent new paths
+    // no two new paths may be equivalent
     requires news_apart { AreApart (turned (moves_of moves.now)) }
     // what is below a path comes before it
     ensures apart { IfOk result
@@ -66,10 +66,10 @@ pub fn steps_of(
     // what moves comes to its new path, changed pages aside
     ensures moved { IfOk result (λ steps. EachMove
         (DoesMove (changed_paths pages.now now.entry.changed.now) (step_texts steps)) (moves_of moves.now)) }
-    // each changed page's new text comes to the page's new path
+    // a changed page's new text comes by a new file to its new path
     ensures replaced { IfOk result (λ steps. ReplacesPages pages.now now.entry.pages.now
         now.entry.changed.now (step_texts steps)) }
-    // each changed page's old text is removed
+    // each changed page's old text goes to a name in between, and is removed
     ensures removed { IfOk result (λ steps. All (RemovesAt (step_texts steps))
         (changed_paths pages.now now.entry.changed.now)) }
     // what is below a path comes before it
@@ -77,20 +77,20 @@ pub fn steps_of(
     // `emptied` has only directories above old paths, where they are after the moves
     ensures left { IfOk result
         (λ steps. AreLeftByMoves now.entry.table.now (moves_of moves.now) steps.emptied.items) }
-    // nothing leaves but from old paths, changed pages and new files
+    // nothing leaves but from old paths, changed pages and the files of new texts
     ensures only { IfOk result (λ steps. OnlyTheseLeave (moves_of moves.now)
         (changed_paths pages.now now.entry.changed.now) (step_texts steps)) }
-    // each name in between is `.relmove-` and its own number, and no entry's
+    // names in between are `.relmove-` and a number, all different, and no entry has one
     ensures names { IfOk result (λ steps. (paths : List (List Step)) → Indexes paths now.entry.index.now
         → AreFreeNames paths (names_left (step_texts steps))) }
-    // new texts of exactly the changed pages, in order
+    // new texts are of exactly the changed pages, in order
     ensures texts { IfOk result (λ steps. WritesPages
         (changed_paths pages.now now.entry.changed.now) (step_texts steps)) }
     // nothing leaves a path twice, if old paths, and changed pages, are distinct entries
     ensures once { IfOk result (λ steps. (paths : List (List Step)) → Indexes paths now.entry.index.now
         → LeaveFromEntries paths (moves_of moves.now) (changed_paths pages.now now.entry.changed.now)
         → LeaveOnce (step_texts steps)) }
-    // each new text has its own new file next to the page
+    // each new text has its own file, in the page's directory, where no entry is
     ensures files { IfOk result (λ steps. (paths : List (List Step)) → Indexes paths now.entry.index.now
         → HaveOwnFiles paths (changed_paths pages.now now.entry.changed.now) (step_texts steps)) }
     // each directory missing above new paths, where names in between put it

@@ -61,7 +61,7 @@ impl Error for Fault {}
 impl From<AllocError> for Fault {
     ghost use Rattle.relpath_lib.specs.declared.fault.Fault.TheVariants.{OutOfMemory};
 
-    // the fault `OutOfMemory`
+    // a failed allocation becomes `OutOfMemory`
     ghost from_gives = { λ _ fault. fault ≡ OutOfMemory };
 
     fn from(_: AllocError) -> Fault {

@@ -75,7 +75,7 @@ pub fn path_of_target(
 ) -> Result<TargetReading, AllocError>
     // what the definition `meaning` says of the target
     ensures reading { IfOk result (Says (meaning syntax target.now)) }
-    // from `tail_at` on, a path's target is a tail
+    // after a path the target is a tail, from `tail_at` on
     ensures tail { IfOk result (λ reading. IfPath reading (λ _ tail_at. IsTailAt syntax target.now tail_at)) }
     // a path isn't empty and doesn't begin with a slash
     ensures relative { IfOk result (λ reading. IfPath reading (λ path _. BeginsRelative path)) }

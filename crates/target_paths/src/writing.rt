@@ -191,7 +191,7 @@ pub fn target_of_path(alloc: Global, path: &str) -> Result<String, AllocError>
     ensures whole { IfOk result (λ target. list_any ends_target (string_bytes target) ≡ false) }
     // no `{` or `$` at the start, which may begin a template
     ensures start { IfOk result (λ target. begins_template (string_bytes target) ≡ false) }
-    // none of the defined forms with which a block may begin
+    // no defined form with which a block may begin
     ensures block { IfOk result (λ target. begins_block (string_bytes target) ≡ false) }
 {
     spelled(alloc, path_written(path))
