@@ -1,6 +1,6 @@
 //! A journal is believed only in the folder in which it was written.
 use relmove_disk::{Content, Disk, file_of};
-use relmove_run::{Stage, StoppedRun, Trust, Way, undo};
+use relmove_run::{OWN_DIRECTORY, Stage, StoppedRun, Trust, Way, join, undo};
 use relmove_run_cases::{
     End, cases, end_of, gives_reason, holds, lock, resume_on, same, stopped_at, undo_on,
 };
@@ -28,41 +28,41 @@ fn believes_no_copy_of_a_journal(rt: HostRuntime) -> Result<(), Fail> {
     is_foreign(alloc, "a copy of the journal", &disk)
 }
 
-// The journal's file is moved, so it keeps its inode. The directory is another one.
+// The files that a run that stopped may have in its root.
+const NAMES: [&str; 4] = [
+    ".relmove",
+    ".relmove-spare",
+    ".relmove-run/1",
+    ".relmove-run/2",
+];
+
+// Gives a file its name in another directory too, if it is there.
+fn link_name(alloc: Global, disk: &Disk, from: &str, to: &str, name: &str) -> Result<(), Fail> {
+    let from = join(alloc, from, name)?;
+    if disk.has(from.as_str())? {
+        disk.add_link(from.as_str(), join(alloc, to, name)?.as_str())?;
+    }
+    Ok(())
+}
+
+// Moves the files of a run to a new directory. They keep their inodes.
+fn move_files(alloc: Global, disk: &Disk, from: &str, to: &str) -> Result<(), Fail> {
+    disk.add(to, Content::Directory)?;
+    let own = join(alloc, to, OWN_DIRECTORY)?;
+    disk.add(own.as_str(), Content::Directory)?;
+    for name in &NAMES {
+        link_name(alloc, disk, from, to, name)?;
+    }
+    Ok(disk.remove(from)?)
+}
+
+// The journal's file keeps its inode. The directory is another one.
 #[test]
 fn believes_no_journal_of_another_directory(rt: HostRuntime) -> Result<(), Fail> {
     let alloc = rt.alloc();
     let disk = stopped_at(alloc, &cases::SWAP, Stage::Placing)?;
-    disk.add("copy", Content::Directory)?;
-    disk.add("copy/.relmove-run", Content::Directory)?;
-    for name in [
-        ".relmove",
-        ".relmove-spare",
-        ".relmove-run/1",
-        ".relmove-run/2",
-    ] {
-        let from = format!(in alloc; "site/{name}")?;
-        let to = format!(in alloc; "copy/{name}")?;
-        if disk.has(from.as_str())? {
-            disk.add_link(from.as_str(), to.as_str())?;
-        }
-    }
-    disk.remove("site")?;
-    disk.add("site", Content::Directory)?;
-    disk.add("site/.relmove-run", Content::Directory)?;
-    for name in [
-        ".relmove",
-        ".relmove-spare",
-        ".relmove-run/1",
-        ".relmove-run/2",
-    ] {
-        let from = format!(in alloc; "copy/{name}")?;
-        let to = format!(in alloc; "site/{name}")?;
-        if disk.has(from.as_str())? {
-            disk.add_link(from.as_str(), to.as_str())?;
-        }
-    }
-    disk.remove("copy")?;
+    move_files(alloc, &disk, "site", "copy")?;
+    move_files(alloc, &disk, "copy", "site")?;
     is_foreign(alloc, "another directory", &disk)
 }
 
@@ -81,18 +81,41 @@ fn is_linked(alloc: Global, case: &str, disk: &Disk) -> Result<(), Fail> {
     holds(alloc, case, disk, cases::SWAP.before)
 }
 
+// What is at the name of the next journal.
+#[derive(Clone, Copy)]
+enum Next {
+    Nothing,
+    // The beginning of a journal.
+    Beginning,
+    // A third name of the journal.
+    Name,
+}
+
+// A run that stopped, whose journal has another name outside the root.
+fn linked_disk(alloc: Global, next: Next) -> Result<Disk, Fail> {
+    let disk = stopped_at(alloc, &cases::SWAP, Stage::Placing)?;
+    disk.add_link("site/.relmove", "o")?;
+    match next {
+        Next::Nothing => {}
+        Next::Beginning => disk.add("site/.relmove-journal", file_of(alloc, "relmove j")?)?,
+        Next::Name => disk.add_link("site/.relmove", "site/.relmove-journal")?,
+    }
+    Ok(disk)
+}
+
+const LINKED: [(&str, Next); 3] = [
+    ("another name", Next::Nothing),
+    (
+        "another name, and the beginning of a journal",
+        Next::Beginning,
+    ),
+    ("two other names", Next::Name),
+];
+
 #[test]
 fn believes_no_journal_with_another_name(rt: HostRuntime) -> Result<(), Fail> {
-    let alloc = rt.alloc();
-    let disk = stopped_at(alloc, &cases::SWAP, Stage::Placing)?;
-    disk.add_link("site/.relmove", "o")?;
-    is_linked(alloc, "another name", &disk)?;
-    let disk = stopped_at(alloc, &cases::SWAP, Stage::Placing)?;
-    disk.add_link("site/.relmove", "o")?;
-    disk.add("site/.relmove-journal", file_of(alloc, "relmove j")?)?;
-    is_linked(alloc, "another name, and the beginning of a journal", &disk)?;
-    let disk = stopped_at(alloc, &cases::SWAP, Stage::Placing)?;
-    disk.add_link("site/.relmove", "o")?;
-    disk.add_link("site/.relmove", "site/.relmove-journal")?;
-    is_linked(alloc, "two other names", &disk)
+    for (case, next) in &LINKED {
+        is_linked(rt.alloc(), case, &linked_disk(rt.alloc(), *next)?)?;
+    }
+    Ok(())
 }

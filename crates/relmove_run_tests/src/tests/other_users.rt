@@ -1,6 +1,8 @@
 //! A journal that another user wrote is believed by nobody but root, and one that was written to another file by nobody.
 use relmove_disk::{Disk, DiskStore, Way, disk_of, file_of};
-use relmove_run::{Found, Journal, Origin, Remark, Stage, Trust, journal_text, need_rest, undo};
+use relmove_run::{
+    Ended, Found, Journal, Origin, Remark, Stage, Trust, journal_text, need_rest, undo,
+};
 use relmove_run_cases::{
     End, cases, end_of, first_call_with, gives_reason, holds, is_refused, journal_on, lock,
     remarks_of, resume_on, run, run_and_fail, same, stopped_at, undo_on,
@@ -60,19 +62,22 @@ fn lets_root_end_a_run_that_it_trusts(rt: HostRuntime) -> Result<(), Fail> {
     holds(alloc, "taken back", &disk, cases::SWAP.before)
 }
 
+// Whether an undoing on a full disk ends so, if the root has these permissions.
+fn ends_on_a_full_disk(alloc: Global, number: u32, mode: u32, end: End) -> Result<(), Fail> {
+    let (_, disk) = run_and_fail(alloc, &cases::PAGE_CHANGES, number, Way::Killed)?;
+    disk.remove("site/.relmove-spare")?;
+    disk.set_mode("site", mode)?;
+    disk.leave_room(0)?;
+    same("an end", &end_of(&undo_on(&disk)), &end)
+}
+
 // On a full disk no file can be made: then a journal is believed where nobody but its owner can have written it.
 #[test]
 fn ends_its_own_run_on_a_full_disk(rt: HostRuntime) -> Result<(), Fail> {
     let (alloc, case) = (rt.alloc(), &cases::PAGE_CHANGES);
     let number = first_call_with(alloc, case, "site/.relmove-run/9")?;
-    for (mode, end) in [(0o755, End::TakenBack), (0o777, End::Refused)] {
-        let (_, disk) = run_and_fail(alloc, case, number, Way::Killed)?;
-        disk.remove("site/.relmove-spare")?;
-        disk.set_mode("site", mode)?;
-        disk.leave_room(0)?;
-        same("an end", &end_of(&undo_on(&disk)), &end)?;
-    }
-    Ok(())
+    ends_on_a_full_disk(alloc, number, 0o755, End::TakenBack)?;
+    ends_on_a_full_disk(alloc, number, 0o777, End::Refused)
 }
 
 // What was made at another time is another file, also if it has the same inode.
@@ -98,35 +103,31 @@ fn believes_no_journal_of_another_time(rt: HostRuntime) -> Result<(), Fail> {
     holds(alloc, "trusted", &disk, cases::SWAP.before)
 }
 
-// A journal of another user near is named, and doesn't refuse a run.
+// Whether a call says that a journal of the user 7 is at a path.
+fn is_named(ended: &Ended, named: &str) -> bool {
+    match remarks_of(ended) {
+        [Remark::Near { path, owner: 7 }] => path.as_str() == named,
+        _ => false,
+    }
+}
+
+// Whether a journal near refuses a run, and is only named if it is another user's.
+fn passes_over(alloc: Global, path: &str, named: &str) -> Result<(), Fail> {
+    let case = &cases::DIRECTORY_MOVES;
+    let disk = disk_of(alloc, case.before)?;
+    disk.add(path, file_of(alloc, "jj")?)?;
+    let reason = format!(in alloc; "JournalNear({named:?})")?;
+    is_refused(alloc, case, &disk, reason.as_str())?;
+    disk.set_owner(path, 7, 7)?;
+    let asked = need_rest(&mut DiskStore::new(&disk, "site")?);
+    same("rest", &asked.is_ok(), &true)?;
+    let ended = run(alloc, case, &disk)?;
+    same(path, &end_of(&ended), &End::Done)?;
+    same(named, &is_named(&ended, named), &true)
+}
+
 #[test]
 fn passes_over_journals_of_other_users(rt: HostRuntime) -> Result<(), Fail> {
-    let alloc = rt.alloc();
-    for (path, named) in [
-        (".relmove", "../.relmove"),
-        ("site/a/.relmove", "a/.relmove"),
-    ] {
-        let disk = disk_of(alloc, cases::DIRECTORY_MOVES.before)?;
-        disk.add(path, file_of(alloc, "jj")?)?;
-        is_refused(
-            alloc,
-            &cases::DIRECTORY_MOVES,
-            &disk,
-            format!(in alloc; "JournalNear({named:?})")?.as_str(),
-        )?;
-        disk.set_owner(path, 7, 7)?;
-        same(
-            "rest",
-            &need_rest(&mut DiskStore::new(&disk, "site")?).is_ok(),
-            &true,
-        )?;
-        let ended = run(alloc, &cases::DIRECTORY_MOVES, &disk)?;
-        same(path, &end_of(&ended), &End::Done)?;
-        let is_named = match remarks_of(&ended) {
-            [Remark::Near { path, owner: 7 }] => path.as_str() == named,
-            _ => false,
-        };
-        same("named", &is_named, &true)?;
-    }
-    Ok(())
+    passes_over(rt.alloc(), ".relmove", "../.relmove")?;
+    passes_over(rt.alloc(), "site/a/.relmove", "a/.relmove")
 }

@@ -160,62 +160,62 @@ fn keeps_what_is_in_a_directory_of_its_name(rt: HostRuntime) -> Result<(), Fail>
     has_text(&disk, "site/.relmove-run/1", "mine")
 }
 
+// Whether a run is refused since a run that was killed left what is at a name. The call that ends a run removes it.
+fn is_left_over(alloc: Global, name: &str, disk: &Disk) -> Result<(), Fail> {
+    let reason = format!(in alloc; "LeftOver({name:?})")?;
+    is_refused(alloc, &cases::SWAP, disk, reason.as_str())?;
+    gives_reason(alloc, &undo_on(disk), "NoJournal")?;
+    holds(alloc, name, disk, cases::SWAP.before)
+}
+
 // A run that was killed right after it made its directory left it empty, maybe without its permissions.
 #[test]
 fn removes_an_empty_directory_of_its_name(rt: HostRuntime) -> Result<(), Fail> {
-    let (alloc, case) = (rt.alloc(), &cases::SWAP);
+    let alloc = rt.alloc();
     for mode in [0o700, 0o100, 0] {
-        let disk = disk_of(alloc, case.before)?;
+        let disk = disk_of(alloc, cases::SWAP.before)?;
         disk.add("site/.relmove-run", Content::Directory)?;
         disk.set_mode("site/.relmove-run", mode)?;
-        is_refused(alloc, case, &disk, "LeftOver(\".relmove-run\")")?;
-        gives_reason(alloc, &undo_on(&disk), "NoJournal")?;
-        holds(alloc, "an empty directory", &disk, case.before)?;
+        is_left_over(alloc, ".relmove-run", &disk)?;
     }
     Ok(())
+}
+
+// A disk with a file at a name.
+fn disk_with_file(alloc: Global, name: &str, text: &str) -> Result<Disk, Fail> {
+    let disk = disk_of(alloc, cases::SWAP.before)?;
+    disk.add(below_site(alloc, name)?.as_str(), file_of(alloc, text)?)?;
+    Ok(disk)
 }
 
 // A run that was killed before it changed anything may leave the beginning of a journal. Another run says so, and the call
 // that ends a run removes it.
 #[test]
 fn tells_what_a_killed_run_left(rt: HostRuntime) -> Result<(), Fail> {
-    let (alloc, case) = (rt.alloc(), &cases::SWAP);
+    let alloc = rt.alloc();
     for name in [".relmove-journal", ".relmove-spare"] {
-        let disk = disk_of(alloc, case.before)?;
-        disk.add(
-            below_site(alloc, name)?.as_str(),
-            file_of(alloc, "relmove j")?,
-        )?;
-        let reason = format!(in alloc; "LeftOver({name:?})")?;
-        is_refused(alloc, case, &disk, reason.as_str())?;
-        gives_reason(alloc, &undo_on(&disk), "NoJournal")?;
-        holds(alloc, name, &disk, case.before)?;
+        is_left_over(alloc, name, &disk_with_file(alloc, name, "relmove j")?)?;
     }
     Ok(())
 }
 
-// A file of 200 GB that takes no room.
-const HOLE: u64 = 200_000_000_000;
+// A disk with a file of 200 GB that takes no room, and begins as a journal does.
+fn disk_with_hole(alloc: Global, name: &str) -> Result<Disk, Fail> {
+    let disk = disk_with_file(alloc, name, "relmove journal 3\n")?;
+    disk.add_hole(below_site(alloc, name)?.as_str(), 200_000_000_000)?;
+    Ok(disk)
+}
 
 // Of a file at a name of a run's own only as much is read as a journal can have.
 #[test]
 fn reads_no_more_than_a_journal_can_have(rt: HostRuntime) -> Result<(), Fail> {
-    let (alloc, case) = (rt.alloc(), &cases::SWAP);
-    let disk = disk_of(alloc, case.before)?;
-    disk.add("site/.relmove", file_of(alloc, "relmove journal 3\n")?)?;
-    disk.add_hole("site/.relmove", HOLE)?;
+    let alloc = rt.alloc();
+    let disk = disk_with_hole(alloc, ".relmove")?;
     let reason = reason_of(alloc, Stranger::File)?;
-    is_refused(alloc, case, &disk, reason.as_str())?;
+    is_refused(alloc, &cases::SWAP, &disk, reason.as_str())?;
     gives_reason(alloc, &undo_on(&disk), "NotAJournal")?;
     for name in [".relmove-journal", ".relmove-spare"] {
-        let path = below_site(alloc, name)?;
-        let disk = disk_of(alloc, case.before)?;
-        disk.add(path.as_str(), file_of(alloc, "relmove journal 3\n")?)?;
-        disk.add_hole(path.as_str(), HOLE)?;
-        let reason = format!(in alloc; "LeftOver({name:?})")?;
-        is_refused(alloc, case, &disk, reason.as_str())?;
-        gives_reason(alloc, &undo_on(&disk), "NoJournal")?;
-        holds(alloc, name, &disk, case.before)?;
+        is_left_over(alloc, name, &disk_with_hole(alloc, name)?)?;
     }
     Ok(())
 }
