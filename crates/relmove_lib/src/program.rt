@@ -330,7 +330,7 @@ fn is_done_whole(ended: &Ended) -> bool {
     }
 }
 
-// The tree below a root. Fails if a directory in it has a journal: names that begin with `.relmove-` belong to its run.
+// The tree below a root. Fails if a directory in it has a journal: a name of relmove's own there is its run's.
 fn read_whole<S: Store, E: Write>(store: &mut S, errors: &mut E) -> Result<Tree, Fault> {
     let alloc = store.alloc();
     let tree = read_tree(store)?;

@@ -296,7 +296,7 @@ const SPECIAL: [Row<'static>; 4] = [
         keeps_journal: true,
         status: Status::Stopped,
         printed: "site: rename a.md to .relmove-run/1\nsite: make the directory b\nsite: rename .relmove-run/1 to b/a.md\n",
-        errors: "relmove: site: a.md isn't there\nrelmove: stopped in the middle: some files have names that begin with .relmove-. Call relmove with --resume to go on, or with --undo to go back, and site.\nrelmove: the journal .relmove in site has the old paths, the names that begin with .relmove- and the new paths.\n",
+        errors: "relmove: site: a.md isn't there\nrelmove: stopped in the middle: some files are in .relmove-run. Call relmove with --resume to go on, or with --undo to go back, and site.\nrelmove: the journal .relmove in site has the old paths, the names in .relmove-run and the new paths.\n",
     },
     Row {
         name: "undo names a file that is gone",

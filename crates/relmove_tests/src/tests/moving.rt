@@ -312,7 +312,8 @@ const STOPPED_BELOW: &[Place] = &[
     ("a.md", Some("aa")),
     ("d", None),
     ("d/.relmove", Some("jj")),
-    ("d/.relmove-1", Some("xx")),
+    ("d/.relmove-run", None),
+    ("d/.relmove-run/1", Some("xx")),
     ("d/e", None),
     ("d/e/.relmove-2", Some("yy")),
 ];
@@ -330,7 +331,7 @@ fn names_no_file_of_a_run_below(rt: HostRuntime) -> Result<(), Fail> {
     holds(rt.alloc(), "the tree", &disk, STOPPED_BELOW)?;
     disk.remove("site/d/.relmove")?;
     let printed =
-        "relmove: d/.relmove-1 has a name of relmove's own, and there is no run to which it belongs\nrelmove: d/e/.relmove-2 has a name of relmove's own, and there is no run to which it belongs\n";
+        "relmove: d/.relmove-run has a name of relmove's own, and there is no run to which it belongs\nrelmove: d/e/.relmove-2 has a name of relmove's own, and there is no run to which it belongs\n";
     let expected = (Status::Kept, "", printed);
     answers(rt.alloc(), &disk, &["--check", "site"], expected)
 }

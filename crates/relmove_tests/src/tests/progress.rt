@@ -43,16 +43,8 @@ const STOPS: [(Stage, &str, &str); 9] = [
         "everything is at its old path",
         "--undo and d/.\n",
     ),
-    (
-        Stage::Staging,
-        "some files have names that begin with .relmove-",
-        GO_ON,
-    ),
-    (
-        Stage::Making,
-        "all that moves has a name that begins with .relmove-",
-        GO_ON,
-    ),
+    (Stage::Staging, "some files are in .relmove-run", GO_ON),
+    (Stage::Making, "all that moves is in .relmove-run", GO_ON),
     (Stage::Placing, "some files are at their new paths", GO_ON),
     (
         Stage::Cleaning,
@@ -98,7 +90,7 @@ fn is_told(alloc: Global, stage: Stage, has_journal: bool, expected: String) -> 
 fn says_how_to_go_on(rt: HostRuntime) -> Result<(), Fail> {
     for (stage, state, commands) in &STOPS {
         let expected = format!(in rt.alloc();
-            "relmove: d/: a.md isn't there\nrelmove: stopped in the middle: {state}. Call relmove with {commands}relmove: the journal .relmove in d/ has the old paths, the names that begin with .relmove- and the new paths.\n"
+            "relmove: d/: a.md isn't there\nrelmove: stopped in the middle: {state}. Call relmove with {commands}relmove: the journal .relmove in d/ has the old paths, the names in .relmove-run and the new paths.\n"
         )?;
         is_told(rt.alloc(), *stage, true, expected)?;
     }
@@ -120,7 +112,7 @@ fn says_what_a_run_left_that_went_back_by_itself(rt: HostRuntime) -> Result<(), 
     let mut remarks = Vec::new(alloc);
     remarks.push(Remark::Gone {
         from: String::from_str(alloc, "a.md")?,
-        to: String::from_str(alloc, ".relmove-1")?,
+        to: String::from_str(alloc, ".relmove-run/1")?,
     })?;
     let ended = Ended::TakenBack {
         cause: Some(Fault::Changed(String::from_str(alloc, "a.md")?)),
@@ -129,7 +121,7 @@ fn says_what_a_run_left_that_went_back_by_itself(rt: HostRuntime) -> Result<(), 
     let mut out = Vec::new(alloc);
     print_end(&mut out, "d/", &ended)?;
     let expected =
-        "relmove: d/: a.md was changed while the run worked, so the run was taken back\nd/: neither a.md nor .relmove-1 is there: another program removed it\nd/: the run was taken back, and all else is as before\n";
+        "relmove: d/: a.md was changed while the run worked, so the run was taken back\nd/: neither a.md nor .relmove-run/1 is there: another program removed it\nd/: the run was taken back, and all else is as before\n";
     same("went back", &out.as_slice(), &expected.as_bytes())
 }
 
@@ -137,7 +129,7 @@ fn says_what_a_run_left_that_went_back_by_itself(rt: HostRuntime) -> Result<(), 
 fn says_what_a_run_left_that_stopped(rt: HostRuntime) -> Result<(), Fail> {
     let alloc = rt.alloc();
     let mut remarks = Vec::new(alloc);
-    remarks.push(Remark::Kept(String::from_str(alloc, ".relmove-1")?))?;
+    remarks.push(Remark::Kept(String::from_str(alloc, ".relmove-run/1")?))?;
     let stopped = Ended::Stopped {
         stage: Stage::Cleaning,
         fault: Fault::Missing(String::from_str(alloc, "a.md")?),
@@ -147,7 +139,7 @@ fn says_what_a_run_left_that_stopped(rt: HostRuntime) -> Result<(), Fail> {
     let mut out = Vec::new(alloc);
     print_end(&mut out, "d/", &stopped)?;
     let expected =
-        "relmove: d/: a.md isn't there\nd/: .relmove-1 is kept: another program changed it, or put it there\nrelmove: stopped in the middle: everything is at its new path, and what is left over was being removed. Call relmove with --resume and d/.\nrelmove: the journal .relmove in d/ has the old paths, the names that begin with .relmove- and the new paths.\n";
+        "relmove: d/: a.md isn't there\nd/: .relmove-run/1 is kept: another program changed it, or put it there\nrelmove: stopped in the middle: everything is at its new path, and what is left over was being removed. Call relmove with --resume and d/.\nrelmove: the journal .relmove in d/ has the old paths, the names in .relmove-run and the new paths.\n";
     same("a stop", &out.as_slice(), &expected.as_bytes())
 }
 
