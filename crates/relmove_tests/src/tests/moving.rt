@@ -254,6 +254,34 @@ fn refuses_paths(rt: HostRuntime) -> Result<(), Fail> {
     Ok(())
 }
 
+// Names of a run's own, also those that only a file system which ignores case takes for one.
+const OWN_NAMES: [(&[&str], &str); 4] = [
+    (
+        &["a.md", ".relmove-run"],
+        "relmove: a.md to .relmove-run: a name of the old or the new path begins with .relmove\n",
+    ),
+    (
+        &["a.md", ".Relmove-Run"],
+        "relmove: a.md to .Relmove-Run: a name of the new path begins with .relmove in another case\n",
+    ),
+    (
+        &["b.md", "x.md", "a.md", "d/.RELMOVE"],
+        "relmove: a.md to d/.RELMOVE: a name of the new path begins with .relmove in another case\n",
+    ),
+    (
+        &["d", "./.relmovE-1/"],
+        "relmove: d to ./.relmovE-1/: a name of the new path begins with .relmove in another case\n",
+    ),
+];
+
+#[test]
+fn refuses_names_of_a_run_in_any_case(rt: HostRuntime) -> Result<(), Fail> {
+    for (moves, printed) in &OWN_NAMES {
+        refuses(rt.alloc(), moves, printed)?;
+    }
+    Ok(())
+}
+
 const REFUSED_MOVES: [(&[&str], &str); 7] = [
     (
         &["b.md", "x.md", "none.md", "y.md"],
