@@ -11,11 +11,11 @@ use std::io::{self, ErrorKind};
 // What the owner of a directory needs to change the names in it: to write and to search.
 const CHANGE_NAMES: u32 = 0o300;
 
-// What the owner of a directory needs to move it into another directory: to write.
+// What the owner of a directory needs to move it into another directory, as a run does with its own one: to write.
 const MOVE: u32 = 0o200;
 
-/// Fails if the run of a plan changes the names in a directory that is the caller's, or moves such a directory into
-/// another one, and the directory's mode doesn't let its owner do so. Nothing is changed.
+/// Fails if the run of a plan changes the names in a directory that is the caller's, or moves such a directory, and the
+/// directory's mode doesn't let its owner do so. Nothing is changed.
 ///
 /// Of other directories the mode alone doesn't say who may change them, and root may change all.
 pub(crate) fn need_writable<S: Store>(
@@ -29,9 +29,7 @@ pub(crate) fn need_writable<S: Store>(
     }
     for rename in &plan.steps.apart {
         let from = rename.from.as_str();
-        if is_directory_entry(tree, from)
-            && directory_of(from) != directory_of(rename.to.as_str())
-        {
+        if is_directory_entry(tree, from) {
             need_mode(store, from, MOVE)?;
         }
     }
