@@ -160,8 +160,8 @@ fn move_and_print<R: Machine, O: Write, E: Write>(
     need_rest(&mut store)?;
     let tree = read_whole(&mut store, errors)?;
     let (moving, counts, status) = plan(&mut store, &tree, moves, options, out, errors)?;
-    need_possible(&mut store, &moving.plan.steps)?;
     need_writable(&mut store, &tree, &moving.plan)?;
+    need_possible(&mut store, &moving.plan.steps)?;
     let outcome = if options.json {
         Ok(())
     } else {

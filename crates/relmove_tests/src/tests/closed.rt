@@ -30,7 +30,7 @@ const PLACES: &[Place] = &[
     ("h/e", None),
 ];
 
-const CASES: [Case; 9] = [
+const CASES: [Case; 12] = [
     Case {
         case: "the directory of OLD can't be written",
         closed: "site/d",
@@ -72,6 +72,27 @@ const CASES: [Case; 9] = [
         mode: 0o555,
         moves: &["f", "g"],
         why: "relmove: site: can't write f: permission denied\n",
+    },
+    Case {
+        case: "ROOT, where the run's own files are, can't be written",
+        closed: "site",
+        mode: 0o555,
+        moves: &["d/b.md", "f/b.md"],
+        why: "relmove: site: can't write ROOT: permission denied\n",
+    },
+    Case {
+        case: "the directory of NEW comes from elsewhere, and can't be written",
+        closed: "site/h/e",
+        mode: 0o555,
+        moves: &["d", "g", "h", "d", "a.md", "d/e/a.md"],
+        why: "relmove: site: can't write h/e: permission denied\n",
+    },
+    Case {
+        case: "a directory is to be made in one that comes from elsewhere and can't be written",
+        closed: "site/h/e",
+        mode: 0o577,
+        moves: &["h", "k", "a.md", "k/e/n/a.md"],
+        why: "relmove: site: can't write h/e: permission denied\n",
     },
     Case {
         case: "nothing changes in the directory",
