@@ -160,8 +160,8 @@ fn move_and_print<R: Machine, O: Write, E: Write>(
     need_rest(&mut store)?;
     let tree = read_whole(&mut store, errors)?;
     let (moving, counts, status) = plan(&mut store, &tree, moves, options, out, errors)?;
-    need_possible(&mut store, &moving.plan.steps)?;
     need_writable(&mut store, &tree, &moving.plan)?;
+    need_possible(&mut store, &moving.plan.steps)?;
     let outcome = if options.json {
         Ok(())
     } else {
@@ -330,7 +330,7 @@ fn is_done_whole(ended: &Ended) -> bool {
     }
 }
 
-// The tree below a root. Fails if a directory in it has a journal: names that begin with `.relmove-` belong to its run.
+// The tree below a root. Fails if a directory in it has a journal: a name of relmove's own there is its run's.
 fn read_whole<S: Store, E: Write>(store: &mut S, errors: &mut E) -> Result<Tree, Fault> {
     let alloc = store.alloc();
     let tree = read_tree(store)?;

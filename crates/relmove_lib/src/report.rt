@@ -217,7 +217,7 @@ fn print_stopped<W: Write>(
     )?;
     writeln!(
         out,
-        "relmove: the journal .relmove in {root} has the old paths, the names that begin with .relmove- and the new paths."
+        "relmove: the journal .relmove in {root} has the old paths, the names in .relmove-run and the new paths."
     )
 }
 
@@ -259,8 +259,8 @@ fn state_before(remarks: &[Remark]) -> &'static str {
 fn state_at(stage: Stage) -> &'static str {
     match stage {
         Stage::Writing => "everything is at its old path",
-        Stage::Staging => "some files have names that begin with .relmove-",
-        Stage::Making => "all that moves has a name that begins with .relmove-",
+        Stage::Staging => "some files are in .relmove-run",
+        Stage::Making => "all that moves is in .relmove-run",
         Stage::Placing => "some files are at their new paths",
         Stage::Cleaning => "everything is at its new path, and what is left over was being removed",
         Stage::Unplacing | Stage::Unmaking | Stage::Unstaging => {

@@ -384,7 +384,7 @@ pub(crate) fn has_path(paths: &[String], path: &str) -> bool {
         .is_ok()
 }
 
-// Whether a path has a reserved name: one that a run may give to what moves, or to a new text.
+// Whether a path has a reserved name: one that a run may give, also a run of an older version.
 pub(crate) fn has_reserved_name(path: &str) -> bool {
     name_of(path).starts_with(STAGING)
 }

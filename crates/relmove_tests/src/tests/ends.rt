@@ -1,4 +1,5 @@
 //! Calls that end a run: what they print, their status, and the tree after them.
+use crate::tests::outputs::Output;
 use crate::tests::reading::answers;
 use crate::tests::{holds, same};
 use relmove_disk::{Content, Disk, DiskMachine, Place, disk_of};
@@ -296,7 +297,7 @@ const SPECIAL: [Row<'static>; 4] = [
         keeps_journal: true,
         status: Status::Stopped,
         printed: "site: rename a.md to .relmove-run/1\nsite: make the directory b\nsite: rename .relmove-run/1 to b/a.md\n",
-        errors: "relmove: site: a.md isn't there\nrelmove: stopped in the middle: some files have names that begin with .relmove-. Call relmove with --resume to go on, or with --undo to go back, and site.\nrelmove: the journal .relmove in site has the old paths, the names that begin with .relmove- and the new paths.\n",
+        errors: "relmove: site: a.md isn't there\nrelmove: stopped in the middle: some files are in .relmove-run. Call relmove with --resume to go on, or with --undo to go back, and site.\nrelmove: the journal .relmove in site has the old paths, the names in .relmove-run and the new paths.\n",
     },
     Row {
         name: "undo names a file that is gone",
@@ -454,4 +455,25 @@ fn does_what_it_prints_if_the_journal_is_exchanged(rt: HostRuntime) -> Result<()
         calls = number;
     }
     same("calls", &(calls >= 10), &true)
+}
+
+// A call whose output fails changes nothing.
+fn changes_nothing(alloc: Global, output: &mut Output) -> Result<(), Fail> {
+    let disk = disk_of(alloc, OLD)?;
+    add_journal(alloc, &disk, STAGING)?;
+    let before = disk.listing()?;
+    let words = ["--resume", "--trust-journal", "--write", "site"];
+    let mut errors = Vec::new(alloc);
+    let status = answer(&DiskMachine(&disk), &words, output, &mut errors);
+    same("a failing output", &status, &Status::Refused)?;
+    same("a failing output", &disk.listing()?, &before)
+}
+
+#[test]
+fn changes_nothing_if_the_changes_are_not_printed(rt: HostRuntime) -> Result<(), Fail> {
+    for takes in [false, true] {
+        let mut output = Output { takes, flushes: 0 };
+        changes_nothing(rt.alloc(), &mut output)?;
+    }
+    Ok(())
 }
