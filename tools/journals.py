@@ -88,14 +88,13 @@ def origin_of(top):
     return dict(zip(ORIGIN, (*inodes, os.lstat(path).st_uid, made_at(path))))
 
 
-def write_journal(top, stage, lines, owner=None, **others):
-    """Writes the journal of a stage into a folder, as a file of this user, sealed for this folder. Other numbers may be in
+def write_journal(top, stage, lines, user=0, **others):
+    """Writes the journal of a stage into a folder, as a file of this user, sealed for this folder, or with other numbers in
     the place of those that it has to have."""
     path = f"{top}/{JOURNAL}"
     with open(path, "wb") as journal:
         journal.write(os.fsencode("\n".join([HEAD, *ORIGIN, line("stage", stage), *lines, "end"]) + "\n"))
-    if owner is not None:
-        os.chown(path, owner, owner)
+    os.chown(path, user, user)
     seal(top, **others)
 
 

@@ -2,7 +2,6 @@
 
 import io
 import itertools
-import os
 import subprocess
 import tarfile
 
@@ -35,14 +34,20 @@ def journals_made_anew_are_refused(at):
 
 def make_anew(path):
     """Removes a file, and makes one with its bytes and its inode."""
-    text, inode = path.read_bytes(), path.stat().st_ino
-    for _ in range(MOST_FILES):
-        path.unlink()
-        path.write_bytes(text)
-        if path.stat().st_ino == inode:
-            path.chmod(0o600)
-            return
-    raise LeftOut("no new file gets the inode of one that was removed")
+    text, inode, others = path.read_bytes(), path.stat().st_ino, []
+    path.unlink()
+    while not path.exists() and len(others) < MOST_FILES:
+        made = path.with_name(f"made-{len(others)}")
+        made.touch(0o600)
+        if made.stat().st_ino == inode:
+            made.rename(path)
+            path.write_bytes(text)
+        else:
+            others.append(made)
+    for other in others:
+        other.unlink()
+    if not path.exists():
+        raise LeftOut("no new file gets the inode of one that was removed")
 
 
 def unpacked_journals_are_refused(at):

@@ -5,7 +5,7 @@ import os
 from common import told
 from hostile.bench import BESIDE, MOVE, PAIR, begin_pair, ends_whole
 from journals import stage_of
-from trees import OWN_DIRECTORY, difference
+from trees import difference
 
 # Directories that another program exchanges for a symbolic link: a move, and the directory.
 EXCHANGED = {
@@ -61,7 +61,7 @@ def whole(at, files, what):
 # Moves out of a directory into two that are made, and what may become a FIFO while they are made.
 MAKING = ["--write", "R", "d/c.md", "x/y/c.md"]
 MAKING_TEXTS = {"a.md": "[c](d/c.md)\n", "d/c.md": "[a](../a.md)\n"}
-DIRECTORIES = ("x", "x/y", "d", OWN_DIRECTORY)
+DIRECTORIES = ("x", "x/y", "d")
 
 
 def fifos_let_no_call_wait(at):

@@ -8,18 +8,17 @@ import contextlib
 import itertools
 import os
 import random
-import shutil
 import signal
 import stat
 import time
 
 from common import told
 from hostile.bench import (
-    AS_NOBODY, AS_OTHER, MOVE, NOBODY, OTHER, PAIR, PAIR_MOVED, ends_whole, faults_of_left, give, has_only, need_root,
+    AS_NOBODY, AS_OTHER, MOVE, NOBODY, OTHER, PAIR, PAIR_MOVED, faults_of_left, give, has_only, need_root,
 )
 from hostile.runs import first_placing
 from hostile.stopped import begin_stopped, other, write_stopped
-from trees import JOURNAL, OWN_DIRECTORY, difference
+from trees import JOURNAL, NEW_JOURNAL, OWN_DIRECTORY, difference
 
 # How often two users race.
 TURNS = 40
@@ -162,8 +161,8 @@ def exchange(top, put):
 
 
 def rename_over(top, _):
-    """Renames files over all that has a name of a run's own, but for the journal."""
-    listed = [it for it in os.listdir(top) if it.startswith(JOURNAL) and it != JOURNAL]
+    """Renames files over all that has a name of a run's own, but for the journals, which anybody can remove there."""
+    listed = [it for it in os.listdir(top) if it.startswith(JOURNAL) and it not in (JOURNAL, NEW_JOURNAL)]
     for name in [*listed, *(f"{OWN_DIRECTORY}/{it}" for it in range(1, 9))]:
         (top / "mine").write_text(FOREIGN)
         with contextlib.suppress(OSError):
@@ -186,6 +185,7 @@ ATTACKS = {
     "an empty directory is at .relmove-run": (exchange, put_directory),
     "a directory with files is at .relmove-run": (exchange, put_full_directory),
     "a symbolic link is at .relmove-run": (exchange, put_link),
+    "a FIFO is at .relmove-run": (exchange, os.mkfifo),
 }
 
 
@@ -212,25 +212,23 @@ def faults_of_attack(at, ended):
     """The faults of a run in which another user did something to its own names, and of its end after that user has gone."""
     texts = plain(at)
     is_foreign = FOREIGN in texts.values()
-    if ended.status == 0:
-        yield from has_only(texts, PAIR_MOVED)
-    elif ended.status not in (1, 2, 3) or not (ended.stdout + ended.stderr).strip():
+    if ended.status in (0, 2):
+        yield from (f"status {ended.status}, and {it}" for it in has_only(texts, {0: PAIR_MOVED, 2: PAIR}[ended.status]))
+    elif ended.status not in (1, 3) or JOURNAL not in told(ended):
         yield f"it doesn't say what it did: {told(ended)}"
-    if ended.status == 2:
-        yield from has_only(texts, PAIR)
     remove_foreign(at)
-    if is_foreign and ended.status == 1:
-        # The run ended, and what it had is where the other user put its directory.
-        yield from (f"{it!r} is lost: {at.texts()}" for it in lost_pages(at))
+    if ended.status == 1:
+        # It ended, and what is left in its directory is where the other user put that.
+        yield from (f"{it!r} is lost: {at.texts()}" for it in lost_pages(at.texts() if is_foreign else plain(at)))
         return
     at.ended(**AS_NOBODY)
     yield from (f"{it}: {told(ended)}" for it in [*has_only(at.texts(), PAIR, PAIR_MOVED), *faults_of_left(at)])
 
 
-def lost_pages(at):
-    """The pages that are in no file, as they were before the moves or as they are after them."""
-    texts = at.texts().values()
-    return [old for old, new in zip(PAIR.values(), PAIR_MOVED.values()) if old not in texts and new not in texts]
+def lost_pages(texts):
+    """The pages that none of these files has as they were before the moves or as they are after them."""
+    found = texts.values()
+    return [old for old, new in zip(PAIR.values(), PAIR_MOVED.values()) if old not in found and new not in found]
 
 
 def remove_foreign(at):
@@ -361,7 +359,7 @@ def runs_of_others_are_refused(at):
         for options, how in (([], AS_NOBODY), (TRUSTED, AS_NOBODY), ([], {})):
             done, who = at.call(word, *options, "R", **how), f"{what}, as {how.get('user', 0)} {' '.join(options)}"
             yield from at.refused(done, before, who)
-            if str(OTHER) not in told(done):
+            if str(OTHER) not in told(done) and (not how or can_read(at.top / JOURNAL)):
                 yield f"{who}: it doesn't say whose it is: {told(done)}"
         yield from at.refused(at.call(*MOVE, **AS_NOBODY), before, f"{what}: a run")
         done = at.call(word, TRUSTED[0], "R")
@@ -369,6 +367,11 @@ def runs_of_others_are_refused(at):
         done = at.call(word, *TRUSTED, "R")
         if done.status != 0 or at.left():
             yield f"{what}, as root: {told(done)}, and {at.left()} is left"
+
+
+def can_read(path):
+    """Whether everybody may read a file."""
+    return path.stat().st_mode & stat.S_IROTH
 
 
 def runs_are_ended_by_their_users(at):
