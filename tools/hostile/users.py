@@ -7,7 +7,6 @@ user has.
 import contextlib
 import itertools
 import os
-import random
 import signal
 import stat
 import time
@@ -20,8 +19,8 @@ from hostile.runs import first_placing
 from hostile.stopped import begin_stopped, other, write_stopped
 from trees import JOURNAL, NEW_JOURNAL, OWN_DIRECTORY, difference
 
-# How often two users race.
-TURNS = 40
+# How often two users race, and how many seconds the other one waits at most.
+TURNS, LONGEST_WAIT = 40, 0.03
 # The text of the other user's files.
 FOREIGN = "a file of another user\n"
 
@@ -170,32 +169,37 @@ def rename_over(top, _):
     return True
 
 
-def exchange_soon(top, put):
-    """Exchanges the run's directory some time after it came."""
+def exchange_later(top, put, seconds):
+    """Exchanges the run's directory so many seconds after it came."""
     if not os.path.lexists(top / OWN_DIRECTORY):
         return False
-    time.sleep(random.random() * 0.01)
+    time.sleep(seconds)
     return exchange(top, put)
 
 
-# What the other user does to the names of a run's own.
-ATTACKS = {
-    "files are renamed over": (rename_over, None),
-    "a file is at .relmove-run": (exchange, put_file),
-    "an empty directory is at .relmove-run": (exchange, put_directory),
-    "a directory with files is at .relmove-run": (exchange, put_full_directory),
-    "a symbolic link is at .relmove-run": (exchange, put_link),
-    "a FIFO is at .relmove-run": (exchange, os.mkfifo),
-}
+# What the other user does to the names of a run's own, what they put there, and where the run is held: after a call, or
+# before one, where the run has asked for all that the call needs.
+AFTER, BEFORE = "held-after", "held-before"
+ATTACKS = [
+    (rename_over, None, AFTER),
+    (exchange, put_file, AFTER),
+    (exchange, os.mkfifo, AFTER),
+    (exchange, put_directory, BEFORE),
+    (exchange, put_full_directory, AFTER),
+    (exchange, put_full_directory, BEFORE),
+    (exchange, put_link, AFTER),
+    (exchange, put_link, BEFORE),
+]
 
 
 def foreign_files_are_not_placed(at):
     """18: Whatever another user puts at a run's own names, a run that places a foreign file says so, and one that stops ends."""
     need_root()
-    for (what, (act, put)), way in itertools.product(ATTACKS.items(), ("held-before", "held-after")):
+    for act, put, way in ATTACKS:
         for number, call in at.holds(lambda: begin_shared(at), *MOVE, way=way, **AS_NOBODY):
             done_by_other(act, at.top, put)
-            yield from (f"{what}, {way} call {number}: {it}" for it in faults_of_attack(at, call.end()))
+            what = f"{(put or act).__name__}, {way} call {number}"
+            yield from (f"{what}: {it}" for it in faults_of_attack(at, call.end()))
 
 
 def foreign_files_do_not_race_in(at):
@@ -203,7 +207,7 @@ def foreign_files_do_not_race_in(at):
     need_root()
     for turn, put in zip(range(TURNS), itertools.cycle((put_file, put_directory, put_full_directory, put_link))):
         begin_shared(at)
-        with Beside(exchange_soon, at.top, put):
+        with Beside(exchange_later, at.top, put, turn / TURNS * LONGEST_WAIT):
             done = at.call(*MOVE, **AS_NOBODY)
         yield from (f"turn {turn}: {it}" for it in faults_of_attack(at, done))
 
