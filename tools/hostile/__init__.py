@@ -9,18 +9,25 @@ script says so.
 """
 
 from common import Tally
-from hostile import disks, foreign, odd_files, others, output, own_files, pages, paths, runs
+from hostile import copies, disks, foreign, odd_files, others, output, own_files, pages, paths, runs, users
 from hostile.bench import Bench, LeftOut
 
 ROWS = [
     own_files.own_files_are_new,
+    own_files.staging_names_are_new,
     own_files.own_names_are_new,
-    own_files.left_journal_is_removed,
+    own_files.left_files_are_removed,
     foreign.own_journal_is_believed,
     foreign.foreign_journals_are_refused,
     foreign.links_are_not_followed,
+    foreign.own_directory_is_no_link,
+    foreign.origins_are_asked_for,
+    foreign.exchanged_directories_stop,
     foreign.changed_journals_are_refused,
     foreign.copied_journals_are_refused,
+    copies.journals_made_anew_are_refused,
+    copies.unpacked_journals_are_refused,
+    copies.linked_journals_are_named,
     foreign.trust_is_not_blind,
     foreign.journal_has_its_time,
     runs.runs_exclude_each_other,
@@ -35,6 +42,7 @@ ROWS = [
     pages.owners_keep_their_bytes,
     pages.private_pages_stay_private,
     pages.modes_stay,
+    pages.access_lists_go_with_a_new_text,
     pages.edits_after_a_kill_stay,
     pages.edits_while_it_works_stay,
     disks.power_may_go,
@@ -45,6 +53,7 @@ ROWS = [
     odd_files.odd_files_are_passed_over,
     odd_files.devices_are_passed_over,
     others.directories_stay_directories,
+    others.fifos_let_no_call_wait,
     others.strangers_at_new_stay,
     others.strangers_at_old_stay,
     runs.nested_journals_refuse,
@@ -53,6 +62,14 @@ ROWS = [
     output.stopped_output_is_escaped,
     paths.empty_root_is_wrong,
     paths.unread_directories_keep_their_names,
+    users.staged_files_stay_private,
+    users.foreign_files_are_not_placed,
+    users.foreign_files_do_not_race_in,
+    users.private_texts_stay_in_private_files,
+    users.runs_of_others_are_refused,
+    users.runs_are_ended_by_their_users,
+    users.journals_of_others_near_are_passed_over,
+    users.sticky_roots_are_no_trap,
     output.words_are_true,
     disks.undo_needs_no_room,
     odd_files.masks_do_not_matter,

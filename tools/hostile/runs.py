@@ -103,7 +103,7 @@ def nested_journals_refuse(at):
 def nested_runs_exclude_each_other(at):
     """14: Of two runs at once in nested folders at least one goes back, and no link is lost."""
     for one, other_run in ((OUTER, INNER), (INNER, OUTER)):
-        for number, later in itertools.product(range(1, 7), range(1, 7)):
+        for number, later in itertools.product(range(1, 9), range(1, 9)):
             at.begin(NESTED)
             first = at.caller.start(nested_words(at, one), "held-after", number)
             first.is_held()
