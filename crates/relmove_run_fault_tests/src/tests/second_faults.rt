@@ -151,16 +151,21 @@ fn stops_only_with_a_journal(rt: HostRuntime) -> Result<(), Fail> {
     Ok(())
 }
 
-// What ends a run names the path at which it stops.
-#[test]
-fn names_where_it_stops(rt: HostRuntime) -> Result<(), Fail> {
-    let (alloc, case) = (rt.alloc(), &cases::FILE_MOVES);
-    let disk = stopped_at(alloc, case, Stage::Placing)?;
+// Whether the end of a run that was to place files names what isn't there.
+fn names_what_is_gone(alloc: Global) -> Result<(), Fail> {
+    let disk = stopped_at(alloc, &cases::FILE_MOVES, Stage::Placing)?;
     disk.remove("site/b")?;
     stops_with(alloc, &resume_on(&disk), "b isn't there")?;
     disk.remove("site/.relmove-run/1")?;
-    stops_with(alloc, &resume_on(&disk), ".relmove-run/1 isn't there")?;
-    let disk = stopped_at(alloc, case, Stage::Making)?;
+    stops_with(alloc, &resume_on(&disk), ".relmove-run/1 isn't there")
+}
+
+// What ends a run names the path at which it stops.
+#[test]
+fn names_where_it_stops(rt: HostRuntime) -> Result<(), Fail> {
+    let alloc = rt.alloc();
+    names_what_is_gone(alloc)?;
+    let disk = stopped_at(alloc, &cases::FILE_MOVES, Stage::Making)?;
     disk.add("site/b", file_of(alloc, "mine")?)?;
     let words = "b is no directory: a symbolic link or a file is there";
     stops_with(alloc, &resume_on(&disk), words)

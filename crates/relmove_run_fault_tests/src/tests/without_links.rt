@@ -3,7 +3,8 @@
 use relmove_disk::{Disk, Way, disk_of, file_of};
 use relmove_run::{Ended, Stage};
 use relmove_run_cases::{
-    Case, calls_of, can_be_undone, cases, first_call_at, has_text, holds, loses_nothing, run, same,
+    Case, End, calls_of, can_be_undone, cases, end_of, first_call_at, has_text, holds,
+    loses_nothing, run, same,
 };
 use std::alloc::Global;
 use std::io::ErrorKind;
@@ -16,23 +17,27 @@ fn disk_without_links(alloc: Global, case: &Case) -> Result<Disk, Fail> {
     Ok(disk)
 }
 
-#[test]
-fn survives_each_fault(rt: HostRuntime) -> Result<(), Fail> {
-    let alloc = rt.alloc();
+// Whether a run that failed at a call there loses nothing, and can be taken back.
+fn survives(alloc: Global, number: u32, way: Way) -> Result<(), Fail> {
     let case = &cases::SWAP;
     let disk = disk_without_links(alloc, case)?;
+    disk.fail_at(number, way);
+    run(alloc, case, &disk)?;
+    disk.fail_at(0, Way::Refused);
+    loses_nothing(alloc, case, &disk)?;
+    can_be_undone(alloc, case, &disk)
+}
+
+#[test]
+fn survives_each_fault(rt: HostRuntime) -> Result<(), Fail> {
+    let (alloc, case) = (rt.alloc(), &cases::SWAP);
+    let disk = disk_without_links(alloc, case)?;
     let ended = run(alloc, case, &disk)?;
-    same("done", &matches!(&ended, Ended::Done(_)), &true)?;
+    same("done", &end_of(&ended), &End::Done)?;
     holds(alloc, "done", &disk, case.after)?;
     for number in 1..=disk.calls() {
-        for way in &[Way::DoneAndFailed, Way::Killed] {
-            let disk = disk_without_links(alloc, case)?;
-            disk.fail_at(number, *way);
-            run(alloc, case, &disk)?;
-            disk.fail_at(0, Way::Refused);
-            loses_nothing(alloc, case, &disk)?;
-            can_be_undone(alloc, case, &disk)?;
-        }
+        survives(alloc, number, Way::DoneAndFailed)?;
+        survives(alloc, number, Way::Killed)?;
     }
     Ok(())
 }
@@ -72,15 +77,18 @@ const NO_LINKS: [ErrorKind; 5] = [
     ErrorKind::InvalidInput,
 ];
 
+// Whether a run is done on this disk.
+fn is_done_on(alloc: Global, case: &Case, disk: &Disk) -> Result<(), Fail> {
+    same("done", &end_of(&run(alloc, case, disk)?), &End::Done)?;
+    holds(alloc, case.name, disk, case.after)
+}
+
 #[test]
 fn goes_on_without_links(rt: HostRuntime) -> Result<(), Fail> {
-    let case = &cases::SWAP;
     for why in &NO_LINKS {
-        let disk = disk_of(rt.alloc(), case.before)?;
+        let disk = disk_of(rt.alloc(), cases::SWAP.before)?;
         disk.refuse_links(*why);
-        let ended = run(rt.alloc(), case, &disk)?;
-        same("done", &matches!(&ended, Ended::Done(_)), &true)?;
-        holds(rt.alloc(), "done", &disk, case.after)?;
+        is_done_on(rt.alloc(), &cases::SWAP, &disk)?;
     }
     Ok(())
 }
@@ -89,13 +97,10 @@ fn goes_on_without_links(rt: HostRuntime) -> Result<(), Fail> {
 // was written.
 #[test]
 fn goes_on_with_an_inode_for_each_path(rt: HostRuntime) -> Result<(), Fail> {
-    let alloc = rt.alloc();
     for case in [&cases::SWAP, &cases::PAGE_CHANGES] {
-        let disk = disk_of(alloc, case.before)?;
+        let disk = disk_of(rt.alloc(), case.before)?;
         disk.set_inode_for_each_path();
-        let ended = run(alloc, case, &disk)?;
-        same("done", &matches!(&ended, Ended::Done(_)), &true)?;
-        holds(alloc, case.name, &disk, case.after)?;
+        is_done_on(rt.alloc(), case, &disk)?;
     }
     Ok(())
 }

@@ -224,34 +224,54 @@ fn tells_a_journal_that_comes(rt: HostRuntime) -> Result<(), Fail> {
     Err(Fail::new("no journal was there"))
 }
 
-// A run whose next journal is gone, or isn't the one that it wrote, says so.
-#[test]
-fn names_its_next_journal(rt: HostRuntime) -> Result<(), Fail> {
-    let (alloc, case) = (rt.alloc(), &cases::SWAP);
-    // The question for the next journal comes right before its rename, and that three calls before the first call at a stage.
-    let number = first_call_at(alloc, case, Stage::Staging)?.saturating_sub(4);
-    let disk = disk_of(alloc, case.before)?;
+// Whether a run names its next journal, if it is gone before a call.
+fn misses_next_journal(alloc: Global, number: u32) -> Result<(), Fail> {
+    let disk = disk_of(alloc, cases::SWAP.before)?;
     disk.remove_before(number, "site/.relmove-journal")?;
-    let ended = run(alloc, case, &disk)?;
-    gives_reason(alloc, &ended, "Missing(\".relmove-journal\")")?;
-    let disk = disk_of(alloc, case.before)?;
+    let ended = run(alloc, &cases::SWAP, &disk)?;
+    gives_reason(alloc, &ended, "Missing(\".relmove-journal\")")
+}
+
+// Whether a run names its next journal, if another file comes in its place before a call.
+fn tells_next_journal(alloc: Global, number: u32) -> Result<(), Fail> {
+    let disk = disk_of(alloc, cases::SWAP.before)?;
     disk.replace_before(number, "site/.relmove-journal", file_of(alloc, "mine")?)?;
     let words =
         ".relmove-journal has a name of relmove's own, and relmove didn't leave it: remove or rename it";
-    stops_with(alloc, &run(alloc, case, &disk)?, words)
+    stops_with(alloc, &run(alloc, &cases::SWAP, &disk)?, words)
+}
+
+// A run whose next journal is gone, or isn't the one that it wrote, says so.
+#[test]
+fn names_its_next_journal(rt: HostRuntime) -> Result<(), Fail> {
+    let alloc = rt.alloc();
+    // The question for the next journal comes right before its rename, and that three calls before the first call at a stage.
+    let number = first_call_at(alloc, &cases::SWAP, Stage::Staging)?.saturating_sub(4);
+    misses_next_journal(alloc, number)?;
+    tells_next_journal(alloc, number)
+}
+
+// Whether a run that is refused leaves nothing, if a call is done and reported as failed.
+fn leaves_nothing(alloc: Global, number: u32) -> Result<(), Fail> {
+    let (_, disk) = run_and_fail(alloc, &cases::SWAP, number, Way::DoneAndFailed)?;
+    holds(alloc, "its own", &disk, cases::SWAP.before)
+}
+
+// The same with another file in the place of the first journal before the next call. The file stays.
+fn leaves_another_file(alloc: Global, number: u32) -> Result<(), Fail> {
+    let path = "site/.relmove-journal";
+    let disk = disk_of(alloc, cases::SWAP.before)?;
+    disk.fail_at(number, Way::DoneAndFailed);
+    disk.replace_before(number.saturating_add(1), path, file_of(alloc, "mine")?)?;
+    run(alloc, &cases::SWAP, &disk)?;
+    has_text(&disk, path, "mine")
 }
 
 // The call that makes the first journal is done and reported as failed: the file may be the run's own.
 #[test]
 fn removes_what_may_be_its_own_journal(rt: HostRuntime) -> Result<(), Fail> {
-    let (alloc, case) = (rt.alloc(), &cases::SWAP);
-    let path = "site/.relmove-journal";
-    let number = first_call_with(alloc, case, path)?.saturating_sub(1);
-    let (_, disk) = run_and_fail(alloc, case, number, Way::DoneAndFailed)?;
-    holds(alloc, "its own", &disk, case.before)?;
-    let disk = disk_of(alloc, case.before)?;
-    disk.fail_at(number, Way::DoneAndFailed);
-    disk.replace_before(number.saturating_add(1), path, file_of(alloc, "mine")?)?;
-    run(alloc, case, &disk)?;
-    has_text(&disk, path, "mine")
+    let alloc = rt.alloc();
+    let number = first_call_with(alloc, &cases::SWAP, "site/.relmove-journal")?.saturating_sub(1);
+    leaves_nothing(alloc, number)?;
+    leaves_another_file(alloc, number)
 }

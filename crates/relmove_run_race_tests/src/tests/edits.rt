@@ -256,24 +256,20 @@ fn keeps_a_file_in_the_place_of_a_text(rt: HostRuntime) -> Result<(), Fail> {
     has_text(&disk, "site/.relmove-run/9", "mine")
 }
 
-// Takes a run back that was killed while it wrote a text, at whose name something else is then. It stays, and this is said.
-fn keeps_stranger(disk: &Disk) -> Result<(), Fail> {
-    let ended = undo_on(disk);
+// Takes a run back that was killed while it wrote a text, at whose name a symbolic link is then. It stays, and this is said.
+fn keeps_symlink(alloc: Global, number: u32) -> Result<(), Fail> {
+    let (_, disk) = run_and_fail(alloc, &cases::PAGE_CHANGES, number, Way::Killed)?;
+    let target = String::from_str(alloc, "../o")?;
+    disk.add("site/.relmove-run/9", Content::Symlink(target))?;
+    let ended = undo_on(&disk);
     same("back", &end_of(&ended), &End::TakenBack)?;
     same("said", &is_kept(remarks_of(&ended)), &true)?;
     same("it stays", &disk.has("site/.relmove-run/9")?, &true)
 }
 
-// A part of a text is a regular file in the run's own directory. A second name of another file is removed there, and the file
-// stays.
-#[test]
-fn keeps_what_is_no_part_of_a_text(rt: HostRuntime) -> Result<(), Fail> {
-    let (alloc, case) = (rt.alloc(), &cases::PAGE_CHANGES);
-    let number = first_call_with(alloc, case, "site/.relmove-run/9")?;
-    let (_, disk) = run_and_fail(alloc, case, number, Way::Killed)?;
-    let target = String::from_str(alloc, "../o")?;
-    disk.add("site/.relmove-run/9", Content::Symlink(target))?;
-    keeps_stranger(&disk)?;
+// Takes a run back that was killed while it wrote a text, at whose name another file has a second name then. The file stays.
+fn keeps_linked_file(alloc: Global, number: u32) -> Result<(), Fail> {
+    let case = &cases::PAGE_CHANGES;
     let (_, disk) = run_and_fail(alloc, case, number, Way::Killed)?;
     disk.remove("site/.relmove-run/9")?;
     disk.add("o", file_of(alloc, "mine")?)?;
@@ -282,6 +278,16 @@ fn keeps_what_is_no_part_of_a_text(rt: HostRuntime) -> Result<(), Fail> {
     has_text(&disk, "o", "mine")?;
     disk.remove("o")?;
     holds(alloc, "taken back", &disk, case.before)
+}
+
+// A part of a text is a regular file in the run's own directory. A second name of another file is removed there, and the file
+// stays.
+#[test]
+fn keeps_what_is_no_part_of_a_text(rt: HostRuntime) -> Result<(), Fail> {
+    let alloc = rt.alloc();
+    let number = first_call_with(alloc, &cases::PAGE_CHANGES, "site/.relmove-run/9")?;
+    keeps_symlink(alloc, number)?;
+    keeps_linked_file(alloc, number)
 }
 
 // A page that is gone, or is no regular file any more, refuses the run.

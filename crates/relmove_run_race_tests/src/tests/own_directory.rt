@@ -138,24 +138,22 @@ fn places_no_other_text(rt: HostRuntime) -> Result<(), Fail> {
     holds(alloc, "back", &disk, case.before)
 }
 
-// What is in the directory at the end of a run stays there.
+// Whether what is in the directory of a run that stopped stays there at its end.
+fn keeps_at_end(alloc: Global, ending: Ending, end: End) -> Result<(), Fail> {
+    let disk = stopped_at(alloc, &cases::FILE_MOVES, Stage::Placing)?;
+    disk.add("site/.relmove-run/x", file_of(alloc, "mine")?)?;
+    let ended = ending.on(&disk);
+    same("an end", &end_of(&ended), &end)?;
+    let is_said = matches!(remarks_of(&ended), [Remark::Stays(_)]);
+    same("said", &is_said, &true)?;
+    has_text(&disk, "site/.relmove-run/x", "mine")?;
+    same("no journal", &disk.has("site/.relmove")?, &false)
+}
+
 #[test]
 fn keeps_what_is_in_its_directory_at_its_end(rt: HostRuntime) -> Result<(), Fail> {
-    let (alloc, case) = (rt.alloc(), &cases::FILE_MOVES);
-    for (stage, ending, end) in [
-        (Stage::Placing, Ending::Resume, End::Done),
-        (Stage::Placing, Ending::Undo, End::TakenBack),
-    ] {
-        let disk = stopped_at(alloc, case, stage)?;
-        disk.add("site/.relmove-run/x", file_of(alloc, "mine")?)?;
-        let ended = ending.on(&disk);
-        same("an end", &end_of(&ended), &end)?;
-        let is_said = matches!(remarks_of(&ended), [Remark::Stays(_)]);
-        same("said", &is_said, &true)?;
-        has_text(&disk, "site/.relmove-run/x", "mine")?;
-        same("no journal", &disk.has("site/.relmove")?, &false)?;
-    }
-    Ok(())
+    keeps_at_end(rt.alloc(), Ending::Resume, End::Done)?;
+    keeps_at_end(rt.alloc(), Ending::Undo, End::TakenBack)
 }
 
 // A file system may lose what is in a directory that wasn't synced itself.
@@ -165,27 +163,32 @@ fn is_synced_before_anything_is_staged(rt: HostRuntime) -> Result<(), Fail> {
     same("synced", &disk.is_synced("site/.relmove-run")?, &true)
 }
 
-// ROOT is everybody's, and only who owns a file there may rename or remove it. The file that moves is another user's, in a
-// directory in which everybody may.
+// A disk whose ROOT is everybody's, and only who owns a file there may rename or remove it. The file that moves is another
+// user's, in a directory in which everybody may.
+fn sticky_disk(alloc: Global) -> Result<Disk, Fail> {
+    let disk = disk_of(alloc, cases::FILE_MOVES.before)?;
+    disk.set_owner("site", 0, 0)?;
+    disk.set_mode("site", 0o1777)?;
+    disk.set_owner("site/a", 7, 7)?;
+    disk.set_mode("site/a", 0o777)?;
+    disk.set_owner("site/a/x.md", 7, 7)?;
+    Ok(disk)
+}
+
+// Whether a run there comes back that is killed before a call.
+fn comes_back_below_a_sticky_root(alloc: Global, number: u32) -> Result<(), Fail> {
+    let disk = sticky_disk(alloc)?;
+    disk.fail_at(number, Way::Killed);
+    run(alloc, &cases::FILE_MOVES, &disk)?;
+    disk.fail_at(0, Way::Killed);
+    can_be_undone(alloc, &cases::FILE_MOVES, &disk)
+}
+
 #[test]
 fn moves_a_file_of_another_user_below_a_sticky_root(rt: HostRuntime) -> Result<(), Fail> {
     let (alloc, case) = (rt.alloc(), &cases::FILE_MOVES);
-    let first = first_call_at(alloc, case, Stage::Placing)?;
-    for killed_at in [0, first] {
-        let disk = disk_of(alloc, case.before)?;
-        disk.set_owner("site", 0, 0)?;
-        disk.set_mode("site", 0o1777)?;
-        disk.set_owner("site/a", 7, 7)?;
-        disk.set_mode("site/a", 0o777)?;
-        disk.set_owner("site/a/x.md", 7, 7)?;
-        disk.fail_at(killed_at, Way::Killed);
-        run(alloc, case, &disk)?;
-        disk.fail_at(0, Way::Killed);
-        if killed_at > 0 {
-            can_be_undone(alloc, case, &disk)?;
-        } else {
-            has_text(&disk, "site/b/c/z.md", "xx")?;
-        }
-    }
-    Ok(())
+    let disk = sticky_disk(alloc)?;
+    run(alloc, case, &disk)?;
+    has_text(&disk, "site/b/c/z.md", "xx")?;
+    comes_back_below_a_sticky_root(alloc, first_call_at(alloc, case, Stage::Placing)?)
 }

@@ -182,27 +182,40 @@ fn prints_both_paths_of_a_fault(rt: HostRuntime) -> Result<(), Fail> {
     same("both", &text.as_str(), &words)
 }
 
+// A remark of each kind that has paths of its own.
+fn remark_at(alloc: Global, kind: usize) -> Result<Remark, AllocError> {
+    let from = path(alloc)?;
+    Ok(match kind {
+        0 => Remark::Kept(from),
+        1 => {
+            let to = other_path(alloc)?;
+            Remark::AtBoth { from, to }
+        }
+        2 => Remark::Near {
+            path: from,
+            owner: 7,
+        },
+        _ => {
+            let to = other_path(alloc)?;
+            Remark::Gone { from, to }
+        }
+    })
+}
+
+const REMARKS: [&str; 4] = [
+    "a\\u{1b} is kept: another program changed it, or put it there",
+    "something was at a\\u{1b} and at b\\u{7}: the first went back to the old path, and the second is kept",
+    "a\\u{1b} is the journal of a run that didn't end, of the user of the number 7",
+    "neither a\\u{1b} nor b\\u{7} is there: another program removed it",
+];
+
 #[test]
 fn prints_the_paths_of_remarks(rt: HostRuntime) -> Result<(), Fail> {
-    let alloc = rt.alloc();
-    let text = Remark::Kept(path(alloc)?).to_string(alloc)?;
-    let words = "a\\u{1b} is kept: another program changed it, or put it there";
-    same("kept", &text.as_str(), &words)?;
-    let (from, to) = (path(alloc)?, other_path(alloc)?);
-    let text = Remark::AtBoth { from, to }.to_string(alloc)?;
-    let words =
-        "something was at a\\u{1b} and at b\\u{7}: the first went back to the old path, and the second is kept";
-    same("at both", &text.as_str(), &words)?;
-    let near = Remark::Near {
-        path: path(alloc)?,
-        owner: 7,
-    };
-    let words = "a\\u{1b} is the journal of a run that didn't end, of the user of the number 7";
-    same("near", &near.to_string(alloc)?.as_str(), &words)?;
-    let (from, to) = (path(alloc)?, other_path(alloc)?);
-    let text = Remark::Gone { from, to }.to_string(alloc)?;
-    let words = "neither a\\u{1b} nor b\\u{7} is there: another program removed it";
-    same("gone", &text.as_str(), &words)
+    for (kind, words) in REMARKS.iter().enumerate() {
+        let remark = remark_at(rt.alloc(), kind)?;
+        same("a remark", &remark.to_string(rt.alloc())?.as_str(), words)?;
+    }
+    Ok(())
 }
 
 #[test]
