@@ -21,7 +21,8 @@ each such link still leads to the file to which it led. OLD and NEW are paths be
 nothing is moved into a directory NEW, and nothing that is there is replaced. Missing directories are made. Without
 --write nothing is changed, and the output says what would be changed.
 
-  --write     move the files, and write the pages
+  --write     move the files, and write the pages; a page that changes loses its access control list and its extended
+              attributes
   --json      print an object of JSON on each line
   --any-name  allow a NEW that isn't a plain name on every platform
   --check     print each relative link of a page that leads above ROOT, or to a path below ROOT where nothing is
