@@ -9,7 +9,8 @@ script says so.
 """
 
 from common import Tally
-from hostile import copies, disks, foreign, odd_files, others, output, own_files, pages, paths, runs, users
+from hostile import copies, disks, exchanges, foreign, neighbours, odd_files, others, output, own_files, pages, paths, readers
+from hostile import runs
 from hostile.bench import Bench, LeftOut
 
 ROWS = [
@@ -62,14 +63,14 @@ ROWS = [
     output.stopped_output_is_escaped,
     paths.empty_root_is_wrong,
     paths.unread_directories_keep_their_names,
-    users.staged_files_stay_private,
-    users.foreign_files_are_not_placed,
-    users.foreign_files_do_not_race_in,
-    users.private_texts_stay_in_private_files,
-    users.runs_of_others_are_refused,
-    users.runs_are_ended_by_their_users,
-    users.journals_of_others_near_are_passed_over,
-    users.sticky_roots_are_no_trap,
+    readers.staged_files_stay_private,
+    readers.private_texts_stay_in_private_files,
+    exchanges.foreign_files_are_not_placed,
+    exchanges.foreign_files_do_not_race_in,
+    neighbours.runs_of_others_are_refused,
+    neighbours.runs_are_ended_by_their_users,
+    neighbours.journals_of_others_near_are_passed_over,
+    neighbours.sticky_roots_are_no_trap,
     output.words_are_true,
     disks.undo_needs_no_room,
     odd_files.masks_do_not_matter,

@@ -160,9 +160,9 @@ def has_only(texts, *wanted):
         yield f"the folder has {texts}, not {' or '.join(map(str, wanted))}"
 
 
-def faults_of_left(at):
-    """A fault for each path that only a run that didn't end has."""
-    return [f"{it} is left" for it in at.left()]
+def ends_with(at, *wanted):
+    """A fault unless the texts are those of one of these folders, and one for each path that only a run gives."""
+    return [*has_only(at.texts(), *wanted), *(f"{it} is left" for it in at.left())]
 
 
 def begin_pair(at):
@@ -174,7 +174,7 @@ def ends_whole(at, what):
     """The faults of a run that may have stopped: it has to end with the pages before or after the moves."""
     if not at.ended():
         yield f"{what}: the run has no end: {told(at.call('--resume', 'R'))}"
-    yield from (f"{what}: {it}" for it in [*has_only(at.texts(), PAIR, PAIR_MOVED), *faults_of_left(at)])
+    yield from (f"{what}: {it}" for it in ends_with(at, PAIR, PAIR_MOVED))
 
 
 def make_socket(path):

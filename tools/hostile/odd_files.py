@@ -5,7 +5,7 @@ import os
 import stat
 
 from common import told
-from hostile.bench import AS_NOBODY, MOVE, NOBODY, PAIR, PAIR_MOVED, faults_of_left, has_only, make_socket, need_root
+from hostile.bench import AS_NOBODY, MOVE, NOBODY, PAIR, PAIR_MOVED, ends_with, has_only, make_socket, need_root
 from trees import JOURNAL
 
 def emptied_directories_may_stay(at):
@@ -96,7 +96,7 @@ def masks_do_not_matter(at):
         for number in at.kills(lambda: at.begin(PAIR, owner=NOBODY), *DEEP, umask=umask, **AS_NOBODY):
             done, what = at.call(word, "R", umask=umask, **AS_NOBODY), f"umask {umask:o}, {word}, killed after call {number}"
             at.ended(umask=umask, **AS_NOBODY)
-            yield from (f"{what}: {it}: {told(done)}" for it in [*has_only(at.texts(), PAIR, DEEP_MOVED), *faults_of_left(at)])
+            yield from (f"{what}: {it}: {told(done)}" for it in ends_with(at, PAIR, DEEP_MOVED))
         yield from (f"umask {umask:o}: {it}" for it in has_only(at.texts(), DEEP_MOVED))
         modes = {path: stat.S_IMODE(mode) for path, (mode, content) in at.tree().items() if content is None}
         yield from (f"umask {umask:o}: {path} has mode {mode:o}" for path, mode in modes.items() if mode & 0o700 != 0o700)

@@ -4,7 +4,7 @@ import itertools
 import os
 
 from common import told
-from hostile.bench import BESIDE, MOVE, PAIR, PAIR_MOVED, STRANGERS, begin_pair, ends_whole, faults_of_left, has_only
+from hostile.bench import BESIDE, MOVE, PAIR, PAIR_MOVED, STRANGERS, begin_pair, ends_whole, ends_with
 from journals import HEAD, ORIGIN, end_of, line
 from trees import END, JOURNAL, NEW_JOURNAL, OWN_DIRECTORY, SPARE, difference
 
@@ -76,7 +76,7 @@ def left_files_are_removed(at):
         done = at.call(word, "R")
         if done.status != 2:
             yield f"{what}: {told(done)}"
-        yield from (f"{what}: {it}" for it in [*has_only(at.texts(), PAIR), *faults_of_left(at)])
+        yield from (f"{what}: {it}" for it in ends_with(at, PAIR))
 
 
 # Names of the run's own to which strangers come together.

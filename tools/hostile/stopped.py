@@ -4,7 +4,7 @@ import itertools
 import os
 
 from common import told
-from hostile.bench import BESIDE, faults_of_left, give, has_only
+from hostile.bench import BESIDE, ends_with, give
 from journals import digest_of, line, write_journal
 from trees import OWN_DIRECTORY
 
@@ -47,12 +47,8 @@ def faults_of_end(at, what, word, wanted, *options):
     done = at.call(word, *options, "R")
     if done.status != 0:
         yield f"{what}: {told(done)}"
-    yield from (f"{what}: {it}" for it in [*has_only(texts_of(at), wanted), *faults_of_left(at)])
-
-
-def texts_of(at):
-    """The texts of the files of this run."""
-    return {path: text for path, text in at.texts().items() if path != "esc"}
+    (at.top / "esc").unlink()
+    yield from (f"{what}: {it}" for it in ends_with(at, wanted))
 
 
 def more(part, *lines):
