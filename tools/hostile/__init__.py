@@ -1,11 +1,11 @@
-"""What other people and other programs can do to a folder and to a run: `tools/relmove --hostile`.
+"""What other people, other users and other programs can do to a folder and to a run: `tools/relmove --hostile`.
 
 Each row is a function, and its first line says what has to be. It makes folders of its own, calls the program there,
 and gives what isn't so. `R` is the root, and what lies beside it in the folder of a case must never change.
 
 A run is held at each of its calls that change something, by tools/calls.c, while the script does what another program
-might do. Rows that need another user, a mount or a tool of the system are left out where that isn't to be had, and the
-script says so.
+might do. A row with two users lets the other one do it, with no more rights than that user has. Rows that need another
+user, a mount or a tool of the system are left out where that isn't to be had, and the script says so.
 """
 
 from common import Tally
