@@ -1,4 +1,4 @@
-//! The tests of `relmove_run` in which a call fails, the program is killed, the disk is full or the power is lost.
+//! The tests of `relmove_run` in which a call fails, the program is killed or the disk is full.
 #![tactic(auto)]
 
 #[cfg(test)]

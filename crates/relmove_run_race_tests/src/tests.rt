@@ -2,6 +2,3 @@
 
 mod arrivals;
 mod edits;
-mod lock;
-mod own_directory;
-mod symlinks;

@@ -3,9 +3,5 @@
 mod changes;
 mod depth;
 mod fifos;
-mod foreign_journals;
 mod impossible_paths;
-mod journals_near;
-mod other_users;
-mod own_names;
 mod rights;
