@@ -119,7 +119,7 @@ def lost_edits(at, edits, done, is_named=True):
         found = [it for it in texts if texts[it] == text]
         if not found:
             yield f"the edit of {path} is lost: {told(done)}"
-        elif is_named and not any(it in {*PAIR, *PAIR_MOVED} or it in told(done) for it in found):
+        elif is_named and not any(it in {*PAIR, *PAIR_MOVED} or it.encode() in (done.stdout or b"") + done.stderr for it in found):
             yield f"the edit of {path} is at {found}, which isn't printed: {told(done)}"
 
 
