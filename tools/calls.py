@@ -18,7 +18,7 @@ import time
 from common import build_library, told
 from journals import stage_of
 from sites import taken
-from trees import JOURNAL, LONGEST, OWN_FILES, Done, Fault, difference, move_words, tree_of, write_site
+from trees import JOURNAL, LONGEST, Done, Fault, difference, move_words, tree_of, without_left, write_site
 
 # In what way a call fails, and whether those after it fail too.
 WAYS = [
@@ -191,8 +191,8 @@ class Failing:
     def faults_of_status(self, ended, tree, way, and_on):
         """The faults of what a run says and leaves."""
         if ended.status == 2 and and_on:
-            # it couldn't remove the journal that it didn't put in its place
-            tree = {path: it for path, it in tree.items() if path not in OWN_FILES}
+            # it couldn't remove its directory, or the journal that it didn't put in its place
+            tree = without_left(tree)
         if ended.status == 1 and b"this directory stays" in ended.stdout:
             # it couldn't remove a directory that it emptied
             yield from difference(without_empty(tree), without_empty(self.after))

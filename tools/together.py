@@ -14,7 +14,7 @@ import re
 
 from calls import Caller, as_bytes
 from common import told
-from trees import OWN_FILES, Fault, is_between, tree_of, write_site
+from trees import Fault, is_own, tree_of, write_site
 
 # How many calls move files at once, and how many pages there are in each of these directories.
 MOVERS = 4
@@ -86,7 +86,7 @@ def round_of(caller, top, rng):
     started = [caller.start(it) for it in [*words, ["--resume", str(top)], ["--undo", str(top)]]]
     calls = list(zip([*moves, None, None], [it.end() for it in started]))
     tree = tree_of(top)
-    left = [it for it in tree if it in OWN_FILES or is_between(it)]
+    left = [it for it in tree if is_own(it)]
     texts = {path: content.decode() for path, (_, content) in tree.items() if content is not None and path not in left}
     faults = [*(f"{it} is left" for it in left), *faults_of_texts(texts), *faults_of_calls(calls, texts)]
     return faults, [done.status for moves, done in calls if moves]

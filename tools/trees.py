@@ -9,8 +9,10 @@ import stat
 import subprocess
 
 JOURNAL, NEW_JOURNAL, SPARE = ".relmove", ".relmove-journal", ".relmove-spare"
-# The files of the run's own that have no text of a page: the journal, the next one, and one that keeps room for it.
-OWN_FILES = (JOURNAL, NEW_JOURNAL, SPARE)
+# The directory of the run's own, and the file there of who ends a run.
+OWN_DIRECTORY, END = ".relmove-run", ".relmove-run/end"
+# The files of the run's own that have no text of a page: the journal, the next one, one that keeps room for it, and that file.
+OWN_FILES = (JOURNAL, NEW_JOURNAL, SPARE, END)
 # How many seconds a call may take.
 LONGEST = 20
 
@@ -88,5 +90,15 @@ def move_words(top, moves, *options):
 
 
 def is_between(path):
-    """Whether a path is a name in between, or below one, or that of a new text."""
-    return any(it.startswith(".relmove-") for it in path.split("/"))
+    """Whether a path is a staging name, or below one."""
+    return path.startswith(f"{OWN_DIRECTORY}/") and path != END
+
+
+def is_own(path):
+    """Whether a path has a name that only a run gives."""
+    return any(it.startswith(".relmove") for it in path.split("/"))
+
+
+def without_left(tree):
+    """A tree without what a run leaves that can remove nothing: its files that aren't texts of pages, and its directory."""
+    return {path: it for path, it in tree.items() if path not in OWN_FILES and path != OWN_DIRECTORY}

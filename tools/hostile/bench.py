@@ -10,12 +10,17 @@ import subprocess
 
 from calls import Caller, as_bytes
 from common import told
-from journals import stage_of
-from trees import JOURNAL, difference, tree_of, write_site
+from trees import JOURNAL, difference, is_own, tree_of, write_site
 
-# A user who owns nothing.
-NOBODY = 65534
-AS_NOBODY = {"user": NOBODY, "group": NOBODY, "extra_groups": []}
+
+def as_user(user):
+    """How a call is made by a user of this number, in the group of the same number alone."""
+    return {"user": user, "group": user, "extra_groups": []}
+
+
+# A user who owns nothing, and one who may own a root beside others.
+NOBODY, OTHER = 65534, 65533
+AS_NOBODY, AS_OTHER = as_user(NOBODY), as_user(OTHER)
 
 # Two pages that link to each other.
 PAIR = {"a.md": "[b](b.md)\n", "b.md": "[a](a.md)\n"}
@@ -44,9 +49,7 @@ class Bench:
         shutil.rmtree(self.case, ignore_errors=True)
         write_site(self.case, as_bytes(beside or {}))
         write_site(self.top, as_bytes(files))
-        for above, _, names in os.walk(self.top):
-            for path in [above, *(f"{above}/{name}" for name in names)]:
-                os.lchown(path, owner, owner)
+        give(self.top, owner)
 
     def call(self, *words, **how):
         """A call of the program. `R` is the root's path."""
@@ -89,6 +92,14 @@ class Bench:
                 return
             yield number, call
 
+    def steps(self, *words, first=1, way="held-after", **how):
+        """Makes a call that is held at each of its calls that change something, from this number on. Gives the call each
+        time that it is held."""
+        call = self.caller.start(self.words(words), way, f"{first}..", **how)
+        while call.is_held():
+            yield call
+            call.go_on()
+
     def kills(self, begin, *words, **how):
         """Makes a call anew for each of its calls that change something, and kills it there: the number of that call,
         after the kill."""
@@ -98,12 +109,23 @@ class Bench:
                 return
             yield number
 
-    def ended(self):
+    def left(self):
+        """The paths below the root with a name that only a run gives."""
+        return [path for path in self.tree() if is_own(path)]
+
+    def ended(self, **how):
         """Ends a run that may have stopped. Gives whether no journal is left."""
         for word in ("--undo", "--resume"):
-            if stage_of(self.top) is not None:
-                self.call(word, "R")
+            if self.left():
+                self.call(word, "R", **how)
         return not os.path.lexists(self.top / JOURNAL)
+
+
+def give(top, owner):
+    """Gives a folder and all that is in it to a user."""
+    for above, folders, names in os.walk(top):
+        for path in [above, *(f"{above}/{name}" for name in [*folders, *names])]:
+            os.lchown(path, owner, owner)
 
 
 def need_root():
@@ -138,6 +160,11 @@ def has_only(texts, *wanted):
         yield f"the folder has {texts}, not {' or '.join(map(str, wanted))}"
 
 
+def ends_with(at, *wanted):
+    """A fault unless the texts are those of one of these folders, and one for each path that only a run gives."""
+    return [*has_only(at.texts(), *wanted), *(f"{it} is left" for it in at.left())]
+
+
 def begin_pair(at):
     """A case with two pages."""
     return lambda: at.begin(PAIR, BESIDE)
@@ -147,7 +174,7 @@ def ends_whole(at, what):
     """The faults of a run that may have stopped: it has to end with the pages before or after the moves."""
     if not at.ended():
         yield f"{what}: the run has no end: {told(at.call('--resume', 'R'))}"
-    yield from (f"{what}: {it}" for it in has_only(at.texts(), PAIR, PAIR_MOVED))
+    yield from (f"{what}: {it}" for it in ends_with(at, PAIR, PAIR_MOVED))
 
 
 def make_socket(path):

@@ -5,7 +5,7 @@ import os
 import stat
 
 from common import told
-from hostile.bench import AS_NOBODY, MOVE, NOBODY, PAIR, PAIR_MOVED, has_only, make_socket, need_root
+from hostile.bench import AS_NOBODY, MOVE, NOBODY, PAIR, PAIR_MOVED, ends_with, has_only, make_socket, need_root
 from trees import JOURNAL
 
 def emptied_directories_may_stay(at):
@@ -84,13 +84,19 @@ def devices_are_passed_over(at):
     yield from ("it is opened" for it in done.lines if it[0] == "?open" and it[1].endswith("null.md"))
 
 
+# A move for which two directories are made, and the files afterwards.
+DEEP = ["--write", "R", "a.md", "x/y/a.md"]
+DEEP_MOVED = {"x/y/a.md": "[b](../../b.md)\n", "b.md": "[a](x/y/a.md)\n"}
+
+
 def masks_do_not_matter(at):
-    """Small: Under umask 0777 the owner can read the journal, and end the run."""
+    """Small: Under each umask the owner can read the journal, end the run, and use the directories that it made."""
     need_root()
-    for number in at.kills(lambda: at.begin(PAIR, owner=NOBODY), *MOVE, umask=0o777, **AS_NOBODY):
-        if os.path.lexists(at.top / JOURNAL):
-            for word in ("--undo", "--resume"):
-                at.call(word, "R", **AS_NOBODY)
-            yield from (f"killed after call {number}: {it}" for it in has_only(at.texts(), PAIR, PAIR_MOVED))
-    at.ended()
-    yield from has_only(at.texts(), PAIR, PAIR_MOVED)
+    for umask, word in itertools.product((0o777, 0o177), ("--undo", "--resume")):
+        for number in at.kills(lambda: at.begin(PAIR, owner=NOBODY), *DEEP, umask=umask, **AS_NOBODY):
+            done, what = at.call(word, "R", umask=umask, **AS_NOBODY), f"umask {umask:o}, {word}, killed after call {number}"
+            at.ended(umask=umask, **AS_NOBODY)
+            yield from (f"{what}: {it}: {told(done)}" for it in ends_with(at, PAIR, DEEP_MOVED))
+        yield from (f"umask {umask:o}: {it}" for it in has_only(at.texts(), DEEP_MOVED))
+        modes = {path: stat.S_IMODE(mode) for path, (mode, content) in at.tree().items() if content is None}
+        yield from (f"umask {umask:o}: {path} has mode {mode:o}" for path, mode in modes.items() if mode & 0o700 != 0o700)

@@ -53,12 +53,55 @@ def without(tree, top):
 
 
 def whole(at, files, what):
-    """The faults of a folder in which the number of files is another, or one is at a staging name. A new text may stay
-    in a directory that was away when the run went back."""
-    texts = at.texts()
-    plain = [it for it in texts if not it.rpartition("/")[2].startswith(".relmove")]
-    if len(plain) != len(files) or any("/" not in it for it in texts.keys() - set(plain)):
-        yield f"{what}: the folder has {texts}"
+    """The faults of a folder in which the number of files is another, or something of the run's own is left."""
+    if len(at.texts()) != len(files) or at.left():
+        yield f"{what}: the folder has {at.texts()}, and {at.left()} is left"
+
+
+# Moves out of a directory into two that are made, and what may become a FIFO while they are made.
+MAKING = ["--write", "R", "d/c.md", "x/y/c.md"]
+MAKING_TEXTS = {"a.md": "[c](d/c.md)\n", "d/c.md": "[a](../a.md)\n"}
+DIRECTORIES = ("x", "x/y", "d")
+
+
+def fifos_let_no_call_wait(at):
+    """12: A FIFO that comes to where a directory is, or is to be, makes no call wait, and after it has gone the run ends."""
+    for path in DIRECTORIES:
+        for number, call in at.holds(lambda: at.begin(MAKING_TEXTS), *MAKING):
+            what = f"{path}, held after call {number}"
+            is_put = put_fifo(at, path)
+            yield from (f"{what}: {it}" for it in late("the run", call.end()))
+            for word in ("--resume", "--undo") if is_put else ():
+                yield from (f"{what}: {it}" for it in late(word, at.call(word, "R")))
+            if is_put:
+                take_fifo(at, path)
+            at.ended()
+            yield from whole(at, MAKING_TEXTS, what)
+
+
+def put_fifo(at, path):
+    """Puts a FIFO at a path, and takes away what is there. Gives whether it is there."""
+    place = at.top / path
+    if not place.parent.is_dir():
+        return False
+    if os.path.lexists(place):
+        os.rename(place, at.case / "away")
+    os.mkfifo(place)
+    return True
+
+
+def take_fifo(at, path):
+    """Removes the FIFO, if it is still there, and puts back what was there."""
+    place = at.top / path
+    if place.is_fifo():
+        place.unlink()
+    if os.path.lexists(at.case / "away"):
+        os.rename(at.case / "away", place)
+
+
+def late(what, done):
+    """A fault if a call didn't end."""
+    return [f"{what} doesn't end"] if done.status is None else []
 
 
 def strangers_at_new_stay(at):

@@ -84,7 +84,7 @@ def words_are_true(at):
             if done.status == 3 and not os.path.lexists(at.top / JOURNAL) and b"has the old paths" in done.stderr:
                 yield f"{way} {number}{and_on}: {told(done)}"
     begin_stopped(at)
-    (at.top / ".relmove-1").unlink()
+    (at.top / ".relmove-run/1").unlink()
     for word in ("--resume", "--undo"):
         done = at.call(word, "R")
         if b"lost no file" in done.stderr + done.stdout or done.status == 0:

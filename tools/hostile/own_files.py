@@ -4,24 +4,42 @@ import itertools
 import os
 
 from common import told
-from hostile.bench import BESIDE, MOVE, PAIR, PAIR_MOVED, STRANGERS, begin_pair, ends_whole, has_only
-from journals import HEAD, end_of
-from trees import JOURNAL, NEW_JOURNAL, SPARE, difference
+from hostile.bench import BESIDE, MOVE, PAIR, PAIR_MOVED, STRANGERS, begin_pair, ends_whole, ends_with
+from journals import HEAD, ORIGIN, end_of, line
+from trees import END, JOURNAL, NEW_JOURNAL, OWN_DIRECTORY, SPARE, difference
+
+# A call of each kind that has to find none of a run's own files, or to end a run.
+CALLS = [MOVE, MOVE[1:], ["--resume", "R"], ["--undo", "R"]]
+
 
 def own_files_are_new(at):
-    """1: What a run of this program can't have left at `.relmove-journal` or `.relmove` refuses each call."""
-    calls = [["--write", "R", "a.md", "x/a.md"], ["R", "a.md", "x/a.md"], ["--resume", "R"], ["--undo", "R"]]
-    for name, (what, put), words in itertools.product((NEW_JOURNAL, JOURNAL), STRANGERS.items(), calls):
+    """1: What a run of this program can't have left at one of its own names in ROOT refuses each call."""
+    names = (NEW_JOURNAL, JOURNAL, SPARE, OWN_DIRECTORY)
+    for name, (what, put), words in itertools.product(names, STRANGERS.items(), CALLS):
+        if (name, what) == (OWN_DIRECTORY, "a directory"):
+            continue  # a run that was killed may have left it
         at.begin(PAIR, BESIDE)
         put(at.top / name)
         before, done = at.all(), at.call(*words)
         yield from at.refused(done, before, f"{what} at {name}, {words[0]}")
-        if name == NEW_JOURNAL and words[0].startswith("--") and name not in told(done):
+        if name != JOURNAL and words[0].startswith("--") and name not in told(done):
+            yield f"{what} at {name}, {words[0]}: it isn't named: {told(done)}"
+
+
+def staging_names_are_new(at):
+    """1: What is in a directory `.relmove-run` without a journal refuses each call, and stays."""
+    for (what, put), name, words in itertools.product(STRANGERS.items(), ("1", "end", "x"), CALLS):
+        at.begin(PAIR, BESIDE)
+        (at.top / OWN_DIRECTORY).mkdir()
+        put(at.top / OWN_DIRECTORY / name)
+        before, done = at.all(), at.call(*words)
+        yield from at.refused(done, before, f"{what} at {name}, {words[0]}")
+        if OWN_DIRECTORY not in told(done):
             yield f"{what} at {name}, {words[0]}: it isn't named: {told(done)}"
 
 
 def own_names_are_new(at):
-    """1: What is at a staging name, or where a new text would be written, stays."""
+    """1: What is at a name in between that a plan gives stays."""
     for what, put in STRANGERS.items():
         at.begin({**PAIR, "d/c.md": "[a](../a.md)\n"}, BESIDE)
         for path in (*(f".relmove-{it}" for it in range(1, 9)), "d/.relmove-1", "d/.relmove-2"):
@@ -44,19 +62,25 @@ def own_names_stay(at, what, done, before, after):
     yield from (f"{what}: {it} isn't right" for it in after if tree.get(it, (0, b""))[1] != after[it].encode())
 
 
-def left_journal_is_removed(at):
-    """1: A file `.relmove-journal` that a kill left, whole or in part, is removed by --resume and --undo."""
-    for word, part in itertools.product(("--resume", "--undo"), (0.0, 0.5, 1.0)):
+def left_files_are_removed(at):
+    """1: What a kill left before there was a journal, whole or in part, refuses a run, and --resume and --undo remove it."""
+    lines = "\n".join([HEAD, *(line(it, 1) for it in ORIGIN), line("stage", "writing"), ""])
+    text = lines + end_of(lines.encode()).decode()
+    for word, name, part in itertools.product(("--resume", "--undo"), (NEW_JOURNAL, SPARE, None), (0.0, 0.1, 0.5, 1.0)):
         at.begin(PAIR)
-        text = f"{HEAD}\nroot\t1\nfile\t2\nstage\twriting\n"
-        text += "" if part < 1 else end_of(text.encode()).decode()
-        (at.top / NEW_JOURNAL).write_text(text[:len(HEAD) + 1 + int(part * len(text))])
-        at.call(word, "R")
-        yield from has_only(at.texts(), PAIR)
+        (at.top / OWN_DIRECTORY).mkdir()
+        if name:
+            (at.top / name).write_text(text[:int(part * len(text))])
+        before, what = at.all(), f"{word}, {name or OWN_DIRECTORY}"
+        yield from at.refused(at.call(*MOVE), before, f"{what}: a run")
+        done = at.call(word, "R")
+        if done.status != 2:
+            yield f"{what}: {told(done)}"
+        yield from (f"{what}: {it}" for it in ends_with(at, PAIR))
 
 
-# Names of the run's own files to which strangers come together.
-COMING = [[JOURNAL], [NEW_JOURNAL], [SPARE], [*(f".relmove-{it}" for it in range(1, 8)), "x/.relmove-1"]]
+# Names of the run's own to which strangers come together.
+COMING = [[JOURNAL], [NEW_JOURNAL], [SPARE], [OWN_DIRECTORY], [END], [f".relmove-run/{it}" for it in range(1, 8)]]
 
 
 def strangers_stay(at):
@@ -88,16 +112,17 @@ def is_stranger(at, name):
 
 def own_names_do_not_move(at):
     """10: The run's own names are refused as OLD."""
-    for old, options in itertools.product((NEW_JOURNAL, ".relmove-1", "d/.relmove-2", ".relmove-x"), ([], ["--write"])):
+    olds = (NEW_JOURNAL, ".relmove-1", "d/.relmove-2", ".relmove-x", "d/.relmove-run")
+    for old, options in itertools.product(olds, ([], ["--write"])):
         at.begin({**PAIR, "d/c.md": "c\n", old: "a file of a user\n"})
         before = at.all()
         yield from at.refused(at.call(*options, "R", old, "y.md"), before, f"{' '.join(options)} {old}")
 
 
 def left_names_are_mentioned(at):
-    """Small: Names `.relmove-N` that lie about without a journal are mentioned."""
+    """Small: Names of a run's own that lie about without a journal are mentioned."""
     for words in (["--check", "R"], ["R", "a.md", "x/a.md"], MOVE):
-        for name in (".relmove-7", "d/.relmove-3"):
+        for name in (".relmove-7", "d/.relmove-3", "d/.relmove-run"):
             at.begin({**PAIR, "d/c.md": "c\n", name: "left\n"})
             done = at.call(*words)
             if name not in told(done):

@@ -3,9 +3,10 @@
 import itertools
 import os
 import stat
+import struct
 
 from common import told
-from hostile.bench import MOVE, NOBODY, PAIR, PAIR_MOVED, begin_pair, need_root
+from hostile.bench import MOVE, NOBODY, PAIR, PAIR_MOVED, LeftOut, begin_pair, need_root
 from journals import stage_of
 from trees import OWN_FILES, is_between
 
@@ -61,6 +62,32 @@ def modes_stay(at):
             yield f"mode {mode:o}, umask {umask:o}: {found}, {told(done)}"
 
 
+# The attribute that has a file's access control list.
+LIST = "system.posix_acl_access"
+# A list by which the owner and NOBODY may read and write, and others may do nothing: its version, and the kind, the rights
+# and the user of each entry.
+NO_USER = 0xffffffff
+ENTRIES = [(0x01, 6, NO_USER), (0x02, 6, NOBODY), (0x04, 0, NO_USER), (0x10, 6, NO_USER), (0x20, 0, NO_USER)]
+LISTED = struct.pack("<I", 2) + b"".join(struct.pack("<HHI", *it) for it in ENTRIES)
+
+
+def access_lists_go_with_a_new_text(at):
+    """5: A page that is rewritten has no access control list, and a file that only moves keeps its own. Their modes stay."""
+    at.begin({**PAIR, "n.txt": "a note\n"})
+    try:
+        for name in ("b.md", "n.txt"):
+            os.setxattr(at.top / name, LIST, LISTED)
+    except OSError as why:
+        raise LeftOut(f"a file can't have an access control list: {why.strerror}") from why
+    modes = {stat.S_IMODE((at.top / name).stat().st_mode) for name in ("b.md", "n.txt")}
+    done = at.call(*MOVE, "n.txt", "x/n.txt")
+    found = {name: LIST in os.listxattr(at.top / name) for name in ("b.md", "x/n.txt")}
+    if done.status != 0 or found != {"b.md": False, "x/n.txt": True}:
+        yield f"which has a list: {found}, {told(done)}"
+    yield from (f"{name} has another mode than {modes}" for name in found
+                if {stat.S_IMODE((at.top / name).stat().st_mode)} != modes)
+
+
 def edits_after_a_kill_stay(at):
     """6: What a user writes into a page after a kill is in a file after the end, and its name is printed if it is another."""
     for word in ("--undo", "--resume"):
@@ -92,7 +119,7 @@ def lost_edits(at, edits, done, is_named=True):
         found = [it for it in texts if texts[it] == text]
         if not found:
             yield f"the edit of {path} is lost: {told(done)}"
-        elif is_named and not any(it in {*PAIR, *PAIR_MOVED} or it in told(done) for it in found):
+        elif is_named and not any(it in {*PAIR, *PAIR_MOVED} or it.encode() in (done.stdout or b"") + done.stderr for it in found):
             yield f"the edit of {path} is at {found}, which isn't printed: {told(done)}"
 
 

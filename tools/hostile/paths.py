@@ -5,8 +5,8 @@ import os
 import pathlib
 
 from common import told
-from hostile.bench import AS_NOBODY, NOBODY, PAIR, has_only, need_root
-from hostile.stopped import STOPPED_BEFORE, begin_stopped, other
+from hostile.bench import AS_NOBODY, NOBODY, PAIR, need_root
+from hostile.stopped import STOPPED_BEFORE, begin_stopped, faults_of_end, other
 from journals import line
 
 LONG = "n" * 256
@@ -57,13 +57,10 @@ def undo_tolerates_what_was_not_made(at):
     """4: --undo ends a run whose new directory can't have been made."""
     for placed in (f"{LONG}/note.txt", f"y/{LONG}/note.txt"):
         above = [str(it) for it in reversed(pathlib.PurePath(placed).parents)][1:]
-        parts = {"made": [line("made", it) for it in above], **other("placed", 0, ".relmove-1", placed)}
+        parts = {"made": [line("made", it) for it in above], **other("placed", 0, ".relmove-run/1", placed)}
         begin_stopped(at, "making", **parts)
         (at.top / "x").rmdir()
-        done = at.call("--undo", "R")
-        if done.status != 0:
-            yield f"{placed[:9]}..: {told(done)}"
-        yield from has_only({path: text for path, text in at.texts().items() if path != "esc"}, STOPPED_BEFORE)
+        yield from faults_of_end(at, f"{placed[:9]}..", "--undo", STOPPED_BEFORE)
 
 
 def empty_root_is_wrong(at):

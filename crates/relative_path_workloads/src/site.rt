@@ -1,8 +1,18 @@
 //! A site of documentation, as a program that reads a folder has it.
 use crate::draw::Draw;
 use relmove_lib::{EntryKind, Page, Tree};
+use relmove_run::PageFile;
 use std::alloc::{AllocError, Global};
 use std::collections::BTreeMap;
+
+// The pages are in no file.
+const NO_FILE: PageFile = PageFile {
+    device: 0,
+    inode: 0,
+    mode: 0,
+    owner: 0,
+    group: 0,
+};
 
 const SECTIONS: [&str; 12] = [
     "guide",
@@ -129,7 +139,11 @@ pub(crate) fn tree_of(
     for (place, text) in places.iter().zip(texts) {
         let path = place.path(alloc)?;
         add_file(alloc, &mut tree, path.as_str())?;
-        tree.pages.push(Page { path, text })?;
+        tree.pages.push(Page {
+            path,
+            text,
+            file: NO_FILE,
+        })?;
     }
     tree.pages.sort_by(|one, other| one.path.cmp(&other.path))?;
     add_images(alloc, &mut tree)?;

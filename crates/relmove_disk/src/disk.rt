@@ -25,6 +25,9 @@ struct Surprise {
     deed: Deed,
 }
 
+// What a new directory doesn't let its group and others do in any case.
+const USUAL_MASK: u32 = 0o022;
+
 /// A disk, and the process that works on it: its user and group, 1000 at first, the number of its calls, and those that
 /// fail. Also the time, in milliseconds, and what was printed on standard error.
 #[derive(Drop)]
@@ -40,6 +43,8 @@ pub struct Disk {
     size: Cell<u64>,
     // Whether the process may give a file to another user.
     pub(crate) gives_away: Cell<bool>,
+    // Whether each name of a file has an inode of its own.
+    pub(crate) has_inode_for_each_path: Cell<bool>,
     // Why a file can't have a second name, if it can't.
     pub(crate) no_links: Cell<Option<ErrorKind>>,
     // Why a directory can't be synced, if it can't.
@@ -66,6 +71,7 @@ impl Disk {
             asked: Cell::new(0),
             size: Cell::new(u64::MAX),
             gives_away: Cell::new(false),
+            has_inode_for_each_path: Cell::new(false),
             no_links: Cell::new(None),
             no_syncs: Cell::new(None),
             mask: Cell::new(0),
@@ -180,9 +186,20 @@ impl Disk {
         Ok(())
     }
 
+    /// From now on the process is one of this user and this group. The user 0 may do everything.
+    pub fn set_user(&self, user: u32, group: u32) -> io::Result<()> {
+        self.nodes.try_borrow_mut()?.process = Owner { user, group };
+        Ok(())
+    }
+
     /// Says whether the process may give files to other users.
     pub fn allow_giving(&self, is_allowed: bool) {
         self.gives_away.set(is_allowed);
+    }
+
+    /// From now on a file has another inode under each of its names, as on some file systems of the user's space.
+    pub fn set_inode_for_each_path(&self) {
+        self.has_inode_for_each_path.set(true);
     }
 
     /// From now on the process can't give a file a second name: that fails with this error.
@@ -340,7 +357,9 @@ impl Disk {
     /// Whether a file with this text is at a path.
     pub fn is_file(&self, path: &str, text: &str) -> io::Result<bool> {
         let nodes = self.nodes.try_borrow()?;
-        let path = nodes.resolve(path, false)?;
+        let Ok(path) = nodes.resolve(path, false) else {
+            return Ok(false);
+        };
         match nodes.number_at(path.as_str()) {
             Some(number) => Ok(nodes.node(number)?.is_file_of(text)),
             None => Ok(false),
@@ -398,8 +417,8 @@ impl Disk {
     }
 
     // Makes a directory where nothing is. Returns its permissions too.
-    pub(crate) fn make_directory(&self, path: &str) -> io::Result<(usize, u32)> {
-        let mode = 0o755 & !self.mask.get();
+    pub(crate) fn make_directory(&self, path: &str, mode: u32) -> io::Result<(usize, u32)> {
+        let mode = mode & !USUAL_MASK & !self.mask.get();
         let mut nodes = self.nodes.try_borrow_mut()?;
         Ok((nodes.make(path, Content::Directory, mode)?, mode))
     }

@@ -23,6 +23,9 @@ pub(crate) const WRITE: u32 = 2;
 /// The permission to use the names in a directory.
 pub(crate) const SEARCH: u32 = 1;
 
+/// The user who may do everything.
+pub(crate) const ROOT_USER: u32 = 0;
+
 /// A user and a group.
 #[derive(Clone, Copy, Debug, PartialEq, Eq)]
 pub(crate) struct Owner {
@@ -67,6 +70,9 @@ impl Node {
 
     /// Fails unless a process of this owner has a permission here.
     pub fn need_permission(&self, process: Owner, permission: u32) -> io::Result<()> {
+        if process.user == ROOT_USER {
+            return Ok(());
+        }
         let shift = if self.owner.user == process.user {
             6
         } else if self.owner.group == process.group {

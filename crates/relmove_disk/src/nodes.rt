@@ -1,6 +1,6 @@
 //! What is on a disk: nodes, and the names that lead to them.
 use crate::changes::{Change, Changes};
-use crate::node::{Content, Node, Owner, READ, SEARCH, WRITE};
+use crate::node::{Content, Node, Owner, READ, ROOT_USER, SEARCH, WRITE};
 use relmove_run::{directory_of, join, name_of};
 use std::alloc::{AllocError, Global};
 use std::io::{self, ErrorKind};
@@ -9,6 +9,9 @@ use std::io::{self, ErrorKind};
 const LONGEST_PATH: usize = 4095;
 
 const LONGEST_NAME: usize = 255;
+
+// The bit of a directory whose names only their owners change.
+const STICKY: u32 = 0o1000;
 
 // A path that has more names, with those of the symbolic links on its way, leads in a circle.
 const MOST_NAMES: usize = 10_000;
@@ -237,6 +240,7 @@ impl Nodes {
     pub fn rename(&mut self, from: &str, to: &str) -> io::Result<()> {
         let directories = [self.need_change(from)?, self.need_change(to)?];
         let number = self.need_number(from)?;
+        self.need_own(directories[0], number)?;
         let replaced = self.number_at(to);
         if let Some(replaced) = replaced {
             if replaced == number {
@@ -262,6 +266,7 @@ impl Nodes {
         if self.node(number)?.is_directory() {
             return Err(io::Error::from(ErrorKind::IsADirectory));
         }
+        self.need_own(directory, number)?;
         self.remove_name(path);
         let path = String::from_str(self.alloc, path)?;
         self.note(Change::Removed(path, number), &[directory])
@@ -277,6 +282,7 @@ impl Nodes {
         if self.has_names_below(path) {
             return Err(io::Error::from(ErrorKind::DirectoryNotEmpty));
         }
+        self.need_own(directory, number)?;
         self.remove_name(path);
         let path = String::from_str(self.alloc, path)?;
         self.note(Change::Removed(path, number), &[directory])
@@ -372,8 +378,8 @@ impl Nodes {
         Ok(true)
     }
 
-    // A path of a node.
-    fn path_of(&self, number: usize) -> Option<&str> {
+    /// A path of a node.
+    pub fn path_of(&self, number: usize) -> Option<&str> {
         let name = self.names.iter().find(|name| name.node == number)?;
         Some(name.path.as_str())
     }
@@ -431,6 +437,17 @@ impl Nodes {
         }
         node.need_permission(self.process, WRITE | SEARCH)?;
         Ok(number)
+    }
+
+    // Fails if a directory is sticky, and the process owns neither it nor what is to leave it.
+    fn need_own(&self, directory: usize, number: usize) -> io::Result<()> {
+        let (directory, node) = (self.node(directory)?, self.node(number)?);
+        let user = self.process.user;
+        let is_owner = directory.owner.user == user || node.owner.user == user;
+        if directory.mode & STICKY == 0 || is_owner || user == ROOT_USER {
+            return Ok(());
+        }
+        Err(io::Error::from(ErrorKind::PermissionDenied))
     }
 
     // Notes a change of names in these directories.

@@ -3,10 +3,13 @@ use crate::calls::Turn;
 use crate::disk::Disk;
 use crate::machine::DiskMachine;
 use crate::node::{Content, Node, Owner, READ};
-use relmove_run::{Found, FoundKind, Machine, Names, Store, is_absence, join};
+use relmove_run::{Found, FoundKind, Machine, Names, PageFile, Store, is_absence, join};
 use std::alloc::{AllocError, Global};
 use std::io::{self, ErrorKind};
 use std::time::{Duration, SystemTime};
+
+// More bytes than a path has.
+const LONGEST_PATH: u64 = 4096;
 
 // The most bytes that one call writes.
 const MOST_WRITTEN: usize = 9;
@@ -16,6 +19,9 @@ const OWNER_PERMISSIONS: u32 = 0o700;
 
 // A name, or a path in a symbolic link, that stands for one that isn't UTF-8.
 const NOT_UTF_8: &str = "NOT-UTF-8";
+
+// When the top of a disk was made, in nanoseconds since 1970. Each later node was made a nanosecond after the one before.
+const MADE: u64 = 1_000_000_000_000_000_000;
 
 // When everything on a disk was written, in seconds since 1970.
 const WRITTEN: u64 = 1_000_000_000;
@@ -55,6 +61,11 @@ impl<'a> DiskStore<'a> {
         })
     }
 
+    /// What is at a path, as another process sees it that nothing refuses.
+    pub fn seen(&self, path: &str) -> io::Result<Option<Found>> {
+        self.found_at(path, false)
+    }
+
     // The name at a path below the root. The root itself may be a symbolic link.
     fn resolve(&self, path: &str) -> io::Result<String> {
         self.resolve_to(path, path.is_empty())
@@ -69,35 +80,71 @@ impl<'a> DiskStore<'a> {
 
     // What is at a path, also where the symbolic link at its end leads if `follows`.
     fn found_at(&self, path: &str, follows: bool) -> io::Result<Option<Found>> {
-        let number = match self.resolve_to(path, follows) {
-            Ok(path) => {
-                self.disk.note_question(path.as_str())?;
-                self.disk.nodes.try_borrow()?.number_at(path.as_str())
-            }
-            Err(error) if is_absence(error.kind()) => None,
+        let path = match self.resolve_to(path, follows) {
+            Ok(path) => path,
+            Err(error) if is_absence(error.kind()) => return Ok(None),
             Err(error) => return Err(error),
         };
+        self.disk.note_question(path.as_str())?;
+        let number = self.disk.nodes.try_borrow()?.number_at(path.as_str());
         match number {
-            Some(number) => Ok(Some(self.found_of(number)?)),
+            Some(number) => Ok(Some(self.found_of(number, path.as_str())?)),
             None => Ok(None),
         }
     }
 
-    // What a node is.
-    fn found_of(&self, number: usize) -> io::Result<Found> {
+    // The inode of a node under a name.
+    fn inode_of(&self, number: usize, path: &str) -> u64 {
+        let inode = (number as u64).saturating_add(1);
+        if self.disk.has_inode_for_each_path.get() {
+            return inode
+                .saturating_mul(LONGEST_PATH)
+                .saturating_add(path.len() as u64);
+        }
+        inode
+    }
+
+    // What a node is under a name.
+    fn found_of(&self, number: usize, path: &str) -> io::Result<Found> {
         let nodes = self.disk.nodes.try_borrow()?;
         let node = nodes.node(number)?;
         Ok(Found {
             kind: kind_of(node),
             device: node.device,
-            inode: (number as u64).saturating_add(1),
+            inode: self.inode_of(number, path),
             links: nodes.links(number),
             length: node.length().saturating_add(node.hole),
             mode: node.mode,
             owner: node.owner.user,
             group: node.owner.group,
             modified: SystemTime::UNIX_EPOCH.checked_add(Duration::from_secs(WRITTEN)),
+            made: MADE.saturating_add(number as u64),
         })
+    }
+
+    // Reads at most so many bytes of a file.
+    fn read_of(&self, path: &str, most: u64) -> io::Result<(PageFile, Vec<u8>)> {
+        let turn = self.disk.turn()?;
+        turn.end()?;
+        let path = self.resolve(path)?;
+        let nodes = self.disk.nodes.try_borrow()?;
+        let Some(number) = nodes.number_at(path.as_str()) else {
+            return Err(io::Error::from(ErrorKind::NotFound));
+        };
+        let node = nodes.node(number)?;
+        match &node.content {
+            Content::File(bytes) if node.hole > 0 && most > bytes.len() as u64 => {
+                Err(io::Error::from(ErrorKind::OutOfMemory))
+            }
+            Content::File(bytes) => {
+                node.need_permission(nodes.process, READ)?;
+                let start = bytes.get(..most as usize).unwrap_or(bytes.as_slice());
+                let bytes = Vec::from_slice(self.disk.alloc, start)?;
+                let found = self.found_of(number, path.as_str())?;
+                Ok((PageFile::of(&found), bytes))
+            }
+            _ => Err(io::Error::from(ErrorKind::InvalidInput)),
+        }
     }
 }
 
@@ -173,22 +220,17 @@ impl Store for DiskStore<'_> {
     }
 
     fn read(&mut self, path: &str) -> io::Result<Vec<u8>> {
-        let turn = self.disk.turn()?;
-        turn.end()?;
-        let path = self.resolve(path)?;
-        let nodes = self.disk.nodes.try_borrow()?;
-        let Some(number) = nodes.number_at(path.as_str()) else {
-            return Err(io::Error::from(ErrorKind::NotFound));
-        };
-        let node = nodes.node(number)?;
-        match &node.content {
-            Content::File(_) if node.hole > 0 => Err(io::Error::from(ErrorKind::OutOfMemory)),
-            Content::File(bytes) => {
-                node.need_permission(nodes.process, READ)?;
-                Ok(Vec::from_slice(self.disk.alloc, bytes.as_slice())?)
-            }
-            _ => Err(io::Error::from(ErrorKind::InvalidInput)),
-        }
+        let (_, bytes) = self.read_page(path)?;
+        Ok(bytes)
+    }
+
+    fn read_start(&mut self, path: &str, most: u64) -> io::Result<Vec<u8>> {
+        let (_, bytes) = self.read_of(path, most)?;
+        Ok(bytes)
+    }
+
+    fn read_page(&mut self, path: &str) -> io::Result<(PageFile, Vec<u8>)> {
+        self.read_of(path, u64::MAX)
     }
 
     fn create(&mut self, path: &str, mode: u32) -> io::Result<NewDiskFile> {
@@ -202,7 +244,11 @@ impl Store for DiskStore<'_> {
     fn find_new(&mut self, file: &NewDiskFile) -> io::Result<Found> {
         let turn = self.disk.turn()?;
         turn.end()?;
-        self.found_of(file.0)
+        let path = match self.disk.nodes.try_borrow()?.path_of(file.0) {
+            Some(path) => String::from_str(self.disk.alloc, path)?,
+            None => String::new(self.disk.alloc),
+        };
+        self.found_of(file.0, path.as_str())
     }
 
     fn write(&mut self, file: &mut NewDiskFile, bytes: &[u8]) -> io::Result<()> {
@@ -278,10 +324,10 @@ impl Store for DiskStore<'_> {
         turn.end()
     }
 
-    fn make_directory(&mut self, path: &str) -> io::Result<()> {
+    fn make_directory(&mut self, path: &str, mode: u32) -> io::Result<()> {
         let turn = self.disk.turn()?;
         let path = self.resolve(path)?;
-        let (number, mode) = self.disk.make_directory(path.as_str())?;
+        let (number, mode) = self.disk.make_directory(path.as_str(), mode)?;
         turn.end()?;
         if mode & OWNER_PERMISSIONS == OWNER_PERMISSIONS {
             return Ok(());

@@ -142,9 +142,9 @@ fn is_no_file(tree: &Tree, path: &str) -> bool {
     )
 }
 
-// Whether a path can only be a directory's.
+// Whether a path can only be a directory's: as part of a URL it is read with a slash at its end.
 fn is_of_directory(path: &str) -> bool {
-    path.ends_with('/') || path.ends_with("/.")
+    path.ends_with('/') || path.ends_with("/.") || path.ends_with("/..")
 }
 
 // Whether something is at a path, where symbolic links are followed. What can't be looked up isn't there.

@@ -14,7 +14,9 @@ use relative_path_links::{
 };
 use relative_path_moves::{MoveTableError, MovedPage, TreeMoves, directory};
 use relmove_plan::{Entry, Kind, Plan, Refusal, make_plan};
-use relmove_run::{Call, Fault, FoundKind, LONGEST_PATH, Store, at, is_absence, join, need_short};
+use relmove_run::{
+    Call, Fault, FoundKind, JOURNAL, LONGEST_PATH, Store, at, is_absence, join, need_short,
+};
 use std::alloc::{AllocError, AllocFailed, Global};
 use std::io::ErrorKind;
 use target_paths::{TargetReading, path_of_target};
@@ -30,6 +32,9 @@ pub enum WhyRefused {
     NoDirectory(usize),
     /// A path of this move is in a directory whose name begins with a dot. Such directories aren't read.
     DotDirectory(usize),
+    /// The new path of this move has a name that begins as those of a run's own files, in another case. A file system may
+    /// take one for the other.
+    OwnName(usize),
 }
 
 impl From<AllocError> for WhyRefused {
@@ -148,6 +153,7 @@ pub fn moving_of<'a, S: Store>(
     let found = found_targets(alloc, &tree.pages)?;
     let plan = plan_of(alloc, tree, &found, &pairs, any_name)?;
     need_directories(alloc, tree, moves)?;
+    need_other_names(moves)?;
     let table = TreeMoves::new(alloc, &pairs)?;
     need_short_paths(store, tree, &pairs, &table)?;
     let (left, lost) = losses_of(store, tree, &found, &plan, &table)?;
@@ -230,6 +236,24 @@ fn need_directories(alloc: Global, tree: &Tree, moves: &[(&str, &str)]) -> Resul
         }
     }
     Ok(())
+}
+
+// Fails if a new path has a name that begins as those of a run's own files, in whatever case.
+fn need_other_names(moves: &[(&str, &str)]) -> Result<(), WhyRefused> {
+    for (number, (_, new)) in moves.iter().enumerate() {
+        if new.split('/').any(is_own_name) {
+            return Err(WhyRefused::OwnName(number));
+        }
+    }
+    Ok(())
+}
+
+// Whether a name begins as those of a run's own files, in whatever case. They all begin as the journal's.
+fn is_own_name(name: &str) -> bool {
+    match name.get(..JOURNAL.len()) {
+        Some(start) => start.eq_ignore_ascii_case(JOURNAL),
+        None => false,
+    }
 }
 
 // Fails if something in the tree gets a path that is too long, since a directory above it moves.

@@ -4,7 +4,7 @@ use crate::dead_links::{DeadLink, dead_links_of};
 use crate::moving::{Moving, moving_of};
 use crate::report::{
     HELP, USAGE, print_changes, print_dead_link, print_dead_link_as_json, print_end, print_failure,
-    print_remarks_as_json, remarks_of,
+    print_remarks, print_remarks_as_json, remarks_of,
 };
 use crate::summary::{
     Counts, counts_of, print_did, print_moving, print_moving_as_json, print_refused, print_would,
@@ -13,8 +13,8 @@ use crate::tree::{Tree, has_reserved_name, read_tree};
 use crate::writable::need_writable;
 use relmove_run::{
     Call, Ended, Fault, Locked, Machine, PageText, Printable, Remark, StoppedRun, Store, Trust,
-    Way, carry_out, fault_of, need_no_journal_below, need_no_journal_near, need_no_own_files,
-    need_possible, need_rest, resume, undo,
+    Way, carry_out, directory_of, fault_of, need_no_journal_below, need_no_journal_near,
+    need_no_own_files, need_possible, need_rest, resume, undo,
 };
 use std::alloc::{AllocError, Global};
 use std::io::{self, Write};
@@ -157,17 +157,34 @@ fn move_and_print<R: Machine, O: Write, E: Write>(
     errors: &mut E,
 ) -> Result<Status, CallEnd> {
     let mut store = runtime.store_at(root)?;
-    need_rest(&mut store)?;
-    let tree = read_whole(&mut store, errors)?;
+    let mut near = need_rest(&mut store)?;
+    let tree = read_whole(&mut store, &mut near, errors)?;
     let (moving, counts, status) = plan(&mut store, &tree, moves, options, out, errors)?;
-    need_possible(&mut store, &moving.plan.steps)?;
     need_writable(&mut store, &tree, &moving.plan)?;
-    let outcome = if options.json {
-        Ok(())
+    need_possible(&mut store, &moving.plan.steps)?;
+    let outcome = print_rest(runtime.alloc(), root, &near, counts, options, out);
+    let status = if near.is_empty() {
+        status
     } else {
-        print_would(out, counts)
+        status_without_fault(&near)
     };
     Ok(print_status(outcome, status, out))
+}
+
+// Prints the journals of other users near, and in words how much a run would change.
+fn print_rest<O: Write>(
+    alloc: Global,
+    root: &str,
+    near: &[Remark],
+    counts: Counts,
+    options: MoveOptions,
+    out: &mut O,
+) -> io::Result<()> {
+    if options.json {
+        return print_remarks_as_json(alloc, out, near);
+    }
+    print_remarks(out, root, near)?;
+    print_would(out, counts)
 }
 
 // Moves files.
@@ -181,8 +198,9 @@ fn move_and_write<R: Machine, O: Write, E: Write>(
 ) -> Result<Status, CallEnd> {
     let mut locked = lock(runtime, root)?;
     need_no_own_files(locked.store())?;
-    need_no_journal_near(locked.store(), &[])?;
-    let tree = read_whole(locked.store(), errors)?;
+    // The run names these at its end.
+    let mut near = need_no_journal_near(locked.store(), &[])?;
+    let tree = read_whole(locked.store(), &mut near, errors)?;
     let (moving, counts, status) = plan(locked.store(), &tree, moves, options, out, errors)?;
     let alloc = runtime.alloc();
     let directories = directories_of(alloc, &tree)?;
@@ -239,6 +257,7 @@ fn old_texts<'a>(
             texts.push(PageText {
                 path: page.path.as_str(),
                 text: page.text.as_str(),
+                file: page.file,
             })?;
         }
     }
@@ -329,13 +348,29 @@ fn is_done_whole(ended: &Ended) -> bool {
     }
 }
 
-// The tree below a root. Fails if a directory in it has a journal: names that begin with `.relmove-` belong to its run.
-fn read_whole<S: Store, E: Write>(store: &mut S, errors: &mut E) -> Result<Tree, Fault> {
+// The tree below a root. Fails if a directory in it has a journal of the root's owner: a name of relmove's own there is its
+// run's. Adds the journals of other users in it to those that are near.
+fn read_whole<S: Store, E: Write>(
+    store: &mut S,
+    near: &mut Vec<Remark>,
+    errors: &mut E,
+) -> Result<Tree, Fault> {
     let alloc = store.alloc();
     let tree = read_tree(store)?;
-    need_no_journal_below(store, &directories_of(alloc, &tree)?)?;
-    print_unread(store.root(), &tree, errors);
+    for remark in need_no_journal_below(store, &directories_of(alloc, &tree)?)? {
+        near.push(remark)?;
+    }
+    print_unread(store.root(), &tree, near, errors);
     Ok(tree)
+}
+
+// Whether what is at a path is in a directory that has one of these journals.
+fn is_beside_journal(journals: &[Remark], path: &str) -> bool {
+    let directory = directory_of(path);
+    journals.iter().any(|remark| match remark {
+        Remark::Near { path, .. } => directory_of(path.as_str()) == directory,
+        _ => false,
+    })
 }
 
 // The status of a call that only prints: this one, unless that failed.
@@ -379,13 +414,14 @@ fn find_dead_links<R: Machine, E: Write>(
     errors: &mut E,
 ) -> Result<Vec<DeadLink>, Fault> {
     let mut store = runtime.store_at(root)?;
-    need_rest(&mut store)?;
-    let tree = read_whole(&mut store, errors)?;
+    let mut near = need_rest(&mut store)?;
+    let tree = read_whole(&mut store, &mut near, errors)?;
+    let _ = print_remarks(errors, root, &near);
     dead_links_of(&mut store, &tree)
 }
 
-// Prints what isn't read.
-fn print_unread<E: Write>(root: &str, tree: &Tree, errors: &mut E) {
+// Prints what isn't read, and what has a name of relmove's own beside none of these journals.
+fn print_unread<E: Write>(root: &str, tree: &Tree, journals: &[Remark], errors: &mut E) {
     for path in &tree.not_text {
         let path = Printable(path.as_str());
         let _ = writeln!(errors, "relmove: {path} isn't UTF-8, and isn't read");
@@ -410,7 +446,7 @@ fn print_unread<E: Write>(root: &str, tree: &Tree, errors: &mut E) {
         );
     }
     for path in tree.entries.keys() {
-        if has_reserved_name(path.as_str()) {
+        if has_reserved_name(path.as_str()) && !is_beside_journal(journals, path.as_str()) {
             let path = Printable(path.as_str());
             let _ = writeln!(
                 errors,

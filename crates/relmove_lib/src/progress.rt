@@ -1,5 +1,5 @@
 //! The progress of a long call: a runtime that prints how many files the call has opened, and how many renames it made.
-use relmove_run::{Found, Machine, Names, Store};
+use relmove_run::{Found, Machine, Names, PageFile, Store};
 use std::alloc::{Alloc, AllocError, Global};
 use std::cell::Cell;
 use std::io::{self, Eprint};
@@ -145,6 +145,16 @@ impl<R: Clock + Eprint, S: Store + Drop> Store for StoreWithProgress<'_, R, S> {
         self.store.read(path)
     }
 
+    fn read_start(&mut self, path: &str, most: u64) -> io::Result<Vec<u8>> {
+        self.watch.count_opened();
+        self.store.read_start(path, most)
+    }
+
+    fn read_page(&mut self, path: &str) -> io::Result<(PageFile, Vec<u8>)> {
+        self.watch.count_opened();
+        self.store.read_page(path)
+    }
+
     fn create(&mut self, path: &str, mode: u32) -> io::Result<S::NewFile> {
         self.watch.count_opened();
         self.store.create(path, mode)
@@ -183,8 +193,8 @@ impl<R: Clock + Eprint, S: Store + Drop> Store for StoreWithProgress<'_, R, S> {
         self.store.link(from, to)
     }
 
-    fn make_directory(&mut self, path: &str) -> io::Result<()> {
-        self.store.make_directory(path)
+    fn make_directory(&mut self, path: &str, mode: u32) -> io::Result<()> {
+        self.store.make_directory(path, mode)
     }
 
     fn remove_file(&mut self, path: &str) -> io::Result<()> {

@@ -21,7 +21,8 @@ each such link still leads to the file to which it led. OLD and NEW are paths be
 nothing is moved into a directory NEW, and nothing that is there is replaced. Missing directories are made. Without
 --write nothing is changed, and the output says what would be changed.
 
-  --write     move the files, and write the pages
+  --write     move the files, and write the pages; a page that changes loses its access control list and its extended
+              attributes
   --json      print an object of JSON on each line
   --any-name  allow a NEW that isn't a plain name on every platform
   --check     print each relative link of a page that leads above ROOT, or to a path below ROOT where nothing is
@@ -39,8 +40,8 @@ isn't changed. Links in other files, such as HTML, aren't changed. Fragments are
 followed.
 
 A directory that a run leaves empty is removed, unless a link of a page leads to it. A run with --write first locks
-ROOT and writes the file ROOT/.relmove, its journal. The run gives all that moves and all pages that change the names
-.relmove-1, .relmove-2 and so on, and then their new paths. At its end the run removes the journal. If a run stops in
+ROOT and writes the file ROOT/.relmove, its journal. The run gives all that moves and all pages that change names
+in its own directory, ROOT/.relmove-run, and then their new paths. At its end the run removes both. If a run stops in
 the middle, also by a loss of power, --resume or --undo ends this run, and no file is lost. One thing isn't safe: another
 program that puts a file at a path while relmove renames a file to it. A text that somebody changes during the run is
 kept, and printed.
@@ -217,12 +218,16 @@ fn print_stopped<W: Write>(
     )?;
     writeln!(
         out,
-        "relmove: the journal .relmove in {root} has the old paths, the names that begin with .relmove- and the new paths."
+        "relmove: the journal .relmove in {root} has the old paths, the names in .relmove-run and the new paths."
     )
 }
 
-// Prints what a run left.
-fn print_remarks<W: Write>(out: &mut W, root: &str, remarks: &[Remark]) -> io::Result<()> {
+// Prints what a run left, or what another one left near.
+pub(crate) fn print_remarks<W: Write>(
+    out: &mut W,
+    root: &str,
+    remarks: &[Remark],
+) -> io::Result<()> {
     let root = Printable(root);
     for remark in remarks {
         writeln!(out, "{root}: {remark}")?;
@@ -259,8 +264,8 @@ fn state_before(remarks: &[Remark]) -> &'static str {
 fn state_at(stage: Stage) -> &'static str {
     match stage {
         Stage::Writing => "everything is at its old path",
-        Stage::Staging => "some files have names that begin with .relmove-",
-        Stage::Making => "all that moves has a name that begins with .relmove-",
+        Stage::Staging => "some files are in .relmove-run",
+        Stage::Making => "all that moves is in .relmove-run",
         Stage::Placing => "some files are at their new paths",
         Stage::Cleaning => "everything is at its new path, and what is left over was being removed",
         Stage::Unplacing | Stage::Unmaking | Stage::Unstaging => {

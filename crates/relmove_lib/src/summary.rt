@@ -428,6 +428,12 @@ pub fn print_refused<W: Write>(
             *number,
             "a path is in a directory whose name begins with a dot; such directories aren't read",
         ),
+        WhyRefused::OwnName(number) => print_move_refused(
+            errors,
+            moves,
+            *number,
+            "a name of the new path begins with .relmove in another case",
+        ),
         WhyRefused::Plan(refusal) => print_refusal(errors, root, tree, moves, *refusal),
     }
 }

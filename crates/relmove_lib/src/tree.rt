@@ -1,6 +1,6 @@
 //! Reads what is below the root: directories, files, links, and the texts of pages.
 use markdown_targets::link_targets;
-use relmove_run::{Call, Fault, Found, FoundKind, STAGING, Store, at, join, name_of};
+use relmove_run::{Call, Fault, Found, FoundKind, PageFile, STAGING, Store, at, join, name_of};
 use std::alloc::{AllocError, Global};
 use std::collections::{BTreeMap, BTreeSet};
 use std::io::{self, ErrorKind};
@@ -25,6 +25,8 @@ pub struct Page {
     pub path: String,
     /// Its text.
     pub text: String,
+    /// The file from which the text was read.
+    pub file: PageFile,
 }
 
 /// What isn't read, and why.
@@ -316,7 +318,7 @@ impl Reading {
     // Reads the page at a path.
     fn add<S: Store>(&mut self, store: &mut S, path: &str) -> Result<(), Fault> {
         let alloc = store.alloc();
-        let bytes = match store.read(path) {
+        let (file, bytes) = match store.read_page(path) {
             Err(error) if is_left_out(error.kind()) => {
                 let why = error.to_string(alloc)?;
                 return self.leave_out(alloc, path, why.as_str());
@@ -332,7 +334,7 @@ impl Reading {
             self.with_base
                 .push(String::from_str(alloc, path.as_str())?)?;
         }
-        self.pages.push(Page { path, text })?;
+        self.pages.push(Page { path, text, file })?;
         Ok(())
     }
 
@@ -382,7 +384,7 @@ pub(crate) fn has_path(paths: &[String], path: &str) -> bool {
         .is_ok()
 }
 
-// Whether a path has a reserved name: one that a run may give to what moves, or to a new text.
+// Whether a path has a reserved name: one that a run may give, also a run of an older version.
 pub(crate) fn has_reserved_name(path: &str) -> bool {
     name_of(path).starts_with(STAGING)
 }

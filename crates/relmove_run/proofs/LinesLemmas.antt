@@ -18,7 +18,8 @@ use Rattle.relmove_run.specs.declared.work.Leftover.TheVariants.{Text, Directory
 use Rattle.relmove_run.specs.declared.work.Stage.{Stage}
 use Rattle.relmove_run.specs.declared.work.Work.{Work}
 use Rattle.relmove_run.specs.Journals.{directory_line, end_line, head_lines, journal_bytes, leftover_line, rename_line, text_line, work_bytes}
-use Rattle.relmove_run.specs.Reading.Line.{AtStage, End, File, OfWork, Root}
+use Rattle.relmove_run.specs.Reading.Line.{OfOrigin, AtStage, End, OfWork}
+use Rattle.relmove_run.specs.Reading.OriginNumber.{File, Owner, Root, Run, Time}
 use Rattle.relmove_run.specs.Reading.WorkLine.{Cleaned, Made, NewText, Placed, Staged}
 use Rattle.relmove_run.specs.Reading.{Content, HasDigest, FitsTypes, IsDigest, IsLine, IsRenameParts, LeftoverParts, Line, Says, WorkLine, WorkParts, leftover_parts, line_text, no_work, parts_of, rename_parts, text_parts, with_line, with_work_line}
 use Rattle.relmove_run.proofs.ReadingLemmas.{Lacks-get_or, line_text-lacks}
@@ -35,7 +36,8 @@ work_lines work =
 
 abbrev lines : Origin → Stage → WorkParts → List ℕ → List ℕ → List Line
 lines origin stage work size digest =
-    Root origin.root ∷ File origin.file ∷ AtStage stage ∷ (map OfWork (work_lines work) ++ End size digest ∷ [])
+    OfOrigin Root origin.root ∷ OfOrigin File origin.file ∷ OfOrigin Run origin.run ∷ OfOrigin Owner origin.owner
+    ∷ OfOrigin Time origin.time ∷ AtStage stage ∷ (map OfWork (work_lines work) ++ End size digest ∷ [])
 
 -- what is written of the things in a list
 list-written : {X P : Type 0} (bytes : X → List ℕ) (line : P → WorkLine) (parts : X → P)
@@ -83,7 +85,7 @@ journal_bytes-parts : (origin : Origin) (stage : Stage) (one other : Work) → p
 journal_bytes-parts origin stage one other same =
     let work : work_bytes one ≡ work_bytes other =
     work_bytes-lines one ∙ ap (λ parts. flat_map ended (map OfWork (work_lines parts))) same ∙ sym (work_bytes-lines other) in
-    ap (λ bytes. let written = codes "relmove journal 2\n" ++ head_lines origin stage ++ bytes in written ++ end_line written) work
+    ap (λ bytes. let written = codes "relmove journal 3\n" ++ head_lines origin stage ++ bytes in written ++ end_line written) work
 
 -- a journal is written as the one that says the same
 pub Says-written : (journal : Journal) (origin : Origin) (stage : Stage) (work : Work) → Says journal origin stage work
@@ -95,24 +97,31 @@ Says-written journal origin stage work says =
 -- after its first line a journal has these lines
 pub journal_bytes-lines : (origin : Origin) (stage : Stage) (work : Work)
     → (size digest : List ℕ) × (journal_bytes origin stage work
-    ≡ codes "relmove journal 2" ++ 10 ∷ flat_map ended (lines origin stage (parts_of work) size digest))
+    ≡ codes "relmove journal 3" ++ 10 ∷ flat_map ended (lines origin stage (parts_of work) size digest))
 journal_bytes-lines origin stage work =
-    let first = codes "relmove journal 2\n" in
+    let first = codes "relmove journal 3\n" in
     let written = first ++ head_lines origin stage ++ work_bytes work in
     let size = decimal (length written) in
     let digest = encode_lower (sha256 written) in
     let bytes = flat_map ended (map OfWork (work_lines (parts_of work))) in
-    let root = ended (Root origin.root) in
-    let file = ended (File origin.file) in
+    let root = ended (OfOrigin Root origin.root) in
+    let file = ended (OfOrigin File origin.file) in
+    let run = ended (OfOrigin Run origin.run) in
+    let owner = ended (OfOrigin Owner origin.owner) in
+    let time = ended (OfOrigin Time origin.time) in
     let at = ended (AtStage stage) in
     let end = ended (End size digest) in (
       size,
       digest,
       append_assoc (first ++ head_lines origin stage) (work_bytes work) end
           ∙ append_assoc first (head_lines origin stage) (work_bytes work ++ end)
-          ∙ ap (λ l. first ++ l) (append_assoc (root ++ file) at (work_bytes work ++ end)
-          ∙ append_assoc root file (at ++ (work_bytes work ++ end))
-          ∙ ap (λ l. root ++ (file ++ (at ++ l))) (ap₂ ◌++◌ (work_bytes-lines work) (sym (append-nil end))
+          ∙ ap (λ l. first ++ l) (append_assoc (root ++ file ++ run ++ owner ++ time) at (work_bytes work ++ end)
+          ∙ append_assoc (root ++ file ++ run ++ owner) time (at ++ (work_bytes work ++ end))
+          ∙ append_assoc (root ++ file ++ run) owner (time ++ (at ++ (work_bytes work ++ end)))
+          ∙ append_assoc (root ++ file) run (owner ++ (time ++ (at ++ (work_bytes work ++ end))))
+          ∙ append_assoc root file (run ++ (owner ++ (time ++ (at ++ (work_bytes work ++ end)))))
+          ∙ ap (λ l. root ++ (file ++ (run ++ (owner ++ (time ++ (at ++ l))))))
+            (ap₂ ◌++◌ (work_bytes-lines work) (sym (append-nil end))
           ∙ sym (flat_map-append ended (map OfWork (work_lines (parts_of work))) (End size digest ∷ [])))),
     )
 
@@ -290,11 +299,19 @@ pub lines-all : (origin : Origin) (stage : Stage) (work : Work) (size digest : L
 lines-all origin stage work size digest values =
     let end = End size digest ∷ [] in
     let does = map OfWork (work_lines (parts_of work)) in
-    All-cons IsLine (Root origin.root) (File origin.file ∷ AtStage stage ∷ (does ++ end)) values.root
-    (All-cons IsLine (File origin.file) (AtStage stage ∷ (does ++ end)) values.file
+    let staged = AtStage stage ∷ (does ++ end) in
+    let timed = OfOrigin Time origin.time ∷ staged in
+    let owned = OfOrigin Owner origin.owner ∷ timed in
+    let run = OfOrigin Run origin.run ∷ owned in
+    let filed = OfOrigin File origin.file ∷ run in
+    All-cons IsLine (OfOrigin Root origin.root) filed values.root
+    (All-cons IsLine (OfOrigin File origin.file) run values.file
+    (All-cons IsLine (OfOrigin Run origin.run) owned values.run
+    (All-cons IsLine (OfOrigin Owner origin.owner) timed values.owner
+    (All-cons IsLine (OfOrigin Time origin.time) staged values.time
     (All-cons IsLine (AtStage stage) (does ++ end) tt
     (All-append IsLine does end (All-map IsLine OfWork (work_lines (parts_of work)) (work_lines-all origin work values))
-    (All-cons IsLine (End size digest) [] tt (All-nil IsLine)))))
+    (All-cons IsLine (End size digest) [] tt (All-nil IsLine))))))))
 
 -- ---- line by line
 
@@ -308,7 +325,7 @@ pub record IsLeft (left : List ℕ) (content : Content) (all : Content) : Type 0
 -- at the beginning all lines are left
 pub IsLeft-all : (text left : List ℕ) (content : Content) (origin : Origin) (stage : Stage) (work : Work)
     → FitsTypes origin work → text ≡ journal_bytes origin stage work → content.work ≡ no_work
-    → ((back : List ℕ) → text ≡ codes "relmove journal 2" ++ 10 ∷ back → left ≡ back)
+    → ((back : List ℕ) → text ≡ codes "relmove journal 3" ++ 10 ∷ back → left ≡ back)
     → IsLeft left content (record { origin = origin; stage = stage; work = parts_of work })
 IsLeft-all text left content origin stage work values is none cut =
     let (size, digest, bytes) = journal_bytes-lines origin stage work in record {

@@ -1,5 +1,5 @@
 -- Lemmas on work of which the same is written: it can be a run's, or can't, alike.
-use Rattle.std.proofs.Common.{◌≡◌, ℕ, Bool, ◌&&◌, ◌||◌, List, [], ◌∷◌, ◌++◌, filter, length, map, refl, sym, ap, ap₂, subst, ◌∙◌, string_bytes}
+use Rattle.std.proofs.Common.{◌≡◌, ℕ, Bool, ◌&&◌, List, [], ◌∷◌, ◌++◌, length, map, refl, sym, ap, ap₂, subst, ◌∙◌, string_bytes}
 use Rattle.std.proofs.lemmas.List.{length-map}
 use Rattle.std.proofs.lemmas.List.Folds.{list_all-map}
 use Rattle.std.proofs.lemmas.Simd.{map-map}
@@ -9,7 +9,7 @@ use Rattle.relmove_run.specs.declared.work.Leftover.TheVariants.{Text, Directory
 use Rattle.relmove_run.specs.declared.work.Work.{Work}
 use Rattle.relmove_run.specs.Reading.LeftoverParts.{Emptied, Removed}
 use Rattle.relmove_run.specs.Reading.{LeftoverParts, WorkParts, leftover_parts, parts_of, rename_parts, text_parts}
-use Rattle.relmove_run.specs.Shape.{AreDifferent, HaveSameOnce, IsOfRun, has_paths_of_run, is_directory_path, is_leftover, is_made_path, is_path, is_staging_name, is_text_path, new_paths, old_paths, removed_paths, text_paths}
+use Rattle.relmove_run.specs.Shape.{AreDifferent, HaveSameOnce, IsOfRun, has_paths_of_run, is_directory_path, is_leftover, is_made_path, is_path, is_staging_name, new_paths, old_paths, removed_paths, text_paths}
 
 -- lists of which the same is written
 module _ {X P : Type 0} (parts : X → P) (xs ys : List X) (same : map parts xs ≡ map parts ys) where
@@ -62,18 +62,17 @@ IsOfRun-parts one other same run =
     removed_paths-parts one.cleaned.items ∙ ap removed_of cleaned ∙ sym (removed_paths-parts other.cleaned.items) in
     let long : length ts ≡ length us = sym (length-map ts text_parts) ∙ ap length texts ∙ length-map us text_parts in
     let fit : has_paths_of_run one ≡ has_paths_of_run other =
-    ap₂ ◌&&◌ (ap₂ ◌&&◌ (ap₂ ◌&&◌ (ap₂ ◌&&◌ (same_all text_parts ts us texts (λ p. is_text_path p.0))
-    (same_all rename_parts one.staged.items other.staged.items staged (λ p. (is_path p.0 || is_text_path p.0) && is_staging_name p.1)))
+    ap₂ ◌&&◌ (ap₂ ◌&&◌ (ap₂ ◌&&◌ (ap₂ ◌&&◌ (same_all text_parts ts us texts (λ p. is_staging_name p.0))
+    (same_all rename_parts one.staged.items other.staged.items staged (λ p. is_path p.0 && is_staging_name p.1)))
     (same_all string_bytes one.made.items other.made.items made is_made_path))
     (same_all rename_parts one.placed.items other.placed.items placed (λ p. is_staging_name p.0 && is_path p.1)))
     (leftovers-all one.cleaned.items ∙ ap (list_all is_left) cleaned ∙ sym (leftovers-all other.cleaned.items)) in
     record {
       paths = sym fit ∙ run.paths;
-      texts = subst (λ l. HaveSameOnce l (filter is_text_path (old_paths other.staged.items))) text_paths_same
-          (subst (λ l. HaveSameOnce (text_paths ts) (filter is_text_path l)) old_staged run.texts);
-      names = subst (λ l. HaveSameOnce l (old_paths other.placed.items ++ removed_paths other.cleaned.items)) new_staged
-          (subst (λ l. HaveSameOnce (new_paths one.staged.items) (l ++ removed_paths other.cleaned.items)) old_placed
-          (subst (λ l. HaveSameOnce (new_paths one.staged.items) (old_paths one.placed.items ++ l)) removed run.names));
+      names = subst (λ l. HaveSameOnce l (old_paths other.placed.items ++ removed_paths other.cleaned.items))
+          (ap₂ ◌++◌ new_staged text_paths_same)
+          (subst (HaveSameOnce (new_paths one.staged.items ++ text_paths ts)) (ap₂ ◌++◌ old_placed removed) run.names);
+      texts = subst AreDifferent (ap₂ ◌++◌ text_paths_same removed) run.texts;
       removed = ap length (sym removed) ∙ run.removed ∙ long;
       once = (subst AreDifferent old_staged run.once.0, subst AreDifferent new_placed run.once.1);
     }

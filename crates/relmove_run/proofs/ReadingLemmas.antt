@@ -12,9 +12,10 @@ use Rattle.relmove_run.specs.declared.fault.Fault.{Fault}
 use Rattle.relmove_run.specs.declared.work.Stage.{Stage}
 use Rattle.relmove_run.specs.Journals.{escaped, escaped_character, field_bytes}
 use Rattle.relmove_run.specs.Reading.LeftoverParts.{Emptied, Removed}
-use Rattle.relmove_run.specs.Reading.Line.{AtStage, End, File, OfWork, Root}
+use Rattle.relmove_run.specs.Reading.Line.{OfOrigin, AtStage, End, OfWork}
+use Rattle.relmove_run.specs.Reading.OriginNumber.{File, Owner, Root, Run, Time}
 use Rattle.relmove_run.specs.Reading.WorkLine.{Cleaned, Made, NewText, Placed, Staged}
-use Rattle.relmove_run.specs.Reading.{GivenMemory, Line, WorkLine, fields_text, line_fields, line_text, line_word, work_word}
+use Rattle.relmove_run.specs.Reading.{GivenMemory, Line, OriginNumber, WorkLine, fields_text, line_fields, line_text, line_word, origin_word, work_word}
 
 -- ---- where a line and its fields end
 
@@ -89,9 +90,15 @@ work_word-above (Placed rename) = refl
 work_word-above (Cleaned (Removed text)) = refl
 work_word-above (Cleaned (Emptied path)) = refl
 
+origin_word-above : (which : OriginNumber) → list_all (λ c. nat_lt 10 c) (origin_word which) ≡ true
+origin_word-above Root = refl
+origin_word-above File = refl
+origin_word-above Run = refl
+origin_word-above Owner = refl
+origin_word-above Time = refl
+
 line_word-above : (line : Line) → list_all (λ c. nat_lt 10 c) (line_word line) ≡ true
-line_word-above (Root number) = refl
-line_word-above (File number) = refl
+line_word-above (OfOrigin which number) = origin_word-above which
 line_word-above (AtStage stage) = refl
 line_word-above (OfWork line) = work_word-above line
 line_word-above (End size sha256) = refl
@@ -113,7 +120,8 @@ differ : (one other : List ℕ) → bytes_eq one other ≡ false → one ≢ oth
 differ one other no_equal same = true≢false (sym ((bytes_eq-Decides one other).1 same) ∙ no_equal)
 
 abbrev is_word_of_head : List ℕ → Bool
-is_word_of_head word = bytes_eq word (codes "root") || bytes_eq word (codes "file") || bytes_eq word (codes "stage")
+is_word_of_head word = bytes_eq word (codes "root") || bytes_eq word (codes "file") || bytes_eq word (codes "run")
+    || bytes_eq word (codes "owner") || bytes_eq word (codes "time") || bytes_eq word (codes "stage")
 
 work_word-head : (line : WorkLine) → is_word_of_head (work_word line) ≡ false
 work_word-head (NewText text) = refl
@@ -123,27 +131,68 @@ work_word-head (Placed rename) = refl
 work_word-head (Cleaned (Removed text)) = refl
 work_word-head (Cleaned (Emptied path)) = refl
 
-module _ (P : Line → Type 0) where
-  -- only the line of the root begins so
-  pub at_root : ((number : ℕ) → P (Root number)) → (line : Line) → line_word line ≡ codes "root" → P line
-  at_root root (Root number) is = root number
-  at_root root (File number) is = absurd (differ (codes "file") (codes "root") refl is)
-  at_root root (AtStage stage) is = absurd (differ (codes "stage") (codes "root") refl is)
-  at_root root (OfWork line) is = absurd (true≢false (sym (ap is_word_of_head is) ∙ work_word-head line))
-  at_root root (End size sha256) is = absurd (differ (codes "end") (codes "root") refl is)
+origin_word-head : (which : OriginNumber) → is_word_of_head (origin_word which) ≡ true
+origin_word-head Root = refl
+origin_word-head File = refl
+origin_word-head Run = refl
+origin_word-head Owner = refl
+origin_word-head Time = refl
 
-  -- only that of the file
-  pub at_file : ((number : ℕ) → P (File number)) → (line : Line) → line_word line ≡ codes "file" → P line
-  at_file file (Root number) is = absurd (differ (codes "root") (codes "file") refl is)
-  at_file file (File number) is = file number
-  at_file file (AtStage stage) is = absurd (differ (codes "stage") (codes "file") refl is)
-  at_file file (OfWork line) is = absurd (true≢false (sym (ap is_word_of_head is) ∙ work_word-head line))
-  at_file file (End size sha256) is = absurd (differ (codes "end") (codes "file") refl is)
+-- no two numbers of an origin have one word
+same_number : (one other : OriginNumber) → origin_word other ≡ origin_word one → other ≡ one
+same_number Root Root is = refl
+same_number Root File is = absurd (differ (codes "file") (codes "root") refl is)
+same_number Root Run is = absurd (differ (codes "run") (codes "root") refl is)
+same_number Root Owner is = absurd (differ (codes "owner") (codes "root") refl is)
+same_number Root Time is = absurd (differ (codes "time") (codes "root") refl is)
+same_number File Root is = absurd (differ (codes "root") (codes "file") refl is)
+same_number File File is = refl
+same_number File Run is = absurd (differ (codes "run") (codes "file") refl is)
+same_number File Owner is = absurd (differ (codes "owner") (codes "file") refl is)
+same_number File Time is = absurd (differ (codes "time") (codes "file") refl is)
+same_number Run Root is = absurd (differ (codes "root") (codes "run") refl is)
+same_number Run File is = absurd (differ (codes "file") (codes "run") refl is)
+same_number Run Run is = refl
+same_number Run Owner is = absurd (differ (codes "owner") (codes "run") refl is)
+same_number Run Time is = absurd (differ (codes "time") (codes "run") refl is)
+same_number Owner Root is = absurd (differ (codes "root") (codes "owner") refl is)
+same_number Owner File is = absurd (differ (codes "file") (codes "owner") refl is)
+same_number Owner Run is = absurd (differ (codes "run") (codes "owner") refl is)
+same_number Owner Owner is = refl
+same_number Owner Time is = absurd (differ (codes "time") (codes "owner") refl is)
+same_number Time Root is = absurd (differ (codes "root") (codes "time") refl is)
+same_number Time File is = absurd (differ (codes "file") (codes "time") refl is)
+same_number Time Run is = absurd (differ (codes "run") (codes "time") refl is)
+same_number Time Owner is = absurd (differ (codes "owner") (codes "time") refl is)
+same_number Time Time is = refl
+
+origin_word-stage : (which : OriginNumber) → bytes_eq (codes "stage") (origin_word which) ≡ false
+origin_word-stage Root = refl
+origin_word-stage File = refl
+origin_word-stage Run = refl
+origin_word-stage Owner = refl
+origin_word-stage Time = refl
+
+origin_word-end : (which : OriginNumber) → bytes_eq (codes "end") (origin_word which) ≡ false
+origin_word-end Root = refl
+origin_word-end File = refl
+origin_word-end Run = refl
+origin_word-end Owner = refl
+origin_word-end Time = refl
+
+module _ (P : Line → Type 0) where
+  -- only the line of this number of the origin begins so
+  pub at_origin : (which : OriginNumber) → ((number : ℕ) → P (OfOrigin which number)) → (line : Line)
+      → line_word line ≡ origin_word which → P line
+  at_origin which at (OfOrigin other number) is = subst (λ p. P (OfOrigin p number)) (sym (same_number which other is)) (at number)
+  at_origin which at (AtStage stage) is = absurd (differ (codes "stage") (origin_word which) (origin_word-stage which) is)
+  at_origin which at (OfWork line) is =
+      absurd (true≢false (sym (ap is_word_of_head is ∙ origin_word-head which) ∙ work_word-head line))
+  at_origin which at (End size sha256) is = absurd (differ (codes "end") (origin_word which) (origin_word-end which) is)
 
   -- only that of the stage
   pub at_stage : ((stage : Stage) → P (AtStage stage)) → (line : Line) → line_word line ≡ codes "stage" → P line
-  at_stage at (Root number) is = absurd (differ (codes "root") (codes "stage") refl is)
-  at_stage at (File number) is = absurd (differ (codes "file") (codes "stage") refl is)
+  at_stage at (OfOrigin which number) is = absurd (differ (codes "stage") (origin_word which) (origin_word-stage which) (sym is))
   at_stage at (AtStage stage) is = at stage
   at_stage at (OfWork line) is = absurd (true≢false (sym (ap is_word_of_head is) ∙ work_word-head line))
   at_stage at (End size sha256) is = absurd (differ (codes "end") (codes "stage") refl is)

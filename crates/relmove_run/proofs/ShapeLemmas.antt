@@ -12,7 +12,7 @@ use Rattle.std.proofs.lemmas.List.Elements.{All-from_get_or, All-weaker}
 use Rattle.std.proofs.lemmas.List.Folds.{Any-from_list_any, list_any_at}
 use Rattle.std.proofs.lemmas.List.Splits.{slice_split_first, slice_split_none}
 use Rattle.std.proofs.lemmas.Str.Pattern.{IsSplitOnceResult, NoCharPasses-char, contains_char, drop_at_char, split_once_first, split_parts, starts_text}
-use Rattle.relmove_run.specs.Shape.{begins_with, is_directory_name, is_made_path, is_name, is_nameless, is_not_empty, is_slash, is_staging_name, leads_to, names}
+use Rattle.relmove_run.specs.Shape.{begins_with, below_own_directory, is_directory_name, is_in_own_directory, is_name, is_nameless, is_not_empty, is_number, is_slash, leads_from_number, leads_to, names}
 
 -- two tests that are true in the same cases are equal
 same_test : (a b : Bool) → (a ≡ true → b ≡ true) → (b ≡ true → a ≡ true) → a ≡ b
@@ -146,43 +146,20 @@ names-split text (Some parts) found =
 
 -- ---- staging names
 
--- a staging name isn't the name of a directory that is read
-directory-staging : (n : List ℕ) → is_staging_name n ≡ true → is_directory_name n ≡ false
-directory-staging [] staging = absurd (true≢false (sym staging))
-directory-staging (b ∷ bs) staging =
-    let begins = (and_parts _ _ (and_parts _ _ staging).0).0 in
-    let dot = (and_parts _ _ begins).0 in
-    and_right (is_name (b ∷ bs)) _ (ap not (and_from (nat_eq 46 b) true dot refl))
-
-or_false : (b : Bool) → b ≡ (b || false)
-or_false true = refl
-or_false false = refl
-
--- a directory can be made below a staging name, if those between can be read
-pub is_made_path-below : (text first rest : List ℕ) → names text ≡ first ∷ names rest → is_staging_name first ≡ true
-    → is_made_path text ≡ leads_to is_directory_name (names rest)
-is_made_path-below text first rest are staging =
-    let some = names-not_empty rest in
-    rw (are, staging, some.are, directory-staging first staging)
-
--- elsewhere only in directories that can be read
-pub is_made_path-elsewhere : (text first : List ℕ) (way : List (List ℕ)) → names text ≡ first ∷ way
-    → is_staging_name first ≡ false → is_made_path text ≡ leads_to is_directory_name (names text)
-is_made_path-elsewhere text first way are other = rw (are, other) (sym (or_false (leads_to is_directory_name (first ∷ way))))
-
--- nor at a staging name itself
-pub is_made_path-one : (text : List ℕ) → names text ≡ text ∷ [] → is_made_path text ≡ leads_to is_directory_name (names text)
-is_made_path-one text are = rw (are, and_right (is_staging_name text) false refl) (sym (or_false (is_directory_name text)))
-
 -- what `strip_prefix` returns
-pub is_staging_name-strip : (text : List ℕ) (r : Option (Bor (List ℕ)))
-    → MatchOption r (FindsTextPrefix (codes ".relmove-") text None) (λ x. StripsPrefix (FindsTextPrefix (codes ".relmove-")) text x.now)
-    → MatchOption r (is_staging_name text ≡ false)
-    (λ x. is_staging_name text ≡ (is_not_empty x.now && list_all is_ascii_digit x.now))
-is_staging_name-strip text None found = rw (sym (starts_text false (codes ".relmove-") text found))
-is_staging_name-strip text (Some x) (n, (nine, split, boundary), rest, _) =
-    let starts = starts_text true (codes ".relmove-") text (9, (refl, rw nine at split, boundary), boundary) in
-    rw (sym starts, rest, nine)
+pub own_directory-strip : (text : List ℕ) (r : Option (Bor (List ℕ)))
+    → MatchOption r (FindsTextPrefix (codes ".relmove-run/") text None)
+    (λ x. StripsPrefix (FindsTextPrefix (codes ".relmove-run/")) text x.now)
+    → MatchOption r (is_in_own_directory text ≡ false)
+    (λ x. (is_in_own_directory text ≡ true) × (x.now ≡ below_own_directory text))
+own_directory-strip text None found = sym (starts_text false (codes ".relmove-run/") text found)
+own_directory-strip text (Some x) (n, (long, split, boundary), rest, _) =
+    let starts = starts_text true (codes ".relmove-run/") text (13, (refl, rw long at split, boundary), boundary) in
+    (sym starts, rw (rest, long))
+
+-- a path without a slash doesn't lead on from a number
+pub leads_from_number-one : (text : List ℕ) → names text ≡ text ∷ [] → leads_from_number (names text) ≡ false
+leads_from_number-one text are = rw are (and_right (is_number text) false refl)
 
 -- a text with a length isn't empty
 pub is_not_empty-length : (text : List ℕ) → (length text == 0) ≡ false → is_not_empty text ≡ true

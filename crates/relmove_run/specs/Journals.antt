@@ -71,7 +71,9 @@ leftover_line (Directory path) = directory_line (codes "emptied") (string_bytes 
 -- the lines that say where the journal was written, and how far the run is
 abbrev pub head_lines : Origin → Stage → List ℕ
 head_lines origin stage = line_bytes (codes "root") (decimal origin.root ∷ [])
-    ++ line_bytes (codes "file") (decimal origin.file ∷ []) ++ line_bytes (codes "stage") (stage_name stage ∷ [])
+    ++ line_bytes (codes "file") (decimal origin.file ∷ []) ++ line_bytes (codes "run") (decimal origin.run ∷ [])
+    ++ line_bytes (codes "owner") (decimal origin.owner ∷ []) ++ line_bytes (codes "time") (decimal origin.time ∷ [])
+    ++ line_bytes (codes "stage") (stage_name stage ∷ [])
 
 -- the lines that say what the run does
 abbrev pub work_bytes : Work → List ℕ
@@ -91,4 +93,4 @@ with_end lines = lines ++ end_line lines
 
 -- the text of a journal: a line of its own kind, where it was written, how far the run is, what it does, and the last line
 abbrev pub journal_bytes : Origin → Stage → Work → List ℕ
-journal_bytes origin stage work = with_end (codes "relmove journal 2\n" ++ head_lines origin stage ++ work_bytes work)
+journal_bytes origin stage work = with_end (codes "relmove journal 3\n" ++ head_lines origin stage ++ work_bytes work)

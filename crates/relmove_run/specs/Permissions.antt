@@ -2,6 +2,7 @@
 use Rattle.std.specs.Prelude.{ℕ, ◌+◌, ◌*◌, ◌/◌, ◌%◌, ◌==◌, ◌&&◌, if◌then◌else◌}
 use Rattle.std.specs.Int.RustNames.{bit_and}
 use Rattle.relmove_run.specs.declared.store.Found.{Found}
+use Rattle.relmove_run.specs.declared.store.PageFile.{PageFile}
 
 -- what a file's owner may do: three bits
 abbrev pub rights_of_owner : ℕ → ℕ
@@ -21,7 +22,7 @@ permissions owner group others = owner * 64 + group * 8 + others
 
 -- the permissions that a new file may have in the place of an old one: with the old owner and the old group all of them;
 -- with the old group alone the rights; otherwise the group may do only what all others may do as well
-abbrev pub allowed_permissions : Found → Found → ℕ
+abbrev pub allowed_permissions : PageFile → Found → ℕ
 allowed_permissions old new =
     let owner = rights_of_owner old.mode in
     let group = rights_of_group old.mode in

@@ -104,6 +104,9 @@ HasDigest (Directory path) = ⊤
 pub record FitsTypes (origin : Origin) (work : Work) : Type 0 where
   pub root : origin.root < 2 ^ 64
   pub file : origin.file < 2 ^ 64
+  pub run : origin.run < 2 ^ 64
+  pub owner : origin.owner < 2 ^ 64
+  pub time : origin.time < 2 ^ 64
   pub texts : All (λ text. IsDigest text.digest) work.texts.items
   pub cleaned : All HasDigest work.cleaned.items
 
@@ -123,10 +126,17 @@ pub data WorkLine : Type 0 where
   Placed : List ℕ × List ℕ → WorkLine
   Cleaned : LeftoverParts → WorkLine
 
+-- what an origin has a number of
+pub data OriginNumber : Type 0 where
+  Root : OriginNumber
+  File : OriginNumber
+  Run : OriginNumber
+  Owner : OriginNumber
+  Time : OriginNumber
+
 -- a line: where the journal was written, how far the run is, what it does, or the last line with its two fields
 pub data Line : Type 0 where
-  Root : ℕ → Line
-  File : ℕ → Line
+  OfOrigin : OriginNumber → ℕ → Line
   AtStage : Stage → Line
   OfWork : WorkLine → Line
   End : List ℕ → List ℕ → Line
@@ -140,9 +150,15 @@ work_word (Placed rename) = codes "placed"
 work_word (Cleaned (Removed text)) = codes "removed"
 work_word (Cleaned (Emptied path)) = codes "emptied"
 
+abbrev pub origin_word : OriginNumber → List ℕ
+origin_word Root = codes "root"
+origin_word File = codes "file"
+origin_word Run = codes "run"
+origin_word Owner = codes "owner"
+origin_word Time = codes "time"
+
 abbrev pub line_word : Line → List ℕ
-line_word (Root number) = codes "root"
-line_word (File number) = codes "file"
+line_word (OfOrigin which number) = origin_word which
 line_word (AtStage stage) = codes "stage"
 line_word (OfWork line) = work_word line
 line_word (End size sha256) = codes "end"
@@ -163,8 +179,7 @@ work_fields (Cleaned (Removed text)) = text_fields text
 work_fields (Cleaned (Emptied path)) = path ∷ []
 
 abbrev pub line_fields : Line → List (List ℕ)
-line_fields (Root number) = decimal number ∷ []
-line_fields (File number) = decimal number ∷ []
+line_fields (OfOrigin which number) = decimal number ∷ []
 line_fields (AtStage stage) = stage_name stage ∷ []
 line_fields (OfWork line) = work_fields line
 line_fields (End size sha256) = size ∷ sha256 ∷ []
@@ -188,8 +203,7 @@ IsWorkLine (Cleaned (Removed text)) = IsTextParts text
 IsWorkLine (Cleaned (Emptied path)) = IsUtf8 path
 
 abbrev pub IsLine : Line → Type 0
-IsLine (Root number) = number < 2 ^ 64
-IsLine (File number) = number < 2 ^ 64
+IsLine (OfOrigin which number) = number < 2 ^ 64
 IsLine (AtStage stage) = ⊤
 IsLine (OfWork line) = IsWorkLine line
 IsLine (End size sha256) = ⊤
@@ -232,12 +246,18 @@ with_work_line work (Cleaned leftover) = record {
   cleaned = work.cleaned ++ leftover ∷ [];
 }
 
+-- the origin with another number
+abbrev pub with_number : Origin → OriginNumber → ℕ → Origin
+with_number origin Root number = record { root = number; file = origin.file; run = origin.run; owner = origin.owner; time = origin.time }
+with_number origin File number = record { root = origin.root; file = number; run = origin.run; owner = origin.owner; time = origin.time }
+with_number origin Run number = record { root = origin.root; file = origin.file; run = number; owner = origin.owner; time = origin.time }
+with_number origin Owner number = record { root = origin.root; file = origin.file; run = origin.run; owner = number; time = origin.time }
+with_number origin Time number = record { root = origin.root; file = origin.file; run = origin.run; owner = origin.owner; time = number }
+
 -- what it adds to a journal
 abbrev pub with_line : Content → Line → Content
-with_line content (Root number) =
-    record { origin = record { root = number; file = content.origin.file }; stage = content.stage; work = content.work }
-with_line content (File number) =
-    record { origin = record { root = content.origin.root; file = number }; stage = content.stage; work = content.work }
+with_line content (OfOrigin which number) =
+    record { origin = with_number content.origin which number; stage = content.stage; work = content.work }
 with_line content (AtStage stage) = record { origin = content.origin; stage = stage; work = content.work }
 with_line content (OfWork line) =
     record { origin = content.origin; stage = content.stage; work = with_work_line content.work line }

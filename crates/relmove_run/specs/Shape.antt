@@ -1,5 +1,5 @@
 -- Which work can be a run's: the paths in its lists, and how the lists fit together.
-use Rattle.std.specs.Prelude.{◌≡◌, ◌≢◌, ℕ, nat_eq, Bool, true, false, not, ◌&&◌, ◌||◌, ◌==◌, List, [], ◌∷◌, ◌++◌, AllPairs, IsPermutation, IsTrue, codes, drop, filter, length, map, string_bytes}
+use Rattle.std.specs.Prelude.{◌≡◌, ◌≢◌, ℕ, nat_eq, Bool, true, false, not, ◌&&◌, ◌||◌, ◌==◌, List, [], ◌∷◌, ◌++◌, AllPairs, IsPermutation, IsTrue, codes, drop, length, map, string_bytes}
 use Rattle.std.specs.List.{list_all, list_any, slice_split, starts_with}
 use Rattle.std.specs.List.Sorted.{IsStrictlySortedBy}
 use Rattle.std.specs.Cmp.Lexicographic.{slice_cmp}
@@ -39,9 +39,21 @@ is_name text = not (is_nameless text) && not (begins_with (codes ".relmove") tex
 abbrev pub is_directory_name : List ℕ → Bool
 is_directory_name n = is_name n && not (begins_with (codes ".") n)
 
--- the text is `.relmove-` and a number
+-- the text is a number
+abbrev pub is_number : List ℕ → Bool
+is_number text = is_not_empty text && list_all is_ascii_digit text
+
+-- the text leads to the run's own directory, and to something in it
+abbrev pub is_in_own_directory : List ℕ → Bool
+is_in_own_directory text = begins_with (codes ".relmove-run/") text
+
+-- what follows the name of that directory
+abbrev pub below_own_directory : List ℕ → List ℕ
+below_own_directory text = drop 13 text
+
+-- the text is `.relmove-run/` and a number
 abbrev pub is_staging_name : List ℕ → Bool
-is_staging_name n = begins_with (codes ".relmove-") n && is_not_empty (drop 9 n) && list_all is_ascii_digit (drop 9 n)
+is_staging_name text = is_in_own_directory text && is_number (below_own_directory text)
 
 -- ---- paths
 
@@ -55,10 +67,10 @@ leads_to test [] = false
 leads_to test (last ∷ []) = test last
 leads_to test (directory ∷ next ∷ way) = is_directory_name directory && leads_to test (next ∷ way)
 
--- the way leads from a staging name through directories that are read
-abbrev pub leads_from_staging_name : List (List ℕ) → Bool
-leads_from_staging_name [] = false
-leads_from_staging_name (first ∷ way) = is_staging_name first && leads_to is_directory_name way
+-- the way leads from a number through directories that are read
+abbrev pub leads_from_number : List (List ℕ) → Bool
+leads_from_number [] = false
+leads_from_number (number ∷ way) = is_number number && leads_to is_directory_name way
 
 -- the path leads to a file or a directory
 abbrev pub is_path : List ℕ → Bool
@@ -68,24 +80,23 @@ is_path path = leads_to is_name (names path)
 abbrev pub is_directory_path : List ℕ → Bool
 is_directory_path path = leads_to is_directory_name (names path)
 
--- the path can be that of a new text: its last name is a staging name
-abbrev pub is_text_path : List ℕ → Bool
-is_text_path path = leads_to is_staging_name (names path)
+-- the path leads from the staging name of a directory that moves to a directory that is read
+abbrev pub is_made_below : List ℕ → Bool
+is_made_below path = is_in_own_directory path && leads_from_number (names (below_own_directory path))
 
 -- a run can make a directory at the path: its way begins at the root, or at the staging name of a directory that moves
 abbrev pub is_made_path : List ℕ → Bool
-is_made_path path = is_directory_path path || leads_from_staging_name (names path)
+is_made_path path = is_directory_path path || is_made_below path
 
 -- ---- the lists of a run's work
 
--- the text has the path of a new text
+-- the text has a staging name
 abbrev pub is_written : TextFile → Bool
-is_written text = is_text_path (string_bytes text.path)
+is_written text = is_staging_name (string_bytes text.path)
 
--- the rename leads from a path, or from that of a new text, to a staging name
+-- the rename leads from a path to a staging name
 abbrev pub is_staging : Rename → Bool
-is_staging rename = (is_path (string_bytes rename.from) || is_text_path (string_bytes rename.from))
-    && is_staging_name (string_bytes rename.to)
+is_staging rename = is_path (string_bytes rename.from) && is_staging_name (string_bytes rename.to)
 
 -- the rename leads from a staging name to a path
 abbrev pub is_placing : Rename → Bool
@@ -133,14 +144,14 @@ pub record HaveSameOnce (paths others : List (List ℕ)) : Type 0 where
   pub same : IsPermutation paths others
   pub different : AreDifferent paths
 
--- each new text gets a staging name, once, and nothing else that has the path of one
-abbrev pub StagesItsTexts : Work → Type 0
-StagesItsTexts work = HaveSameOnce (text_paths work.texts.items) (filter is_text_path (old_paths work.staged.items))
-
--- each staging name is given once, and what gets one is placed or removed, once
+-- each staging name is given once, and what has one, a new text too, is placed or removed, once
 abbrev pub PlacesOrRemoves : Work → Type 0
-PlacesOrRemoves work = HaveSameOnce (new_paths work.staged.items)
+PlacesOrRemoves work = HaveSameOnce (new_paths work.staged.items ++ text_paths work.texts.items)
     (old_paths work.placed.items ++ removed_paths work.cleaned.items)
+
+-- no new text is removed, so each is placed
+abbrev pub KeepsItsTexts : Work → Type 0
+KeepsItsTexts work = AreDifferent (text_paths work.texts.items ++ removed_paths work.cleaned.items)
 
 -- as many texts are removed as new texts come
 abbrev pub RemovesAsManyTexts : Work → Type 0
@@ -153,7 +164,7 @@ GoesOnce work = AreDifferent (old_paths work.staged.items) × AreDifferent (new_
 -- the work can be a run's
 pub record IsOfRun (work : Work) : Type 0 where
   pub paths : IsTrue (has_paths_of_run work)
-  pub texts : StagesItsTexts work
   pub names : PlacesOrRemoves work
+  pub texts : KeepsItsTexts work
   pub removed : RemovesAsManyTexts work
   pub once : GoesOnce work

@@ -4,7 +4,8 @@ ghost use Rattle.relmove_run.specs.Permissions.{allowed_permissions, permissions
 
 use crate::fault::{Call, Fault, at, fault_of};
 use crate::file_store::is_absence;
-use crate::store::{Found, FoundKind, Store};
+use crate::staging_names::{OWN_DIRECTORY, STAGING_NAME};
+use crate::store::{Found, FoundKind, PageFile, Store};
 use crate::text_digest::TextDigest;
 use relmove_actions::NewText;
 use std::alloc::{AllocError, Global};
@@ -38,29 +39,33 @@ pub(crate) fn is_there<S: Store>(store: &mut S, path: &str) -> Result<bool, Faul
     Ok(find(store, path)?.is_some())
 }
 
-// Fails if something is at a path.
-pub(crate) fn need_free<S: Store>(store: &mut S, path: &str) -> Result<(), Fault> {
-    if is_there(store, path)? {
-        return Err(Fault::Taken(copy_of(store, path)?));
-    }
-    Ok(())
-}
-
 // The directories that were on the ways to paths, and to which directories above them no symbolic link led.
 #[derive(Drop)]
-pub(crate) struct Ways(BTreeMap<String, Found>);
+pub(crate) struct Ways {
+    known: BTreeMap<String, Found>,
+    // The inode of the run's own directory, once the run has one.
+    own: Option<u64>,
+}
 
 impl Ways {
     // None. Allocates nothing.
     pub(crate) fn new(alloc: Global) -> Ways {
-        Ways(BTreeMap::new(alloc))
+        Ways {
+            known: BTreeMap::new(alloc),
+            own: None,
+        }
+    }
+
+    // Notes which one the run's own directory is.
+    pub(crate) fn set_own(&mut self, inode: u64) {
+        self.own = Some(inode);
     }
 
     // The longest directory above a path that was asked for, and how many bytes its path has.
     fn nearest(&self, path: &str) -> Option<(usize, Found)> {
         for (slash, _) in path.rmatch_indices('/') {
             if let Some(directory) = path.get(..slash)
-                && let Some(found) = self.0.get(directory)
+                && let Some(found) = self.known.get(directory)
             {
                 return Some((slash, *found));
             }
@@ -69,19 +74,40 @@ impl Ways {
     }
 }
 
-// Fails unless whatever is on the way to a path is a directory. If the longest directory on it that was asked for before is
-// still the same one, the directories above that one aren't asked for again.
+// Fails unless whatever is on the way to a path is a directory, and the run's own directory is the one that the run made. If
+// the longest directory on the way that was asked for before is still the same one, the directories above that one aren't
+// asked for again.
 pub(crate) fn need_way<S: Store>(store: &mut S, ways: &mut Ways, path: &str) -> Result<(), Fault> {
-    let known = known_way(store, ways, path)?;
+    let own = own_way(store, ways, path)?;
+    let known = known_way(store, ways, path)?.max(own);
     for (slash, _) in path.match_indices('/') {
         if slash > known
             && let Some(directory) = path.get(..slash)
         {
             let found = need_directory(store, directory)?;
-            ways.0.insert(copy_of(store, directory)?, found)?;
+            ways.known.insert(copy_of(store, directory)?, found)?;
         }
     }
     Ok(())
+}
+
+// How many bytes of a path lead to the run's own directory. Fails if that isn't the one that the run made.
+fn own_way<S: Store>(store: &mut S, ways: &Ways, path: &str) -> Result<usize, Fault> {
+    if !path.starts_with(STAGING_NAME) {
+        return Ok(0);
+    }
+    need_own_directory(store, ways)?;
+    Ok(OWN_DIRECTORY.len())
+}
+
+// Fails unless the run's own directory is there, and is the one that the run made.
+pub(crate) fn need_own_directory<S: Store>(store: &mut S, ways: &Ways) -> Result<(), Fault> {
+    match find(store, OWN_DIRECTORY)? {
+        Some(found) if found.kind == FoundKind::Directory && ways.own == Some(found.inode) => {
+            Ok(())
+        }
+        _ => Err(Fault::Exchanged(copy_of(store, OWN_DIRECTORY)?)),
+    }
 }
 
 // How many bytes of a path lead to a directory to which no symbolic link leads.
@@ -128,7 +154,7 @@ fn rename<S: Store>(
 }
 
 // Whether two paths are names of one file. A loss of power can keep both names of a file that was renamed.
-fn are_names_of_one_file(one: &Found, other: &Found) -> bool {
+pub(crate) fn are_names_of_one_file(one: &Found, other: &Found) -> bool {
     one.is_same(other) && one.links > 1 && one.kind != FoundKind::Directory
 }
 
@@ -194,7 +220,7 @@ pub(crate) fn make_directory<S: Store>(
         }
     }
     need_way(store, ways, path)?;
-    let made = store.make_directory(path);
+    let made = store.make_directory(path, ALL_PERMISSIONS);
     at(store.alloc(), Call::MakeDirectory, path, made)
 }
 
@@ -268,23 +294,23 @@ pub(crate) fn digest_found<S: Store>(
     Ok(Some(TextDigest::of(text.as_slice())))
 }
 
-// What a page is. Fails if it is no regular file any more.
-fn find_page<S: Store>(store: &mut S, page: &str) -> Result<Found, Fault> {
+// Fails unless a page is the file from which its text was read.
+pub(crate) fn need_page<S: Store>(store: &mut S, page: &str, file: &PageFile) -> Result<(), Fault> {
     match find(store, page)? {
-        Some(found) if found.kind == FoundKind::File => Ok(found),
+        Some(found) if found.kind == FoundKind::File && file.is(&found) => Ok(()),
         Some(_) => Err(Fault::Changed(copy_of(store, page)?)),
         None => Err(Fault::Missing(copy_of(store, page)?)),
     }
 }
 
-// Makes a file with at most these permissions, and notes which one it is.
+// Makes a file with at most these permissions, and notes which one it is. Returns what it is too.
 pub(crate) fn create<S: Store>(
     store: &mut S,
     ways: &mut Ways,
     path: &str,
     mode: u32,
     own: &mut OwnFile,
-) -> Result<S::NewFile, Fault> {
+) -> Result<(S::NewFile, Found), Fault> {
     need_way(store, ways, path)?;
     let created = store.create(path, mode);
     *own = match &created {
@@ -295,10 +321,10 @@ pub(crate) fn create<S: Store>(
     let found = store.find_new(&file);
     let found = at(store.alloc(), Call::Ask, path, found)?;
     *own = OwnFile::Inode(found.inode);
-    Ok(file)
+    Ok((file, found))
 }
 
-// A file that a run may have made.
+// A file or a directory that a run may have made.
 #[derive(Clone, Copy, PartialEq, Eq)]
 pub(crate) enum OwnFile {
     // The run made none.
@@ -312,10 +338,13 @@ pub(crate) enum OwnFile {
 impl OwnFile {
     // Whether what is found is the file, if the run knows that.
     pub(crate) fn is(self, found: &Found) -> bool {
-        match self {
-            OwnFile::Inode(inode) => found.kind == FoundKind::File && found.inode == inode,
-            _ => false,
-        }
+        found.kind == FoundKind::File && self == OwnFile::Inode(found.inode)
+    }
+
+    // Whether what is found can be the directory.
+    pub(crate) fn may_be_directory(self, found: &Found) -> bool {
+        found.kind == FoundKind::Directory
+            && (self == OwnFile::Unknown || self == OwnFile::Inode(found.inode))
     }
 }
 
@@ -342,27 +371,31 @@ impl Written {
     };
 }
 
-// Writes the new text of a page whole to a new file, and syncs it. The file gets the permissions of the page, and its
-// owner, if the system allows that. Only its owner can read it before it has its group. Notes which file it is, and when
-// it is whole.
+// A page's new text, and the file from which the old text was read.
+#[derive(Drop)]
+pub(crate) struct PageChange {
+    // The new text.
+    pub(crate) new: NewText,
+    // The page's file.
+    pub(crate) old: PageFile,
+}
+
+// Writes the new text of a page whole to a new file, and syncs it. The file gets the permissions that the page had when it
+// was read, and its owner, if the system allows that. Only its owner can read it before it has its group. Notes which file
+// it is, and when it is whole.
 pub(crate) fn write_text<S: Store>(
     store: &mut S,
     ways: &mut Ways,
-    new: &NewText,
+    change: &PageChange,
     written: &mut Written,
 ) -> Result<(), Fault> {
-    let (page, path) = (new.page.as_str(), new.file.as_str());
-    let old = find_page(store, page)?;
-    let mut file = create(
-        store,
-        ways,
-        path,
-        old.mode & OWNER_PERMISSIONS,
-        &mut written.own,
-    )?;
+    let PageChange { new, old } = change;
+    let path = new.file.as_str();
+    let mode = old.mode & OWNER_PERMISSIONS;
+    let (mut file, _) = create(store, ways, path, mode, &mut written.own)?;
     write_whole(store, &mut file, path, new.text.as_bytes())?;
     written.is_whole = true;
-    let mode = give_to_owner(store, &file, path, &old)?;
+    let mode = give_to_owner(store, &file, path, old)?;
     let set = store.set_mode(&file, mode);
     at(store.alloc(), Call::SetPermissions, path, set)?;
     sync(store, &file, path)
@@ -386,7 +419,10 @@ pub(crate) fn sync<S: Store>(store: &mut S, file: &S::NewFile, path: &str) -> Re
 }
 
 // The permissions of a file's owner.
-const OWNER_PERMISSIONS: u32 = 0o700;
+pub(crate) const OWNER_PERMISSIONS: u32 = 0o700;
+
+// The permissions of everybody.
+const ALL_PERMISSIONS: u32 = 0o777;
 
 // Gives a new file to the owner and the group of the old one, if the system allows it. Returns the permissions that the
 // new file may have.
@@ -394,7 +430,7 @@ fn give_to_owner<S: Store>(
     store: &mut S,
     file: &S::NewFile,
     path: &str,
-    old: &Found,
+    old: &PageFile,
 ) -> Result<u32, Fault> {
     let found = store.find_new(file);
     let new = at(store.alloc(), Call::Ask, path, found)?;
@@ -410,7 +446,7 @@ fn give_to_owner<S: Store>(
 
 // The permissions of an old file that a new one may have. Without the old owner it doesn't run as its owner or its
 // group, and without the old group its group may do only what others may do.
-fn allowed_mode(old: &Found, new: &Found) -> u32
+fn allowed_mode(old: &PageFile, new: &Found) -> u32
     ensures { result ≡ allowed_permissions old.now new.now }
 {
     if new.owner == old.owner && new.group == old.group {

@@ -76,8 +76,6 @@ pub enum Fault {
         /// What the system says.
         why: String,
     },
-    /// Something is at a path that has to be free.
-    Taken(String),
     /// Something is at both paths of a rename.
     Both {
         /// The path before.
@@ -95,6 +93,10 @@ pub enum Fault {
     OtherDevice(String),
     /// The text of a page changed after it was read.
     Changed(String),
+    /// The file of a new text doesn't have the text that the run wrote.
+    OtherText(String),
+    /// The run's own directory isn't there, or another directory has its name.
+    Exchanged(String),
     /// Another process works on the root.
     AtWork,
     /// The root has the journal of a run that didn't end.
@@ -110,12 +112,14 @@ pub enum Fault {
     NoJournal,
     /// What has the journal's name isn't a journal.
     NotAJournal,
-    /// The journal is of the first version, which this program no longer reads.
+    /// The journal is of an older version, which this program no longer reads.
     OldJournal,
     /// The journal wasn't written in this folder: it came with a copy, a clone or an archive.
     ForeignJournal,
     /// The journal's file has another name too.
     LinkedJournal,
+    /// The journal is of a run of another user, the one of this number.
+    OthersJournal(u32),
     /// Something has a name of the run's own, and no run left it.
     OwnName(String),
     /// A run that was killed before it changed anything left a file of its own.
@@ -142,6 +146,10 @@ impl fmt::Display for Fault {
                 )
             }
             Fault::HasJournal { written, stage } => write_has_journal(f, *written, *stage),
+            Fault::OthersJournal(owner) => write!(
+                f,
+                "the journal .relmove is of a run of another user, of the number {owner}: only this user ends it, or root with --trust-journal"
+            ),
             other => match words_with_path(other) {
                 Some((path, words)) => {
                     let path = Printable(named(path));
@@ -188,7 +196,6 @@ fn commands_at(stage: Option<Stage>) -> &'static str {
 // The path of a fault, and the words that follow it.
 fn words_with_path(fault: &Fault) -> Option<(&str, &'static str)> {
     match fault {
-        Fault::Taken(path) => Some((path.as_str(), "is there already")),
         Fault::Missing(path) => Some((path.as_str(), "isn't there")),
         Fault::NotADirectory(path) => Some((
             path.as_str(),
@@ -200,9 +207,17 @@ fn words_with_path(fault: &Fault) -> Option<(&str, &'static str)> {
             path.as_str(),
             "was changed while the run worked, so the run was taken back",
         )),
+        Fault::OtherText(path) => Some((
+            path.as_str(),
+            "isn't the text that the run wrote: another program changed it, or put it there",
+        )),
+        Fault::Exchanged(path) => Some((
+            path.as_str(),
+            "isn't the directory that the run made: another program removed or exchanged it",
+        )),
         Fault::JournalNear(path) => Some((
             path.as_str(),
-            "is the journal of a run that didn't end: end that run first",
+            "is the journal of a run that didn't end. If it was your run, end it first. If the folder came from elsewhere, the journal may have come with it: then remove it",
         )),
         Fault::OwnName(path) => Some((
             path.as_str(),
@@ -226,10 +241,10 @@ fn words_alone(fault: &Fault) -> &'static str {
             ".relmove isn't a journal that relmove wrote: another program made or changed it"
         }
         Fault::OldJournal => {
-            "the journal .relmove is of an older relmove. Rename by hand what it lists: from the names that begin with .relmove- to the old paths (lines apart) or to the new ones (lines together)"
+            "the journal .relmove is of an older relmove. Rename by hand what it lists: from the names that begin with .relmove- to the old paths (lines apart or staged) or to the new ones (lines together or placed), and remove it then"
         }
         Fault::ForeignJournal => {
-            "the journal .relmove wasn't written in this folder: it came with a copy or from elsewhere. Add --trust-journal to see what it asks for. If you remove it, what has a name that begins with .relmove- keeps this name, and nothing says where it belongs"
+            "the journal .relmove wasn't written in this folder: it came with a copy or from elsewhere. Add --trust-journal to see what it asks for. If you remove it, what is in .relmove-run stays there, and nothing says where it belongs"
         }
         Fault::LinkedJournal => {
             "the journal .relmove has another name too, as cp -al and some backups give to a file. Add --trust-journal to see what it asks for"

@@ -5,14 +5,16 @@ ghost use Rattle.std.specs.Prelude.{◌≡◌, ◌↔◌, ◌⊎◌, IsTrue};
 ghost use Rattle.std.specs.declared.io.ErrorKind.TheVariants.{NotADirectory, NotFound};
 
 use crate::path::join;
-use crate::store::{Found, FoundKind, Machine, Names, Store};
+use crate::store::{Found, FoundKind, Machine, Names, PageFile, Store};
 use std::alloc::{AllocError, Global};
-use std::fs::{self, File, FileType, Metadata, OpenFile, OpenOptions, Permissions, TryLockError};
+use std::fs::{
+    self, DirBuilder, File, FileType, Metadata, OpenFile, OpenOptions, Permissions, TryLockError,
+};
 use std::io::{self, ErrorKind, Read, Write};
 use std::os::fd::AsFd;
-use std::os::unix::fs::{MetadataExt, OpenOptionsExt, PermissionsExt, fchown};
+use std::os::unix::fs::{DirBuilderExt, MetadataExt, OpenOptionsExt, PermissionsExt, fchown};
 use std::thread;
-use std::time::Duration;
+use std::time::{Duration, SystemTime};
 
 // The bits of a mode that are permissions.
 const PERMISSIONS: u32 = 0o7777;
@@ -109,7 +111,17 @@ impl Store for FileStore {
     }
 
     fn read(&mut self, path: &str) -> io::Result<Vec<u8>> {
-        read_regular(&self.runtime, self.full(path)?.as_str())
+        let (_, bytes) = self.read_page(path)?;
+        Ok(bytes)
+    }
+
+    fn read_start(&mut self, path: &str, most: u64) -> io::Result<Vec<u8>> {
+        let (_, bytes) = read_regular(&self.runtime, self.full(path)?.as_str(), most)?;
+        Ok(bytes)
+    }
+
+    fn read_page(&mut self, path: &str) -> io::Result<(PageFile, Vec<u8>)> {
+        read_regular(&self.runtime, self.full(path)?.as_str(), u64::MAX)
     }
 
     fn create(&mut self, path: &str, mode: u32) -> io::Result<File> {
@@ -152,9 +164,11 @@ impl Store for FileStore {
         fs::hard_link(&self.runtime, from.as_str(), to.as_str())
     }
 
-    fn make_directory(&mut self, path: &str) -> io::Result<()> {
+    fn make_directory(&mut self, path: &str, mode: u32) -> io::Result<()> {
         let path = self.full(path)?;
-        fs::create_dir(&self.runtime, path.as_str())?;
+        let mut builder = DirBuilder::new();
+        builder.mode(mode);
+        builder.create(&self.runtime, path.as_str())?;
         let mode = fs::symlink_metadata(&self.runtime, path.as_str())?.mode() & PERMISSIONS;
         if mode & OWNER_PERMISSIONS == OWNER_PERMISSIONS {
             return Ok(());
@@ -223,15 +237,16 @@ impl Machine for HostRuntime {
     }
 }
 
-// Reads a regular file. Whatever else is there isn't opened. If something else comes there before the file is opened,
+// Reads at most so many bytes of a regular file, and says which one that is. Whatever else is there isn't opened. If something else comes there before the file is opened,
 // the call fails after it opened that; the call may wait then, if that is a FIFO.
-fn read_regular(runtime: &HostRuntime, path: &str) -> io::Result<Vec<u8>> {
+fn read_regular(runtime: &HostRuntime, path: &str, most: u64) -> io::Result<(PageFile, Vec<u8>)> {
     need_file(fs::symlink_metadata(runtime, path)?.file_type())?;
-    let mut file = fs::open(runtime, path)?;
-    need_file(file.metadata()?.file_type())?;
+    let file = fs::open(runtime, path)?;
+    let metadata = file.metadata()?;
+    need_file(metadata.file_type())?;
     let mut bytes = Vec::new(runtime.alloc());
-    file.read_to_end(&mut bytes)?;
-    Ok(bytes)
+    file.take(most).read_to_end(&mut bytes)?;
+    Ok((PageFile::of(&found_of(&metadata)), bytes))
 }
 
 // Fails unless this is a regular file's kind.
@@ -254,6 +269,18 @@ fn found_of(metadata: &Metadata) -> Found {
         owner: metadata.uid(),
         group: metadata.gid(),
         modified: metadata.modified().ok(),
+        made: match metadata.created() {
+            Ok(time) => nanoseconds_of(time),
+            Err(_) => 0,
+        },
+    }
+}
+
+// The nanoseconds since 1970 at a time, or 0 if there aren't so many.
+fn nanoseconds_of(time: SystemTime) -> u64 {
+    match time.duration_since(SystemTime::UNIX_EPOCH) {
+        Ok(duration) => u64::try_from(duration.as_nanos()).unwrap_or(0),
+        Err(_) => 0,
     }
 }
 

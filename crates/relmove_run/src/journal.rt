@@ -5,18 +5,20 @@
 //! before it. The tabs are wide here, and the digests short.
 //!
 //! ```text
-//! relmove journal 2
+//! relmove journal 3
 //! root     1835021
 //! file     1835044
+//! run      1835043
+//! owner    1000
+//! time     1764249923123456789
 //! stage    staging
-//! text     docs/.relmove-2  120  5c8e
-//! staged   docs/a.md        .relmove-1
-//! staged   docs/.relmove-2  .relmove-2
+//! text     .relmove-run/2  120  5c8e
+//! staged   docs/a.md       .relmove-run/1
 //! made     new
-//! placed   .relmove-2       new/b.md
-//! removed  .relmove-1       118  9f03
+//! placed   .relmove-run/2  new/b.md
+//! removed  .relmove-run/1  118  9f03
 //! emptied  docs
-//! end      236  3a41
+//! end      221  3a41
 //! ```
 ghost use Rattle.std.specs.Prelude.{◌≡◌, ◌≢◌, ◌↔◌, ℕ, ◌<◌, ◌^◌, List, [], ◌∷◌, ◌++◌, All, IfOk, IsOkAnd, IsTrue, Ok, OnOk, Some, codes, length, map, string_bytes};
 ghost use Rattle.std.specs.Fmt.{decimal};
@@ -84,6 +86,13 @@ pub struct Origin {
     pub root: u64,
     /// The inode of the journal's own file.
     pub file: u64,
+    /// The inode of the run's own directory.
+    pub run: u64,
+    /// The user who owns the journal's own file.
+    pub owner: u64,
+    /// When the journal's own file was made, in nanoseconds since 1970, or 0 if the system doesn't know that. No archive and
+    /// no copy can set it.
+    pub time: u64,
 }
 
 /// What a journal says.
@@ -97,11 +106,17 @@ pub struct Journal {
     pub work: Work,
 }
 
-const HEAD: &str = "relmove journal 2\n";
+const HEAD: &str = "relmove journal 3\n";
 
-const OLD_HEAD: &str = "relmove journal 1\n";
+// What journals of older versions begin with.
+const FIRST_HEAD: &str = "relmove journal 1\n";
+
+const SECOND_HEAD: &str = "relmove journal 2\n";
 
 const END: &str = "end";
+
+// How many bytes the first line of a journal has.
+pub(crate) const HEAD_LENGTH: u64 = 18;
 
 /// Whether a text may be the beginning of a journal.
 pub(crate) fn begins_as_journal(bytes: &[u8]) -> bool {
@@ -139,6 +154,9 @@ fn push_head(
 {
     push_number(alloc, text, "root", origin.root)?;
     push_number(alloc, text, "file", origin.file)?;
+    push_number(alloc, text, "run", origin.run)?;
+    push_number(alloc, text, "owner", origin.owner)?;
+    push_number(alloc, text, "time", origin.time)?;
     push_field(text, "stage", stage.name())?;
     Ok(())
 }
@@ -303,7 +321,7 @@ fn push_character(text: &mut String, character: char) -> Result<(), AllocError>
 }
 
 /// Reads a journal: the one of which [`journal_text`] writes this text. Each text that is written of a run is read, if
-/// there is memory. Otherwise fails with [`Fault::OldJournal`] if the text begins as a journal of the first version, and
+/// there is memory. Otherwise fails with [`Fault::OldJournal`] if the text begins as a journal of an older version, and
 /// with [`Fault::NotAJournal`] if it doesn't.
 ///
 /// Allocates the journal, and its text once more.
@@ -317,7 +335,7 @@ pub fn journal_of(alloc: Global, text: &str) -> Result<Journal, Fault>
     ensures read { (origin : Origin) (stage : Stage) (work : Work) → IsTextOfRun text.now origin stage work
         → GivenMemory result (λ journal. Says journal origin stage work) }
 {
-    if text.starts_with(OLD_HEAD) {
+    if text.starts_with(FIRST_HEAD) || text.starts_with(SECOND_HEAD) {
         return Err(Fault::OldJournal);
     }
     let journal = read_lines(alloc, text)?;
@@ -357,7 +375,13 @@ fn read_lines(alloc: Global, text: &str) -> Result<Journal, Fault>
         → GivenMemory result (λ journal. Says journal origin stage work) }
 {
     let mut journal = Journal {
-        origin: Origin { root: 0, file: 0 },
+        origin: Origin {
+            root: 0,
+            file: 0,
+            run: 0,
+            owner: 0,
+            time: 0,
+        },
         stage: Stage::Writing,
         work: Work::new(alloc),
     };
@@ -390,6 +414,9 @@ fn read_fields(alloc: Global, journal: &mut Journal, word: &str, fields: &str) -
     match word {
         "root" => set_number(&mut journal.origin.root, fields),
         "file" => set_number(&mut journal.origin.file, fields),
+        "run" => set_number(&mut journal.origin.run, fields),
+        "owner" => set_number(&mut journal.origin.owner, fields),
+        "time" => set_number(&mut journal.origin.time, fields),
         "stage" => set_stage(&mut journal.stage, fields),
         END => Ok(()),
         _ => read_action(alloc, &mut journal.work, word, fields),

@@ -9,7 +9,7 @@
 //! parts of it         own_files  near  possible  synced  ways
 //! a stage             stages
 //! single calls        actions
-//! what a journal is   shape  journal
+//! what a journal is   staging_names  shape  journal
 //! what all share      printable  text_digest  work  fault  remark  change
 //! paths and files     path  store  file_store
 //! ```
@@ -28,7 +28,8 @@ pub use self::printable::Printable;
 pub use self::remark::Remark;
 pub use self::run::{Ended, Locked, PageText, StoppedRun, carry_out, need_rest, resume, undo};
 pub use self::shape::is_of_run;
-pub use self::store::{Found, FoundKind, Machine, Names, Store};
+pub use self::staging_names::OWN_DIRECTORY;
+pub use self::store::{Found, FoundKind, Machine, Names, PageFile, Store};
 pub use self::text_digest::TextDigest;
 pub use self::work::{Leftover, Stage, TextFile, Work};
 pub use relmove_actions::STAGING;
@@ -48,6 +49,7 @@ mod remark;
 mod run;
 mod shape;
 mod stages;
+mod staging_names;
 mod store;
 mod synced;
 mod text_digest;

@@ -1,42 +1,99 @@
 //! Looks for journals of other runs, in the directories below a root and above it.
-use crate::actions::find;
+use crate::actions::{copy_of, find};
 use crate::fault::Fault;
 use crate::own_files::JOURNAL;
 use crate::path::join;
+use crate::remark::Remark;
 use crate::store::{FoundKind, Store};
 
 // How many directories above the root are looked at. No path that the system takes has more.
 const MOST_ABOVE: usize = 4096;
 
-/// Fails if a directory above the root, or one of these directories below it, has a journal. What can't be looked up
-/// counts as no journal.
-pub fn need_no_journal_near<S: Store>(store: &mut S, directories: &[&str]) -> Result<(), Fault> {
-    need_no_journal_below(store, directories)?;
-    need_no_journal_above(store)
+/// Returns the journals of other users above the root, and in these directories below it. Fails if one of them is a journal
+/// of the user who owns the root. What can't be looked up counts as no journal.
+///
+/// Allocates the remarks, and their paths.
+pub fn need_no_journal_near<S: Store>(
+    store: &mut S,
+    directories: &[&str],
+) -> Result<Vec<Remark>, Fault> {
+    let owner = owner_of_root(store)?;
+    let mut others = Vec::new(store.alloc());
+    look_near(store, directories, owner, &mut others)?;
+    Ok(others)
 }
 
-/// Fails if one of these directories below the root has a journal. What can't be looked up counts as no journal.
-pub fn need_no_journal_below<S: Store>(store: &mut S, directories: &[&str]) -> Result<(), Fault> {
+/// Returns the journals of other users in these directories below the root. Fails if one of them is a journal of the user
+/// who owns the root. What can't be looked up counts as no journal.
+///
+/// Allocates the remarks, and their paths.
+pub fn need_no_journal_below<S: Store>(
+    store: &mut S,
+    directories: &[&str],
+) -> Result<Vec<Remark>, Fault> {
+    let owner = owner_of_root(store)?;
+    let mut others = Vec::new(store.alloc());
+    look_below(store, directories, owner, &mut others)?;
+    Ok(others)
+}
+
+// The user who owns the root.
+fn owner_of_root<S: Store>(store: &mut S) -> Result<u32, Fault> {
+    match find(store, "")? {
+        Some(root) => Ok(root.owner),
+        None => Err(Fault::Missing(copy_of(store, store.root())?)),
+    }
+}
+
+// Fails if a directory above the root, or one of these below it, has a journal of a user. Notes those of others.
+pub(crate) fn look_near<S: Store>(
+    store: &mut S,
+    directories: &[&str],
+    user: u32,
+    others: &mut Vec<Remark>,
+) -> Result<(), Fault> {
+    look_below(store, directories, user, others)?;
+    look_above(store, user, others)
+}
+
+// Fails if one of these directories below the root has a journal of a user. Notes those of others.
+fn look_below<S: Store>(
+    store: &mut S,
+    directories: &[&str],
+    user: u32,
+    others: &mut Vec<Remark>,
+) -> Result<(), Fault> {
     for directory in directories {
         if !directory.is_empty() {
-            need_no_journal_in(store, directory)?;
+            look_in(store, directory, user, others)?;
         }
     }
     Ok(())
 }
 
-// Fails if a directory has a journal.
-fn need_no_journal_in<S: Store>(store: &mut S, directory: &str) -> Result<(), Fault> {
+// Fails if a directory has a journal of a user. Notes that of another.
+fn look_in<S: Store>(
+    store: &mut S,
+    directory: &str,
+    user: u32,
+    others: &mut Vec<Remark>,
+) -> Result<(), Fault> {
     let path = join(store.alloc(), directory, JOURNAL)?;
     match find(store, path.as_str()) {
-        Ok(Some(found)) if found.kind == FoundKind::File => Err(Fault::JournalNear(path)),
+        Ok(Some(found)) if found.kind == FoundKind::File && found.owner == user => {
+            Err(Fault::JournalNear(path))
+        }
+        Ok(Some(found)) if found.kind == FoundKind::File => {
+            let owner = found.owner;
+            Ok(others.push(Remark::Near { path, owner })?)
+        }
         Err(Fault::OutOfMemory) => Err(Fault::OutOfMemory),
         _ => Ok(()),
     }
 }
 
-// Fails if a directory above the root has a journal.
-fn need_no_journal_above<S: Store>(store: &mut S) -> Result<(), Fault> {
+// Fails if a directory above the root has a journal of a user. Notes those of others.
+fn look_above<S: Store>(store: &mut S, user: u32, others: &mut Vec<Remark>) -> Result<(), Fault> {
     let mut below = find(store, "")?;
     let mut directory = String::from_str(store.alloc(), "..")?;
     for _ in 0..MOST_ABOVE {
@@ -49,7 +106,7 @@ fn need_no_journal_above<S: Store>(store: &mut S) -> Result<(), Fault> {
             (Some(below), Some(above)) if !above.is_same(below) => {}
             _ => return Ok(()),
         }
-        need_no_journal_in(store, directory.as_str())?;
+        look_in(store, directory.as_str(), user, others)?;
         below = above;
         directory.push_str("/..")?;
     }

@@ -1,14 +1,18 @@
-//! The files that a run has of its own: its journal, the next journal, and a spare one.
+//! What a run has of its own: its journal, the next journal, a spare one, and the directory of staging names.
 //!
 //! A journal is written whole to a new file and synced, and then put in its place. So it is never seen half written. The
 //! first one is put where nothing is, and each later one replaces the one before. The spare one is there for its room: on
 //! a disk that is full, it makes way for the next journal.
+//!
+//! The directory is there before the first journal, which has its inode, and goes before the last one.
 use crate::actions::{
-    OwnFile, Ways, copy_of, create, find, find_to_remove, remove_file, sync, sync_directory,
-    write_whole,
+    OWNER_PERMISSIONS, OwnFile, Ways, copy_of, create, find, find_to_remove, remove_file, sync,
+    sync_directory, write_whole,
 };
-use crate::fault::{Call, Fault, at};
-use crate::journal::{Journal, Origin, begins_as_journal, journal_of, journal_text};
+use crate::fault::{Call, Fault, at, fault_of};
+use crate::journal::{HEAD_LENGTH, Journal, Origin, begins_as_journal, journal_of, journal_text};
+use crate::remark::Remark;
+use crate::staging_names::OWN_DIRECTORY;
 use crate::store::{Found, FoundKind, Store};
 use crate::work::{Stage, Work};
 use std::io::{self, ErrorKind};
@@ -21,6 +25,13 @@ const NEW_JOURNAL: &str = ".relmove-journal";
 
 // A file that is removed if a journal finds no room.
 const SPARE: &str = ".relmove-spare";
+
+// How many bytes a journal may have: a GiB. A run with a longer one doesn't begin, and nothing longer is read.
+const LONGEST_JOURNAL: u64 = 1 << 30;
+
+// Who ends a run that stopped puts this file into the run's own directory, where no other run puts one. Where the lock of the
+// root does nothing, the run that is ended sees it, and stops.
+const END: &str = ".relmove-run/end";
 
 // The permissions of a run's own files.
 const PRIVATE: u32 = 0o600;
@@ -39,10 +50,15 @@ pub enum Trust {
 pub(crate) struct OwnFiles {
     // The inode of the root.
     root: u64,
+    directory: OwnFile,
+    // The user who owns the directory.
+    owner: u32,
     // The journal in its place is the first or the second of these, once one was put there.
     journal: OwnFile,
     next: OwnFile,
     spare: OwnFile,
+    // The file of who ends the run.
+    end: OwnFile,
     // Whether the journal may be in its place.
     may_have_journal: bool,
 }
@@ -53,9 +69,39 @@ impl OwnFiles {
         self.may_have_journal
     }
 
+    // The user whose run this is.
+    pub(crate) fn owner(&self) -> u32 {
+        self.owner
+    }
+
+    // The inode of the run's own directory, if the run knows it.
+    pub(crate) fn directory(&self) -> Option<u64> {
+        match self.directory {
+            OwnFile::Inode(inode) => Some(inode),
+            _ => None,
+        }
+    }
+
+    // Where the run's journals are, without what is known of their own files.
+    fn place(&self) -> Origin {
+        Origin {
+            root: self.root,
+            file: 0,
+            run: self.directory().unwrap_or(0),
+            owner: 0,
+            time: 0,
+        }
+    }
+
     // Whether what is found is the run's journal, or the next one.
     fn has(&self, found: &Found) -> bool {
         self.journal.is(found) || self.next.is(found)
+    }
+
+    // Whether a journal was written to the file of the run's journal, or to that of the next one.
+    fn wrote(&self, journal: &Journal) -> bool {
+        let file = OwnFile::Inode(journal.origin.file);
+        self.journal == file || self.next == file
     }
 }
 
@@ -64,9 +110,12 @@ pub(crate) fn none_yet<S: Store>(store: &mut S) -> Result<OwnFiles, Fault> {
     need_no_own_files(store)?;
     Ok(OwnFiles {
         root: inode_of_root(store)?,
+        directory: OwnFile::None,
+        owner: 0,
         journal: OwnFile::None,
         next: OwnFile::None,
         spare: OwnFile::None,
+        end: OwnFile::None,
         may_have_journal: false,
     })
 }
@@ -75,7 +124,32 @@ pub(crate) fn none_yet<S: Store>(store: &mut S) -> Result<OwnFiles, Fault> {
 pub fn need_no_own_files<S: Store>(store: &mut S) -> Result<(), Fault> {
     need_no_journal(store)?;
     need_no_other(store, NEW_JOURNAL)?;
-    need_no_other(store, SPARE)
+    need_no_other(store, SPARE)?;
+    need_no_own_directory(store)
+}
+
+// Fails if something has the name of a run's own directory. A run that was killed before it had a journal may have left it
+// empty.
+fn need_no_own_directory<S: Store>(store: &mut S) -> Result<(), Fault> {
+    let Some(found) = find(store, OWN_DIRECTORY)? else {
+        return Ok(());
+    };
+    let path = copy_of(store, OWN_DIRECTORY)?;
+    if found.kind == FoundKind::Directory && is_empty(store, OWN_DIRECTORY)? {
+        return Err(Fault::LeftOver(path));
+    }
+    Err(Fault::OwnName(path))
+}
+
+// Whether nothing is in a directory. One that can't be listed may be empty: it may not have its permissions yet.
+fn is_empty<S: Store>(store: &mut S, path: &str) -> Result<bool, Fault> {
+    match store.list(path) {
+        Err(error) if error.kind() == ErrorKind::PermissionDenied => Ok(true),
+        listed => {
+            let names = at(store.alloc(), Call::List, path, listed)?;
+            Ok(names.texts.is_empty() && !names.has_other)
+        }
+    }
 }
 
 // Fails if the root has a journal.
@@ -130,34 +204,116 @@ pub(crate) fn find_journal<S: Store>(
     let journal = read_journal(store, &found)?;
     if trust == Trust::ThisFolder {
         need_one_name(store, &found)?;
-        let (root, file) = (inode_of_root(store)?, found.inode);
-        if journal.origin != (Origin { root, file }) {
+        if !is_from_here(journal.origin, inode_of_root(store)?, &found) {
             return Err(Fault::ForeignJournal);
         }
     }
     Ok((found, journal))
 }
 
+// Whether a journal that was found was written in this root, to this very file.
+fn is_from_here(origin: Origin, root: u64, found: &Found) -> bool {
+    origin.root == root
+        && origin.file == found.inode
+        && origin.owner == u64::from(found.owner)
+        && origin.time == found.made
+}
+
 // Takes over the own files of a run whose journal was found. Removes what a kill left of the others.
-pub(crate) fn own_files_of<S: Store>(store: &mut S, found: &Found) -> Result<OwnFiles, Fault> {
+pub(crate) fn own_files_of<S: Store>(
+    store: &mut S,
+    found: &Found,
+    origin: Origin,
+    trust: Trust,
+) -> Result<OwnFiles, Fault> {
     let root = inode_of_root(store)?;
-    remove_leftovers(store, Some(found))?;
+    let directory = own_directory_of(store, origin, trust)?;
+    remove_leftover(store, NEW_JOURNAL, Some(found))?;
+    remove_leftover(store, SPARE, None)?;
+    need_own_run(store, found.owner, trust)?;
     Ok(OwnFiles {
         root,
+        directory: OwnFile::Inode(directory),
+        owner: found.owner,
         journal: OwnFile::Inode(found.inode),
         next: OwnFile::None,
         spare: OwnFile::None,
+        end: OwnFile::None,
         may_have_journal: true,
     })
 }
 
-// Removes what a kill left of a run's files beside its journal, if it has one.
-pub(crate) fn remove_leftovers<S: Store>(
-    store: &mut S,
-    journal: Option<&Found>,
-) -> Result<(), Fault> {
-    remove_leftover(store, NEW_JOURNAL, journal)?;
-    remove_leftover(store, SPARE, None)
+// The inode of the own directory of a run. A copy of the directory has another one than the journal says.
+fn own_directory_of<S: Store>(store: &mut S, origin: Origin, trust: Trust) -> Result<u64, Fault> {
+    if trust == Trust::AnyFolder
+        && let Some(found) = find(store, OWN_DIRECTORY)?
+    {
+        return Ok(found.inode);
+    }
+    Ok(origin.run)
+}
+
+// Fails unless who calls owns the journal of a run, or is root and trusts it.
+fn need_own_run<S: Store>(store: &mut S, owner: u32, trust: Trust) -> Result<(), Fault> {
+    let may_end = match caller_of(store)? {
+        Some(caller) => caller == owner || caller == ROOT_USER && trust == Trust::AnyFolder,
+        None => is_alone_in_root(store, owner)?,
+    };
+    if may_end {
+        return Ok(());
+    }
+    Err(Fault::OthersJournal(owner))
+}
+
+// The user who may do everything.
+const ROOT_USER: u32 = 0;
+
+// The user who calls: the owner of a file that the call makes, and removes again. `None` if the disk has no room for it.
+fn caller_of<S: Store>(store: &mut S) -> Result<Option<u32>, Fault> {
+    let file = match store.create(NEW_JOURNAL, PRIVATE) {
+        Err(error) if error.kind() == ErrorKind::StorageFull => return Ok(None),
+        created => at(store.alloc(), Call::Create, NEW_JOURNAL, created)?,
+    };
+    let found = store.find_new(&file);
+    let found = at(store.alloc(), Call::Ask, NEW_JOURNAL, found)?;
+    let mut own = OwnFile::Inode(found.inode);
+    remove_own(store, NEW_JOURNAL, &mut own)?;
+    Ok(Some(found.owner))
+}
+
+// Whether a user owns the root, and nobody else may change the names in it.
+fn is_alone_in_root<S: Store>(store: &mut S, user: u32) -> Result<bool, Fault> {
+    Ok(match find(store, "")? {
+        Some(root) => root.owner == user && root.mode & OTHERS_WRITE == 0,
+        None => false,
+    })
+}
+
+// The permissions of a group and of others to change the names in a directory.
+const OTHERS_WRITE: u32 = 0o022;
+
+// Removes what a kill left of a run's own files, without a journal.
+pub(crate) fn remove_leftovers<S: Store>(store: &mut S) -> Result<(), Fault> {
+    remove_leftover(store, NEW_JOURNAL, None)?;
+    remove_leftover(store, SPARE, None)?;
+    remove_empty_directory(store)
+}
+
+// Removes the own directory that a run left which was killed before it had a journal. Fails if something is in it, or if
+// something else has its name.
+fn remove_empty_directory<S: Store>(store: &mut S) -> Result<(), Fault> {
+    match find_to_remove(store, OWN_DIRECTORY)? {
+        None => Ok(()),
+        Some(found) if found.kind == FoundKind::Directory => {
+            match store.remove_directory(OWN_DIRECTORY) {
+                Err(error) if error.kind() == ErrorKind::DirectoryNotEmpty => {
+                    Err(Fault::OwnName(copy_of(store, OWN_DIRECTORY)?))
+                }
+                removed => at(store.alloc(), Call::RemoveDirectory, OWN_DIRECTORY, removed),
+            }
+        }
+        Some(_) => Err(Fault::OwnName(copy_of(store, OWN_DIRECTORY)?)),
+    }
 }
 
 // Fails if a journal has a name outside the root. A run that is killed may leave it the name of the next journal too.
@@ -176,10 +332,10 @@ fn need_one_name<S: Store>(store: &mut S, found: &Found) -> Result<(), Fault> {
 
 // Reads the journal that was found.
 fn read_journal<S: Store>(store: &mut S, found: &Found) -> Result<Journal, Fault> {
-    if found.kind != FoundKind::File {
+    if found.kind != FoundKind::File || found.length > LONGEST_JOURNAL {
         return Err(Fault::NotAJournal);
     }
-    let read = store.read(JOURNAL);
+    let read = store.read_start(JOURNAL, LONGEST_JOURNAL);
     let bytes = at(store.alloc(), Call::Read, JOURNAL, read)?;
     match std::str::from_utf8(bytes.as_slice()) {
         Ok(text) => journal_of(store.alloc(), text),
@@ -217,9 +373,30 @@ fn is_beginning<S: Store>(store: &mut S, path: &str, found: &Found) -> Result<bo
     if found.length == 0 {
         return Ok(true);
     }
-    let read = store.read(path);
+    let read = store.read_start(path, HEAD_LENGTH);
     let bytes = at(store.alloc(), Call::Read, path, read)?;
     Ok(begins_as_journal(bytes.as_slice()))
+}
+
+// Makes the run's own directory, for its owner alone. Returns its inode.
+pub(crate) fn make_own_directory<S: Store>(
+    store: &mut S,
+    own: &mut OwnFiles,
+) -> Result<u64, Fault> {
+    let made = store.make_directory(OWN_DIRECTORY, OWNER_PERMISSIONS);
+    own.directory = match &made {
+        Err(error) if error.kind() == ErrorKind::AlreadyExists => OwnFile::None,
+        _ => OwnFile::Unknown,
+    };
+    at(store.alloc(), Call::MakeDirectory, OWN_DIRECTORY, made)?;
+    match find(store, OWN_DIRECTORY)? {
+        Some(found) if found.kind == FoundKind::Directory => {
+            own.directory = OwnFile::Inode(found.inode);
+            own.owner = found.owner;
+            Ok(found.inode)
+        }
+        _ => Err(Fault::Exchanged(copy_of(store, OWN_DIRECTORY)?)),
+    }
 }
 
 // Puts the first journal where nothing is, and makes the spare one.
@@ -228,7 +405,10 @@ pub(crate) fn put_first<S: Store>(
     own: &mut OwnFiles,
     work: &Work,
 ) -> Result<(), Fault> {
-    write_next(store, own, Stage::Writing, work)?;
+    let origin = write_next(store, own, Stage::Writing, work)?;
+    if origin.owner != u64::from(own.owner) {
+        return Err(Fault::Exchanged(copy_of(store, OWN_DIRECTORY)?));
+    }
     let linked = link_next(store);
     if let Err(error) = &linked
         && error.kind() == ErrorKind::AlreadyExists
@@ -243,6 +423,8 @@ pub(crate) fn put_first<S: Store>(
     own.journal = own.next;
     remove_own(store, NEW_JOURNAL, &mut own.next)?;
     make_spare(store, own, work)?;
+    // Without its own inode the directory would lose what gets a name in it.
+    sync_directory(store, OWN_DIRECTORY)?;
     sync_directory(store, "")
 }
 
@@ -269,14 +451,30 @@ fn has_no_links(kind: ErrorKind) -> bool {
     )
 }
 
-// Makes the spare journal: that of the stage with the longest name. Without room there is none.
+// Makes the spare journal. Without room there is none.
 fn make_spare<S: Store>(store: &mut S, own: &mut OwnFiles, work: &Work) -> Result<(), Fault> {
-    let root = own.root;
-    match write_journal(store, root, SPARE, (Stage::Unstaging, work), &mut own.spare) {
+    match write_spare(store, &mut own.spare, work) {
         Err(Fault::OutOfMemory) => Err(Fault::OutOfMemory),
         Err(_) => remove_own(store, SPARE, &mut own.spare),
         Ok(()) => Ok(()),
     }
+}
+
+// No journal is longer than one with these numbers, at the stage with the longest name.
+const LONGEST: Origin = Origin {
+    root: u64::MAX,
+    file: u64::MAX,
+    run: u64::MAX,
+    owner: u64::MAX,
+    time: u64::MAX,
+};
+
+// Writes the spare journal, which no later one exceeds.
+fn write_spare<S: Store>(store: &mut S, own: &mut OwnFile, work: &Work) -> Result<(), Fault> {
+    let mut ways = Ways::new(store.alloc());
+    let (mut file, _) = create(store, &mut ways, SPARE, PRIVATE, own)?;
+    let text = journal_text(store.alloc(), LONGEST, Stage::Unstaging, work)?;
+    write_private(store, &mut file, SPARE, text.as_str())
 }
 
 // Removes a file that the run made. Fails if something else is there.
@@ -326,11 +524,24 @@ pub(crate) fn put_next<S: Store>(
 // Fails unless the run's journal is in its place, and notes which one that is.
 fn need_own_journal<S: Store>(store: &mut S, own: &mut OwnFiles) -> Result<(), Fault> {
     match find(store, JOURNAL)? {
-        Some(found) if own.has(&found) => {
+        Some(found) if is_own_journal(store, own, &found)? => {
             own.journal = OwnFile::Inode(found.inode);
             Ok(())
         }
         _ => Err(Fault::NotAJournal),
+    }
+}
+
+// Whether what is found in the journal's place is the run's journal. Where a file system has an inode for each path, it has
+// another one there than under the name under which it was written: then its text tells.
+fn is_own_journal<S: Store>(store: &mut S, own: &OwnFiles, found: &Found) -> Result<bool, Fault> {
+    if own.has(found) {
+        return Ok(true);
+    }
+    match &read_journal(store, found) {
+        Ok(journal) => Ok(own.wrote(journal)),
+        Err(Fault::OutOfMemory) => Err(Fault::OutOfMemory),
+        Err(_) => Ok(false),
     }
 }
 
@@ -343,55 +554,147 @@ fn need_next<S: Store>(store: &mut S, own: &OwnFiles) -> Result<(), Fault> {
     }
 }
 
-// Writes the next journal whole.
+// Writes the next journal whole. Notes which file it is, and returns what the journal says of it.
 fn write_next<S: Store>(
     store: &mut S,
     own: &mut OwnFiles,
     stage: Stage,
     work: &Work,
-) -> Result<(), Fault> {
+) -> Result<Origin, Fault> {
     remove_own(store, NEW_JOURNAL, &mut own.next)?;
-    let root = own.root;
-    write_journal(store, root, NEW_JOURNAL, (stage, work), &mut own.next)
-}
-
-// Writes a journal whole to a new file, and syncs it. Notes which file it is.
-fn write_journal<S: Store>(
-    store: &mut S,
-    root: u64,
-    path: &str,
-    (stage, work): (Stage, &Work),
-    own: &mut OwnFile,
-) -> Result<(), Fault> {
+    let place = own.place();
     let mut ways = Ways::new(store.alloc());
-    let mut file = create(store, &mut ways, path, PRIVATE, own)?;
-    let file_inode = match own {
-        OwnFile::Inode(inode) => *inode,
-        _ => 0,
-    };
+    let (mut file, found) = create(store, &mut ways, NEW_JOURNAL, PRIVATE, &mut own.next)?;
     let origin = Origin {
-        root,
-        file: file_inode,
+        file: found.inode,
+        owner: u64::from(found.owner),
+        time: found.made,
+        ..place
     };
     let text = journal_text(store.alloc(), origin, stage, work)?;
-    let set = store.set_mode(&file, PRIVATE);
-    at(store.alloc(), Call::SetPermissions, path, set)?;
-    write_whole(store, &mut file, path, text.as_bytes())?;
-    sync(store, &file, path)
+    if text.len() as u64 > LONGEST_JOURNAL {
+        return Err(Fault::TooLong(copy_of(store, JOURNAL)?));
+    }
+    write_private(store, &mut file, NEW_JOURNAL, text.as_str())?;
+    Ok(origin)
 }
 
-// Removes the run's own files. The journal is the last one.
-pub(crate) fn remove_all<S: Store>(store: &mut S, own: &mut OwnFiles) -> Result<(), Fault> {
+// Writes a text to a new file that only its owner can read, and syncs it.
+fn write_private<S: Store>(
+    store: &mut S,
+    file: &mut S::NewFile,
+    path: &str,
+    text: &str,
+) -> Result<(), Fault> {
+    let set = store.set_mode(file, PRIVATE);
+    at(store.alloc(), Call::SetPermissions, path, set)?;
+    write_whole(store, file, path, text.as_bytes())?;
+    sync(store, file, path)
+}
+
+// Takes the run's own directory, if it is there: from now on another call that works on the run stops. On a disk without room
+// the directory isn't taken.
+pub(crate) fn take_directory<S: Store>(
+    store: &mut S,
+    ways: &mut Ways,
+    own: &mut OwnFiles,
+) -> Result<(), Fault> {
+    match find(store, OWN_DIRECTORY)? {
+        Some(found) if own.directory.may_be_directory(&found) => {}
+        _ => return Ok(()),
+    }
+    if find(store, END)?.is_some() {
+        remove_file(store, ways, END)?;
+    }
+    match create(store, ways, END, PRIVATE, &mut own.end) {
+        Err(Fault::OutOfMemory) => return Err(Fault::OutOfMemory),
+        Err(Fault::Exchanged(path)) => return Err(Fault::Exchanged(path)),
+        _ => {}
+    }
+    if own.end == OwnFile::Unknown {
+        own.end = made_file(store, END)?;
+    }
+    Ok(())
+}
+
+// The file that a call made which reported a failure, if it made one.
+fn made_file<S: Store>(store: &mut S, path: &str) -> Result<OwnFile, Fault> {
+    match find(store, path)? {
+        Some(found) => Ok(OwnFile::Inode(found.inode)),
+        None => Ok(OwnFile::None),
+    }
+}
+
+// Fails if another call took the run's own directory.
+pub(crate) fn need_untaken<S: Store>(store: &mut S, own: &OwnFiles) -> Result<(), Fault> {
+    match find(store, END)? {
+        None => Ok(()),
+        Some(found) if own.end.is(&found) => Ok(()),
+        Some(_) => Err(Fault::AtWork),
+    }
+}
+
+// Removes the file of who ends the run, if it is still there.
+fn remove_end<S: Store>(store: &mut S, own: &mut OwnFiles) -> Result<(), Fault> {
+    if let Some(found) = find_to_remove(store, END)?
+        && own.end.is(&found)
+    {
+        let removed = store.remove_file(END);
+        at(store.alloc(), Call::RemoveFile, END, removed)?;
+    }
+    own.end = OwnFile::None;
+    Ok(())
+}
+
+// Removes the run's own files. The journal is the last one. Notes what is left of the run's own directory.
+pub(crate) fn remove_all<S: Store>(
+    store: &mut S,
+    own: &mut OwnFiles,
+    remarks: &mut Vec<Remark>,
+) -> Result<(), Fault> {
     remove_own(store, NEW_JOURNAL, &mut own.next)?;
     remove_own(store, SPARE, &mut own.spare)?;
+    if own.end != OwnFile::None {
+        remove_end(store, own)?;
+    }
+    remove_own_directory(store, own.directory, remarks)?;
     if !own.may_have_journal {
         return Ok(());
     }
     match find_to_remove(store, JOURNAL)? {
         None => Ok(()),
-        Some(found) if own.has(&found) => remove_journal(store),
+        Some(found) if is_own_journal(store, own, &found)? => remove_journal(store),
         Some(_) => Err(Fault::NotAJournal),
     }
+}
+
+// Removes the run's own directory. If something is in it, or if something else has its name, it stays, and this is noted. A
+// call that reports a failure after it removed the directory has done its work.
+fn remove_own_directory<S: Store>(
+    store: &mut S,
+    own: OwnFile,
+    remarks: &mut Vec<Remark>,
+) -> Result<(), Fault> {
+    if own == OwnFile::None {
+        return Ok(());
+    }
+    let Some(found) = find_to_remove(store, OWN_DIRECTORY)? else {
+        return Ok(());
+    };
+    if !own.may_be_directory(&found) {
+        return Ok(remarks.push(Remark::Kept(copy_of(store, OWN_DIRECTORY)?))?);
+    }
+    let removed = store.remove_directory(OWN_DIRECTORY);
+    if let Err(error) = &removed
+        && error.kind() == ErrorKind::DirectoryNotEmpty
+    {
+        let why = fault_of(store.alloc(), Call::RemoveDirectory, OWN_DIRECTORY, error);
+        return Ok(remarks.push(Remark::Stays(why))?);
+    }
+    if removed.is_err() && find(store, OWN_DIRECTORY)?.is_none() {
+        return Ok(());
+    }
+    at(store.alloc(), Call::RemoveDirectory, OWN_DIRECTORY, removed)
 }
 
 // Removes the journal. A call that reports a failure after it removed the journal has done its work.

@@ -2,6 +2,7 @@
 use crate::actions::copy_of;
 use crate::fault::{Call, Fault, at};
 use crate::path::{directory_of, join};
+use crate::staging_names::{is_of_text, staging_path, text_path};
 use crate::store::{Found, FoundKind, Store};
 use relmove_actions::Steps;
 use std::alloc::Global;
@@ -21,12 +22,16 @@ pub fn need_possible<S: Store>(store: &mut S, steps: &Steps) -> Result<(), Fault
     };
     let mut asked = BTreeMap::new(store.alloc());
     for text in &steps.texts {
-        need_fine_path(store, text.file.as_str(), &root, &mut asked)?;
+        let path = text_path(store.alloc(), text.file.as_str())?;
+        need_short(store.alloc(), store.root(), path.as_str())?;
     }
     for rename in &steps.apart {
-        need_on_device(store, rename.from.as_str(), &root)?;
+        if !is_of_text(rename) {
+            need_on_device(store, rename.from.as_str(), &root)?;
+        }
     }
     for path in &steps.made {
+        let path = staging_path(store.alloc(), path.as_str())?;
         need_short(store.alloc(), store.root(), path.as_str())?;
     }
     for rename in &steps.together {

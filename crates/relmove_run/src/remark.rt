@@ -15,7 +15,22 @@ pub enum Remark {
         /// The other path.
         to: String,
     },
-    /// A directory that the run emptied can't be removed.
+    /// When a run was taken back, something was at a staging name and at the new path that came from it. What had the staging
+    /// name is at its old path, though the other one may be the run's.
+    AtBoth {
+        /// The staging name.
+        from: String,
+        /// The new path.
+        to: String,
+    },
+    /// The journal of another user's run that didn't end, in a directory near.
+    Near {
+        /// The journal.
+        path: String,
+        /// The number of the user who owns it.
+        owner: u32,
+    },
+    /// A directory that the run emptied, or its own directory, can't be removed.
     Stays(Fault),
 }
 
@@ -34,6 +49,20 @@ impl fmt::Display for Remark {
                 write!(
                     f,
                     "neither {from} nor {to} is there: another program removed it"
+                )
+            }
+            Remark::AtBoth { from, to } => {
+                let (from, to) = (Printable(from.as_str()), Printable(to.as_str()));
+                write!(
+                    f,
+                    "something was at {from} and at {to}: the first went back to the old path, and the second is kept"
+                )
+            }
+            Remark::Near { path, owner } => {
+                let path = Printable(path.as_str());
+                write!(
+                    f,
+                    "{path} is the journal of a run that didn't end, of the user of the number {owner}"
                 )
             }
             Remark::Stays(fault) => write!(f, "{fault}; this directory stays"),

@@ -1,5 +1,5 @@
 //! A run, its end after a fault, and its undoing.
-use crate::actions::{find, sync_directory};
+use crate::actions::{PageChange, find, need_page, sync_directory};
 use crate::change::Change;
 use crate::ending::{Way, changes_from, goes_on, stage_to_end};
 use crate::fault::{Call, Fault, at};
@@ -11,7 +11,8 @@ use crate::own_files::{
 use crate::possible::need_possible;
 use crate::remark::Remark;
 use crate::shape::is_of_run;
-use crate::store::{Found, Store};
+use crate::staging_names::with_staging_names;
+use crate::store::{Found, PageFile, Store};
 use crate::text_digest::TextDigest;
 use crate::ways::need_ways;
 use crate::work::{Leftover, Stage, TextFile, Work};
@@ -68,9 +69,11 @@ impl<S: Store + Drop> Locked<S> {
     }
 }
 
-/// Fails if another process works on a root, or if a run on it, or on a directory above it, didn't end, or if something
-/// else has a name of a run's own files.
-pub fn need_rest<S: Store>(store: &mut S) -> Result<(), Fault> {
+/// Returns the journals of other users above a root. Fails if another process works on the root, or if a run on it, or one of
+/// its owner's on a directory above it, didn't end, or if something else has a name of a run's own files.
+///
+/// Allocates the remarks, and their paths.
+pub fn need_rest<S: Store>(store: &mut S) -> Result<Vec<Remark>, Fault> {
     let locked = store.is_locked();
     if at(store.alloc(), Call::Lock, store.root(), locked)? {
         return Err(Fault::AtWork);
@@ -86,10 +89,18 @@ pub struct PageText<'a> {
     pub path: &'a str,
     /// Its text.
     pub text: &'a str,
+    /// The file from which it was read.
+    pub file: PageFile,
 }
 
 /// Moves files and directories, and puts new texts in the place of pages. `pages` has the text of each page that gets a
 /// new one. `directories` are the directories below the root in which other runs may have journals.
+///
+/// The staging names are in the run's own directory, [`OWN_DIRECTORY`](crate::OWN_DIRECTORY): the number of a name in between
+/// of the steps is the staging name's.
+///
+/// A new text gets the permissions, the owner and the group that its page had when its text was read. If another file is at
+/// the page's path, the call fails with [`Fault::Changed`] before it writes anything.
 ///
 /// A fault before anything moves takes back everything: the files below the root are as before. So does a page whose
 /// text isn't the one that was read. After a fault in the middle each file is whole, at its old path, its new path or
@@ -128,6 +139,7 @@ pub fn undo<S: Store + Drop>(locked: Locked<S>, trust: Trust) -> Ended {
 pub struct StoppedRun {
     found: Found,
     journal: Journal,
+    trust: Trust,
 }
 
 impl StoppedRun {
@@ -139,7 +151,11 @@ impl StoppedRun {
         trust: Trust,
     ) -> Result<StoppedRun, Fault> {
         let (found, journal) = find_journal(locked.store(), trust)?;
-        Ok(StoppedRun { found, journal })
+        Ok(StoppedRun {
+            found,
+            journal,
+            trust,
+        })
     }
 
     /// Returns the changes that the end of the run makes. Some of them may be made already.
@@ -167,7 +183,7 @@ impl StoppedRun {
 fn end_stopped<S: Store + Drop>(mut locked: Locked<S>, trust: Trust, way: Way) -> Ended {
     match StoppedRun::read(&mut locked, trust) {
         Ok(run) => run.end(locked, way),
-        Err(Fault::NoJournal) => match remove_leftovers(locked.store(), None) {
+        Err(Fault::NoJournal) => match remove_leftovers(locked.store()) {
             Ok(()) => Ended::Refused(Fault::NoJournal),
             Err(fault) => Ended::Refused(fault),
         },
@@ -204,11 +220,11 @@ fn begin<S: Store + Drop>(
     pages: &[PageText<'_>],
     directories: &[&str],
 ) -> Result<Worker<S>, Ended> {
-    let (texts, mut worker) = match prepare(locked, steps, pages) {
+    let (changes, mut worker) = match prepare(locked, steps, pages) {
         Ok(prepared) => prepared,
         Err(fault) => return Err(Ended::Refused(fault)),
     };
-    if let Err(fault) = write_texts(&mut worker, &texts, directories) {
+    if let Err(fault) = write_texts(&mut worker, &changes, directories) {
         return Err(refuse(worker, fault));
     }
     if let Err(fault) = worker.enter(Stage::Staging) {
@@ -222,17 +238,20 @@ fn prepare<S: Store + Drop>(
     locked: Locked<S>,
     steps: Steps,
     pages: &[PageText<'_>],
-) -> Result<(Vec<NewText>, Worker<S>), Fault> {
+) -> Result<(Vec<PageChange>, Worker<S>), Fault> {
     let Locked(mut store) = locked;
     let own = none_yet(&mut store)?;
     need_possible(&mut store, &steps)?;
+    for page in pages {
+        need_page(&mut store, page.path, &page.file)?;
+    }
+    let steps = with_staging_names(store.alloc(), steps)?;
     let (texts, work) = work_of(store.alloc(), steps, pages)?;
     if !is_of_run(store.alloc(), &work)? {
         return Err(Fault::NotAPlan);
     }
-    let mut worker = Worker::new(store, own, work);
-    worker.need_names()?;
-    Ok((texts, worker))
+    let changes = changes_of(store.alloc(), texts, pages)?;
+    Ok((changes, Worker::new(store, own, work)))
 }
 
 // The new texts, and the work of a run with them.
@@ -250,6 +269,26 @@ fn work_of(
         cleaned,
     };
     Ok((steps.texts, work))
+}
+
+// The new texts, with the files of their pages.
+fn changes_of(
+    alloc: Global,
+    texts: Vec<NewText>,
+    pages: &[PageText<'_>],
+) -> Result<Vec<PageChange>, Fault> {
+    let mut files = BTreeMap::new(alloc);
+    for page in pages {
+        files.insert(page.path, page.file)?;
+    }
+    let mut changes = Vec::with_capacity(alloc, texts.len())?;
+    for new in texts {
+        let Some(old) = files.get(new.page.as_str()) else {
+            return Err(Fault::NotAPlan);
+        };
+        changes.push(PageChange { old: *old, new })?;
+    }
+    Ok(changes)
 }
 
 // The files of new texts.
@@ -301,12 +340,12 @@ fn cleaned_of(
 // sees the other's journal.
 fn write_texts<S: Store + Drop>(
     worker: &mut Worker<S>,
-    texts: &[NewText],
+    changes: &[PageChange],
     directories: &[&str],
 ) -> Result<(), Fault> {
     worker.begin()?;
-    need_no_journal_near(worker.store(), directories)?;
-    worker.write_texts(texts)
+    worker.look_near(directories)?;
+    worker.write_texts(changes)
 }
 
 // Takes back what was done, if the journal may say that things get staging names.
@@ -359,13 +398,19 @@ fn stop<S: Store + Drop>(mut worker: Worker<S>, fault: Fault) -> Ended {
 // The run that goes on from where it stopped.
 fn open<S: Store + Drop>(locked: Locked<S>, run: StoppedRun) -> Result<Worker<S>, Fault> {
     let Locked(mut store) = locked;
-    let StoppedRun { found, journal } = run;
-    let own = own_files_of(&mut store, &found)?;
+    let StoppedRun {
+        found,
+        journal,
+        trust,
+    } = run;
+    let own = own_files_of(&mut store, &found, journal.origin, trust)?;
     // A run may have been killed before the journal's name was on the disk. Nothing that comes now may be there without it.
     sync_directory(&mut store, "")?;
     let Journal { stage, work, .. } = journal;
     need_ways(&mut store, &work)?;
-    Ok(Worker::at(store, own, work, stage)?)
+    let mut worker = Worker::at(store, own, work, stage)?;
+    worker.take_directory()?;
+    Ok(worker)
 }
 
 // Goes on to the end. If a page was changed before it got its staging name, goes back.

@@ -1,10 +1,11 @@
 //! Whether work can be a run's: which paths it has, and how its lists fit together.
-ghost use Rattle.std.specs.Prelude.{◌≡◌, ◌↔◌, IfOk, IsTrue, filter, length, map, string_bytes};
+ghost use Rattle.std.specs.Prelude.{◌≡◌, ◌↔◌, ◌++◌, IfOk, IsTrue, length, map, string_bytes};
 ghost use Rattle.std.specs.List.{list_all};
-ghost use Rattle.relmove_run.specs.Shape.{AreAscending, AreDifferent, GoesOnce, HaveSameOnce, IsOfRun, PlacesOrRemoves, RemovesAsManyTexts, StagesItsTexts, has_paths_of_run, is_directory_name, is_directory_path, is_leftover, is_made_path, is_name, is_nameless, is_path, is_placing, is_staging, is_staging_name, is_text_path, is_written, new_paths, old_paths, removed_paths, text_paths};
+ghost use Rattle.relmove_run.specs.Shape.{AreAscending, AreDifferent, GoesOnce, HaveSameOnce, IsOfRun, KeepsItsTexts, PlacesOrRemoves, RemovesAsManyTexts, has_paths_of_run, is_directory_name, is_directory_path, is_leftover, is_made_below, is_made_path, is_name, is_nameless, is_number, is_path, is_placing, is_staging, is_staging_name, is_written, leads_from_number, names, new_paths, old_paths, removed_paths, text_paths};
 
+use crate::staging_names::STAGING_NAME;
 use crate::work::{Leftover, TextFile, Work};
-use relmove_actions::{RESERVED, Rename, STAGING};
+use relmove_actions::{RESERVED, Rename};
 use std::alloc::{AllocError, Global};
 
 /// Whether work can be a run's.
@@ -16,31 +17,36 @@ pub fn is_of_run(alloc: Global, work: &Work) -> Result<bool, AllocError>
 {
     Ok(
         have_paths_of_run(work)
-            && stages_its_texts(alloc, work)?
             && places_or_removes(alloc, work)?
+            && keeps_its_texts(alloc, work)?
             && removes_as_many_texts(work)
             && goes_once(alloc, work)?,
     )
 }
 
-// Whether each new text gets a staging name, once, and nothing else that has the path of one.
-fn stages_its_texts(alloc: Global, work: &Work) -> Result<bool, AllocError>
-    ensures { IfOk result (λ yes. IsTrue yes ↔ StagesItsTexts work.now) }
-{
-    let written = text_paths(alloc, &work.texts)?;
-    let staged = staged_text_paths(alloc, &work.staged)?;
-    have_same_once(written, staged)
-}
-
-// Whether each staging name is given once, and whatever gets one is placed or removed, once.
+// Whether each staging name is given once, and whatever has one is placed or removed, once.
 fn places_or_removes(alloc: Global, work: &Work) -> Result<bool, AllocError>
     ensures { IfOk result (λ yes. IsTrue yes ↔ PlacesOrRemoves work.now) }
 {
-    let given = new_paths(alloc, &work.staged)?;
-    let mut taken = old_paths(alloc, &work.placed)?;
-    let mut removed = removed_paths(alloc, &work.cleaned)?;
-    taken.append(&mut removed)?;
+    let given = both(
+        new_paths(alloc, &work.staged)?,
+        text_paths(alloc, &work.texts)?,
+    )?;
+    let taken = both(
+        old_paths(alloc, &work.placed)?,
+        removed_paths(alloc, &work.cleaned)?,
+    )?;
     have_same_once(given, taken)
+}
+
+// Whether no new text is removed.
+fn keeps_its_texts(alloc: Global, work: &Work) -> Result<bool, AllocError>
+    ensures { IfOk result (λ yes. IsTrue yes ↔ KeepsItsTexts work.now) }
+{
+    are_different(both(
+        text_paths(alloc, &work.texts)?,
+        removed_paths(alloc, &work.cleaned)?,
+    )?)
 }
 
 // Whether as many texts are removed as new texts come.
@@ -71,11 +77,11 @@ fn have_paths_of_run(work: &Work) -> bool
         && are_cleaned(&work.cleaned)
 }
 
-// Whether all texts have paths of new texts.
+// Whether all texts have staging names.
 fn are_written(texts: &[TextFile]) -> bool
     ensures { result ≡ list_all is_written texts.now }
 {
-    texts.iter().all(|text| is_text_path(text.path.as_str()))
+    texts.iter().all(|text| is_staging_name(text.path.as_str()))
 }
 
 // Whether all renames give staging names.
@@ -106,12 +112,11 @@ fn are_cleaned(leftovers: &[Leftover]) -> bool
     leftovers.iter().all(is_cleaned)
 }
 
-// Whether a rename gives a staging name to what moves, to a page, or to a new text.
+// Whether a rename gives a staging name to what moves, or to a page.
 fn is_staged(rename: &Rename) -> bool
     ensures { result ≡ is_staging rename.now }
 {
-    let from = rename.from.as_str();
-    (is_path(from) || is_text_path(from)) && is_staging_name(rename.to.as_str())
+    is_path(rename.from.as_str()) && is_staging_name(rename.to.as_str())
 }
 
 // Whether a rename takes something from a staging name to a path.
@@ -148,23 +153,30 @@ fn is_directory_path(path: &str) -> bool
     path.split('/').all(is_directory_name)
 }
 
-// Whether a path is that of a new text: a staging name in the root, or in a directory that is read.
-fn is_text_path(path: &str) -> bool
-    ensures { result ≡ is_text_path path.now }
-{
-    match path.rsplit_once('/') {
-        Some((directory, name)) => is_directory_path(directory) && is_staging_name(name),
-        None => is_staging_name(path),
-    }
-}
-
 // Whether a run can make a directory at a path: at a path from the root, or below a staging name.
 fn is_made_path(path: &str) -> bool
     ensures { result ≡ is_made_path path.now }
 {
+    is_directory_path(path) || is_made_below(path)
+}
+
+// Whether a path leads from a staging name through directories that are read.
+fn is_made_below(path: &str) -> bool
+    ensures { result ≡ is_made_below path.now }
+{
+    match path.strip_prefix(STAGING_NAME) {
+        Some(rest) => leads_from_number(rest),
+        None => false,
+    }
+}
+
+// Whether a path leads from a number through directories that are read.
+fn leads_from_number(path: &str) -> bool
+    ensures { result ≡ leads_from_number (names path.now) }
+{
     match path.split_once('/') {
-        Some((first, rest)) if is_staging_name(first) => is_directory_path(rest),
-        _ => is_directory_path(path),
+        Some((number, rest)) => is_number(number) && is_directory_path(rest),
+        None => false,
     }
 }
 
@@ -189,14 +201,21 @@ fn is_directory_name(part: &str) -> bool
     is_name(part) && !part.starts_with('.')
 }
 
-// Whether a path is a staging name: directly in the root, with a number at its end.
+// Whether a path is a staging name: a number in the run's own directory.
 fn is_staging_name(path: &str) -> bool
     ensures { result ≡ is_staging_name path.now }
 {
-    match path.strip_prefix(STAGING) {
-        Some(number) => !number.is_empty() && number.bytes().all(|digit| digit.is_ascii_digit()),
+    match path.strip_prefix(STAGING_NAME) {
+        Some(number) => is_number(number),
         None => false,
     }
+}
+
+// Whether a text is a number.
+fn is_number(text: &str) -> bool
+    ensures { result ≡ is_number text.now }
+{
+    !text.is_empty() && text.bytes().all(|digit| digit.is_ascii_digit())
 }
 
 // The paths of texts.
@@ -206,20 +225,6 @@ fn text_paths<'a>(alloc: Global, texts: &'a [TextFile]) -> Result<Vec<&'a str>, 
     let mut paths = Vec::with_capacity(alloc, texts.len())?;
     for text in texts {
         paths.push(text.path.as_str())?;
-    }
-    Ok(paths)
-}
-
-// The old paths of renames that are those of new texts.
-fn staged_text_paths<'a>(alloc: Global, renames: &'a [Rename]) -> Result<Vec<&'a str>, AllocError>
-    ensures { IfOk result (λ paths.
-        map (λ path. path.now) paths.items ≡ filter is_text_path (old_paths renames.now)) }
-{
-    let mut paths = Vec::new(alloc);
-    for rename in renames {
-        if is_text_path(rename.from.as_str()) {
-            paths.push(rename.from.as_str())?;
-        }
     }
     Ok(paths)
 }
@@ -272,6 +277,15 @@ fn count_removed(leftovers: &[Leftover]) -> usize
         }
     }
     count
+}
+
+// The paths of one list, and those of another after them.
+fn both<'a>(mut paths: Vec<&'a str>, mut others: Vec<&'a str>) -> Result<Vec<&'a str>, AllocError>
+    ensures { IfOk result (λ all. map (λ path. path.now) all.items
+        ≡ map (λ path. path.now) paths.entry.items ++ map (λ path. path.now) others.entry.items) }
+{
+    paths.append(&mut others)?;
+    Ok(paths)
 }
 
 // Whether two lists have the same paths, each once.

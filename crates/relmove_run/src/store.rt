@@ -39,6 +39,8 @@ pub struct Found {
     pub group: u32,
     /// When it was written last, if this is known.
     pub modified: Option<SystemTime>,
+    /// When it was made, in nanoseconds since 1970, or 0 if this isn't known. No program can set it.
+    pub made: u64,
 }
 
 impl Found {
@@ -48,6 +50,42 @@ impl Found {
         ensures same { result ≡ (self.now.device == other.now.device && self.now.inode == other.now.inode) }
     {
         self.device == other.device && self.inode == other.inode
+    }
+}
+
+/// The file of a page, as it was when its text was read.
+#[derive(Clone, Copy, Debug, PartialEq, Eq)]
+pub struct PageFile {
+    /// The number of its device.
+    pub device: u64,
+    /// Its number on the device.
+    pub inode: u64,
+    /// Its permissions.
+    pub mode: u32,
+    /// The user who owned it.
+    pub owner: u32,
+    /// The group that owned it.
+    pub group: u32,
+}
+
+impl PageFile {
+    /// The file that was found.
+    pub fn of(found: &Found) -> PageFile {
+        PageFile {
+            device: found.device,
+            inode: found.inode,
+            mode: found.mode,
+            owner: found.owner,
+            group: found.group,
+        }
+    }
+
+    /// Whether what is found is this file.
+    pub fn is(&self, found: &Found) -> bool
+        // whether device and inode are equal
+        ensures file { result ≡ (self.now.device == found.now.device && self.now.inode == found.now.inode) }
+    {
+        self.device == found.device && self.inode == found.inode
     }
 }
 
@@ -88,6 +126,12 @@ pub trait Store {
     /// The bytes of a regular file. Fails without opening it if something else is there.
     fn read(&mut self, path: &str) -> io::Result<Vec<u8>>;
 
+    /// The first bytes of a regular file, at most so many. Fails without opening it if something else is there.
+    fn read_start(&mut self, path: &str, most: u64) -> io::Result<Vec<u8>>;
+
+    /// The bytes of a regular file, and which file was opened. Fails without opening it if something else is there.
+    fn read_page(&mut self, path: &str) -> io::Result<(PageFile, Vec<u8>)>;
+
     /// Makes a file with at most these permissions where nothing is. Fails if something is there.
     fn create(&mut self, path: &str, mode: u32) -> io::Result<Self::NewFile>;
 
@@ -115,8 +159,9 @@ pub trait Store {
     /// Gives a file a second name. Fails if something is there.
     fn link(&mut self, from: &str, to: &str) -> io::Result<()>;
 
-    /// Makes a directory whose owner may list it, change it and use its names. Fails if something is there.
-    fn make_directory(&mut self, path: &str) -> io::Result<()>;
+    /// Makes a directory with at most these permissions, whose owner may list it, change it and use its names. Fails if
+    /// something is there.
+    fn make_directory(&mut self, path: &str, mode: u32) -> io::Result<()>;
 
     /// Removes a file.
     fn remove_file(&mut self, path: &str) -> io::Result<()>;

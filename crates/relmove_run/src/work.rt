@@ -11,7 +11,7 @@ use std::alloc::Global;
 pub enum Stage {
     /// The new texts are written, each to a file of its own. Nothing else has changed. A run begins at this stage.
     Writing,
-    /// What moves, each page that changes and each new text gets its staging name. All new texts are written.
+    /// What moves and each page that changes gets its staging name. All new texts are written.
     Staging,
     /// Directories are made. Everything has its staging name.
     Making,
@@ -51,9 +51,9 @@ pub enum Leftover {
 /// root.
 #[derive(Debug, PartialEq, Eq, Drop)]
 pub struct Work {
-    /// The new texts, each in a file next to its page.
+    /// The new texts, each at its staging name.
     pub texts: Vec<TextFile>,
-    /// From old paths, and from the files of the new texts, to staging names.
+    /// From old paths to staging names.
     pub staged: Vec<Rename>,
     /// The directories that are made.
     pub made: Vec<String>,

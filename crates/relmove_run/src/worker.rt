@@ -1,17 +1,21 @@
 //! Does the work of a run, from any stage on. Each step asks first whether it is done.
 use crate::actions::{
-    OwnFile, Ways, Written, carry, copy_of, digest_at, digest_found, find_to_remove, is_there,
-    make_directory, need_free, remove_directory, remove_file, unmake_directory, write_text,
+    OwnFile, PageChange, Ways, Written, are_names_of_one_file, carry, copy_of, digest_at,
+    digest_found, find, find_to_remove, is_there, make_directory, need_own_directory,
+    remove_directory, remove_file, unmake_directory, write_text,
 };
 use crate::fault::Fault;
-use crate::own_files::{OwnFiles, put_first, put_next, remove_all};
+use crate::near::look_near;
+use crate::own_files::{
+    OwnFiles, make_own_directory, need_untaken, put_first, put_next, remove_all, take_directory,
+};
 use crate::remark::Remark;
 use crate::stages::{Action, MOST_STAGES, actions_of};
 use crate::store::{Found, FoundKind, Store};
 use crate::synced::{remove_left_names, sync_stage};
 use crate::text_digest::TextDigest;
 use crate::work::{Leftover, Stage, TextFile, Work};
-use relmove_actions::{NewText, Rename};
+use relmove_actions::Rename;
 use std::alloc::AllocError;
 use std::io::ErrorKind;
 
@@ -60,7 +64,10 @@ impl<S: Store + Drop> Worker<S> {
             written.push(Written::UNKNOWN)?;
         }
         let remarks = Vec::new(store.alloc());
-        let ways = Ways::new(store.alloc());
+        let mut ways = Ways::new(store.alloc());
+        if let Some(inode) = own.directory() {
+            ways.set_own(inode);
+        }
         Ok(Worker {
             store,
             own,
@@ -93,36 +100,40 @@ impl<S: Store + Drop> Worker<S> {
         self.remarks
     }
 
-    // Puts the first journal in its place.
+    // Makes the run's own directory, and puts the first journal in its place.
     pub(crate) fn begin(&mut self) -> Result<(), Fault> {
+        let inode = make_own_directory(&mut self.store, &mut self.own)?;
+        self.ways.set_own(inode);
         put_first(&mut self.store, &mut self.own, &self.work)
+    }
+
+    // Fails if a directory above the root, or one of these below it, has another journal of the user whose run this is. Notes
+    // those of other users.
+    pub(crate) fn look_near(&mut self, directories: &[&str]) -> Result<(), Fault> {
+        let user = self.own.owner();
+        look_near(&mut self.store, directories, user, &mut self.remarks)
+    }
+
+    // Takes the directory of a run that stopped.
+    pub(crate) fn take_directory(&mut self) -> Result<(), Fault> {
+        take_directory(&mut self.store, &mut self.ways, &mut self.own)
     }
 
     // Ends a stage, and puts the journal of the next one in its place. The run is at that stage if the call returns
     // `Ok`. Otherwise the journal may say either stage.
     pub(crate) fn enter(&mut self, stage: Stage) -> Result<(), Fault> {
+        need_untaken(&mut self.store, &self.own)?;
         sync_stage(&mut self.store, &self.work, self.stage)?;
         put_next(&mut self.store, &mut self.own, stage, &self.work)?;
         self.stage = stage;
         Ok(())
     }
 
-    // Fails if a name that the run needs is taken.
-    pub(crate) fn need_names(&mut self) -> Result<(), Fault> {
-        for rename in &self.work.staged {
-            need_free(&mut self.store, rename.to.as_str())?;
-        }
-        for text in &self.work.texts {
-            need_free(&mut self.store, text.path.as_str())?;
-        }
-        Ok(())
-    }
-
     // Writes the new texts.
-    pub(crate) fn write_texts(&mut self, texts: &[NewText]) -> Result<(), Fault> {
-        for text in texts {
+    pub(crate) fn write_texts(&mut self, changes: &[PageChange]) -> Result<(), Fault> {
+        for change in changes {
             let mut written = Written::NONE;
-            let outcome = write_text(&mut self.store, &mut self.ways, text, &mut written);
+            let outcome = write_text(&mut self.store, &mut self.ways, change, &mut written);
             self.written.push(written)?;
             outcome?;
         }
@@ -145,6 +156,12 @@ impl<S: Store + Drop> Worker<S> {
 
     // Does the actions of the run's stage.
     fn do_stage(&mut self) -> Result<(), Fault> {
+        if needs_own_directory(self.stage) {
+            need_own_directory(&mut self.store, &self.ways)?;
+        }
+        if self.stage == Stage::Placing {
+            self.need_new_texts()?;
+        }
         act_at(
             &mut self.store,
             &mut self.ways,
@@ -174,7 +191,20 @@ impl<S: Store + Drop> Worker<S> {
     // Removes the run's own files.
     fn end(&mut self) -> Result<(), Fault> {
         sync_stage(&mut self.store, &self.work, self.stage)?;
-        remove_all(&mut self.store, &mut self.own)
+        remove_all(&mut self.store, &mut self.own, &mut self.remarks)
+    }
+
+    // Fails if what has the staging name of a new text isn't this text.
+    fn need_new_texts(&mut self) -> Result<(), Fault> {
+        for text in &self.work.texts {
+            let path = text.path.as_str();
+            if let Some(found) = find(&mut self.store, path)?
+                && digest_found(&mut self.store, path, &found)? != Some(text.digest)
+            {
+                return Err(Fault::OtherText(copy_of(&self.store, path)?));
+            }
+        }
+        Ok(())
     }
 
     // Fails if the text of a page that changes isn't the one that was read.
@@ -188,6 +218,15 @@ impl<S: Store + Drop> Worker<S> {
             }
         }
         Ok(())
+    }
+}
+
+// Whether something may have a staging name during a stage. At the others the run's own directory may be gone already.
+fn needs_own_directory(stage: Stage) -> bool {
+    match stage {
+        Stage::Staging | Stage::Making | Stage::Placing => true,
+        Stage::Unplacing | Stage::Unmaking | Stage::Unstaging => true,
+        Stage::Writing | Stage::Cleaning | Stage::Erasing => false,
     }
 }
 
@@ -238,17 +277,25 @@ fn act<S: Store>(
     }
 }
 
-// Gives what is at its new path its staging name again, unless something has that name.
+// Gives what is at its new path its staging name again, unless something has that name. If something else is at the new path
+// then, this is noted: the journal doesn't say which of the two is the run's.
 fn unplace<S: Store>(
     store: &mut S,
     ways: &mut Ways,
     rename: &Rename,
     remarks: &mut Vec<Remark>,
 ) -> Result<(), Fault> {
-    if is_there(store, rename.from.as_str())? {
-        return Ok(());
+    let (from, to) = (rename.from.as_str(), rename.to.as_str());
+    let Some(found) = find(store, from)? else {
+        return carry_back(store, ways, rename, remarks);
+    };
+    if let Some(other) = find(store, to)?
+        && !are_names_of_one_file(&found, &other)
+    {
+        let (from, to) = (copy_of(store, from)?, copy_of(store, to)?);
+        remarks.push(Remark::AtBoth { from, to })?;
     }
-    carry_back(store, ways, rename, remarks)
+    Ok(())
 }
 
 // Takes back a rename, unless that is done. Notes what is at neither path.
@@ -263,6 +310,7 @@ fn carry_back<S: Store>(
         return carry(store, ways, to, from);
     }
     if !is_there(store, from)? {
+        need_own_directory(store, ways)?;
         let (from, to) = (copy_of(store, from)?, copy_of(store, to)?);
         remarks.push(Remark::Gone { from, to })?;
     }
@@ -295,13 +343,8 @@ fn is_back<S: Store>(store: &mut S, work: &Work, rename: &Rename) -> Result<bool
     }
 }
 
-// The digest of what a rename gives a staging name, if the journal has it: of a new text, or of the old text of a page.
+// The digest of what a rename gives a staging name, if the journal has it: of the old text of a page.
 fn digest_of(work: &Work, rename: &Rename) -> Option<TextDigest> {
-    for text in &work.texts {
-        if text.path == rename.from {
-            return Some(text.digest);
-        }
-    }
     for leftover in &work.cleaned {
         if let Leftover::Text(text) = leftover
             && text.path == rename.to
@@ -330,7 +373,7 @@ fn remove_text<S: Store>(
 }
 
 // Removes a text that the run wrote, maybe in part. Anything else there stays, and this is noted. A part is told by its
-// file and its length, and a whole text by its digest.
+// place and its length, and a whole text by its digest.
 fn remove_part<S: Store>(
     store: &mut S,
     ways: &mut Ways,
@@ -355,7 +398,7 @@ fn remove_part<S: Store>(
 // its permissions: before, it can't be read.
 fn may_be_part<S: Store>(store: &mut S, text: &TextFile, written: Written, found: &Found) -> bool {
     let is_own = match written.own {
-        OwnFile::Unknown => found.kind == FoundKind::File && found.links == 1,
+        OwnFile::Unknown => found.kind == FoundKind::File,
         own => own.is(found),
     };
     let length = text.digest.length;
@@ -372,7 +415,7 @@ fn can_read<S: Store>(store: &mut S, path: &str) -> bool {
     }
 }
 
-// Removes a directory that the run emptied. If it can't be removed, it stays, and this is noted.
+// Removes a directory that the run emptied. If it can't be removed, it stays, and this is noted, unless something is in it.
 fn remove_emptied<S: Store>(
     store: &mut S,
     ways: &mut Ways,
@@ -382,10 +425,19 @@ fn remove_emptied<S: Store>(
     match remove_directory(store, ways, path) {
         Ok(()) => Ok(()),
         Err(Fault::OutOfMemory) => Err(Fault::OutOfMemory),
-        // A call may report a failure after it removed the directory.
+        // A call may report a failure after it removed the directory, and another one than that it isn't empty.
         Err(why) => match is_there(store, path) {
             Ok(false) => Ok(()),
+            _ if has_names(store, path) => Ok(()),
             _ => Ok(remarks.push(Remark::Stays(why))?),
         },
+    }
+}
+
+// Whether something is in a directory, as far as it can be listed.
+fn has_names<S: Store>(store: &mut S, path: &str) -> bool {
+    match store.list(path) {
+        Ok(names) => names.has_other || !names.texts.is_empty(),
+        Err(_) => false,
     }
 }

@@ -1,5 +1,5 @@
 //! Tests of what no contract says: what the calls print, and what they do to files, over a file system in memory.
-use relmove_disk::{Disk, Place, disk_of};
+use relmove_disk::{Content, Disk, Place, disk_of};
 use std::alloc::Global;
 use std::fmt::Debug;
 use std::test::Fail;
@@ -29,6 +29,12 @@ fn same<T: PartialEq + Debug>(case: &str, found: &T, expected: &T) -> Result<(),
 fn holds(alloc: Global, case: &str, disk: &Disk, places: &[Place]) -> Result<(), Fail> {
     let expected = disk_of(alloc, places)?;
     same(case, &disk.listing()?, &expected.listing()?)
+}
+
+// Puts a symbolic link at a path, with this path in it.
+fn add_symlink(alloc: Global, disk: &Disk, path: &str, target: &str) -> Result<(), Fail> {
+    disk.add(path, Content::Symlink(String::from_str(alloc, target)?))?;
+    Ok(())
 }
 
 // Words, and more words after them.

@@ -83,6 +83,8 @@ a¶1.¶¶    [b](c.md) ⇒ none
 - a¶¶<!-- -->¶¶    [b](c.md) ⇒ none
 1. a¶¶  2. b¶¶    3. [c](d.md) ⇒ none
 - a¶ - b¶  - c¶   - d¶    - [e¶f](g.md) ⇒ g.md
+§ 5.3 Lists, in a block quote after a paragraph
+> [a¶> - b](c.md) ⇒ none
 § 5.3 Lists, an item that goes on after blank lines
 - a¶¶¶¶    [b](c.md) ⇒ c.md
 "##;

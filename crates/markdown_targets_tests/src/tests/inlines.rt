@@ -143,6 +143,8 @@ const LINKS: &str = r##"
 [a](b c.md)¶¶[a]: d.md ⇒ d.md
 § 6.3 Links, a name that another label follows
 [[a][b]](c.md)¶¶[a]: d.md ⇒ c.md d.md
+§ 6.3 Links, a bracket that ends a name is code
+[[x `]`]](b.md)¶¶[x `]: c.md ⇒ b.md c.md
 § 6.3 Links, a name with a tab
 [x][a→b](c.md)¶¶[a b]: d.md ⇒ d.md
 § 6.3 Links, a name that is defined second

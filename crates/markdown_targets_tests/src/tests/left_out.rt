@@ -1,5 +1,6 @@
 //! What is passed over on purpose: footnotes, templates, names without a definition.
 use super::{What, all_find, all_have};
+use markdown_targets::{WhyPassedOver, link_targets};
 use std::test::Fail;
 
 // A definition whose label begins with `^` is a footnote's text.
@@ -73,4 +74,14 @@ fn says_what_it_passes_over(rt: HostRuntime) -> Result<(), Fail> {
 #[test]
 fn says_whether_there_is_a_base(rt: HostRuntime) -> Result<(), Fail> {
     all_have(rt.alloc(), What::Base, "a base", BASES)
+}
+
+#[test]
+fn says_why_it_passes_over(rt: HostRuntime) -> Result<(), Fail> {
+    let found = link_targets(rt.alloc(), "[a]({{b}}) [c][d]")?;
+    let whys = found.passed_over.iter().map(|passed| passed.why);
+    let whys = whys.collect::<Vec<_>>(rt.alloc())?;
+    let expected = [WhyPassedOver::Template, WhyPassedOver::UnknownName];
+    assert_eq!(rt; whys.as_slice(), expected.as_slice());
+    Ok(())
 }

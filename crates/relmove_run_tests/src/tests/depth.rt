@@ -1,10 +1,9 @@
 //! Files in directories that are in one another: a run asks for each directory about as often as there are files, and not
 //! for each directory above each file.
-use crate::tests::runs::{End, end_of, lock};
-use crate::tests::same;
 use relmove_actions::{Rename, Steps};
 use relmove_disk::{Content, Disk, disk_of, file_of};
 use relmove_run::carry_out;
+use relmove_run_cases::{End, end_of, lock, same};
 use std::alloc::{AllocError, Global};
 use std::test::Fail;
 

@@ -1,64 +1,47 @@
 //! A FIFO where a directory is to be: no call opens it, and so none waits.
-use crate::tests::runs::{End, end_of, lock};
-use crate::tests::same;
-use relmove_actions::Rename;
-use relmove_disk::{Content, disk_of, file_of};
-use relmove_run::{
-    Leftover, Origin, Stage, TextDigest, TextFile, Trust, Work, journal_text, resume,
-};
-use std::alloc::{AllocError, Global};
+use relmove_disk::{Content, disk_of};
+use relmove_run::{Stage, Trust, resume};
+use relmove_run_cases::{End, Row, end_of, lock, put_journal, same};
+use std::alloc::Global;
 use std::test::Fail;
 
-// A rename.
-fn rename(alloc: Global, from: &str, to: &str) -> Result<Rename, AllocError> {
-    Ok(Rename {
-        from: String::from_str(alloc, from)?,
-        to: String::from_str(alloc, to)?,
-    })
-}
-
 // Work in a directory `f`: nothing of it is to be done at the stages of the test.
-fn work(alloc: Global) -> Result<Work, AllocError> {
-    let mut work = Work::new(alloc);
-    work.texts.push(TextFile {
-        path: String::from_str(alloc, "f/.relmove-9")?,
-        digest: TextDigest::of(b""),
-    })?;
-    work.staged.push(rename(alloc, "f/a", ".relmove-1")?)?;
-    work.staged
-        .push(rename(alloc, "f/.relmove-9", ".relmove-2")?)?;
-    work.made.push(String::from_str(alloc, "f/d")?)?;
-    work.placed.push(rename(alloc, ".relmove-2", "f/b")?)?;
-    work.cleaned.push(Leftover::Text(TextFile {
-        path: String::from_str(alloc, ".relmove-1")?,
-        digest: TextDigest::of(b"aa"),
-    }))?;
-    work.cleaned
-        .push(Leftover::Directory(String::from_str(alloc, "f/e")?))?;
-    Ok(work)
-}
+const WORK: [Row<'static>; 6] = [
+    Row::Text("", ".relmove-run/9"),
+    Row::Staged("f/a", ".relmove-run/1"),
+    Row::Made("f/d"),
+    Row::Placed(".relmove-run/9", "f/b"),
+    Row::Removed("aa", ".relmove-run/1"),
+    Row::Emptied("f/e"),
+];
 
 // Ends a run at a stage, where a FIFO is at `f`. Everything else has its staging name.
 fn ends(alloc: Global, stage: Stage, expected: End) -> Result<(), Fail> {
-    let disk = disk_of(
-        alloc,
-        &[(".relmove-1", Some("aa")), (".relmove-2", Some(""))],
-    )?;
+    let places = [
+        (".relmove-run", None),
+        (".relmove-run/1", Some("aa")),
+        (".relmove-run/9", Some("")),
+    ];
+    let disk = disk_of(alloc, &places)?;
     disk.add("site/f", Content::Other)?;
-    let origin = Origin { root: 0, file: 0 };
-    let text = journal_text(alloc, origin, stage, &work(alloc)?)?;
-    disk.add("site/.relmove", file_of(alloc, text.as_str())?)?;
+    put_journal(alloc, &disk, stage, &WORK)?;
     let ended = resume(lock(&disk)?, Trust::AnyFolder);
     same("an end", &end_of(&ended), &expected)
 }
 
+const ENDS: [(Stage, End); 6] = [
+    (Stage::Writing, End::TakenBack),
+    (Stage::Staging, End::Stopped(Stage::Making)),
+    (Stage::Cleaning, End::Done),
+    (Stage::Unplacing, End::Stopped(Stage::Unstaging)),
+    (Stage::Unmaking, End::Stopped(Stage::Unstaging)),
+    (Stage::Erasing, End::TakenBack),
+];
+
 #[test]
 fn waits_for_no_fifo(rt: HostRuntime) -> Result<(), Fail> {
-    let alloc = rt.alloc();
-    ends(alloc, Stage::Writing, End::TakenBack)?;
-    ends(alloc, Stage::Staging, End::Stopped(Stage::Making))?;
-    ends(alloc, Stage::Cleaning, End::Done)?;
-    ends(alloc, Stage::Unplacing, End::Stopped(Stage::Unstaging))?;
-    ends(alloc, Stage::Unmaking, End::Stopped(Stage::Unstaging))?;
-    ends(alloc, Stage::Erasing, End::TakenBack)
+    for (stage, end) in &ENDS {
+        ends(rt.alloc(), *stage, *end)?;
+    }
+    Ok(())
 }

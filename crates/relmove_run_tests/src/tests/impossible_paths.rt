@@ -1,11 +1,9 @@
 //! Paths that the system can't have: a run is refused before it changes anything, and a run that stopped goes back.
-use crate::tests::reasons::gives_reason;
-use crate::tests::runs::{End, end_of, lock, run};
-use crate::tests::{cases, holds, same};
-use relmove_actions::{NewText, Rename, Steps};
-use relmove_disk::{Disk, DiskStore, disk_of, file_of};
-use relmove_run::{
-    Ended, Fault, Origin, Stage, Trust, Work, carry_out, journal_text, need_possible, undo,
+use relmove_actions::{Rename, Steps};
+use relmove_disk::{Disk, DiskStore, disk_of};
+use relmove_run::{Ended, Fault, Stage, Trust, carry_out, join, need_possible, undo};
+use relmove_run_cases::{
+    End, Row, cases, end_of, gives_reason, holds, lock, put_journal, run, same,
 };
 use std::alloc::{AllocError, Global};
 use std::test::Fail;
@@ -67,17 +65,6 @@ fn steps_with_directory(alloc: Global, path: &str) -> Result<Steps, AllocError> 
     Ok(steps)
 }
 
-// Steps that write a new text.
-fn steps_with_text(alloc: Global, path: &str) -> Result<Steps, AllocError> {
-    let mut steps = no_steps(alloc);
-    steps.texts.push(NewText {
-        page: String::from_str(alloc, "a")?,
-        file: String::from_str(alloc, path)?,
-        text: String::new(alloc),
-    })?;
-    Ok(steps)
-}
-
 // What is said of steps, or an empty text.
 fn words_of(alloc: Global, disk: &Disk, steps: &Steps) -> Result<String, Fail> {
     let mut store = DiskStore::new(disk, "site")?;
@@ -87,14 +74,21 @@ fn words_of(alloc: Global, disk: &Disk, steps: &Steps) -> Result<String, Fail> {
     }
 }
 
-// Whether steps with a path are refused, since the path is too long.
-fn are_too_long(alloc: Global, path: &str) -> Result<(), Fail> {
+// Whether this is said of steps.
+fn says(alloc: Global, case: &str, disk: &Disk, steps: &Steps, words: &str) -> Result<(), Fail> {
+    same(case, &words_of(alloc, disk, steps)?.as_str(), &words)
+}
+
+// Whether a path of these steps is too long.
+fn has_long_path(alloc: Global, path: &str, steps: &Steps) -> Result<(), Fail> {
     let disk = disk_of(alloc, cases::SWAP.before)?;
     let words = format!(in alloc; "{path} is too long, or a name in it is")?;
-    let found = words_of(alloc, &disk, &steps_to(alloc, path)?)?;
-    same("a new path", &found, &words)?;
-    let found = words_of(alloc, &disk, &steps_with_text(alloc, path)?)?;
-    same("a new text", &found, &words)
+    says(alloc, "a long path", &disk, steps, words.as_str())
+}
+
+// Whether a new path is too long.
+fn is_too_long(alloc: Global, path: &str) -> Result<(), Fail> {
+    has_long_path(alloc, path, &steps_to(alloc, path)?)
 }
 
 #[test]
@@ -102,11 +96,11 @@ fn asks_for_names_that_are_too_long(rt: HostRuntime) -> Result<(), Fail> {
     let alloc = rt.alloc();
     let name = name_of(alloc, 256)?;
     let name = name.as_str();
-    are_too_long(alloc, name)?;
-    are_too_long(alloc, format!(in alloc; "{name}/x")?.as_str())?;
+    is_too_long(alloc, name)?;
+    is_too_long(alloc, format!(in alloc; "{name}/x")?.as_str())?;
     // A file is at `a`.
-    are_too_long(alloc, format!(in alloc; "a/{name}")?.as_str())?;
-    are_too_long(alloc, format!(in alloc; "x/{name}/x")?.as_str())
+    is_too_long(alloc, format!(in alloc; "a/{name}")?.as_str())?;
+    is_too_long(alloc, format!(in alloc; "x/{name}/x")?.as_str())
 }
 
 // A name is asked for by itself also if another one of its directory was asked for before.
@@ -114,17 +108,13 @@ fn asks_for_names_that_are_too_long(rt: HostRuntime) -> Result<(), Fail> {
 fn asks_for_a_second_name_in_a_new_directory(rt: HostRuntime) -> Result<(), Fail> {
     let alloc = rt.alloc();
     let name = name_of(alloc, 256)?;
-    let name = name.as_str();
-    let path = format!(in alloc; "x/{name}")?;
+    let path = join(alloc, "x", name.as_str())?;
     let mut steps = steps_to(alloc, "x/y")?;
     steps.together.push(Rename {
         from: String::from_str(alloc, ".relmove-2")?,
         to: String::from_str(alloc, path.as_str())?,
     })?;
-    let disk = disk_of(alloc, cases::SWAP.before)?;
-    let found = words_of(alloc, &disk, &steps)?;
-    let words = format!(in alloc; "x/{name} is too long, or a name in it is")?;
-    same("a second name", &found, &words)
+    has_long_path(alloc, path.as_str(), &steps)
 }
 
 // A path below ROOT has five bytes more: `site/`.
@@ -134,22 +124,19 @@ fn asks_for_paths_that_are_too_long(rt: HostRuntime) -> Result<(), Fail> {
     let longest = path_of(alloc, 4090)?;
     let longest = longest.as_str();
     let disk = disk_of(alloc, cases::SWAP.before)?;
-    for steps in [
-        steps_to(alloc, longest)?,
-        steps_with_directory(alloc, longest)?,
-    ] {
-        same(
-            "a path that fits",
-            &words_of(alloc, &disk, &steps)?.as_str(),
-            &"",
-        )?;
-    }
+    says(
+        alloc,
+        "a path that fits",
+        &disk,
+        &steps_to(alloc, longest)?,
+        "",
+    )?;
+    let steps = steps_with_directory(alloc, longest)?;
+    says(alloc, "a directory that fits", &disk, &steps, "")?;
     let long = path_of(alloc, 4091)?;
     let long = long.as_str();
-    are_too_long(alloc, long)?;
-    let found = words_of(alloc, &disk, &steps_with_directory(alloc, long)?)?;
-    let words = format!(in alloc; "{long} is too long, or a name in it is")?;
-    same("a new directory", &found, &words)
+    is_too_long(alloc, long)?;
+    has_long_path(alloc, long, &steps_with_directory(alloc, long)?)
 }
 
 #[test]
@@ -161,8 +148,7 @@ fn asks_for_directories_that_cannot_be_searched(rt: HostRuntime) -> Result<(), F
         ("d/x", "can't look up d/x: permission denied"),
         ("d/e/x", "can't look up d/e: permission denied"),
     ] {
-        let found = words_of(alloc, &disk, &steps_to(alloc, path)?)?;
-        same(path, &found.as_str(), &words)?;
+        says(alloc, path, &disk, &steps_to(alloc, path)?, words)?;
     }
     Ok(())
 }
@@ -172,18 +158,20 @@ fn asks_for_other_devices(rt: HostRuntime) -> Result<(), Fail> {
     let alloc = rt.alloc();
     let disk = disk_of(alloc, &[("a", Some("aa")), ("d", None), ("d/e", None)])?;
     disk.set_device("site/d/e", 2)?;
-    let found = words_of(alloc, &disk, &steps_to(alloc, "d/e/x")?)?;
     let words = "d/e is on another file system than ROOT";
-    same("a new path", &found.as_str(), &words)?;
-    let words = "d/e is on another file system than ROOT";
+    says(
+        alloc,
+        "a new path",
+        &disk,
+        &steps_to(alloc, "d/e/x")?,
+        words,
+    )?;
     for from in ["d/e", "d/e/a"] {
-        let found = words_of(alloc, &disk, &steps_from(alloc, from)?)?;
-        same(from, &found.as_str(), &words)?;
+        says(alloc, from, &disk, &steps_from(alloc, from)?, words)?;
     }
-    // the device of a file isn't asked for
+    // The device of a file isn't asked for.
     disk.set_device("site/a", 2)?;
-    let found = words_of(alloc, &disk, &steps_to(alloc, "d/x")?)?;
-    same("an old path", &found.as_str(), &"")
+    says(alloc, "an old path", &disk, &steps_to(alloc, "d/x")?, "")
 }
 
 #[test]
@@ -232,21 +220,17 @@ fn moves_files_of_a_directory_that_cannot_be_listed(rt: HostRuntime) -> Result<(
 
 // Takes a run back that stopped before it could make a directory, or that found none there.
 fn goes_back_from(alloc: Global, directory: &str, makes: bool) -> Result<(), Fail> {
-    let disk = disk_of(alloc, &[(".relmove-1", Some("aa"))])?;
-    let mut work = Work::new(alloc);
-    let Steps {
-        apart,
-        together,
-        ..
-    } = steps_to(alloc, format!(in alloc; "{directory}/x")?.as_str())?;
-    work.staged = apart;
+    let places = [(".relmove-run", None), (".relmove-run/1", Some("aa"))];
+    let disk = disk_of(alloc, &places)?;
+    let path = format!(in alloc; "{directory}/x")?;
+    let staged = Row::Staged("a", ".relmove-run/1");
+    let placed = Row::Placed(".relmove-run/1", path.as_str());
     if makes {
-        work.made.push(String::from_str(alloc, directory)?)?;
+        let rows = [staged, Row::Made(directory), placed];
+        put_journal(alloc, &disk, Stage::Placing, &rows)?;
+    } else {
+        put_journal(alloc, &disk, Stage::Placing, &[staged, placed])?;
     }
-    work.placed = together;
-    let origin = Origin { root: 0, file: 0 };
-    let text = journal_text(alloc, origin, Stage::Placing, &work)?;
-    disk.add("site/.relmove", file_of(alloc, text.as_str())?)?;
     let ended = undo(lock(&disk)?, Trust::AnyFolder);
     same(directory, &end_of(&ended), &End::TakenBack)?;
     holds(alloc, directory, &disk, &[("a", Some("aa"))])

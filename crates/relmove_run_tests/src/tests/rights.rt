@@ -1,10 +1,10 @@
 //! Owners and permissions of the files that a run makes.
-use crate::tests::runs::{
-    End, calls_of, can_be_resumed, can_be_undone, end_of, resume_on, run, stopped_at,
-};
-use crate::tests::{cases, holds, same};
 use relmove_disk::{Content, Disk, Way, disk_of, file_of};
 use relmove_run::{Ended, Stage};
+use relmove_run_cases::{
+    End, calls_of, can_be_resumed, can_be_undone, cases, end_of, gives_reason, has_text, holds,
+    resume_on, run, same, stopped_at,
+};
 use std::alloc::Global;
 use std::test::Fail;
 
@@ -39,9 +39,13 @@ fn keeps_owners_and_permissions(rt: HostRuntime) -> Result<(), Fail> {
 
 // Fails if another user than its owner can read a new text that doesn't have its group, or another file of the run's own.
 fn is_private(disk: &Disk, group: u32) -> Result<(), Fail> {
-    if disk.has("site/.relmove-9")? {
-        let (mode, _, found) = disk.rights("site/.relmove-9")?;
+    if disk.has("site/.relmove-run/9")? {
+        let (mode, _, found) = disk.rights("site/.relmove-run/9")?;
         same("a new text", &(found == group || mode & 0o077 == 0), &true)?;
+    }
+    if disk.has("site/.relmove-run")? {
+        let (mode, _, _) = disk.rights("site/.relmove-run")?;
+        same("its directory", &mode, &0o700)?;
     }
     for path in [
         "site/.relmove",
@@ -153,5 +157,40 @@ fn makes_no_directory_anew_that_is_in_use(rt: HostRuntime) -> Result<(), Fail> {
     disk.add("site/y/n", file_of(alloc, "mine")?)?;
     disk.set_mode("site/y", 0o300)?;
     same("done", &end_of(&resume_on(&disk)), &End::Done)?;
-    same("it stays", &disk.is_file("site/y/n", "mine")?, &true)
+    has_text(&disk, "site/y/n", "mine")
+}
+
+// Puts another file with the same text, which everybody may change, in the place of a page before a call of a run.
+fn run_with_another_page(alloc: Global, number: u32) -> Result<(Ended, Disk), Fail> {
+    let case = &cases::PAGE_CHANGES;
+    let disk = disk_of(alloc, case.before)?;
+    disk.set_mode("site/a.md", 0o600)?;
+    disk.replace_before(number, "site/a.md", file_of(alloc, "[x](x.md)")?)?;
+    let ended = run(alloc, case, &disk)?;
+    Ok((ended, disk))
+}
+
+// The new text has the permissions of the file from which the text was read, and not those of a file that came later.
+#[test]
+fn takes_the_rights_of_the_file_that_was_read(rt: HostRuntime) -> Result<(), Fail> {
+    let alloc = rt.alloc();
+    let mut done = 0u32;
+    for number in 1..=calls_of(alloc, &cases::PAGE_CHANGES)? {
+        let (ended, disk) = run_with_another_page(alloc, number)?;
+        let is_new = disk.is_file("site/a.md", "[x](y/x.md) more")?;
+        if end_of(&ended) == End::Done && is_new {
+            done = done.saturating_add(1);
+            let (mode, _, _) = disk.rights("site/a.md")?;
+            same("permissions", &mode, &0o600)?;
+        }
+    }
+    same("some are done", &(done > 0), &true)
+}
+
+// Another file at a page's path refuses the run before it writes anything.
+#[test]
+fn refuses_another_file_at_the_path_of_a_page(rt: HostRuntime) -> Result<(), Fail> {
+    let (ended, disk) = run_with_another_page(rt.alloc(), 1)?;
+    gives_reason(rt.alloc(), &ended, "Changed(\"a.md\")")?;
+    holds(rt.alloc(), "as before", &disk, cases::PAGE_CHANGES.before)
 }

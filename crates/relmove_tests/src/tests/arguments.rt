@@ -1,6 +1,9 @@
 //! What the arguments of a call mean.
+use crate::tests::reading::answers;
 use crate::tests::same;
-use relmove_lib::{Command, Effect, WrongCall, command_of};
+use relmove_disk::Disk;
+use relmove_lib::report::{HELP, USAGE};
+use relmove_lib::{Command, Effect, Status, WrongCall, command_of};
 use relmove_run::Way;
 use std::alloc::Global;
 use std::test::Fail;
@@ -150,4 +153,46 @@ fn tells_what_is_wrong(rt: HostRuntime) -> Result<(), Fail> {
         same("a wrong call", &command_of(rt.alloc(), words), &Err(*wrong))?;
     }
     Ok(())
+}
+
+const MESSAGES: [(&[&str], &str); 8] = [
+    (&["docs", "-\n"], "there is no option -\\u{a}"),
+    (
+        &["--undo", "--resume", "docs"],
+        "--check, --resume and --undo can't be together in a call",
+    ),
+    (
+        &["--check", "--write", "docs"],
+        "--write isn't an option of this command",
+    ),
+    (&[], "ROOT is missing"),
+    (
+        &["--check", ""],
+        "ROOT is empty: the current directory is .",
+    ),
+    (&["docs"], "OLD and NEW are missing"),
+    (&["docs", "a\n"], "NEW is missing after a\\u{a}"),
+    (&["--undo", "docs", "b"], "b after ROOT is too much"),
+];
+
+// What is wrong, and the usage after it, on standard error.
+#[test]
+fn says_what_is_wrong(rt: HostRuntime) -> Result<(), Fail> {
+    let disk = Disk::new(rt.alloc())?;
+    for (words, message) in &MESSAGES {
+        let errors = format!(in rt.alloc(); "relmove: {message}\n{USAGE}")?;
+        let expected = (Status::Refused, "", errors.as_str());
+        answers(rt.alloc(), &disk, words, expected)?;
+    }
+    Ok(())
+}
+
+#[test]
+fn prints_the_help_after_the_usage(rt: HostRuntime) -> Result<(), Fail> {
+    let disk = Disk::new(rt.alloc())?;
+    let help = format!(in rt.alloc(); "{USAGE}{HELP}")?;
+    let expected = (Status::Kept, help.as_str(), "");
+    answers(rt.alloc(), &disk, &["--help"], expected)?;
+    let expected = (Status::Kept, "relmove 0.2.0\n", "");
+    answers(rt.alloc(), &disk, &["--version"], expected)
 }

@@ -30,7 +30,7 @@ const PLACES: &[Place] = &[
     ("h/e", None),
 ];
 
-const CASES: [Case; 7] = [
+const CASES: [Case; 12] = [
     Case {
         case: "the directory of OLD can't be written",
         closed: "site/d",
@@ -58,6 +58,41 @@ const CASES: [Case; 7] = [
         mode: 0o555,
         moves: &["d/e", "e"],
         why: "relmove: site: can't write d/e: permission denied\n",
+    },
+    Case {
+        case: "OLD is a directory in the root that can't be written",
+        closed: "site/f",
+        mode: 0o555,
+        moves: &["f", "d/f"],
+        why: "relmove: site: can't write f: permission denied\n",
+    },
+    Case {
+        case: "a directory that can't be written gets another name",
+        closed: "site/f",
+        mode: 0o555,
+        moves: &["f", "g"],
+        why: "relmove: site: can't write f: permission denied\n",
+    },
+    Case {
+        case: "ROOT, where the run's own files are, can't be written",
+        closed: "site",
+        mode: 0o555,
+        moves: &["d/b.md", "f/b.md"],
+        why: "relmove: site: can't write ROOT: permission denied\n",
+    },
+    Case {
+        case: "the directory of NEW comes from elsewhere, and can't be written",
+        closed: "site/h/e",
+        mode: 0o555,
+        moves: &["d", "g", "h", "d", "a.md", "d/e/a.md"],
+        why: "relmove: site: can't write h/e: permission denied\n",
+    },
+    Case {
+        case: "a directory is to be made in one that comes from elsewhere and can't be written",
+        closed: "site/h/e",
+        mode: 0o577,
+        moves: &["h", "k", "a.md", "k/e/n/a.md"],
+        why: "relmove: site: can't write h/e: permission denied\n",
     },
     Case {
         case: "nothing changes in the directory",

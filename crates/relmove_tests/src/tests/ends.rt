@@ -1,4 +1,5 @@
 //! Calls that end a run: what they print, their status, and the tree after them.
+use crate::tests::outputs::Output;
 use crate::tests::reading::answers;
 use crate::tests::{holds, same};
 use relmove_disk::{Content, Disk, DiskMachine, Place, disk_of};
@@ -49,38 +50,55 @@ fn ends(alloc: Global, row: &Row<'_>) -> Result<(), Fail> {
 
 const OLD: &[Place] = &[("a.md", Some("aa"))];
 
-const STAGED: &[Place] = &[(".relmove-1", Some("aa"))];
+const STARTED: &[Place] = &[(".relmove-run", None), ("a.md", Some("aa"))];
 
-const MADE: &[Place] = &[("b", None), (".relmove-1", Some("aa"))];
+const STAGED: &[Place] = &[(".relmove-run", None), (".relmove-run/1", Some("aa"))];
+
+const MADE: &[Place] = &[
+    ("b", None),
+    (".relmove-run", None),
+    (".relmove-run/1", Some("aa")),
+];
+
+const PLACED: &[Place] = &[(".relmove-run", None), ("b", None), ("b/a.md", Some("aa"))];
 
 const NEW: &[Place] = &[("b", None), ("b/a.md", Some("aa"))];
 
-const GONE: &[Place] = &[("x", Some("xx"))];
+const GONE: &[Place] = &[(".relmove-run", None), ("x", Some("xx"))];
+
+// Who was to end the run holds its directory.
+const GONE_TAKEN: &[Place] = &[
+    (".relmove-run", None),
+    (".relmove-run/end", Some("")),
+    ("x", Some("xx")),
+];
+
+const GONE_AFTER: &[Place] = &[("x", Some("xx"))];
 
 // Journals of a run that moves `a.md` to `b/a.md`, at each stage. The last line has the digest that `sha256sum` prints.
 const STAGING: &str =
-    "relmove journal 2\nroot\t1\nfile\t1\nstage\tstaging\nstaged\ta.md\t.relmove-1\nmade\tb\nplaced\t.relmove-1\tb/a.md\nend\t101\tb677f14795fa3c5d706dfa4345162a0a055de9e33c6a3a7c7473a7f9a08004f4\n";
+    "relmove journal 3\nroot\t1\nfile\t1\nrun\t1\nowner\t1\ntime\t1\nstage\tstaging\nstaged\ta.md\t.relmove-run/1\nmade\tb\nplaced\t.relmove-run/1\tb/a.md\nend\t130\t57c67eabfdcbc9eee617feb0d477050ec35c1aea078f7163771443f767c65d88\n";
 
 const MAKING: &str =
-    "relmove journal 2\nroot\t1\nfile\t1\nstage\tmaking\nstaged\ta.md\t.relmove-1\nmade\tb\nplaced\t.relmove-1\tb/a.md\nend\t100\t4fd34fca184fd947fccc49e802471c057d6621957cceb014ee540b3e13ef9dac\n";
+    "relmove journal 3\nroot\t1\nfile\t1\nrun\t1\nowner\t1\ntime\t1\nstage\tmaking\nstaged\ta.md\t.relmove-run/1\nmade\tb\nplaced\t.relmove-run/1\tb/a.md\nend\t129\t4f327e35f3afbf6d09740fd542cd66cfaa1e1ce7302ca5b3bec13087be975082\n";
 
 const PLACING: &str =
-    "relmove journal 2\nroot\t1\nfile\t1\nstage\tplacing\nstaged\ta.md\t.relmove-1\nmade\tb\nplaced\t.relmove-1\tb/a.md\nend\t101\t79ddca55e3b3dfa0e69b34f0ee31e6c004ef4f406682463d4293f3c756f54096\n";
+    "relmove journal 3\nroot\t1\nfile\t1\nrun\t1\nowner\t1\ntime\t1\nstage\tplacing\nstaged\ta.md\t.relmove-run/1\nmade\tb\nplaced\t.relmove-run/1\tb/a.md\nend\t130\t37530986414caaaa730ce5035aaaa22ce313c79fc5c5ed65d24d55f7097958f0\n";
 
 const CLEANING: &str =
-    "relmove journal 2\nroot\t1\nfile\t1\nstage\tcleaning\nstaged\ta.md\t.relmove-1\nmade\tb\nplaced\t.relmove-1\tb/a.md\nend\t102\t08f00d191d958557a7e042bc9134284ad50a78e25d7dc05444876578b3421a59\n";
+    "relmove journal 3\nroot\t1\nfile\t1\nrun\t1\nowner\t1\ntime\t1\nstage\tcleaning\nstaged\ta.md\t.relmove-run/1\nmade\tb\nplaced\t.relmove-run/1\tb/a.md\nend\t131\tc3cd2309abc60a3a450a73e9fc7cbd56d0bff1135478eb1727af354f329f28b1\n";
 
 const UNPLACING: &str =
-    "relmove journal 2\nroot\t1\nfile\t1\nstage\tunplacing\nstaged\ta.md\t.relmove-1\nmade\tb\nplaced\t.relmove-1\tb/a.md\nend\t103\t37d415d3352f70be2db35f996eb1eaa9cc9490f4f389d738089f276b604ca502\n";
+    "relmove journal 3\nroot\t1\nfile\t1\nrun\t1\nowner\t1\ntime\t1\nstage\tunplacing\nstaged\ta.md\t.relmove-run/1\nmade\tb\nplaced\t.relmove-run/1\tb/a.md\nend\t132\tb8d9103368ba165af422c59fbe344499fcee136a9cb1eba601b1ff8e83b91e96\n";
 
 const UNMAKING: &str =
-    "relmove journal 2\nroot\t1\nfile\t1\nstage\tunmaking\nstaged\ta.md\t.relmove-1\nmade\tb\nplaced\t.relmove-1\tb/a.md\nend\t102\t0269ba6dcefd244cf50e7d92f97adb4f0cb72c0f982db96cbcf217079c177948\n";
+    "relmove journal 3\nroot\t1\nfile\t1\nrun\t1\nowner\t1\ntime\t1\nstage\tunmaking\nstaged\ta.md\t.relmove-run/1\nmade\tb\nplaced\t.relmove-run/1\tb/a.md\nend\t131\t8d7b2c6b7490164a0e41ce19aa90d9cb62e81a2edcf1995507de70860934ece4\n";
 
 const UNSTAGING: &str =
-    "relmove journal 2\nroot\t1\nfile\t1\nstage\tunstaging\nstaged\ta.md\t.relmove-1\nmade\tb\nplaced\t.relmove-1\tb/a.md\nend\t103\t5b1efa68b970f351f9c39a8ec3115c1dfe417235c5894d6a1afdfe6f564e11ea\n";
+    "relmove journal 3\nroot\t1\nfile\t1\nrun\t1\nowner\t1\ntime\t1\nstage\tunstaging\nstaged\ta.md\t.relmove-run/1\nmade\tb\nplaced\t.relmove-run/1\tb/a.md\nend\t132\tcfa209e3ab5ecc018f065a0b43ff5b4bd5ef3b74a960c1f4079377e55ee0688b\n";
 
 const ERASING: &str =
-    "relmove journal 2\nroot\t1\nfile\t1\nstage\terasing\nstaged\ta.md\t.relmove-1\nmade\tb\nplaced\t.relmove-1\tb/a.md\nend\t101\te82cefcdbee308c29216769995c38c7e87b8f3ed3236ea7732fd3d85061fd152\n";
+    "relmove journal 3\nroot\t1\nfile\t1\nrun\t1\nowner\t1\ntime\t1\nstage\terasing\nstaged\ta.md\t.relmove-run/1\nmade\tb\nplaced\t.relmove-run/1\tb/a.md\nend\t130\t2cd1f8c8ed4813bfa69d07948fab61b5d365a86e3351e87c2ba2811f726cdcd9\n";
 
 const PRINTS: [Row<'static>; 3] = [
     Row {
@@ -91,7 +109,7 @@ const PRINTS: [Row<'static>; 3] = [
         after: OLD,
         keeps_journal: true,
         status: Status::Kept,
-        printed: "site: rename a.md to .relmove-1\nsite: make the directory b\nsite: rename .relmove-1 to b/a.md\n",
+        printed: "site: rename a.md to .relmove-run/1\nsite: make the directory b\nsite: rename .relmove-run/1 to b/a.md\n",
         errors: "",
     },
     Row {
@@ -102,7 +120,7 @@ const PRINTS: [Row<'static>; 3] = [
         after: MADE,
         keeps_journal: true,
         status: Status::Kept,
-        printed: "site: rename .relmove-1 to b/a.md\n",
+        printed: "site: rename .relmove-run/1 to b/a.md\n",
         errors: "",
     },
     Row {
@@ -113,7 +131,7 @@ const PRINTS: [Row<'static>; 3] = [
         after: STAGED,
         keeps_journal: true,
         status: Status::Kept,
-        printed: "site: if it is empty, remove the directory b\nsite: rename .relmove-1 to a.md\n",
+        printed: "site: if it is empty, remove the directory b\nsite: rename .relmove-run/1 to a.md\n",
         errors: "",
     },
 ];
@@ -131,11 +149,11 @@ const RESUMES: [Row<'static>; 5] = [
         name: "resume ends a run that was staging",
         journal: STAGING,
         words: &["--resume", "--trust-journal", "--write", "site"],
-        before: OLD,
+        before: STARTED,
         after: NEW,
         keeps_journal: false,
         status: Status::Kept,
-        printed: "site: rename a.md to .relmove-1\nsite: make the directory b\nsite: rename .relmove-1 to b/a.md\nsite: everything is at its new path\n",
+        printed: "site: rename a.md to .relmove-run/1\nsite: make the directory b\nsite: rename .relmove-run/1 to b/a.md\nsite: everything is at its new path\n",
         errors: "",
     },
     Row {
@@ -146,7 +164,7 @@ const RESUMES: [Row<'static>; 5] = [
         after: NEW,
         keeps_journal: false,
         status: Status::Kept,
-        printed: "site: make the directory b\nsite: rename .relmove-1 to b/a.md\nsite: everything is at its new path\n",
+        printed: "site: make the directory b\nsite: rename .relmove-run/1 to b/a.md\nsite: everything is at its new path\n",
         errors: "",
     },
     Row {
@@ -157,14 +175,14 @@ const RESUMES: [Row<'static>; 5] = [
         after: NEW,
         keeps_journal: false,
         status: Status::Kept,
-        printed: "site: rename .relmove-1 to b/a.md\nsite: everything is at its new path\n",
+        printed: "site: rename .relmove-run/1 to b/a.md\nsite: everything is at its new path\n",
         errors: "",
     },
     Row {
         name: "resume ends a run that was cleaning",
         journal: CLEANING,
         words: &["--resume", "--trust-journal", "--write", "site"],
-        before: NEW,
+        before: PLACED,
         after: NEW,
         keeps_journal: false,
         status: Status::Kept,
@@ -175,11 +193,11 @@ const RESUMES: [Row<'static>; 5] = [
         name: "resume goes back where the run was going back",
         journal: UNPLACING,
         words: &["--resume", "--trust-journal", "--write", "site"],
-        before: NEW,
+        before: PLACED,
         after: OLD,
         keeps_journal: false,
         status: Status::Kept,
-        printed: "site: rename b/a.md to .relmove-1\nsite: if it is empty, remove the directory b\nsite: rename .relmove-1 to a.md\nsite: the run was taken back, everything is as before\n",
+        printed: "site: rename b/a.md to .relmove-run/1\nsite: if it is empty, remove the directory b\nsite: rename .relmove-run/1 to a.md\nsite: the run was taken back, everything is as before\n",
         errors: "",
     },
 ];
@@ -201,7 +219,7 @@ const UNDOES: [Row<'static>; 6] = [
         after: OLD,
         keeps_journal: false,
         status: Status::Kept,
-        printed: "site: rename .relmove-1 to a.md\nsite: the run was taken back, everything is as before\n",
+        printed: "site: rename .relmove-run/1 to a.md\nsite: the run was taken back, everything is as before\n",
         errors: "",
     },
     Row {
@@ -212,18 +230,18 @@ const UNDOES: [Row<'static>; 6] = [
         after: OLD,
         keeps_journal: false,
         status: Status::Kept,
-        printed: "site: if it is empty, remove the directory b\nsite: rename .relmove-1 to a.md\nsite: the run was taken back, everything is as before\n",
+        printed: "site: if it is empty, remove the directory b\nsite: rename .relmove-run/1 to a.md\nsite: the run was taken back, everything is as before\n",
         errors: "",
     },
     Row {
         name: "undo takes a run back that was placing",
         journal: PLACING,
         words: &["--undo", "--trust-journal", "--write", "site"],
-        before: NEW,
+        before: PLACED,
         after: OLD,
         keeps_journal: false,
         status: Status::Kept,
-        printed: "site: rename b/a.md to .relmove-1\nsite: if it is empty, remove the directory b\nsite: rename .relmove-1 to a.md\nsite: the run was taken back, everything is as before\n",
+        printed: "site: rename b/a.md to .relmove-run/1\nsite: if it is empty, remove the directory b\nsite: rename .relmove-run/1 to a.md\nsite: the run was taken back, everything is as before\n",
         errors: "",
     },
     Row {
@@ -234,7 +252,7 @@ const UNDOES: [Row<'static>; 6] = [
         after: OLD,
         keeps_journal: false,
         status: Status::Kept,
-        printed: "site: if it is empty, remove the directory b\nsite: rename .relmove-1 to a.md\nsite: the run was taken back, everything is as before\n",
+        printed: "site: if it is empty, remove the directory b\nsite: rename .relmove-run/1 to a.md\nsite: the run was taken back, everything is as before\n",
         errors: "",
     },
     Row {
@@ -245,14 +263,14 @@ const UNDOES: [Row<'static>; 6] = [
         after: OLD,
         keeps_journal: false,
         status: Status::Kept,
-        printed: "site: rename .relmove-1 to a.md\nsite: the run was taken back, everything is as before\n",
+        printed: "site: rename .relmove-run/1 to a.md\nsite: the run was taken back, everything is as before\n",
         errors: "",
     },
     Row {
         name: "undo goes on where a run had renamed all back",
         journal: ERASING,
         words: &["--undo", "--trust-journal", "--write", "site"],
-        before: OLD,
+        before: STARTED,
         after: OLD,
         keeps_journal: false,
         status: Status::Kept,
@@ -275,29 +293,29 @@ const SPECIAL: [Row<'static>; 4] = [
         journal: STAGING,
         words: &["--resume", "--trust-journal", "--write", "site"],
         before: GONE,
-        after: GONE,
+        after: GONE_TAKEN,
         keeps_journal: true,
         status: Status::Stopped,
-        printed: "site: rename a.md to .relmove-1\nsite: make the directory b\nsite: rename .relmove-1 to b/a.md\n",
-        errors: "relmove: site: a.md isn't there\nrelmove: stopped in the middle: some files have names that begin with .relmove-. Call relmove with --resume to go on, or with --undo to go back, and site.\nrelmove: the journal .relmove in site has the old paths, the names that begin with .relmove- and the new paths.\n",
+        printed: "site: rename a.md to .relmove-run/1\nsite: make the directory b\nsite: rename .relmove-run/1 to b/a.md\n",
+        errors: "relmove: site: a.md isn't there\nrelmove: stopped in the middle: some files are in .relmove-run. Call relmove with --resume to go on, or with --undo to go back, and site.\nrelmove: the journal .relmove in site has the old paths, the names in .relmove-run and the new paths.\n",
     },
     Row {
         name: "undo names a file that is gone",
         journal: STAGING,
         words: &["--undo", "--trust-journal", "--write", "site"],
         before: GONE,
-        after: GONE,
+        after: GONE_AFTER,
         keeps_journal: false,
         status: Status::LinksLeft,
-        printed: "site: rename .relmove-1 to a.md\nsite: neither a.md nor .relmove-1 is there: another program removed it\nsite: the run was taken back, and all else is as before\n",
+        printed: "site: rename .relmove-run/1 to a.md\nsite: neither a.md nor .relmove-run/1 is there: another program removed it\nsite: the run was taken back, and all else is as before\n",
         errors: "",
     },
     Row {
         name: "undo comes too late",
         journal: CLEANING,
         words: &["--undo", "--trust-journal", "--write", "site"],
-        before: NEW,
-        after: NEW,
+        before: PLACED,
+        after: PLACED,
         keeps_journal: true,
         status: Status::Refused,
         printed: "",
@@ -312,7 +330,7 @@ const SPECIAL: [Row<'static>; 4] = [
         keeps_journal: true,
         status: Status::Refused,
         printed: "",
-        errors: "relmove: site: the journal .relmove wasn't written in this folder: it came with a copy or from elsewhere. Add --trust-journal to see what it asks for. If you remove it, what has a name that begins with .relmove- keeps this name, and nothing says where it belongs\n",
+        errors: "relmove: site: the journal .relmove wasn't written in this folder: it came with a copy or from elsewhere. Add --trust-journal to see what it asks for. If you remove it, what is in .relmove-run stays there, and nothing says where it belongs\n",
     },
 ];
 
@@ -324,7 +342,7 @@ fn names_what_is_gone_and_refuses(rt: HostRuntime) -> Result<(), Fail> {
     Ok(())
 }
 
-const NO_JOURNALS: [(&str, &str); 3] = [
+const NO_JOURNALS: [(&str, &str); 4] = [
     (
         "no journal\n",
         "relmove: site: .relmove isn't a journal that relmove wrote: another program made or changed it\n",
@@ -335,7 +353,11 @@ const NO_JOURNALS: [(&str, &str); 3] = [
     ),
     (
         "relmove journal 1\nstage\tparting\nend\n",
-        "relmove: site: the journal .relmove is of an older relmove. Rename by hand what it lists: from the names that begin with .relmove- to the old paths (lines apart) or to the new ones (lines together)\n",
+        "relmove: site: the journal .relmove is of an older relmove. Rename by hand what it lists: from the names that begin with .relmove- to the old paths (lines apart or staged) or to the new ones (lines together or placed), and remove it then\n",
+    ),
+    (
+        "relmove journal 2\nroot\t1\nfile\t1\nstage\tstaging\n",
+        "relmove: site: the journal .relmove is of an older relmove. Rename by hand what it lists: from the names that begin with .relmove- to the old paths (lines apart or staged) or to the new ones (lines together or placed), and remove it then\n",
     ),
 ];
 
@@ -400,12 +422,17 @@ fn says_what_a_stage_allows(rt: HostRuntime) -> Result<(), Fail> {
 
 // The journal of a run that moves `c.md` to `d.md`.
 const OTHER: &str =
-    "relmove journal 2\nroot\t1\nfile\t1\nstage\tstaging\nstaged\tc.md\t.relmove-1\nplaced\t.relmove-1\td.md\nend\t92\t94601f813574fd3d927f061d01d17cf96949ac47c0eb3ed64048ca69a02481db\n";
+    "relmove journal 3\nroot\t1\nfile\t1\nrun\t1\nowner\t1\ntime\t1\nstage\tstaging\nstaged\tc.md\t.relmove-run/1\nplaced\t.relmove-run/1\td.md\nend\t121\t081887a35272951cc4ebe6d0f9ec22fab63d4cf84ee54a69d6818427a5351d8f\n";
 
 // Ends a run, where another journal comes to the journal's place before this call. What the call did to the file of the
 // other run has to be printed. Whether it made so many calls.
 fn does_what_it_prints(alloc: Global, number: u32) -> Result<bool, Fail> {
-    let disk = disk_of(alloc, &[("a.md", Some("aa")), ("c.md", Some("cc"))])?;
+    let places = [
+        (".relmove-run", None),
+        ("a.md", Some("aa")),
+        ("c.md", Some("cc")),
+    ];
+    let disk = disk_of(alloc, &places)?;
     add_journal(alloc, &disk, STAGING)?;
     let other = Vec::from_slice(alloc, OTHER.as_bytes())?;
     disk.replace_before(number, "site/.relmove", Content::File(other))?;
@@ -428,4 +455,25 @@ fn does_what_it_prints_if_the_journal_is_exchanged(rt: HostRuntime) -> Result<()
         calls = number;
     }
     same("calls", &(calls >= 10), &true)
+}
+
+// A call whose output fails changes nothing.
+fn changes_nothing(alloc: Global, output: &mut Output) -> Result<(), Fail> {
+    let disk = disk_of(alloc, OLD)?;
+    add_journal(alloc, &disk, STAGING)?;
+    let before = disk.listing()?;
+    let words = ["--resume", "--trust-journal", "--write", "site"];
+    let mut errors = Vec::new(alloc);
+    let status = answer(&DiskMachine(&disk), &words, output, &mut errors);
+    same("a failing output", &status, &Status::Refused)?;
+    same("a failing output", &disk.listing()?, &before)
+}
+
+#[test]
+fn changes_nothing_if_the_changes_are_not_printed(rt: HostRuntime) -> Result<(), Fail> {
+    for takes in [false, true] {
+        let mut output = Output { takes, flushes: 0 };
+        changes_nothing(rt.alloc(), &mut output)?;
+    }
+    Ok(())
 }

@@ -81,7 +81,7 @@ fn prints_what_a_run_leaves(rt: HostRuntime) -> Result<(), Fail> {
 
 // What a run prints that was taken back without a page that somebody removed.
 const GONE: &str =
-    "{\"remark\":\"neither guide/o.md nor .relmove-1 is there: another program removed it\"}\n";
+    "{\"remark\":\"neither guide/o.md nor .relmove-run/1 is there: another program removed it\"}\n";
 
 const TAKEN_BACK: &str =
     "relmove: site: guide/o.md was changed while the run worked, so the run was taken back\nsite: the run was taken back, and all else is as before\n";
@@ -163,4 +163,77 @@ fn prints_dead_links(rt: HostRuntime) -> Result<(), Fail> {
         printed: "{\"column\":5,\"line\":3,\"page\":\"a.md\",\"target\":\"none.md\",\"why\":\"nothing is there\"}\n{\"column\":18,\"line\":3,\"page\":\"a.md\",\"target\":\"../z\",\"why\":\"it leads above the root\"}\n{\"column\":20,\"line\":1,\"page\":\"d/b.md\",\"target\":\"i \\\\\\\" j\",\"why\":\"nothing is there\"}\n",
     };
     does(rt.alloc(), &row)
+}
+
+// Makes a call of the run fail. Says the status, after it saw that standard error says why, and how to go on after a stop.
+fn says_why(alloc: Global, number: u32) -> Result<Status, Fail> {
+    let disk = disk_of(alloc, SITE)?;
+    disk.fail_at(number, Way::Refused);
+    let (mut out, mut errors) = (Vec::new(alloc), Vec::new(alloc));
+    let status = answer(&DiskMachine(&disk), WRITE, &mut out, &mut errors);
+    let errors = String::from_utf8(errors)?;
+    let errors = errors.as_str();
+    let has_reason = match status {
+        Status::Kept | Status::LinksLeft => errors.is_empty(),
+        Status::Refused => errors.starts_with("relmove: site: "),
+        Status::Stopped => errors.contains("relmove: stopped in the middle"),
+    };
+    same(errors, &has_reason, &true)?;
+    Ok(status)
+}
+
+#[test]
+fn prints_in_words_why_a_run_failed(rt: HostRuntime) -> Result<(), Fail> {
+    let disk = disk_of(rt.alloc(), SITE)?;
+    let (mut out, mut errors) = (Vec::new(rt.alloc()), Vec::new(rt.alloc()));
+    answer(&DiskMachine(&disk), WRITE, &mut out, &mut errors);
+    let mut has_stopped = false;
+    for number in 1..=disk.calls() {
+        if says_why(rt.alloc(), number)? == Status::Stopped {
+            has_stopped = true;
+        }
+    }
+    same("some run stops", &has_stopped, &true)
+}
+
+// Makes two calls of the run fail. The run prints what it left, if the first one leaves the directory that it emptied and
+// the second one stops the run.
+fn prints_remark_of_a_stop(alloc: Global, first: u32, second: u32) -> Result<bool, Fail> {
+    let disk = disk_of(alloc, SITE)?;
+    disk.fail_at(first, Way::Refused);
+    disk.refuse_at(second);
+    let (mut out, mut errors) = (Vec::new(alloc), Vec::new(alloc));
+    let status = answer(&DiskMachine(&disk), WRITE, &mut out, &mut errors);
+    if status != Status::Stopped {
+        return Ok(false);
+    }
+    let mut expected = String::from_str(alloc, CHANGED)?;
+    expected.push_str(REMARK)?;
+    same("a remark", &out.as_slice(), &expected.as_str().as_bytes())?;
+    Ok(true)
+}
+
+// Which call of the run leaves the directory that it emptied, if it fails.
+fn leaving_call(alloc: Global) -> Result<u32, Fail> {
+    let disk = disk_of(alloc, SITE)?;
+    let (mut out, mut errors) = (Vec::new(alloc), Vec::new(alloc));
+    answer(&DiskMachine(&disk), WRITE, &mut out, &mut errors);
+    for later in 0..disk.calls() {
+        let number = disk.calls().saturating_sub(later);
+        if prints_remark(alloc, WRITE, (CHANGED, REMARK), number)? {
+            return Ok(number);
+        }
+    }
+    Err(Fail::new("no run left the directory"))
+}
+
+#[test]
+fn prints_what_a_run_leaves_that_stops(rt: HostRuntime) -> Result<(), Fail> {
+    let first = leaving_call(rt.alloc())?;
+    for second in first.saturating_add(1)..=first.saturating_add(20) {
+        if prints_remark_of_a_stop(rt.alloc(), first, second)? {
+            return Ok(());
+        }
+    }
+    Err(Fail::new("no run stopped"))
 }

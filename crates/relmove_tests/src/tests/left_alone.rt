@@ -1,25 +1,17 @@
 //! What a call names or passes over: symbolic links, names with dots, names that aren't UTF-8.
 use crate::tests::moving::{Row, does};
 use crate::tests::reading::answers;
-use crate::tests::{holds, same};
+use crate::tests::{add_symlink, holds, same};
 use relmove_disk::{Content, Disk, Place, disk_of};
 use relmove_lib::Status;
 use std::alloc::Global;
 use std::test::Fail;
 
-// Puts a symbolic link at a path.
-fn add_symlink(alloc: Global, disk: &Disk, path: &str, target: &str) -> Result<(), Fail> {
-    let target = String::from_str(alloc, target)?;
-    disk.add(path, Content::Symlink(target))?;
-    Ok(())
-}
-
 #[test]
 fn names_symbolic_links(rt: HostRuntime) -> Result<(), Fail> {
     let disk = disk_of(rt.alloc(), &[("d", None), ("d/f", Some("ff"))])?;
     for (path, target) in [("site/d/l", "/x"), ("site/r", "o"), ("site/s", "d/f")] {
-        let target = String::from_str(rt.alloc(), target)?;
-        disk.add(path, Content::Symlink(target))?;
+        add_symlink(rt.alloc(), &disk, path, target)?;
     }
     let printed =
         "site/d/l: this symbolic link moves, left as it is\nsite/s: this symbolic link leads to what moves, left as it is\n0 pages would change, 1 directory would move. Nothing is written: add --write.\n";
@@ -74,12 +66,16 @@ fn reads_no_page_whose_path_has_a_dot_name(rt: HostRuntime) -> Result<(), Fail> 
             (".d/p.md", Some("[a](../a.md)")),
             (".h.md", Some("[a](a.md)")),
             ("a.md", Some("aa")),
+            ("d", None),
+            ("d/.h.md", Some("[a](../a.md)")),
         ],
         after: &[
             (".d", None),
             (".d/p.md", Some("[a](../a.md)")),
             (".h.md", Some("[a](a.md)")),
             ("b.md", Some("aa")),
+            ("d", None),
+            ("d/.h.md", Some("[a](../a.md)")),
         ],
         status: Status::Kept,
         printed: "0 pages changed, 1 file moved.\n",
@@ -222,5 +218,46 @@ fn names_what_it_cannot_look_up(rt: HostRuntime) -> Result<(), Fail> {
     let disk = disk_of(rt.alloc(), places)?;
     disk.set_mode("site/d", 0o400)?;
     let expected = (Status::Kept, "", UNSEARCHED);
+    answers(rt.alloc(), &disk, &["--check", "site"], expected)
+}
+
+// What has the name of a page and is no file, and a symbolic link whose path isn't UTF-8.
+const NO_PAGES: &str =
+    "relmove: s isn't read: where this symbolic link leads isn't UTF-8\nrelmove: f.md isn't read: not a regular file\n";
+
+#[test]
+fn names_what_is_no_page(rt: HostRuntime) -> Result<(), Fail> {
+    let disk = disk_of(rt.alloc(), &[("a.md", Some("aa"))])?;
+    disk.add("site/f.md", Content::Other)?;
+    add_symlink(rt.alloc(), &disk, "site/s", "NOT-UTF-8")?;
+    let expected = (Status::Kept, "", NO_PAGES);
+    answers(rt.alloc(), &disk, &["--check", "site"], expected)
+}
+
+#[test]
+fn moves_a_directory_beside_a_name_that_is_not_utf_8(rt: HostRuntime) -> Result<(), Fail> {
+    let places: &[Place] = &[("NOT-UTF-8", Some("nn")), ("d", None), ("d/a", Some("aa"))];
+    let disk = disk_of(rt.alloc(), places)?;
+    let unread = "relmove: a name in the directory site can't be read, or isn't UTF-8\n";
+    let expected = (
+        Status::Kept,
+        "0 pages changed, 1 directory moved.\n",
+        unread,
+    );
+    answers(rt.alloc(), &disk, &["--write", "site", "d", "e"], expected)
+}
+
+#[test]
+fn names_directories_in_order(rt: HostRuntime) -> Result<(), Fail> {
+    let places: &[Place] = &[
+        ("d", None),
+        ("d/NOT-UTF-8", Some("nn")),
+        ("e", None),
+        ("e/NOT-UTF-8", Some("nn")),
+    ];
+    let disk = disk_of(rt.alloc(), places)?;
+    let errors =
+        "relmove: a name in the directory d can't be read, or isn't UTF-8\nrelmove: a name in the directory e can't be read, or isn't UTF-8\n";
+    let expected = (Status::Kept, "", errors);
     answers(rt.alloc(), &disk, &["--check", "site"], expected)
 }

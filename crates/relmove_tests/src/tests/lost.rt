@@ -1,6 +1,6 @@
 //! Links that lead to something before a run, and to nothing or to something else after it.
 use crate::tests::reading::answers;
-use crate::tests::{same, words_of};
+use crate::tests::{add_symlink, same, words_of};
 use relmove_disk::{Content, Disk, DiskMachine, Place, disk_of};
 use relmove_lib::{Status, answer};
 use std::alloc::Global;
@@ -169,11 +169,108 @@ const KEPT: [Case; 4] = [
     },
 ];
 
+// Links that go another way than most.
+const ODD: [Case; 7] = [
+    Case {
+        case: "a directory that is emptied beside one whose name begins as its own",
+        places: &[
+            ("d", None),
+            ("d/a.md", Some("aa")),
+            ("d-e", None),
+            ("d-e/b.md", Some("bb")),
+            ("p.md", Some("[x](lnk/)")),
+        ],
+        symlinks: &[("site/lnk", "d")],
+        moves: &["d/a.md", "a.md"],
+        printed: "site/p.md:1:5: lnk/ leads through a symbolic link, and to nothing after the moves\nsite/lnk: this symbolic link leads to nothing after the moves, left as it is\n",
+        end: "0 pages changed, 1 file moved.\n",
+        status: Status::LinksLeft,
+        dead: "site/p.md:1:5: lnk/: nothing is there\n",
+    },
+    Case {
+        case: "a blank before a name with a dot",
+        places: &[
+            (".g", None),
+            ("a.md", Some("aa")),
+            ("p.md", Some("<a href=' .g/s'>")),
+        ],
+        symlinks: &[("site/.g/s", "../a.md")],
+        moves: &["a.md", "b.md"],
+        printed: "site/p.md:1:10:  .g/s leads through a symbolic link, and to nothing after the moves\n",
+        end: "0 pages changed, 1 file moved.\n",
+        status: Status::LinksLeft,
+        dead: "site/p.md:1:10:  .g/s: nothing is there\n",
+    },
+    Case {
+        case: "a name that begins with two dots",
+        places: &[("..a", Some("aa")), ("p.md", Some("[x](s)"))],
+        symlinks: &[("site/s", "..a")],
+        moves: &["..a", "b.md"],
+        printed: "site/p.md:1:5: s leads through a symbolic link, and to nothing after the moves\nsite/s: this symbolic link leads to what moves, left as it is\n",
+        end: "0 pages changed, 1 file moved.\n",
+        status: Status::LinksLeft,
+        dead: "site/p.md:1:5: s: nothing is there\n",
+    },
+    Case {
+        case: "through a file and back, which leads nowhere",
+        places: &[
+            ("a.md", Some("aa")),
+            ("b.md", Some("bb")),
+            ("p.md", Some("[x](s)")),
+        ],
+        symlinks: &[("site/s", "a.md/../b.md")],
+        moves: &["b.md", "c.md"],
+        printed: "site/s: this symbolic link leads to what moves, left as it is\n",
+        end: "0 pages changed, 1 file moved.\n",
+        status: Status::LinksLeft,
+        dead: "site/p.md:1:5: s: nothing is there\n",
+    },
+    Case {
+        case: "a symbolic link moves into a directory that is made",
+        places: &[("a.md", Some("aa")), ("p.md", Some("[x](s)"))],
+        symlinks: &[("site/s", "/site/a.md")],
+        moves: &["s", "n/s"],
+        printed: "site/p.md: 1 link\nsite/s: this symbolic link moves, left as it is\n",
+        end: "1 page changed, 1 file moved.\n",
+        status: Status::LinksLeft,
+        dead: "",
+    },
+    Case {
+        case: "into a directory that isn't read and moves",
+        places: &[
+            ("d", None),
+            ("d/.g", None),
+            ("d/.g/a.md", Some("aa")),
+            ("p.md", Some("[x](d/.g/a.md)")),
+        ],
+        symlinks: &[],
+        moves: &["d", "e"],
+        printed: "site/p.md: 1 link\n",
+        end: "1 page changed, 1 directory moved.\n",
+        status: Status::Kept,
+        dead: "",
+    },
+    Case {
+        case: "links that stay beside a symbolic link",
+        places: &[
+            ("d", None),
+            ("d/a.md", Some("[u](../../u) [x](b%2Fc)")),
+            ("p.md", Some("pp")),
+        ],
+        symlinks: &[("site/s", "p.md")],
+        moves: &["d/a.md", "a.md"],
+        printed: "site/d/a.md:1:5: ../../u leads above site, left as it is\nsite/d/a.md:1:18: b%2Fc has %2F, a slash that separates no directories, left as it is\n",
+        end: "0 pages changed, 1 file moved.\n",
+        status: Status::LinksLeft,
+        dead: "site/a.md:1:5: ../../u: it leads above the root\n",
+    },
+];
+
 // The disk of a case.
 fn disk_with(alloc: Global, case: &Case) -> Result<Disk, Fail> {
     let disk = disk_of(alloc, case.places)?;
     for (path, text) in case.symlinks {
-        disk.add(path, Content::Symlink(String::from_str(alloc, text)?))?;
+        add_symlink(alloc, &disk, path, text)?;
     }
     Ok(disk)
 }
@@ -238,6 +335,106 @@ fn names_no_link_that_keeps_its_file(rt: HostRuntime) -> Result<(), Fail> {
     Ok(())
 }
 
+#[test]
+fn follows_odd_links(rt: HostRuntime) -> Result<(), Fail> {
+    for case in &ODD {
+        names_losses(rt.alloc(), case)?;
+    }
+    Ok(())
+}
+
+// A call without `--write` that moves `a.md`, and what it prints before its last line.
+fn would_lose(alloc: Global, disk: &Disk, printed: &str, errors: &str) -> Result<(), Fail> {
+    let mut expected = String::from_str(alloc, printed)?;
+    expected.push_str(
+        "0 pages would change, 1 file would move. Nothing is written: add --write.\n",
+    )?;
+    let status = if printed.is_empty() {
+        Status::Kept
+    } else {
+        Status::LinksLeft
+    };
+    let words = ["site", "a.md", "b.md"];
+    answers(alloc, disk, &words, (status, expected.as_str(), errors))
+}
+
+// A page whose link leads through so many symbolic links, in a directory that isn't read, to `a.md`.
+fn chain_of(alloc: Global, number: u32) -> Result<Disk, Fail> {
+    let places: &[Place] = &[
+        (".g", None),
+        ("a.md", Some("aa")),
+        ("p.md", Some("[x](.g/1)")),
+    ];
+    let disk = disk_of(alloc, places)?;
+    for at in 1..number {
+        let path = format!(in alloc; "site/.g/{at}")?;
+        let next = at.saturating_add(1);
+        let next = format!(in alloc; "{next}")?;
+        add_symlink(alloc, &disk, path.as_str(), next.as_str())?;
+    }
+    let path = format!(in alloc; "site/.g/{number}")?;
+    add_symlink(alloc, &disk, path.as_str(), "../a.md")?;
+    Ok(disk)
+}
+
+// The system follows at most 40.
+#[test]
+fn follows_forty_symbolic_links(rt: HostRuntime) -> Result<(), Fail> {
+    let disk = chain_of(rt.alloc(), 40)?;
+    let printed =
+        "site/p.md:1:5: .g/1 leads through a symbolic link, and to nothing after the moves\n";
+    would_lose(rt.alloc(), &disk, printed, "")?;
+    would_lose(rt.alloc(), &chain_of(rt.alloc(), 41)?, "", "")
+}
+
+#[test]
+fn follows_links_into_a_directory_that_cannot_be_listed(rt: HostRuntime) -> Result<(), Fail> {
+    let places: &[Place] = &[
+        ("a.md", Some("aa")),
+        ("l", None),
+        ("p.md", Some("[x](l/s)")),
+    ];
+    let disk = disk_of(rt.alloc(), places)?;
+    add_symlink(rt.alloc(), &disk, "site/l/s", "../a.md")?;
+    disk.set_mode("site/l", 0o300)?;
+    let printed =
+        "site/p.md:1:5: l/s leads through a symbolic link, and to nothing after the moves\n";
+    let errors =
+        "relmove: l isn't read: permission denied\nrelmove: a name in the directory l can't be read, or isn't UTF-8\n";
+    would_lose(rt.alloc(), &disk, printed, errors)
+}
+
+// A directory with a name that isn't UTF-8 stays.
+#[test]
+fn names_no_link_to_a_directory_that_stays(rt: HostRuntime) -> Result<(), Fail> {
+    let places: &[Place] = &[
+        ("d", None),
+        ("d/NOT-UTF-8", Some("nn")),
+        ("d/a.md", Some("aa")),
+        ("p.md", Some("[x](lnk/)")),
+    ];
+    let disk = disk_of(rt.alloc(), places)?;
+    add_symlink(rt.alloc(), &disk, "site/lnk", "d")?;
+    let printed = "0 pages changed, 1 file moved.\n";
+    let errors = "relmove: a name in the directory d can't be read, or isn't UTF-8\n";
+    let words = ["--write", "site", "d/a.md", "b.md"];
+    answers(rt.alloc(), &disk, &words, (Status::Kept, printed, errors))
+}
+
+// What a relative symbolic link leads to outside of the root is a FIFO.
+#[test]
+fn names_a_link_that_loses_a_fifo(rt: HostRuntime) -> Result<(), Fail> {
+    let places: &[Place] = &[("d", None), ("p.md", Some("[x](s)"))];
+    let disk = disk_of(rt.alloc(), places)?;
+    disk.add("o", Content::Other)?;
+    add_symlink(rt.alloc(), &disk, "site/s", "../o")?;
+    let printed =
+        "site/p.md: 1 link\nsite/p.md:1:5: s leads through a symbolic link, and to nothing after the moves\nsite/s: this symbolic link moves, left as it is\n1 page changed, 1 file moved.\n";
+    let expected = (Status::LinksLeft, printed, "");
+    let words = ["--write", "site", "s", "d/s"];
+    answers(rt.alloc(), &disk, &words, expected)
+}
+
 const AS_JSON: &str =
     "{\"column\":5,\"line\":2,\"page\":\"p.md\",\"target\":\"s.md\",\"why\":\"leads through a symbolic link, and to nothing after the moves\"}\n{\"link\":\"s.md\",\"why\":\"leads to nothing after the moves\"}\n";
 
@@ -274,6 +471,33 @@ fn names_links_in_another_case(rt: HostRuntime) -> Result<(), Fail> {
     answers(rt.alloc(), &disk, &["--check", "site"], expected)?;
     let expected = (Status::LinksLeft, SPELLED_LEFT, "");
     answers(rt.alloc(), &disk, &["site", "a.md", "b.md"], expected)
+}
+
+// The first name has no letter.
+#[test]
+fn finds_a_name_that_has_two_cases(rt: HostRuntime) -> Result<(), Fail> {
+    let places: &[Place] = &[
+        ("1", Some("11")),
+        ("a.md", Some("aa")),
+        ("p.md", Some("[x](A.md)")),
+    ];
+    let disk = disk_of(rt.alloc(), places)?;
+    disk.ignore_case()?;
+    let printed =
+        "site/p.md:1:5: A.md leads to a name in another case or form, and may lead to nothing after the moves\n";
+    would_lose(rt.alloc(), &disk, printed, "")
+}
+
+#[test]
+fn looks_for_no_other_case_above_the_root(rt: HostRuntime) -> Result<(), Fail> {
+    let places: &[Place] = &[
+        ("../u", Some("uu")),
+        ("a.md", Some("aa")),
+        ("p.md", Some("[u](../u)")),
+    ];
+    let disk = disk_of(rt.alloc(), places)?;
+    disk.ignore_case()?;
+    would_lose(rt.alloc(), &disk, "", "")
 }
 
 const DISTINCT_DEAD: &str =

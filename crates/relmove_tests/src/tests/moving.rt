@@ -1,7 +1,7 @@
 //! What a call that moves files prints, its status, and the tree after it.
 use crate::tests::reading::answers;
 use crate::tests::{holds, same};
-use relmove_disk::{Content, Disk, DiskMachine, Place, Way, disk_of};
+use relmove_disk::{Content, Disk, DiskMachine, Place, Way, disk_of, file_of};
 use relmove_lib::{Status, answer};
 use relmove_run::{Ended, Locked, Machine, Trust, resume};
 use std::alloc::Global;
@@ -164,6 +164,42 @@ fn looks_at_nothing_above_the_root(rt: HostRuntime) -> Result<(), Fail> {
 }
 
 #[test]
+fn leaves_a_link_whose_file_is_not_known(rt: HostRuntime) -> Result<(), Fail> {
+    let places: &[Place] = &[("d", None), ("d/a.md", Some("[x](b%2Fc)"))];
+    let row = Row {
+        words: &["site", "d/a.md", "a.md"],
+        before: places,
+        after: places,
+        status: Status::LinksLeft,
+        printed: "site/d/a.md:1:5: b%2Fc has %2F, a slash that separates no directories, left as it is\n0 pages would change, 1 file would move. Nothing is written: add --write.\n",
+    };
+    does(rt.alloc(), &row)
+}
+
+#[test]
+fn puts_one_slash_after_the_root(rt: HostRuntime) -> Result<(), Fail> {
+    let row = Row {
+        words: &["site/", "d/a.md", "a.md"],
+        before: ABOVE,
+        after: ABOVE,
+        status: Status::LinksLeft,
+        printed: "site/d/a.md:1:5: ../../L leads above site/, left as it is\n0 pages would change, 1 file would move. Nothing is written: add --write.\n",
+    };
+    does(rt.alloc(), &row)?;
+    let row = Row {
+        words: &["--check", "site/"],
+        before: ABOVE,
+        after: ABOVE,
+        status: Status::LinksLeft,
+        printed: "site/d/a.md:1:5: ../../L: it leads above the root\n",
+    };
+    does(rt.alloc(), &row)
+}
+
+// A site with a link that leads above it.
+const ABOVE: &[Place] = &[("d", None), ("d/a.md", Some("[l](../../L)"))];
+
+#[test]
 fn escapes_what_a_terminal_obeys(rt: HostRuntime) -> Result<(), Fail> {
     let places: &[Place] = &[
         ("d", None),
@@ -203,7 +239,7 @@ fn refuses(alloc: Global, moves: &[&str], printed: &str) -> Result<(), Fail> {
     holds(alloc, printed, &disk, TREE)
 }
 
-const REFUSED_PATHS: [(&[&str], &str); 10] = [
+const REFUSED_PATHS: [(&[&str], &str); 11] = [
     (
         &[".", "x"],
         "relmove: . to x: a path is the root, or ends in ..\n",
@@ -244,11 +280,43 @@ const REFUSED_PATHS: [(&[&str], &str); 10] = [
         &["b.md", "x.md", "a.md", "e/"],
         "relmove: a.md to e/: a path ends in a slash, and what moves is no directory\n",
     ),
+    (
+        &["a.md/", "x.md"],
+        "relmove: a.md/ to x.md: a path ends in a slash, and what moves is no directory\n",
+    ),
 ];
 
 #[test]
 fn refuses_paths(rt: HostRuntime) -> Result<(), Fail> {
     for (moves, printed) in &REFUSED_PATHS {
+        refuses(rt.alloc(), moves, printed)?;
+    }
+    Ok(())
+}
+
+// Names of a run's own, also those that only a file system which ignores case takes for one.
+const OWN_NAMES: [(&[&str], &str); 4] = [
+    (
+        &["a.md", ".relmove-run"],
+        "relmove: a.md to .relmove-run: a name of the old or the new path begins with .relmove\n",
+    ),
+    (
+        &["a.md", ".Relmove-Run"],
+        "relmove: a.md to .Relmove-Run: a name of the new path begins with .relmove in another case\n",
+    ),
+    (
+        &["b.md", "x.md", "a.md", "d/.RELMOVE"],
+        "relmove: a.md to d/.RELMOVE: a name of the new path begins with .relmove in another case\n",
+    ),
+    (
+        &["d", "./.relmovE-1/"],
+        "relmove: d to ./.relmovE-1/: a name of the new path begins with .relmove in another case\n",
+    ),
+];
+
+#[test]
+fn refuses_names_of_a_run_in_any_case(rt: HostRuntime) -> Result<(), Fail> {
+    for (moves, printed) in &OWN_NAMES {
         refuses(rt.alloc(), moves, printed)?;
     }
     Ok(())
@@ -312,7 +380,8 @@ const STOPPED_BELOW: &[Place] = &[
     ("a.md", Some("aa")),
     ("d", None),
     ("d/.relmove", Some("jj")),
-    ("d/.relmove-1", Some("xx")),
+    ("d/.relmove-run", None),
+    ("d/.relmove-run/1", Some("xx")),
     ("d/e", None),
     ("d/e/.relmove-2", Some("yy")),
 ];
@@ -321,7 +390,7 @@ const STOPPED_BELOW: &[Place] = &[
 fn names_no_file_of_a_run_below(rt: HostRuntime) -> Result<(), Fail> {
     let disk = disk_of(rt.alloc(), STOPPED_BELOW)?;
     let printed =
-        "relmove: site: d/.relmove is the journal of a run that didn't end: end that run first\n";
+        "relmove: site: d/.relmove is the journal of a run that didn't end. If it was your run, end it first. If the folder came from elsewhere, the journal may have come with it: then remove it\n";
     let expected = (Status::Refused, "", printed);
     let words = ["--write", "site", "a.md", "b.md"];
     answers(rt.alloc(), &disk, &words, expected)?;
@@ -330,9 +399,60 @@ fn names_no_file_of_a_run_below(rt: HostRuntime) -> Result<(), Fail> {
     holds(rt.alloc(), "the tree", &disk, STOPPED_BELOW)?;
     disk.remove("site/d/.relmove")?;
     let printed =
-        "relmove: d/.relmove-1 has a name of relmove's own, and there is no run to which it belongs\nrelmove: d/e/.relmove-2 has a name of relmove's own, and there is no run to which it belongs\n";
+        "relmove: d/.relmove-run has a name of relmove's own, and there is no run to which it belongs\nrelmove: d/e/.relmove-2 has a name of relmove's own, and there is no run to which it belongs\n";
     let expected = (Status::Kept, "", printed);
     answers(rt.alloc(), &disk, &["--check", "site"], expected)
+}
+
+// A tree, and where another user's run stopped: its journal, its directory, and how the journal is named.
+const OTHERS_RUNS: [(&str, &str, &str); 2] = [
+    (".relmove", ".relmove-run", "../.relmove"),
+    ("site/d/.relmove", "site/d/.relmove-run", "d/.relmove"),
+];
+
+#[test]
+fn names_runs_of_other_users_near(rt: HostRuntime) -> Result<(), Fail> {
+    let alloc = rt.alloc();
+    for (journal, directory, named) in OTHERS_RUNS {
+        let disk = disk_of(alloc, &[("a.md", Some("aa")), ("d", None)])?;
+        disk.add(journal, file_of(alloc, "jj")?)?;
+        disk.set_owner(journal, 7, 7)?;
+        disk.add(directory, Content::Directory)?;
+        let remark = format!(in alloc;
+            "{named} is the journal of a run that didn't end, of the user of the number 7"
+        )?;
+        let printed = format!(in alloc; "site: {remark}\n")?;
+        let words = format!(in alloc;
+            "{printed}0 pages would change, 1 file would move. Nothing is written: add --write.\n"
+        )?;
+        let object = format!(in alloc; "{{\"remark\":\"{remark}\"}}\n")?;
+        let done = format!(in alloc; "{printed}site: everything is at its new path\n")?;
+        let calls: [(&[&'static str], Status, &str, &str); 4] = [
+            (&["--check", "site"], Status::Kept, "", printed.as_str()),
+            (
+                &["site", "a.md", "b.md"],
+                Status::LinksLeft,
+                words.as_str(),
+                "",
+            ),
+            (
+                &["--json", "site", "a.md", "b.md"],
+                Status::LinksLeft,
+                object.as_str(),
+                "",
+            ),
+            (
+                &["--write", "site", "a.md", "b.md"],
+                Status::LinksLeft,
+                done.as_str(),
+                "",
+            ),
+        ];
+        for (words, status, out, errors) in calls {
+            answers(alloc, &disk, words, (status, out, errors))?;
+        }
+    }
+    Ok(())
 }
 
 // This letter so many times.
@@ -478,7 +598,7 @@ fn stops_in_the_middle(rt: HostRuntime) -> Result<(), Fail> {
 pub const PLANNED: &str = "site/n.md, from site/guide/o.md: 1 link\nsite/index.md: 2 links\n";
 
 /// The staging name of what moves first.
-pub const STAGED: &str = "site/.relmove-1";
+pub const STAGED: &str = "site/.relmove-run/1";
 
 // Removes a page before a call of the run, once it has its staging name. Whether the run went back by itself and said so.
 fn says_what_is_gone(alloc: Global, number: u32) -> Result<bool, Fail> {
@@ -537,4 +657,64 @@ fn asks_for_paths_without_write(rt: HostRuntime) -> Result<(), Fail> {
         &["site", "b.md", name],
         expected,
     )
+}
+
+// Kills a run before a call, and ends it by another call of the program. Whether the page had its staging name then.
+fn ends_what_stopped(
+    alloc: Global,
+    number: u32,
+    words: &[&str],
+    printed: &str,
+    places: &[Place],
+) -> Result<bool, Fail> {
+    let disk = disk_of(alloc, SITE)?;
+    disk.fail_at(number, Way::Killed);
+    let status = written(alloc, &disk);
+    disk.fail_at(0, Way::Refused);
+    if status != Status::Stopped || !disk.has(STAGED)? {
+        return Ok(false);
+    }
+    answers(alloc, &disk, words, (Status::Kept, printed, ""))?;
+    holds(alloc, printed, &disk, places)?;
+    Ok(true)
+}
+
+#[test]
+fn ends_a_run_that_was_killed(rt: HostRuntime) -> Result<(), Fail> {
+    let alloc = rt.alloc();
+    let disk = disk_of(alloc, SITE)?;
+    written(alloc, &disk);
+    let undone = "site: the run was taken back, everything is as before\n";
+    let done = "site: everything is at its new path\n";
+    for number in 1..=disk.calls() {
+        if ends_what_stopped(alloc, number, &["--undo", "site"], undone, SITE)? {
+            ends_what_stopped(alloc, number, &["--resume", "site"], done, MOVED_SITE)?;
+            return Ok(());
+        }
+    }
+    Err(Fail::new("no run stopped"))
+}
+
+// Removes a directory that isn't read before the call of this number: the plan is printed all the same. Whether there were so
+// many calls.
+fn is_planned_while_a_directory_goes(alloc: Global, number: u32) -> Result<bool, Fail> {
+    let disk = disk_of(alloc, CLOSED)?;
+    disk.remove_before(number, "site/d/.g")?;
+    let printed =
+        "0 pages would change, 1 directory would move. Nothing is written: add --write.\n";
+    let expected = (Status::Kept, printed, "");
+    answers(alloc, &disk, &["site", "d", "longer"], expected)?;
+    Ok(number <= disk.calls())
+}
+
+#[test]
+fn plans_while_a_directory_goes(rt: HostRuntime) -> Result<(), Fail> {
+    let mut calls = 0u32;
+    for number in 1..100u32 {
+        if !is_planned_while_a_directory_goes(rt.alloc(), number)? {
+            break;
+        }
+        calls = number;
+    }
+    same("calls", &(calls >= 5), &true)
 }

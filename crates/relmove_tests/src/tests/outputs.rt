@@ -7,12 +7,13 @@ use std::alloc::Global;
 use std::io::{self, ErrorKind, Write};
 use std::test::Fail;
 
-// An output that refuses each write, or each flush from one on.
+/// An output that refuses each write, or each flush from one on.
 #[derive(Drop)]
-struct Output {
-    takes: bool,
-    // How many flushes succeed.
-    flushes: u32,
+pub struct Output {
+    /// Whether a write succeeds.
+    pub takes: bool,
+    /// How many flushes succeed.
+    pub flushes: u32,
 }
 
 impl Write for Output {

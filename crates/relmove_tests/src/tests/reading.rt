@@ -17,7 +17,8 @@ const INDEX: &[u8] =
 
 const BASE: &[u8] = b"<\xe2\x82\xac <BASE href='.'>\n\n[x](nothing.md)";
 
-const NO_BASE: &[u8] = b"`<base href='.'>` [a](a.md/) [g](guide/./) [a](a.md/.) [z](z)";
+const NO_BASE: &[u8] =
+    b"`<base href='.'>` [a](a.md/) [g](guide/./) [a](a.md/.) [z](z) [x](a.md/x/..) [g](guide/x/..)";
 
 const HIDDEN: &[u8] = b"[x](nothing.md)";
 
@@ -138,7 +139,7 @@ fn leaves_out_a_page_that_goes(rt: HostRuntime) -> Result<(), Fail> {
 }
 
 const PRINTED: &str =
-    "site/guide/i.markdown:2:6: i.png: nothing is there\nsite/index.md:3:21: b.md: nothing is there\nsite/index.md:4:5: ../c: it leads above the root\nsite/index.md:4:26: ../site/a.md: it leads above the root\nsite/index.md:5:14: t/f: nothing is there\nsite/no-base.md:1:23: a.md/: nothing is there\nsite/no-base.md:1:48: a.md/.: nothing is there\nsite/no-base.md:1:60: z: nothing is there\n";
+    "site/guide/i.markdown:2:6: i.png: nothing is there\nsite/index.md:3:21: b.md: nothing is there\nsite/index.md:4:5: ../c: it leads above the root\nsite/index.md:4:26: ../site/a.md: it leads above the root\nsite/index.md:5:14: t/f: nothing is there\nsite/no-base.md:1:23: a.md/: nothing is there\nsite/no-base.md:1:48: a.md/.: nothing is there\nsite/no-base.md:1:60: z: nothing is there\nsite/no-base.md:1:67: a.md/x/..: nothing is there\n";
 
 const UNREAD: &str =
     "relmove: no.md isn't UTF-8, and isn't read\nrelmove: base.md has a <base href>, and its links aren't read\nrelmove: a name in the directory site can't be read, or isn't UTF-8\nrelmove: a name in the directory guide can't be read, or isn't UTF-8\n";

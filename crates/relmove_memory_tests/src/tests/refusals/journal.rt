@@ -10,9 +10,15 @@ use std::test::Fail;
 
 // The last line has the length and the SHA-256 of the lines before it, and the digests are those of `b` and `a`.
 const TEXT: &str =
-    "relmove journal 2\nroot\t7\nfile\t8\nstage\tstaging\ntext\t.relmove-2\t1\t3e23e8160039594a33894f6564e1b1348bbd7a0088d42c4acb73eeaed59c009d\nstaged\ta.md\t.relmove-1\nstaged\t.relmove-2\t.relmove-2\nplaced\t.relmove-2\tb.md\nremoved\t.relmove-1\t1\tca978112ca1bbdcafac231b39a23dc4da786eff8147c4e72b9807785afee48bb\nend\t290\t81b902c1df0bd327382684a6a4ef014746d5e307e572ed6628c859ff43b18ff6\n";
+    "relmove journal 3\nroot\t7\nfile\t8\nrun\t9\nowner\t10\ntime\t11\nstage\tstaging\ntext\t.relmove-run/2\t1\t3e23e8160039594a33894f6564e1b1348bbd7a0088d42c4acb73eeaed59c009d\nstaged\ta.md\t.relmove-run/1\nplaced\t.relmove-run/2\tb.md\nremoved\t.relmove-run/1\t1\tca978112ca1bbdcafac231b39a23dc4da786eff8147c4e72b9807785afee48bb\nend\t300\t8068f0b277409f563ccd0cfe34b9706cdfffc6b75d49a49d51660210468722ff\n";
 
-const ORIGIN: Origin = Origin { root: 7, file: 8 };
+const ORIGIN: Origin = Origin {
+    root: 7,
+    file: 8,
+    run: 9,
+    owner: 10,
+    time: 11,
+};
 
 // A rename.
 fn rename(alloc: Global, from: &str, to: &str) -> Result<Rename, AllocError> {
@@ -33,18 +39,15 @@ fn text_file(alloc: Global, path: &str, text: &[u8]) -> Result<TextFile, AllocEr
 // The work of this journal.
 fn work(alloc: Global) -> Result<Work, AllocError> {
     Ok(Work {
-        texts: vec![in alloc; text_file(alloc, ".relmove-2", b"b")?]?,
-        staged: vec![in alloc;
-            rename(alloc, "a.md", ".relmove-1")?,
-            rename(alloc, ".relmove-2", ".relmove-2")?,
-        ]?,
+        texts: vec![in alloc; text_file(alloc, ".relmove-run/2", b"b")?]?,
+        staged: vec![in alloc; rename(alloc, "a.md", ".relmove-run/1")?]?,
         made: Vec::new(alloc),
-        placed: vec![in alloc; rename(alloc, ".relmove-2", "b.md")?]?,
-        cleaned: vec![in alloc; Leftover::Text(text_file(alloc, ".relmove-1", b"a")?)]?,
+        placed: vec![in alloc; rename(alloc, ".relmove-run/2", "b.md")?]?,
+        cleaned: vec![in alloc; Leftover::Text(text_file(alloc, ".relmove-run/1", b"a")?)]?,
     })
 }
 
-// Requests: 18 8 36 8 72 8 64 144 288 8 64 576 8 64 8 16 32 64 128 = 1
+// Requests: 18 8 36 8 8 72 8 8 8 64 144 288 8 64 576 8 64 8 16 32 64 128 = 1
 #[test]
 fn the_text_of_a_journal(rt: HostRuntime) -> Result<(), Fail> {
     let work = work(rt.alloc())?;
@@ -57,8 +60,8 @@ fn the_text_of_a_journal(rt: HostRuntime) -> Result<(), Fail> {
     }
 }
 
-// Requests: 8 16 256 8 8 16 192 8 16 8 16 8 16 8 192 8 16 288 18 8 36 8 72 8 64 144 288 8 64 576 8 64 8 16 32 64 128
-// 16 64 32 16 64 64 32 16 = 12
+// Requests: 8 16 256 8 8 16 192 8 16 8 192 8 16 288 18 8 36 8 8 72 8 8 8 64 144 288 8 64 576 8 64 8 16 32 64 128
+// 16 16 64 16 64 64 16 64 64 16 16 = 10
 #[test]
 fn the_journal_of_a_text(rt: HostRuntime) -> Result<(), Fail> {
     let expected = work(rt.alloc())?;
@@ -73,7 +76,7 @@ fn the_journal_of_a_text(rt: HostRuntime) -> Result<(), Fail> {
     same("the work", &is_read, &true)
 }
 
-// Requests: 16 64 32 16 64 64 32 16 = 0
+// Requests: 16 16 64 16 64 64 16 64 64 16 16 = 0
 #[test]
 fn whether_work_is_a_run_s(rt: HostRuntime) -> Result<(), Fail> {
     let work = work(rt.alloc())?;

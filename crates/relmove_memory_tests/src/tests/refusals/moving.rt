@@ -2,10 +2,19 @@
 use super::marks::{begin, end};
 use crate::tests::same;
 use relmove_lib::{EntryKind, Page, Tree, changed_links_of, is_directory, moving_of};
-use relmove_run::Machine;
+use relmove_run::{Machine, PageFile};
 use std::alloc::{AllocError, Global};
 use std::collections::BTreeMap;
 use std::test::Fail;
+
+// The pages are in no file.
+const NO_FILE: PageFile = PageFile {
+    device: 0,
+    inode: 0,
+    mode: 0,
+    owner: 0,
+    group: 0,
+};
 
 // A tree with a page that links to another one.
 fn tree(alloc: Global) -> Result<Tree, AllocError> {
@@ -17,11 +26,13 @@ fn tree(alloc: Global) -> Result<Tree, AllocError> {
     let pages = vec![in alloc;
         Page {
             path: text("a.md")?,
-            text: text("[b](d/b.md#b)")?
+            text: text("[b](d/b.md#b)")?,
+            file: NO_FILE
         },
         Page {
             path: text("d/b.md")?,
-            text: text("[b](b.md)")?
+            text: text("[b](b.md)")?,
+            file: NO_FILE
         },
     ]?;
     Ok(Tree {

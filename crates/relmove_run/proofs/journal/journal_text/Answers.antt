@@ -4,7 +4,7 @@ use Rattle.relmove_run.proofs.journal.journal_text.Goals as goal
 
 pub returns : goal.returns
 returns c =
-    let lines = codes "relmove journal 2\n" ++ head_lines c.args.origin c.args.stage ++ work_bytes c.args.work.now in
+    let lines = codes "relmove journal 3\n" ++ head_lines c.args.origin c.args.stage ++ work_bytes c.args.work.now in
     let before : string_bytes c.push_work.new.text ≡ lines =
     c.in_ok-push_work.ensures
     ∙ ap (λ text. text ++ work_bytes c.args.work.now)

@@ -10,9 +10,9 @@ loop-line-init c = record {
   utf8 = search rules;
   lines = λ origin stage work run.
       IsLeft-all c.args.text.now c.in-Some.left.now _ origin stage work run.fits run.written c.new.ensures.nothing
-      (λ back cut. (split_after 10 c.args.text.now (codes "relmove journal 2") back
+      (λ back cut. (split_after 10 c.args.text.now (codes "relmove journal 3") back
       (Some (c.in-Some.field-0-0, c.in-Some.left)) c.in-Some.ensures.cases (lit< tt) cut
-      (Lacks-get_or 10 (codes "relmove journal 2") (Lacks-above 10 (lit< tt) (codes "relmove journal 2") refl))).1);
+      (Lacks-get_or 10 (codes "relmove journal 3") (Lacks-above 10 (lit< tt) (codes "relmove journal 3") refl))).1);
 }
 
 pub returns-in_err-read_line : goal.returns-in_err-read_line

@@ -1,16 +1,14 @@
-use Rattle.std.proofs.Common.{rules, tests, sym, ap, ◌∙◌, ◌&&◌}
-use Rattle.std.specs.Char.{is_ascii_digit}
-use Rattle.std.specs.List.{list_all}
-use Rattle.std.proofs.lemmas.Iterator.Adapters.{YieldsList-from_bytes}
-use Rattle.std.proofs.lemmas.Iterator.Search.{all_from_yields_List}
-use Rattle.relmove_run.proofs.ShapeLemmas.{is_not_empty-length, is_staging_name-strip}
+use Rattle.std.proofs.Common.{sym, ap, ◌∙◌, ◌&&◌}
+use Rattle.relmove_run.specs.Shape.{below_own_directory, is_number}
+use Rattle.relmove_run.proofs.ShapeLemmas.{own_directory-strip}
 use Rattle.relmove_run.proofs.shape.is_staging_name.Goals as goal
 
-pub returns-then-not-is_empty : goal.returns-then-not-is_empty
-returns-then-not-is_empty c =
-    let parts = rw c.in-Some.is at (is_staging_name-strip c.args.path.now _ c.strip_prefix.ensures.cases) in
-    let digits = YieldsList-from_bytes c.in-Some.number.now c.bytes.ensures.rest in
-    let all =
-    all_from_yields_List is_ascii_digit _ _ c.all.result c.all.ensures.ran digits (λ x b q k. search (rules, tests)) in
-    let some = is_not_empty-length c.in-Some.number.now (sym c.is_empty.ensures ∙ c.if-not-is_empty.true) in
-    all ∙ sym (parts ∙ ap (λ b. b && list_all is_ascii_digit c.in-Some.number.now) some)
+pub returns-in-Some : goal.returns-in-Some
+returns-in-Some c =
+    let (own, rest) = rw c.in-Some.is at (own_directory-strip c.args.path.now _ c.strip_prefix.ensures.cases) in
+    c.is_number.ensures ∙ ap is_number rest ∙ sym (ap (λ b. b && is_number (below_own_directory c.args.path.now)) own)
+
+pub returns-in-None : goal.returns-in-None
+returns-in-None c =
+    let other = rw c.in-None.is at (own_directory-strip c.args.path.now _ c.strip_prefix.ensures.cases) in
+    sym (ap (λ b. b && is_number (below_own_directory c.args.path.now)) other)

@@ -1,0 +1,116 @@
+//! The names that a run gives in its own directory.
+//!
+//! The steps of a plan name what moves by labels: `.relmove-1`, `.relmove-2` and so on, and a new text by one next to its
+//! page. The number of a label is the staging name's: `.relmove-run/1` stands for `.relmove-1`. A new text is written at its
+//! staging name at once.
+use crate::path::{join, name_of};
+use relmove_actions::{NewText, Rename, STAGING, Steps};
+use std::alloc::{AllocError, Global};
+use std::collections::BTreeMap;
+
+/// The path of a run's own directory from the root.
+pub const OWN_DIRECTORY: &str = ".relmove-run";
+
+// What a staging name begins with, before its number.
+pub(crate) const STAGING_NAME: &str = ".relmove-run/";
+
+// The path that a run has for one of a plan that may begin with a label. Allocates it.
+pub(crate) fn staging_path(alloc: Global, path: &str) -> Result<String, AllocError> {
+    match path.strip_prefix(STAGING) {
+        Some(below) => join(alloc, OWN_DIRECTORY, below),
+        None => String::from_str(alloc, path),
+    }
+}
+
+// The staging name of a new text. Allocates it.
+pub(crate) fn text_path(alloc: Global, file: &str) -> Result<String, AllocError> {
+    staging_path(alloc, name_of(file))
+}
+
+// Whether a plan gives a new text a name in between.
+pub(crate) fn is_of_text(rename: &Rename) -> bool {
+    name_of(rename.from.as_str()).starts_with(STAGING)
+}
+
+// The steps of a plan with staging names in the place of labels. No new text is renamed before it is placed.
+//
+// Allocates its paths.
+pub(crate) fn with_staging_names(alloc: Global, steps: Steps) -> Result<Steps, AllocError> {
+    let Steps {
+        texts,
+        apart,
+        made,
+        together,
+        removed,
+        emptied,
+    } = steps;
+    Ok(Steps {
+        texts: written(alloc, texts)?,
+        made: paths(alloc, &made)?,
+        together: placed(alloc, together, &apart)?,
+        apart: staged(alloc, apart)?,
+        removed: paths(alloc, &removed)?,
+        emptied,
+    })
+}
+
+// New texts at their staging names.
+fn written(alloc: Global, mut texts: Vec<NewText>) -> Result<Vec<NewText>, AllocError> {
+    for text in texts.iter_mut() {
+        text.file = text_path(alloc, text.file.as_str())?;
+    }
+    Ok(texts)
+}
+
+// The paths that a run has for those of a plan.
+fn paths(alloc: Global, labels: &[String]) -> Result<Vec<String>, AllocError> {
+    let mut paths = Vec::with_capacity(alloc, labels.len())?;
+    for label in labels {
+        paths.push(staging_path(alloc, label.as_str())?)?;
+    }
+    Ok(paths)
+}
+
+// What gives things their staging names, without the new texts.
+fn staged(alloc: Global, apart: Vec<Rename>) -> Result<Vec<Rename>, AllocError> {
+    let mut staged = Vec::with_capacity(alloc, apart.len())?;
+    for rename in apart {
+        if !is_of_text(&rename) {
+            let Rename { from, to } = rename;
+            staged.push(Rename {
+                from,
+                to: staging_path(alloc, to.as_str())?,
+            })?;
+        }
+    }
+    Ok(staged)
+}
+
+// What takes things from their staging names to their new paths. A new text has the one at which it is written.
+fn placed(
+    alloc: Global,
+    together: Vec<Rename>,
+    apart: &[Rename],
+) -> Result<Vec<Rename>, AllocError> {
+    let files = files_of(alloc, apart)?;
+    let mut placed = Vec::with_capacity(alloc, together.len())?;
+    for Rename { from, to } in together {
+        let from = match files.get(from.as_str()) {
+            Some(file) => text_path(alloc, file)?,
+            None => staging_path(alloc, from.as_str())?,
+        };
+        placed.push(Rename { from, to })?;
+    }
+    Ok(placed)
+}
+
+// The files of new texts, by the labels that a plan gives them.
+fn files_of(alloc: Global, apart: &[Rename]) -> Result<BTreeMap<&str, &str>, AllocError> {
+    let mut files = BTreeMap::new(alloc);
+    for rename in apart {
+        if is_of_text(rename) {
+            files.insert(rename.to.as_str(), rename.from.as_str())?;
+        }
+    }
+    Ok(files)
+}

@@ -1,0 +1,325 @@
+//! What another process does to the files of a run: no byte that it wrote is lost.
+use relmove_disk::{Content, Disk, Way, disk_of, file_of};
+use relmove_run::{Ended, Fault, Remark, Stage};
+use relmove_run_cases::{
+    End, Ending, calls_of, cases, end_of, first_call_at, first_call_with, has_text, holds,
+    is_changed, is_refused, remarks_of, resume_on, run, run_and_fail, same, stopped_at, undo_on,
+};
+use std::alloc::Global;
+use std::test::Fail;
+
+// Whether a text is in a file on the disk.
+fn is_somewhere(disk: &Disk, text: &str) -> Result<bool, Fail> {
+    for path in ["site/a.md", "site/.relmove-run/1", "site/.relmove-run/9"] {
+        if disk.is_file(path, text)? {
+            return Ok(true);
+        }
+    }
+    Ok(false)
+}
+
+// Whether the remarks say that a text is kept in the run's own directory, and so the directory stays.
+fn is_kept(remarks: &[Remark]) -> bool {
+    matches!(remarks, [Remark::Kept(_), Remark::Stays(_)])
+}
+
+// Edits a page before a call of a run. Whether the edit is kept.
+fn keeps_edit(alloc: Global, number: u32) -> Result<bool, Fail> {
+    let case = &cases::PAGE_CHANGES;
+    let disk = disk_of(alloc, case.before)?;
+    disk.add_before(number, "site/a.md", file_of(alloc, "edited")?)?;
+    let ended = run(alloc, case, &disk)?;
+    same("nothing to say", &remarks_of(&ended).len(), &0)?;
+    is_somewhere(&disk, "edited")
+}
+
+// What comes to a path between the question whether it is free and the rename is replaced.
+#[test]
+fn keeps_a_page_that_is_edited(rt: HostRuntime) -> Result<(), Fail> {
+    let mut lost = 0u32;
+    for number in 1..=calls_of(rt.alloc(), &cases::PAGE_CHANGES)? {
+        if !keeps_edit(rt.alloc(), number)? {
+            lost = lost.saturating_add(1);
+        }
+    }
+    same("edits that are lost", &lost, &1)
+}
+
+#[test]
+fn takes_a_run_back_if_a_page_was_edited(rt: HostRuntime) -> Result<(), Fail> {
+    let alloc = rt.alloc();
+    let disk = disk_of(alloc, cases::PAGE_CHANGES.before)?;
+    disk.add_before(40, "site/a.md", file_of(alloc, "edited")?)?;
+    let ended = run(alloc, &cases::PAGE_CHANGES, &disk)?;
+    same("changed", &is_changed(&ended), &true)?;
+    same("nothing to say", &remarks_of(&ended).len(), &0)?;
+    let after = [("a.md", Some("edited")), ("x.md", Some("xx"))];
+    holds(alloc, "taken back", &disk, &after)
+}
+
+// Edits a whole new text before a call of a run, and fails the run's call of this number. The edit has to be there. Whether
+// the run went back since it failed: then it says that it kept the edit.
+fn keeps_edit_of_a_text(alloc: Global, number: u32, failed: u32) -> Result<bool, Fail> {
+    let disk = disk_of(alloc, cases::PAGE_CHANGES.before)?;
+    disk.add_before(number, "site/.relmove-run/9", file_of(alloc, "edited")?)?;
+    disk.fail_at(failed, Way::Refused);
+    let ended = run(alloc, &cases::PAGE_CHANGES, &disk)?;
+    let is_cause = matches!(
+        &ended,
+        Ended::TakenBack {
+            cause: Some(Fault::System { .. }),
+            ..
+        }
+    );
+    if is_cause {
+        same("said", &is_kept(remarks_of(&ended)), &true)?;
+    }
+    same("the edit", &is_somewhere(&disk, "edited")?, &true)?;
+    Ok(is_cause)
+}
+
+// The first call of a run before which a new text is whole.
+fn first_whole(alloc: Global) -> Result<u32, Fail> {
+    for number in 1..=calls_of(alloc, &cases::PAGE_CHANGES)? {
+        let (_, disk) = run_and_fail(alloc, &cases::PAGE_CHANGES, number, Way::Killed)?;
+        let is_whole = disk.is_file("site/.relmove-run/9", "[x](y/x.md) more")?;
+        if is_whole {
+            return Ok(number);
+        }
+    }
+    Err(Fail::new("no text was whole"))
+}
+
+// A new text that is whole is removed only by its digest, also by the run that wrote it.
+#[test]
+fn keeps_a_whole_text_that_is_edited(rt: HostRuntime) -> Result<(), Fail> {
+    let first = first_whole(rt.alloc())?;
+    let mut count = 0u32;
+    for more in 1..6u32 {
+        let failed = first.saturating_add(more);
+        if keeps_edit_of_a_text(rt.alloc(), failed, failed)? {
+            count = count.saturating_add(1);
+        }
+    }
+    same("runs that went back", &(count > 0), &true)
+}
+
+// Edits a new text after a kill, and ends the run. The edit has as many bytes as the text.
+fn keeps_edit_after_kill(alloc: Global, number: u32, ending: Ending) -> Result<(), Fail> {
+    let (_, disk) = run_and_fail(alloc, &cases::PAGE_CHANGES, number, Way::Killed)?;
+    disk.add("site/.relmove-run/9", file_of(alloc, "[x](y/x.md) mine")?)?;
+    let ended = ending.on(&disk);
+    same("back", &end_of(&ended), &End::TakenBack)?;
+    same("said", &is_kept(remarks_of(&ended)), &true)?;
+    has_text(&disk, "site/.relmove-run/9", "[x](y/x.md) mine")
+}
+
+#[test]
+fn keeps_a_whole_text_that_is_edited_after_a_kill(rt: HostRuntime) -> Result<(), Fail> {
+    let first = first_whole(rt.alloc())?;
+    keeps_edit_after_kill(rt.alloc(), first, Ending::Undo)?;
+    keeps_edit_after_kill(rt.alloc(), first, Ending::Resume)
+}
+
+// Removes a page before a call of a run, once it has its staging name. Whether the run went back by itself.
+fn goes_back_without(alloc: Global, number: u32) -> Result<bool, Fail> {
+    let disk = disk_of(alloc, cases::PAGE_CHANGES.before)?;
+    disk.remove_before(number, "site/.relmove-run/1")?;
+    let ended = run(alloc, &cases::PAGE_CHANGES, &disk)?;
+    if !is_changed(&ended) || disk.has("site/a.md")? {
+        return Ok(false);
+    }
+    let is_gone = matches!(remarks_of(&ended), [Remark::Gone { .. }]);
+    same("said", &is_gone, &true)?;
+    holds(alloc, "taken back", &disk, &[("x.md", Some("xx"))])?;
+    Ok(true)
+}
+
+#[test]
+fn tells_what_is_gone_if_it_goes_back_by_itself(rt: HostRuntime) -> Result<(), Fail> {
+    let mut count = 0u32;
+    for number in 1..=calls_of(rt.alloc(), &cases::PAGE_CHANGES)? {
+        if goes_back_without(rt.alloc(), number)? {
+            count = count.saturating_add(1);
+        }
+    }
+    same("some go back", &(count > 0), &true)
+}
+
+// Whether an edit of a new text stays if the run is taken back.
+fn keeps_edit_in_undo(alloc: Global, number: u32) -> Result<(), Fail> {
+    let (ended, disk) = run_and_fail(alloc, &cases::PAGE_CHANGES, number, Way::Killed)?;
+    if end_of(&ended) != End::Stopped(Stage::Placing) || !disk.has("site/a.md")? {
+        return Ok(());
+    }
+    disk.add("site/a.md", file_of(alloc, "edited")?)?;
+    match undo_on(&disk) {
+        // The journal may say the next stage already.
+        Ended::Refused(Fault::TooLate) => Ok(()),
+        Ended::TakenBack { remarks, .. } => {
+            same("said", &is_kept(&remarks), &true)?;
+            same("the edit", &is_somewhere(&disk, "edited")?, &true)
+        }
+        other => Err(Fail::new(format_args!("{other:?}"))),
+    }
+}
+
+#[test]
+fn keeps_a_new_text_that_is_edited(rt: HostRuntime) -> Result<(), Fail> {
+    for number in 1..=calls_of(rt.alloc(), &cases::PAGE_CHANGES)? {
+        keeps_edit_in_undo(rt.alloc(), number)?;
+    }
+    Ok(())
+}
+
+#[test]
+fn tells_what_is_gone(rt: HostRuntime) -> Result<(), Fail> {
+    let alloc = rt.alloc();
+    let disk = stopped_at(alloc, &cases::SWAP, Stage::Making)?;
+    disk.remove("site/.relmove-run/1")?;
+    let ended = resume_on(&disk);
+    let is_missing = matches!(
+        &ended,
+        Ended::Stopped {
+            fault: Fault::Missing(_),
+            ..
+        }
+    );
+    same("missing", &is_missing, &true)?;
+    same("nothing to say", &remarks_of(&ended).len(), &0)?;
+    let ended = undo_on(&disk);
+    same("taken back", &end_of(&ended), &End::TakenBack)?;
+    // It was to come back from its new path, and then from its staging name.
+    let is_gone = matches!(
+        remarks_of(&ended),
+        [Remark::Gone { .. }, Remark::Gone { .. }]
+    );
+    same("said", &is_gone, &true)?;
+    holds(alloc, "taken back", &disk, &[("b", Some("bb"))])
+}
+
+// Fails a call of what takes a run back, in which a file is gone. Whether the run stopped when all else was back.
+fn stops_without(alloc: Global, first: u32, number: u32) -> Result<bool, Fail> {
+    let (_, disk) = run_and_fail(alloc, &cases::SWAP, first, Way::Killed)?;
+    disk.remove("site/.relmove-run/1")?;
+    disk.fail_at(number, Way::Refused);
+    let ended = undo_on(&disk);
+    if end_of(&ended) != End::Stopped(Stage::Erasing) {
+        return Ok(false);
+    }
+    let is_gone = matches!(remarks_of(&ended), [Remark::Gone { .. }]);
+    same("said", &is_gone, &true)?;
+    Ok(true)
+}
+
+#[test]
+fn tells_what_is_gone_if_it_stops(rt: HostRuntime) -> Result<(), Fail> {
+    let first = first_call_at(rt.alloc(), &cases::SWAP, Stage::Making)?;
+    let mut stops = 0u32;
+    for number in 1..200u32 {
+        if stops_without(rt.alloc(), first, number)? {
+            stops = stops.saturating_add(1);
+        }
+    }
+    same("some stop", &(stops > 0), &true)
+}
+
+// Edits a new text after a kill, and fails a call of what takes the run back. The edit has as many bytes as the text.
+fn keeps_edit_after_fault(alloc: Global, first: u32, number: u32) -> Result<(), Fail> {
+    let (_, disk) = run_and_fail(alloc, &cases::PAGE_CHANGES, first, Way::Killed)?;
+    disk.add("site/.relmove-run/9", file_of(alloc, "[x](y/x.md) mine")?)?;
+    disk.fail_at(number, Way::Refused);
+    undo_on(&disk);
+    has_text(&disk, "site/.relmove-run/9", "[x](y/x.md) mine")
+}
+
+// A text that can't be read for another reason than its permissions may be whole.
+#[test]
+fn keeps_a_text_that_cannot_be_read(rt: HostRuntime) -> Result<(), Fail> {
+    let first = first_whole(rt.alloc())?;
+    for number in 1..60u32 {
+        keeps_edit_after_fault(rt.alloc(), first, number)?;
+    }
+    Ok(())
+}
+
+// Puts another file in the place of a new text before the call that writes the text's end, which fails. The run goes back.
+#[test]
+fn keeps_a_file_in_the_place_of_a_text(rt: HostRuntime) -> Result<(), Fail> {
+    let (alloc, case) = (rt.alloc(), &cases::PAGE_CHANGES);
+    let number = first_whole(alloc)?.saturating_sub(1);
+    let disk = disk_of(alloc, case.before)?;
+    disk.replace_before(number, "site/.relmove-run/9", file_of(alloc, "mine")?)?;
+    disk.fail_at(number, Way::Refused);
+    let ended = run(alloc, case, &disk)?;
+    same("said", &is_kept(remarks_of(&ended)), &true)?;
+    has_text(&disk, "site/.relmove-run/9", "mine")
+}
+
+// Takes a run back that was killed while it wrote a text, at whose name a symbolic link is then. It stays, and this is said.
+fn keeps_symlink(alloc: Global, number: u32) -> Result<(), Fail> {
+    let (_, disk) = run_and_fail(alloc, &cases::PAGE_CHANGES, number, Way::Killed)?;
+    let target = String::from_str(alloc, "../o")?;
+    disk.add("site/.relmove-run/9", Content::Symlink(target))?;
+    let ended = undo_on(&disk);
+    same("back", &end_of(&ended), &End::TakenBack)?;
+    same("said", &is_kept(remarks_of(&ended)), &true)?;
+    same("it stays", &disk.has("site/.relmove-run/9")?, &true)
+}
+
+// Takes a run back that was killed while it wrote a text, at whose name another file has a second name then. The file stays.
+fn keeps_linked_file(alloc: Global, number: u32) -> Result<(), Fail> {
+    let case = &cases::PAGE_CHANGES;
+    let (_, disk) = run_and_fail(alloc, case, number, Way::Killed)?;
+    disk.remove("site/.relmove-run/9")?;
+    disk.add("o", file_of(alloc, "mine")?)?;
+    disk.add_link("o", "site/.relmove-run/9")?;
+    same("back", &end_of(&undo_on(&disk)), &End::TakenBack)?;
+    has_text(&disk, "o", "mine")?;
+    disk.remove("o")?;
+    holds(alloc, "taken back", &disk, case.before)
+}
+
+// A part of a text is a regular file in the run's own directory. A second name of another file is removed there, and the file
+// stays.
+#[test]
+fn keeps_what_is_no_part_of_a_text(rt: HostRuntime) -> Result<(), Fail> {
+    let alloc = rt.alloc();
+    let number = first_call_with(alloc, &cases::PAGE_CHANGES, "site/.relmove-run/9")?;
+    keeps_symlink(alloc, number)?;
+    keeps_linked_file(alloc, number)
+}
+
+// A page that is gone, or is no regular file any more, refuses the run.
+#[test]
+fn needs_its_pages(rt: HostRuntime) -> Result<(), Fail> {
+    let (alloc, case) = (rt.alloc(), &cases::PAGE_CHANGES);
+    let disk = disk_of(alloc, case.before)?;
+    disk.remove("site/a.md")?;
+    is_refused(alloc, case, &disk, "Missing(\"a.md\")")?;
+    disk.add("site/a.md", Content::Directory)?;
+    is_refused(alloc, case, &disk, "Changed(\"a.md\")")
+}
+
+// Whether a change of this page is why a run went back.
+fn is_cause(ended: &Ended, page: &str) -> bool {
+    match ended {
+        Ended::TakenBack {
+            cause: Some(Fault::Changed(changed)),
+            ..
+        } => changed.as_str() == page,
+        _ => false,
+    }
+}
+
+// Of two pages the second one was edited after it was read.
+#[test]
+fn names_the_page_that_was_edited(rt: HostRuntime) -> Result<(), Fail> {
+    let (alloc, case) = (rt.alloc(), &cases::TWO_PAGES_CHANGE);
+    let disk = disk_of(alloc, case.before)?;
+    disk.add("site/b.md", file_of(alloc, "edited")?)?;
+    let ended = run(alloc, case, &disk)?;
+    same("its page", &is_cause(&ended, "b.md"), &true)?;
+    let after = [("a.md", Some("aa")), ("b.md", Some("edited"))];
+    holds(alloc, "taken back", &disk, &after)
+}

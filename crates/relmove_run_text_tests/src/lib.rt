@@ -1,0 +1,6 @@
+//! The tests of the texts that `relmove_run` writes and reads: journals, and what it prints. They need no files, so their
+//! proof waits for no file system in memory.
+#![tactic(auto)]
+
+#[cfg(test)]
+mod tests;

@@ -1,0 +1,17 @@
+//! Tests of what no contract says: which texts are journals, and what is printed.
+use std::fmt::Debug;
+use std::test::Fail;
+
+mod journal;
+mod printing;
+mod shapes;
+
+// Fails in the words of this case where another value was found than is expected. A call of it costs
+// a proof a fourth of what `assert_eq!` with a message does.
+fn same<T: PartialEq + Debug>(case: &str, found: &T, expected: &T) -> Result<(), Fail> {
+    if found == expected {
+        Ok(())
+    } else {
+        Err(Fail::new(format_args!("{case:?}: {found:?}, not {expected:?}")))
+    }
+}

@@ -1,0 +1,229 @@
+//! What a terminal obeys, or what isn't seen, is printed by its number.
+use crate::tests::same;
+use relmove_run::{Call, Change, Fault, Printable, Remark};
+use std::alloc::{AllocError, Global};
+use std::test::Fail;
+
+// Whether a text is printed so.
+fn prints(alloc: Global, text: &str, printed: &str) -> Result<(), Fail> {
+    same(
+        printed,
+        &Printable(text).to_string(alloc)?.as_str(),
+        &printed,
+    )
+}
+
+const BY_NUMBER: [(&str, &str); 12] = [
+    ("a\u{1b}[2Jb", "a\\u{1b}[2Jb"),
+    ("\n\r\t", "\\u{a}\\u{d}\\u{9}"),
+    ("\u{7f}\u{9b}", "\\u{7f}\\u{9b}"),
+    ("\u{ad}", "\\u{ad}"),
+    ("\u{61c}", "\\u{61c}"),
+    ("\u{200b}", "\\u{200b}"),
+    ("\u{200e}\u{200f}", "\\u{200e}\\u{200f}"),
+    ("\u{2028}\u{202e}", "\\u{2028}\\u{202e}"),
+    ("\u{2066}\u{2069}", "\\u{2066}\\u{2069}"),
+    ("\u{feff}", "\\u{feff}"),
+    ("\u{e0000}\u{e007f}", "\\u{e0000}\\u{e007f}"),
+    ("\u{e9}\u{1b}\u{1d11e}", "\u{e9}\\u{1b}\u{1d11e}"),
+];
+
+#[test]
+fn prints_what_changes_the_text_by_its_number(rt: HostRuntime) -> Result<(), Fail> {
+    for (text, printed) in &BY_NUMBER {
+        prints(rt.alloc(), text, printed)?;
+    }
+    Ok(())
+}
+
+const AS_IT_IS: [&str; 4] = [
+    "docs/a b.md",
+    "\u{a0}\u{ac}\u{ae}\u{e9}\u{61b}\u{61d}",
+    "\u{200a}\u{200c}\u{200d}\u{2010}\u{2027}\u{202f}\u{2065}\u{206a}",
+    "\u{fefe}\u{ff00}\u{dffff}\u{e0080}",
+];
+
+#[test]
+fn prints_other_characters_as_they_are(rt: HostRuntime) -> Result<(), Fail> {
+    for text in &AS_IT_IS {
+        prints(rt.alloc(), text, text)?;
+    }
+    Ok(())
+}
+
+// A path with a character that a terminal obeys.
+fn path(alloc: Global) -> Result<String, AllocError> {
+    String::from_str(alloc, "a\u{1b}")
+}
+
+// Another one.
+fn other_path(alloc: Global) -> Result<String, AllocError> {
+    String::from_str(alloc, "b\u{7}")
+}
+
+const CALLS: [(Call, &str); 14] = [
+    (Call::Ask, "can't look up a\\u{1b}: why"),
+    (Call::Lock, "can't lock a\\u{1b}: why"),
+    (Call::List, "can't list a\\u{1b}: why"),
+    (Call::Read, "can't read a\\u{1b}: why"),
+    (Call::ReadLink, "can't read a\\u{1b}: why"),
+    (Call::Create, "can't make a\\u{1b}: why"),
+    (Call::Write, "can't write a\\u{1b}: why"),
+    (Call::Sync, "can't sync a\\u{1b}: why"),
+    (
+        Call::SetPermissions,
+        "can't set the permissions of a\\u{1b}: why",
+    ),
+    (Call::Rename, "can't rename a\\u{1b}: why"),
+    (Call::Link, "can't link a\\u{1b}: why"),
+    (Call::MakeDirectory, "can't make a\\u{1b}: why"),
+    (Call::RemoveFile, "can't remove a\\u{1b}: why"),
+    (Call::RemoveDirectory, "can't remove a\\u{1b}: why"),
+];
+
+// Whether a call that failed at a path is named so.
+fn names_call(alloc: Global, call: Call, path: String, words: &str) -> Result<(), Fail> {
+    let why = String::from_str(alloc, "why")?;
+    let fault = Fault::System { call, path, why };
+    same("a call", &fault.to_string(alloc)?.as_str(), &words)
+}
+
+#[test]
+fn names_each_call(rt: HostRuntime) -> Result<(), Fail> {
+    let alloc = rt.alloc();
+    for (call, words) in &CALLS {
+        names_call(alloc, *call, path(alloc)?, words)?;
+    }
+    names_call(
+        alloc,
+        Call::Lock,
+        String::new(alloc),
+        "can't lock ROOT: why",
+    )
+}
+
+// A fault of each kind that has a path.
+fn fault_at(alloc: Global, kind: usize) -> Result<Fault, AllocError> {
+    let path = path(alloc)?;
+    Ok(match kind {
+        0 => Fault::Missing(path),
+        1 => Fault::OtherText(path),
+        2 => Fault::NotADirectory(path),
+        3 => Fault::TooLong(path),
+        4 => Fault::OtherDevice(path),
+        5 => Fault::Changed(path),
+        6 => Fault::JournalNear(path),
+        7 => Fault::OwnName(path),
+        8 => Fault::Exchanged(path),
+        _ => Fault::LeftOver(path),
+    })
+}
+
+const WITH_PATH: [&str; 10] = [
+    "a\\u{1b} isn't there",
+    "a\\u{1b} isn't the text that the run wrote: another program changed it, or put it there",
+    "a\\u{1b} is no directory: a symbolic link or a file is there",
+    "a\\u{1b} is too long, or a name in it is",
+    "a\\u{1b} is on another file system than ROOT",
+    "a\\u{1b} was changed while the run worked, so the run was taken back",
+    "a\\u{1b} is the journal of a run that didn't end. If it was your run, end it first. If the folder came from elsewhere, the journal may have come with it: then remove it",
+    "a\\u{1b} has a name of relmove's own, and relmove didn't leave it: remove or rename it",
+    "a\\u{1b} isn't the directory that the run made: another program removed or exchanged it",
+    "a\\u{1b} was left by a run that was killed: call relmove --undo ROOT to remove it",
+];
+
+#[test]
+fn names_the_path_of_a_fault(rt: HostRuntime) -> Result<(), Fail> {
+    for (kind, words) in WITH_PATH.iter().enumerate() {
+        let fault = fault_at(rt.alloc(), kind)?;
+        same("a fault", &fault.to_string(rt.alloc())?.as_str(), words)?;
+    }
+    Ok(())
+}
+
+// A fault of each kind that has no path and that no other test prints.
+fn fault_alone(kind: usize) -> Fault {
+    match kind {
+        0 => Fault::OutOfMemory,
+        1 => Fault::AtWork,
+        2 => Fault::LinkedJournal,
+        3 => Fault::OthersJournal(7),
+        _ => Fault::NotAPlan,
+    }
+}
+
+const ALONE: [&str; 5] = [
+    "memory ran out",
+    "another call of relmove is at work here",
+    "the journal .relmove has another name too, as cp -al and some backups give to a file. Add --trust-journal to see what it asks for",
+    "the journal .relmove is of a run of another user, of the number 7: only this user ends it, or root with --trust-journal",
+    "the steps aren't those of a plan",
+];
+
+#[test]
+fn says_a_fault_without_a_path(rt: HostRuntime) -> Result<(), Fail> {
+    for (kind, words) in ALONE.iter().enumerate() {
+        same(
+            "a fault",
+            &fault_alone(kind).to_string(rt.alloc())?.as_str(),
+            words,
+        )?;
+    }
+    Ok(())
+}
+
+#[test]
+fn prints_both_paths_of_a_fault(rt: HostRuntime) -> Result<(), Fail> {
+    let alloc = rt.alloc();
+    let (from, to) = (path(alloc)?, other_path(alloc)?);
+    let text = Fault::Both { from, to }.to_string(alloc)?;
+    let words =
+        "can't rename a\\u{1b} to b\\u{7}: something is at both paths. Rename or remove the one that isn't the run's";
+    same("both", &text.as_str(), &words)
+}
+
+// A remark of each kind that has paths of its own.
+fn remark_at(alloc: Global, kind: usize) -> Result<Remark, AllocError> {
+    let from = path(alloc)?;
+    Ok(match kind {
+        0 => Remark::Kept(from),
+        1 => {
+            let to = other_path(alloc)?;
+            Remark::AtBoth { from, to }
+        }
+        2 => Remark::Near {
+            path: from,
+            owner: 7,
+        },
+        _ => {
+            let to = other_path(alloc)?;
+            Remark::Gone { from, to }
+        }
+    })
+}
+
+const REMARKS: [&str; 4] = [
+    "a\\u{1b} is kept: another program changed it, or put it there",
+    "something was at a\\u{1b} and at b\\u{7}: the first went back to the old path, and the second is kept",
+    "a\\u{1b} is the journal of a run that didn't end, of the user of the number 7",
+    "neither a\\u{1b} nor b\\u{7} is there: another program removed it",
+];
+
+#[test]
+fn prints_the_paths_of_remarks(rt: HostRuntime) -> Result<(), Fail> {
+    for (kind, words) in REMARKS.iter().enumerate() {
+        let remark = remark_at(rt.alloc(), kind)?;
+        same("a remark", &remark.to_string(rt.alloc())?.as_str(), words)?;
+    }
+    Ok(())
+}
+
+#[test]
+fn prints_the_paths_of_changes(rt: HostRuntime) -> Result<(), Fail> {
+    let alloc = rt.alloc();
+    let (from, to) = (path(alloc)?, other_path(alloc)?);
+    let text = Change::Rename { from, to }.to_string(alloc)?;
+    same("a rename", &text.as_str(), &"rename a\\u{1b} to b\\u{7}")?;
+    let text = Change::RemoveFile(path(alloc)?).to_string(alloc)?;
+    same("a removal", &text.as_str(), &"remove a\\u{1b}")
+}
