@@ -121,7 +121,7 @@ journal_bytes-lines origin stage work =
           ∙ append_assoc (root ++ file) run (owner ++ (time ++ (at ++ (work_bytes work ++ end))))
           ∙ append_assoc root file (run ++ (owner ++ (time ++ (at ++ (work_bytes work ++ end)))))
           ∙ ap (λ l. root ++ (file ++ (run ++ (owner ++ (time ++ (at ++ l))))))
-            (ap₂ ◌++◌ (work_bytes-lines work) (sym (append-nil end))
+          (ap₂ ◌++◌ (work_bytes-lines work) (sym (append-nil end))
           ∙ sym (flat_map-append ended (map OfWork (work_lines (parts_of work))) (End size digest ∷ [])))),
     )
 
