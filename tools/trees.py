@@ -9,10 +9,12 @@ import stat
 import subprocess
 
 JOURNAL, NEW_JOURNAL, SPARE = ".relmove", ".relmove-journal", ".relmove-spare"
+# The file by whose owner a call knows who calls.
+CALLER = ".relmove-caller"
 # The directory of the run's own, and the file there of who ends a run.
 OWN_DIRECTORY, END = ".relmove-run", ".relmove-run/end"
-# The files of the run's own that have no text of a page: the journal, the next one, one that keeps room for it, and that file.
-OWN_FILES = (JOURNAL, NEW_JOURNAL, SPARE, END)
+# The files of the run's own that have no text of a page: the journal, the next one, one that keeps room for it, and those two.
+OWN_FILES = (JOURNAL, NEW_JOURNAL, SPARE, CALLER, END)
 # How many seconds a call may take.
 LONGEST = 20
 

@@ -9,7 +9,7 @@ from hostile.bench import AS_NOBODY, AS_OTHER, MOVE, NOBODY, OTHER, PAIR, PAIR_M
 from hostile.runs import first_placing
 from hostile.stopped import begin_stopped, other, write_stopped
 from hostile.users import FOREIGN, SECRET, done_by_other, plain
-from trees import JOURNAL, OWN_DIRECTORY, SPARE, difference
+from trees import JOURNAL, NEW_JOURNAL, OWN_DIRECTORY, difference
 
 # The calls that end a run, and the options with which root may end one of another user.
 ENDS = ("--resume", "--undo")
@@ -50,13 +50,11 @@ def runs_of_others_are_refused(at):
     for (what, begin), (owner, mode), word in itertools.product(RUNS_OF_OTHERS.items(), SHARED, ENDS):
         what = f"{word}, {what}, in a root of mode {mode:o}"
         begin(at, first)
+        (at.top / NEW_JOURNAL).write_text("relmove j")
         share(at, owner, mode)
         before = at.all()
         for options, how in (([], AS_NOBODY), (TRUSTED, AS_NOBODY), ([], {})):
             done, who = at.call(word, *options, "R", **how), f"{what}, as {how.get('user', 0)} {' '.join(options)}"
-            if not how and not (at.top / SPARE).exists():
-                # One of the limits that the page of relmove_run names.
-                before.pop(f"R/{SPARE}", None)
             yield from at.refused(done, before, who)
             if str(OTHER) not in told(done) and (not how or can_read(at.top / JOURNAL)):
                 yield f"{who}: it doesn't say whose it is: {told(done)}"

@@ -6,7 +6,7 @@ import os
 from common import told
 from hostile.bench import BESIDE, MOVE, PAIR, PAIR_MOVED, STRANGERS, begin_pair, ends_whole, ends_with
 from journals import HEAD, ORIGIN, end_of, line
-from trees import END, JOURNAL, NEW_JOURNAL, OWN_DIRECTORY, SPARE, difference
+from trees import CALLER, END, JOURNAL, NEW_JOURNAL, OWN_DIRECTORY, SPARE, difference
 
 # A call of each kind that has to find none of a run's own files, or to end a run.
 CALLS = [MOVE, MOVE[1:], ["--resume", "R"], ["--undo", "R"]]
@@ -14,7 +14,7 @@ CALLS = [MOVE, MOVE[1:], ["--resume", "R"], ["--undo", "R"]]
 
 def own_files_are_new(at):
     """1: What a run of this program can't have left at one of its own names in ROOT refuses each call."""
-    names = (NEW_JOURNAL, JOURNAL, SPARE, OWN_DIRECTORY)
+    names = (NEW_JOURNAL, JOURNAL, SPARE, CALLER, OWN_DIRECTORY)
     for name, (what, put), words in itertools.product(names, STRANGERS.items(), CALLS):
         if (name, what) == (OWN_DIRECTORY, "a directory"):
             continue  # a run that was killed may have left it
@@ -66,7 +66,8 @@ def left_files_are_removed(at):
     """1: What a kill left before there was a journal, whole or in part, refuses a run, and --resume and --undo remove it."""
     lines = "\n".join([HEAD, *(line(it, 1) for it in ORIGIN), line("stage", "writing"), ""])
     text = lines + end_of(lines.encode()).decode()
-    for word, name, part in itertools.product(("--resume", "--undo"), (NEW_JOURNAL, SPARE, None), (0.0, 0.1, 0.5, 1.0)):
+    names = (NEW_JOURNAL, SPARE, CALLER, None)
+    for word, name, part in itertools.product(("--resume", "--undo"), names, (0.0, 0.1, 0.5, 1.0)):
         at.begin(PAIR)
         (at.top / OWN_DIRECTORY).mkdir()
         if name:
@@ -80,7 +81,7 @@ def left_files_are_removed(at):
 
 
 # Names of the run's own to which strangers come together.
-COMING = [[JOURNAL], [NEW_JOURNAL], [SPARE], [OWN_DIRECTORY], [END], [f".relmove-run/{it}" for it in range(1, 8)]]
+COMING = [[JOURNAL], [NEW_JOURNAL], [SPARE], [CALLER], [OWN_DIRECTORY], [END], [f".relmove-run/{it}" for it in range(1, 8)]]
 
 
 def strangers_stay(at):

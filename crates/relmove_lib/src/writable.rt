@@ -3,7 +3,7 @@ use crate::seen::{find, known};
 use crate::tree::{Tree, is_directory_entry};
 use crate::walk::top_of;
 use relmove_plan::Plan;
-use relmove_run::{Call, Fault, Store, directory_of, fault_of, join};
+use relmove_run::{Call, Fault, ROOT_USER, Store, directory_of, fault_of, join};
 use std::alloc::{AllocError, Global};
 use std::collections::{BTreeMap, BTreeSet};
 use std::io::{self, ErrorKind};
@@ -46,15 +46,15 @@ fn need_mode<S: Store>(store: &mut S, path: &str, needed: u32) -> Result<(), Fau
     let Some(found) = find(store, path)? else {
         return Ok(());
     };
-    if found.mode & needed == needed || found.owner == ROOT || !is_caller(store, found.owner)? {
+    if found.mode & needed == needed
+        || found.owner == ROOT_USER
+        || !is_caller(store, found.owner)?
+    {
         return Ok(());
     }
     let error = io::Error::from(ErrorKind::PermissionDenied);
     Err(fault_of(store.alloc(), Call::Write, path, &error))
 }
-
-// The user whom no mode keeps out.
-const ROOT: u32 = 0;
 
 // Whether this process acts for a user. The system says so of the process itself.
 fn is_caller<S: Store>(store: &mut S, user: u32) -> Result<bool, Fault> {

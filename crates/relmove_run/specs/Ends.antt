@@ -2,8 +2,8 @@
 use Rattle.std.specs.Prelude.{Option, Some, None}
 use Rattle.relmove_run.specs.declared.ending.Way.{Way}
 use Rattle.relmove_run.specs.declared.ending.Way.TheVariants.{Resume, Undo}
-use Rattle.relmove_run.specs.declared.work.Stage.{Stage}
-use Rattle.relmove_run.specs.declared.work.Stage.TheVariants.{Writing, Staging, Making, Placing, Cleaning, Unplacing, Unmaking, Unstaging, Erasing}
+use Rattle.relmove_journal.specs.declared.work.Stage.{Stage}
+use Rattle.relmove_journal.specs.declared.work.Stage.TheVariants.{Writing, Staging, Making, Placing, Cleaning, Unplacing, Unmaking, Unstaging, Erasing}
 
 -- the stage from which a run goes back: the one that takes back what its stage does, or the stage itself if the run is
 -- going back, or has moved nothing; or none if it is too late

@@ -4,10 +4,9 @@ ghost use Rattle.relmove_run.specs.Permissions.{allowed_permissions, permissions
 
 use crate::fault::{Call, Fault, at, fault_of};
 use crate::file_store::is_absence;
-use crate::staging_names::{OWN_DIRECTORY, STAGING_NAME};
 use crate::store::{Found, FoundKind, PageFile, Store};
-use crate::text_digest::TextDigest;
 use relmove_actions::NewText;
+use relmove_journal::{OWN_DIRECTORY, STAGING_NAME, TextDigest};
 use std::alloc::{AllocError, Global};
 use std::collections::BTreeMap;
 use std::io::ErrorKind;
@@ -380,9 +379,9 @@ pub(crate) struct PageChange {
     pub(crate) old: PageFile,
 }
 
-// Writes the new text of a page whole to a new file, and syncs it. The file gets the permissions that the page had when it
-// was read, and its owner, if the system allows that. Only its owner can read it before it has its group. Notes which file
-// it is, and when it is whole.
+// Writes the new text of a page whole to a new file, and syncs it. Fails if the page isn't the file any more from which its
+// text was read. The file gets the permissions that the page had when it was read, and its owner, if the system allows that.
+// Only its owner can read it before it has its group. Notes which file it is, and when it is whole.
 pub(crate) fn write_text<S: Store>(
     store: &mut S,
     ways: &mut Ways,
@@ -390,6 +389,7 @@ pub(crate) fn write_text<S: Store>(
     written: &mut Written,
 ) -> Result<(), Fault> {
     let PageChange { new, old } = change;
+    need_page(store, new.page.as_str(), old)?;
     let path = new.file.as_str();
     let mode = old.mode & OWNER_PERMISSIONS;
     let (mut file, _) = create(store, ways, path, mode, &mut written.own)?;

@@ -5,8 +5,8 @@ ghost use Rattle.relmove_run.specs.declared.fault.Fault.TheVariants.{TooLate};
 
 use crate::change::Change;
 use crate::fault::Fault;
-use crate::stages::{MOST_STAGES, actions_of};
-use crate::work::{Stage, Work};
+use crate::stages::{MOST_STAGES, actions_of, next_stage};
+use relmove_journal::{Stage, Work};
 use std::alloc::{AllocError, Global};
 
 /// Which way a run that stopped is ended.
@@ -69,7 +69,7 @@ pub(crate) fn changes_from(
     push_changes(alloc, work, stage, &mut changes)?;
     let mut last = stage;
     for _ in 0..MOST_STAGES {
-        let Some(next) = last.next() else {
+        let Some(next) = next_stage(last) else {
             break;
         };
         push_changes(alloc, work, next, &mut changes)?;

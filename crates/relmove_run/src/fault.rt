@@ -3,8 +3,8 @@ ghost use Rattle.std.specs.Prelude.{◌≡◌};
 ghost use Rattle.relmove_run.specs.declared.fault.Fault.TheVariants.{OutOfMemory};
 
 use crate::printable::Printable;
-use crate::work::Stage;
 use httpdate::{HttpDate, fmt_http_date};
+use relmove_journal::{JournalError, Stage};
 use std::alloc::{AllocError, AllocFailed, Global};
 use std::error::Error;
 use std::time::SystemTime;
@@ -258,6 +258,16 @@ fn words_alone(fault: &Fault) -> &'static str {
 }
 
 impl Error for Fault {}
+
+impl From<JournalError> for Fault {
+    fn from(error: JournalError) -> Fault {
+        match error {
+            JournalError::OutOfMemory => Fault::OutOfMemory,
+            JournalError::NotAJournal => Fault::NotAJournal,
+            JournalError::OldJournal => Fault::OldJournal,
+        }
+    }
+}
 
 impl From<AllocError> for Fault {
     // a failed allocation becomes `OutOfMemory`

@@ -4,8 +4,8 @@
 ghost use Rattle.std.specs.Prelude.{◌≡◌, ◌↔◌, ◌⊎◌, IsTrue};
 ghost use Rattle.std.specs.declared.io.ErrorKind.TheVariants.{NotADirectory, NotFound};
 
-use crate::path::join;
 use crate::store::{Found, FoundKind, Machine, Names, PageFile, Store};
+use relmove_journal::join;
 use std::alloc::{AllocError, Global};
 use std::fs::{
     self, DirBuilder, File, FileType, Metadata, OpenFile, OpenOptions, Permissions, TryLockError,
@@ -237,8 +237,8 @@ impl Machine for HostRuntime {
     }
 }
 
-// Reads at most so many bytes of a regular file, and says which one that is. Whatever else is there isn't opened. If something else comes there before the file is opened,
-// the call fails after it opened that; the call may wait then, if that is a FIFO.
+// Reads at most so many bytes of a regular file, and says which one that is. Whatever else is there isn't opened. If something
+// else comes there before the file is opened, the call fails after it opened that; the call may wait then, if that is a FIFO.
 fn read_regular(runtime: &HostRuntime, path: &str, most: u64) -> io::Result<(PageFile, Vec<u8>)> {
     need_file(fs::symlink_metadata(runtime, path)?.file_type())?;
     let file = fs::open(runtime, path)?;

@@ -2,9 +2,9 @@
 use crate::actions::{copy_of, find};
 use crate::fault::Fault;
 use crate::own_files::JOURNAL;
-use crate::path::join;
 use crate::remark::Remark;
 use crate::store::{FoundKind, Store};
+use relmove_journal::join;
 
 // How many directories above the root are looked at. No path that the system takes has more.
 const MOST_ABOVE: usize = 4096;

@@ -1,4 +1,5 @@
-//! What a run has of its own: its journal, the next journal, a spare one, and the directory of staging names.
+//! What a run has of its own: its journal, the next journal, a spare one, and the directory of staging names. Who ends a run
+//! makes a file besides, whose owner tells who calls.
 //!
 //! A journal is written whole to a new file and synced, and then put in its place. So it is never seen half written. The
 //! first one is put where nothing is, and each later one replaces the one before. The spare one is there for its room: on
@@ -10,11 +11,12 @@ use crate::actions::{
     sync_directory, write_whole,
 };
 use crate::fault::{Call, Fault, at, fault_of};
-use crate::journal::{HEAD_LENGTH, Journal, Origin, begins_as_journal, journal_of, journal_text};
 use crate::remark::Remark;
-use crate::staging_names::OWN_DIRECTORY;
-use crate::store::{Found, FoundKind, Store};
-use crate::work::{Stage, Work};
+use crate::store::{Found, FoundKind, ROOT_USER, Store};
+use relmove_journal::{
+    HEAD_LENGTH, Journal, OWN_DIRECTORY, Origin, Stage, Work, begins_as_journal, journal_of,
+    journal_text,
+};
 use std::io::{self, ErrorKind};
 
 /// The journal's path from the root.
@@ -25,6 +27,9 @@ const NEW_JOURNAL: &str = ".relmove-journal";
 
 // A file that is removed if a journal finds no room.
 const SPARE: &str = ".relmove-spare";
+
+// A file that tells who calls: the user who owns it. It is removed at once.
+const CALLER: &str = ".relmove-caller";
 
 // How many bytes a journal may have: a GiB. A run with a longer one doesn't begin, and nothing longer is read.
 const LONGEST_JOURNAL: u64 = 1 << 30;
@@ -125,6 +130,7 @@ pub fn need_no_own_files<S: Store>(store: &mut S) -> Result<(), Fault> {
     need_no_journal(store)?;
     need_no_other(store, NEW_JOURNAL)?;
     need_no_other(store, SPARE)?;
+    need_no_other(store, CALLER)?;
     need_no_own_directory(store)
 }
 
@@ -219,7 +225,8 @@ fn is_from_here(origin: Origin, root: u64, found: &Found) -> bool {
         && origin.time == found.made
 }
 
-// Takes over the own files of a run whose journal was found. Removes what a kill left of the others.
+// Takes over the own files of a run whose journal was found. Removes what a kill left of the others, once it is known that
+// who calls may end the run.
 pub(crate) fn own_files_of<S: Store>(
     store: &mut S,
     found: &Found,
@@ -228,9 +235,9 @@ pub(crate) fn own_files_of<S: Store>(
 ) -> Result<OwnFiles, Fault> {
     let root = inode_of_root(store)?;
     let directory = own_directory_of(store, origin, trust)?;
+    need_own_run(store, found.owner, trust)?;
     remove_leftover(store, NEW_JOURNAL, Some(found))?;
     remove_leftover(store, SPARE, None)?;
-    need_own_run(store, found.owner, trust)?;
     Ok(OwnFiles {
         root,
         directory: OwnFile::Inode(directory),
@@ -265,19 +272,27 @@ fn need_own_run<S: Store>(store: &mut S, owner: u32, trust: Trust) -> Result<(),
     Err(Fault::OthersJournal(owner))
 }
 
-// The user who may do everything.
-const ROOT_USER: u32 = 0;
-
-// The user who calls: the owner of a file that the call makes, and removes again. `None` if the disk has no room for it.
+// The user who calls. On a disk that has no room for a file the spare journal makes way for it. `None` if there is no room
+// then either.
 fn caller_of<S: Store>(store: &mut S) -> Result<Option<u32>, Fault> {
-    let file = match store.create(NEW_JOURNAL, PRIVATE) {
+    remove_leftover(store, CALLER, None)?;
+    if let Some(caller) = owner_of_new_file(store)? {
+        return Ok(Some(caller));
+    }
+    remove_leftover(store, SPARE, None)?;
+    owner_of_new_file(store)
+}
+
+// The owner of a file that the call makes, and removes again. `None` if the disk has no room for it.
+fn owner_of_new_file<S: Store>(store: &mut S) -> Result<Option<u32>, Fault> {
+    let file = match store.create(CALLER, PRIVATE) {
         Err(error) if error.kind() == ErrorKind::StorageFull => return Ok(None),
-        created => at(store.alloc(), Call::Create, NEW_JOURNAL, created)?,
+        created => at(store.alloc(), Call::Create, CALLER, created)?,
     };
     let found = store.find_new(&file);
-    let found = at(store.alloc(), Call::Ask, NEW_JOURNAL, found)?;
+    let found = at(store.alloc(), Call::Ask, CALLER, found)?;
     let mut own = OwnFile::Inode(found.inode);
-    remove_own(store, NEW_JOURNAL, &mut own)?;
+    remove_own(store, CALLER, &mut own)?;
     Ok(Some(found.owner))
 }
 
@@ -296,6 +311,7 @@ const OTHERS_WRITE: u32 = 0o022;
 pub(crate) fn remove_leftovers<S: Store>(store: &mut S) -> Result<(), Fault> {
     remove_leftover(store, NEW_JOURNAL, None)?;
     remove_leftover(store, SPARE, None)?;
+    remove_leftover(store, CALLER, None)?;
     remove_empty_directory(store)
 }
 
@@ -338,7 +354,7 @@ fn read_journal<S: Store>(store: &mut S, found: &Found) -> Result<Journal, Fault
     let read = store.read_start(JOURNAL, LONGEST_JOURNAL);
     let bytes = at(store.alloc(), Call::Read, JOURNAL, read)?;
     match std::str::from_utf8(bytes.as_slice()) {
-        Ok(text) => journal_of(store.alloc(), text),
+        Ok(text) => Ok(journal_of(store.alloc(), text)?),
         Err(_) => Err(Fault::NotAJournal),
     }
 }

@@ -1,10 +1,10 @@
 //! Asks the system whether it can have the paths of a run, before the run begins.
 use crate::actions::copy_of;
 use crate::fault::{Call, Fault, at};
-use crate::path::{directory_of, join};
 use crate::staging_names::{is_of_text, staging_path, text_path};
 use crate::store::{Found, FoundKind, Store};
 use relmove_actions::Steps;
+use relmove_journal::{directory_of, join};
 use std::alloc::Global;
 use std::collections::BTreeMap;
 use std::io::ErrorKind;

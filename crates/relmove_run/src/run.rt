@@ -3,21 +3,18 @@ use crate::actions::{PageChange, find, need_page, sync_directory};
 use crate::change::Change;
 use crate::ending::{Way, changes_from, goes_on, stage_to_end};
 use crate::fault::{Call, Fault, at};
-use crate::journal::Journal;
 use crate::near::need_no_journal_near;
 use crate::own_files::{
     JOURNAL, Trust, find_journal, need_no_own_files, none_yet, own_files_of, remove_leftovers,
 };
 use crate::possible::need_possible;
 use crate::remark::Remark;
-use crate::shape::is_of_run;
 use crate::staging_names::with_staging_names;
 use crate::store::{Found, PageFile, Store};
-use crate::text_digest::TextDigest;
 use crate::ways::need_ways;
-use crate::work::{Leftover, Stage, TextFile, Work};
 use crate::worker::Worker;
 use relmove_actions::{NewText, Rename, Steps};
+use relmove_journal::{Journal, Leftover, Stage, TextDigest, TextFile, Work, is_of_run};
 use std::alloc::{AllocError, Global};
 use std::collections::BTreeMap;
 

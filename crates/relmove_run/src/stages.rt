@@ -1,27 +1,25 @@
 //! What a run does in each stage: one list of actions, made once. The same list says what a run would change, is done, and
 //! says which directories have to be synced.
 use crate::change::Change;
-use crate::work::{Leftover, Stage, TextFile, Work};
 use relmove_actions::Rename;
+use relmove_journal::{Leftover, Stage, TextFile, Work};
 use std::alloc::{AllocError, Global};
 
 // No stage has more stages after it.
 pub(crate) const MOST_STAGES: usize = 9;
 
-impl Stage {
-    // The stage that comes next. The last stage on each way has none.
-    pub(crate) fn next(self) -> Option<Stage> {
-        match self {
-            Stage::Writing => None,
-            Stage::Staging => Some(Stage::Making),
-            Stage::Making => Some(Stage::Placing),
-            Stage::Placing => Some(Stage::Cleaning),
-            Stage::Cleaning => None,
-            Stage::Unplacing => Some(Stage::Unmaking),
-            Stage::Unmaking => Some(Stage::Unstaging),
-            Stage::Unstaging => Some(Stage::Erasing),
-            Stage::Erasing => None,
-        }
+// The stage after this one. The last stage on each way has none.
+pub(crate) fn next_stage(stage: Stage) -> Option<Stage> {
+    match stage {
+        Stage::Writing => None,
+        Stage::Staging => Some(Stage::Making),
+        Stage::Making => Some(Stage::Placing),
+        Stage::Placing => Some(Stage::Cleaning),
+        Stage::Cleaning => None,
+        Stage::Unplacing => Some(Stage::Unmaking),
+        Stage::Unmaking => Some(Stage::Unstaging),
+        Stage::Unstaging => Some(Stage::Erasing),
+        Stage::Erasing => None,
     }
 }
 

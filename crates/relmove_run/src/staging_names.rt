@@ -3,16 +3,10 @@
 //! The steps of a plan name what moves by labels: `.relmove-1`, `.relmove-2` and so on, and a new text by one next to its
 //! page. The number of a label is the staging name's: `.relmove-run/1` stands for `.relmove-1`. A new text is written at its
 //! staging name at once.
-use crate::path::{join, name_of};
 use relmove_actions::{NewText, Rename, STAGING, Steps};
+use relmove_journal::{OWN_DIRECTORY, join, name_of};
 use std::alloc::{AllocError, Global};
 use std::collections::BTreeMap;
-
-/// The path of a run's own directory from the root.
-pub const OWN_DIRECTORY: &str = ".relmove-run";
-
-// What a staging name begins with, before its number.
-pub(crate) const STAGING_NAME: &str = ".relmove-run/";
 
 // The path that a run has for one of a plan that may begin with a label. Allocates it.
 pub(crate) fn staging_path(alloc: Global, path: &str) -> Result<String, AllocError> {

@@ -5,6 +5,9 @@ use std::alloc::{AllocError, Global};
 use std::io;
 use std::time::SystemTime;
 
+/// The user who may do everything, whatever a mode says.
+pub const ROOT_USER: u32 = 0;
+
 /// What kind of thing is at a path.
 #[derive(Clone, Copy, Debug, PartialEq, Eq)]
 pub enum FoundKind {

@@ -1,10 +1,9 @@
 //! Syncs the directories in which a stage of a run changed names, and removes the names that a loss of power kept there.
 use crate::actions::{Ways, remove_second_name, sync_directory};
 use crate::fault::Fault;
-use crate::path::{directory_of, join, name_of};
 use crate::stages::{Action, actions_of};
 use crate::store::Store;
-use crate::work::{Stage, Work};
+use relmove_journal::{Stage, Work, directory_of, join, name_of};
 use std::alloc::{AllocError, Global};
 use std::collections::{BTreeMap, BTreeSet};
 

@@ -2,7 +2,7 @@
 use crate::actions::copy_of;
 use crate::fault::{Call, Fault, at};
 use crate::store::{FoundKind, Store};
-use crate::work::{Leftover, Work};
+use relmove_journal::{Leftover, Work};
 use std::alloc::{AllocError, Global};
 use std::collections::BTreeSet;
 use std::io::ErrorKind;

@@ -10,12 +10,11 @@ use crate::own_files::{
     OwnFiles, make_own_directory, need_untaken, put_first, put_next, remove_all, take_directory,
 };
 use crate::remark::Remark;
-use crate::stages::{Action, MOST_STAGES, actions_of};
+use crate::stages::{Action, MOST_STAGES, actions_of, next_stage};
 use crate::store::{Found, FoundKind, Store};
 use crate::synced::{remove_left_names, sync_stage};
-use crate::text_digest::TextDigest;
-use crate::work::{Leftover, Stage, TextFile, Work};
 use relmove_actions::Rename;
+use relmove_journal::{Leftover, Stage, TextDigest, TextFile, Work};
 use std::alloc::AllocError;
 use std::io::ErrorKind;
 
@@ -145,7 +144,7 @@ impl<S: Store + Drop> Worker<S> {
     pub(crate) fn finish(&mut self) -> Result<(), Fault> {
         self.do_stage()?;
         for _ in 0..MOST_STAGES {
-            let Some(next) = self.stage.next() else {
+            let Some(next) = next_stage(self.stage) else {
                 break;
             };
             self.enter(next)?;

@@ -1,5 +1,4 @@
-//! The tests of the texts that `relmove_run` writes and reads: journals, and what it prints. They need no files, so their
-//! proof waits for no file system in memory.
+//! The tests of the texts that `relmove_run` prints. They need no files, so their proof waits for no file system in memory.
 #![tactic(auto)]
 
 #[cfg(test)]

@@ -1,10 +1,8 @@
-//! Tests of what no contract says: which texts are journals, and what is printed.
+//! Tests of what no contract says: what is printed.
 use std::fmt::Debug;
 use std::test::Fail;
 
-mod journal;
 mod printing;
-mod shapes;
 
 // Fails in the words of this case where another value was found than is expected. A call of it costs
 // a proof a fourth of what `assert_eq!` with a message does.

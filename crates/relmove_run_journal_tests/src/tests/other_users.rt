@@ -25,7 +25,8 @@ fn forge(alloc: Global, disk: &Disk, origin: Origin) -> Result<(), Fail> {
     Ok(disk.add("site/.relmove", file_of(alloc, text.as_str())?)?)
 }
 
-// A disk with a journal that another user planted: the journal says all that this user can know of its file.
+// A disk with a journal that another user planted: the journal says all that this user can know of its file. Beside it are a
+// next journal and a spare one.
 fn planted(alloc: Global) -> Result<Disk, Fail> {
     let disk = stopped_at(alloc, &cases::SWAP, Stage::Placing)?;
     disk.set_owner("site/.relmove", 7, 7)?;
@@ -35,7 +36,8 @@ fn planted(alloc: Global) -> Result<Disk, Fail> {
         ..journal_on(alloc, &disk)?.origin
     };
     forge(alloc, &disk, origin)?;
-    disk.remove("site/.relmove-spare")?;
+    disk.add("site/.relmove-journal", file_of(alloc, "relmove j")?)?;
+    same("a spare", &disk.has("site/.relmove-spare")?, &true)?;
     Ok(disk)
 }
 
@@ -62,16 +64,33 @@ fn lets_root_end_a_run_that_it_trusts(rt: HostRuntime) -> Result<(), Fail> {
     holds(alloc, "taken back", &disk, cases::SWAP.before)
 }
 
-// Whether an undoing on a full disk ends so, if the root has these permissions.
-fn ends_on_a_full_disk(alloc: Global, number: u32, mode: u32, end: End) -> Result<(), Fail> {
+// A run that was killed before a call, on a disk that is full now. The root has these permissions.
+fn full_disk(alloc: Global, number: u32, mode: u32) -> Result<Disk, Fail> {
     let (_, disk) = run_and_fail(alloc, &cases::PAGE_CHANGES, number, Way::Killed)?;
-    disk.remove("site/.relmove-spare")?;
     disk.set_mode("site", mode)?;
+    disk.leave_room(0)?;
+    Ok(disk)
+}
+
+// Whether an undoing on a full disk without a spare journal ends so, if the root has these permissions.
+fn ends_on_a_full_disk(alloc: Global, number: u32, mode: u32, end: End) -> Result<(), Fail> {
+    let disk = full_disk(alloc, number, mode)?;
+    disk.remove("site/.relmove-spare")?;
     disk.leave_room(0)?;
     same("an end", &end_of(&undo_on(&disk)), &end)
 }
 
-// On a full disk no file can be made: then a journal is believed where nobody but its owner can have written it.
+// The spare journal makes way for the file that tells who calls.
+#[test]
+fn knows_its_caller_on_a_full_disk(rt: HostRuntime) -> Result<(), Fail> {
+    let (alloc, case) = (rt.alloc(), &cases::PAGE_CHANGES);
+    let number = first_call_with(alloc, case, "site/.relmove-run/9")?;
+    let disk = full_disk(alloc, number, 0o777)?;
+    same("an end", &end_of(&undo_on(&disk)), &End::TakenBack)
+}
+
+// On a full disk without a spare journal no file can be made: then a journal is believed where nobody but its owner can have
+// written it.
 #[test]
 fn ends_its_own_run_on_a_full_disk(rt: HostRuntime) -> Result<(), Fail> {
     let (alloc, case) = (rt.alloc(), &cases::PAGE_CHANGES);

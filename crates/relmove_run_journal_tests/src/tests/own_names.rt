@@ -101,6 +101,21 @@ fn opens_no_spare_journal_that_is_there(rt: HostRuntime) -> Result<(), Fail> {
 }
 
 #[test]
+fn opens_no_file_of_a_caller_that_is_there(rt: HostRuntime) -> Result<(), Fail> {
+    for stranger in &STRANGERS {
+        let reason = "OwnName(\".relmove-caller\")";
+        refuses(
+            rt.alloc(),
+            "site/.relmove-caller",
+            *stranger,
+            reason,
+            reason,
+        )?;
+    }
+    Ok(())
+}
+
+#[test]
 fn opens_no_journal_that_is_there(rt: HostRuntime) -> Result<(), Fail> {
     let alloc = rt.alloc();
     for stranger in &STRANGERS {
@@ -193,7 +208,7 @@ fn disk_with_file(alloc: Global, name: &str, text: &str) -> Result<Disk, Fail> {
 #[test]
 fn tells_what_a_killed_run_left(rt: HostRuntime) -> Result<(), Fail> {
     let alloc = rt.alloc();
-    for name in [".relmove-journal", ".relmove-spare"] {
+    for name in [".relmove-journal", ".relmove-spare", ".relmove-caller"] {
         is_left_over(alloc, name, &disk_with_file(alloc, name, "relmove j")?)?;
     }
     Ok(())
@@ -214,7 +229,7 @@ fn reads_no_more_than_a_journal_can_have(rt: HostRuntime) -> Result<(), Fail> {
     let reason = reason_of(alloc, Stranger::File)?;
     is_refused(alloc, &cases::SWAP, &disk, reason.as_str())?;
     gives_reason(alloc, &undo_on(&disk), "NotAJournal")?;
-    for name in [".relmove-journal", ".relmove-spare"] {
+    for name in [".relmove-journal", ".relmove-spare", ".relmove-caller"] {
         is_left_over(alloc, name, &disk_with_hole(alloc, name)?)?;
     }
     Ok(())

@@ -9,8 +9,8 @@ use relmove_run_cases::{
 use std::alloc::Global;
 use std::test::Fail;
 
-// Puts a file at a path before a call of a run, if nothing is there, and its directory is. Whether the file stays. If it does, the run can be
-// taken back after the file is removed.
+// Puts a file at a path before a call of a run, if nothing is there, and its directory is. Whether the file stays. If it does,
+// the run can be taken back after the file is removed.
 fn stays(alloc: Global, case: &Case, path: &str, number: u32) -> Result<bool, Fail> {
     let (_, disk) = run_and_fail(alloc, case, number, Way::Killed)?;
     if disk.has(path)? || !disk.has(directory_of(path))? {

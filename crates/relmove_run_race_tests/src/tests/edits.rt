@@ -2,8 +2,9 @@
 use relmove_disk::{Content, Disk, Way, disk_of, file_of};
 use relmove_run::{Ended, Fault, Remark, Stage};
 use relmove_run_cases::{
-    End, Ending, calls_of, cases, end_of, first_call_at, first_call_with, has_text, holds,
-    is_changed, is_refused, remarks_of, resume_on, run, run_and_fail, same, stopped_at, undo_on,
+    End, Ending, calls_of, cases, end_of, first_call_at, first_call_with, gives_reason, has_text,
+    holds, is_changed, is_refused, remarks_of, resume_on, run, run_and_fail, same, stopped_at,
+    undo_on,
 };
 use std::alloc::Global;
 use std::test::Fail;
@@ -43,6 +44,20 @@ fn keeps_a_page_that_is_edited(rt: HostRuntime) -> Result<(), Fail> {
         }
     }
     same("edits that are lost", &lost, &1)
+}
+
+// Another run may move a page between the first question for it and the run's own journal.
+#[test]
+fn is_refused_if_a_page_went_before_its_journal_stood(rt: HostRuntime) -> Result<(), Fail> {
+    let (alloc, case) = (rt.alloc(), &cases::PAGE_CHANGES);
+    for number in 1..=first_call_with(alloc, case, "site/.relmove")? {
+        let disk = disk_of(alloc, case.before)?;
+        disk.remove_before(number, "site/a.md")?;
+        let ended = run(alloc, case, &disk)?;
+        gives_reason(alloc, &ended, "Missing(\"a.md\")")?;
+        holds(alloc, "refused", &disk, &[("x.md", Some("xx"))])?;
+    }
+    Ok(())
 }
 
 #[test]

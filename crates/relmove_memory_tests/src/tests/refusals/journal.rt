@@ -2,8 +2,9 @@
 use super::marks::{begin, end};
 use crate::tests::same;
 use relmove_actions::Rename;
-use relmove_run::{
-    Fault, Leftover, Origin, Stage, TextDigest, TextFile, Work, is_of_run, journal_of, journal_text,
+use relmove_journal::{
+    JournalError, Leftover, Origin, Stage, TextDigest, TextFile, Work, is_of_run, journal_of,
+    journal_text,
 };
 use std::alloc::{AllocError, Global};
 use std::test::Fail;
@@ -67,7 +68,7 @@ fn the_journal_of_a_text(rt: HostRuntime) -> Result<(), Fail> {
     let expected = work(rt.alloc())?;
     begin(rt.alloc());
     let answer = journal_of(rt.alloc(), TEXT);
-    let is_refused = matches!(&answer, Err(Fault::OutOfMemory));
+    let is_refused = matches!(&answer, Err(JournalError::OutOfMemory));
     end(rt.alloc(), is_refused)?;
     let is_read = match &answer {
         Ok(journal) => journal.work == expected,

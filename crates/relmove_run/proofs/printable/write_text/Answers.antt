@@ -5,7 +5,7 @@ use Rattle.std.proofs.lemmas.Iterator.Consumers.{YieldsList-turn, YieldsList-end
 use Rattle.std.proofs.lemmas.List.{length_push}
 use Rattle.std.specs.Str.{chars}
 use Rattle.relmove_run.specs.Printing.{printed_character}
-use Rattle.relmove_run.proofs.LoopLemmas.{flat_map-end, flat_map-turn}
+use Rattle.relmove_journal.proofs.ForCallers.{flat_map-end, flat_map-turn}
 use Rattle.relmove_run.proofs.printable.write_text.Goals as goal
 
 pub loop-character-init : goal.loop-character-init

@@ -1,0 +1,4 @@
+pub mod Shape
+pub mod Paths
+pub mod Journals
+pub mod Reading

@@ -1,0 +1,5 @@
+//! The tests of `relmove_journal`.
+#![tactic(auto)]
+
+#[cfg(test)]
+mod tests;
