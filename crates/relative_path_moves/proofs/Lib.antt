@@ -9,6 +9,4 @@ mod FrontTextLemmas
 mod WayLemmas
 mod LeadingLemmas
 mod TreeMovesLemmas
-mod LeastLemmas
-mod CollisionsLemmas
 pub mod ForCallers

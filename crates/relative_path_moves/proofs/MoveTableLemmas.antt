@@ -59,15 +59,6 @@ IsUnmoved-kept moves place none j from =
 pub IsTarget-kept : (moves : List Move) (place : List Step) → IsNoneAt (olds_of moves) place → IsTarget moves place place
 IsTarget-kept moves place none = inr (IsUnmoved-kept moves place none, refl)
 
--- a file is unmoved exactly if the index has no number for it
-pub IsUnmoved-none : (moves : List Move) (place : List Step) (found : Option ℕ) (none : Bool)
-    → IsFoundAt (olds_of moves) place found → is_some found ≡ not none → IsTrue none ↔ IsUnmoved moves place
-IsUnmoved-none moves place None none absent is = (λ _. IsUnmoved-kept moves place absent, λ _. not-false none (sym is))
-IsUnmoved-none moves place (Some j) none first is = (
-  λ yes. absurd (true≢false (is ∙ ap not yes)),
-  λ unmoved. absurd (IsUnmoved-found moves place j first unmoved),
-)
-
 pub LeadToTarget-kept : (moves : List Move) (place cs : List Step) → AreApart moves → IsNoneAt (olds_of moves) place
     → IsSame place cs → LeadToTarget moves place cs
 LeadToTarget-kept moves place cs apart none same =

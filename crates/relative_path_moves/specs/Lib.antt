@@ -4,6 +4,5 @@ pub mod Moves
 pub mod MoveError
 pub mod MoveTable
 pub mod TreeMoves
-pub mod Collisions
 pub mod Reference
 pub mod Ways

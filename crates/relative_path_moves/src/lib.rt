@@ -3,7 +3,7 @@
 //! ```text
 //! one reference, moves of directories     reference  tree_moves
 //! moves of files                          move_table
-//! paths that collide, ways to a target    collisions  leading
+//! ways to a target                        leading
 //! paths by the places they lead to        place_index
 //! a path that is known to be normal       normal_path
 //! places, errors, shortest paths          places  move_error  way
@@ -18,7 +18,6 @@ pub use self::places::{directory, has_place};
 pub use self::reference::moved;
 pub use self::tree_moves::{MovedPage, TreeMoves};
 
-mod collisions;
 mod leading;
 mod move_error;
 mod move_table;

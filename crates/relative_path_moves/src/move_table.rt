@@ -26,18 +26,7 @@ ghost use Rattle.relative_path_moves.specs.MoveTable.{olds_of, IsSound, IsWay, I
 ghost use Rattle.relative_path.specs.Normalizing.{IsNormalText};
 ghost use Rattle.relative_path_moves.specs.PlaceIndex.{Indexes, IsFoundAt};
 ghost use Rattle.relative_path_moves.specs.TreeMoves.{HaveNewTexts};
-ghost use Rattle.relative_path_moves.specs.Collisions.{
-  news_of,
-  CollideAt,
-  CollideWithFile,
-  HoldsNowhere,
-  IsLeastPair,
-  IsLeast,
-  IsMetAt,
-  HaveStaying,
-};
 
-use crate::collisions::{collide, first_collision, first_meeting};
 use crate::move_error::{MoveTableError, ReferenceError};
 use crate::normal_path::NormalPath;
 use crate::place_index::PlaceIndex;
@@ -50,8 +39,7 @@ use std::marker::Model;
 ///
 /// A move is the old and the new path of a file, both relative to one root. In a table both paths of
 /// each move have a file name, and no two moves have the same old path. Two moves may have the same new
-/// path, and a new path may be that of a file that stays: [`MoveTable::same_new`] and
-/// [`MoveTable::same_new_as`] find both.
+/// path, and a new path may be that of a file that stays.
 ///
 /// A reference is a *path* here: it has no scheme, no query and no fragment, and a percent sign is a
 /// byte of a name.
@@ -253,132 +241,6 @@ impl<'a> MoveTable<'a> {
         let now = self.path_after(alloc, page)?;
         let meant = NormalPath::of_joined(alloc, directory(page), reference)?;
         link_to(alloc, directory(now), reference, self.target(&meant))
-    }
-
-    /// Returns the first two moves whose new paths collide: they lead to one place, or one of them leads to a
-    /// place below the other, as if the other file were a directory. The result is the lexicographically
-    /// least pair of numbers of moves, the lesser number first. `None` means that no two new paths collide.
-    ///
-    /// The call sees only the new paths. It doesn't see files that stay (for these call
-    /// [`MoveTable::same_new_as`]), nor that two names are the same on a file system that ignores case, that
-    /// two spellings of a name beyond ASCII are the same (Unicode's normal forms), or that a symbolic link
-    /// leads elsewhere. Paths above the root collide only if they do so from every base: `../site/a` and `a`
-    /// don't, though the root may be called `site`.
-    ///
-    /// Allocates the normal form of each new path, a list of them, and an index of them. Searches the index
-    /// once for each new path and for each directory above it. Fails only if an allocation fails.
-    ///
-    /// ```
-    /// let moves = [("a", "x/y"), ("b", "z"), ("c", "x/./y/c")]
-    ///     .map(|(old, new)| (RelativePath::new(old), RelativePath::new(new)));
-    /// let table = MoveTable::new(alloc, &moves)?;
-    /// assert_eq!(rt; table.same_new(alloc)?, Some((0, 2)));
-    /// let table = MoveTable::new(alloc, &moves[..2])?;
-    /// assert_eq!(rt; table.same_new(alloc)?, None);
-    /// ```
-    pub fn same_new(&self, alloc: Global) -> Result<Option<(usize, usize)>, AllocError>
-        // `None` exactly if no pair collides
-        ensures none { IfOk result (λ found. IsNone found
-            ↔ HoldsNowhere (CollideAt (news_of self.now))) }
-        // the lexicographically least pair that collides
-        ensures first { (j k : ℕ) → IfOk result (λ found. (found ≡ Some (j, k))
-            ↔ IsLeastPair (CollideAt (news_of self.now)) j k) }
-    {
-        let news = new_paths(alloc, self.moves)?;
-        first_collision(alloc, &news)
-    }
-
-    /// Returns the first move whose new path collides with a file that stays, and the first such file: the
-    /// new path leads to the file's place, to a place above it, or to a place below it, as if the file were a
-    /// directory. The result is the number of the move and the number of the file in the list. It is the
-    /// lexicographically least such pair. `None` means that no new path collides with a file that stays.
-    ///
-    /// The call passes over a file of the list that is the old path of a move: such a file doesn't stay. So
-    /// the list may have all files before the moves. Whether two new paths collide is what
-    /// [`MoveTable::same_new`] returns. If both calls return `None`, and no two files of the list collide
-    /// before the moves, then no two of the files collide after the moves.
-    ///
-    /// The call sees only files of the list, and only what [`MoveTable::same_new`] sees of a path.
-    ///
-    /// Allocates the normal form of each new path and of each file, lists of them, and an index of each list.
-    /// If there is such a pair, allocates the normal forms of the files again, up to the file of the pair.
-    /// Searches an index once for each path and for each directory above it. Fails only if an allocation fails.
-    ///
-    /// ```
-    /// let moves = [("a", "b"), ("b", "c"), ("d", "e/f")]
-    ///     .map(|(old, new)| (RelativePath::new(old), RelativePath::new(new)));
-    /// let table = MoveTable::new(alloc, &moves)?;
-    /// let files = ["a", "b", "d", "e"].map(RelativePath::new);
-    /// assert_eq!(rt; table.same_new_as(alloc, &files)?, Some((2, 3)));
-    /// assert_eq!(rt; table.same_new_as(alloc, &files[..3])?, None);
-    /// ```
-    pub fn same_new_as(
-        &self,
-        alloc: Global,
-        files: &[RelativePath<'_>],
-    ) -> Result<Option<(usize, usize)>, AllocError>
-        // `None` exactly if no pair collides
-        ensures none { IfOk result (λ found. IsNone found
-            ↔ HoldsNowhere (CollideWithFile self.now (map path_components files.now))) }
-        // the lexicographically least pair that collides
-        ensures first { (k f : ℕ) → IfOk result (λ found. (found ≡ Some (k, f))
-            ↔ IsLeastPair (CollideWithFile self.now (map path_components files.now)) k f) }
-    {
-        let news = new_paths(alloc, self.moves)?;
-        let staying = self.staying(alloc, files)?;
-        match first_meeting(alloc, &news, &staying)? {
-            Some(k) => {
-                let file = self.first_met(alloc, &news[k], files)?;
-                Ok(file.map(|f| (k, f)))
-            }
-            None => Ok(None),
-        }
-    }
-
-    // Returns the normal paths of the files that don't move.
-    fn staying(
-        &self,
-        alloc: Global,
-        files: &[RelativePath<'_>],
-    ) -> Result<Vec<NormalPath>, AllocError>
-        ensures { IfOk result
-            (λ staying. HaveStaying self.now (map path_components files.now) staying.items) }
-    {
-        let mut staying = Vec::new(alloc);
-        for file in files {
-            let file = NormalPath::of(alloc, *file)?;
-            if self.stays(&file) {
-                staying.push(file)?;
-            }
-        }
-        Ok(staying)
-    }
-
-    // Returns the number of the first file that doesn't move and collides with the path.
-    fn first_met(
-        &self,
-        alloc: Global,
-        path: &NormalPath,
-        files: &[RelativePath<'_>],
-    ) -> Result<Option<usize>, AllocError>
-        ensures { IfOk result
-            (IsLeast (IsMetAt self.now (map path_components files.now) (components path.now))) }
-    {
-        for (f, file) in files.iter().enumerate() {
-            let file = NormalPath::of(alloc, *file)?;
-            if self.stays(&file) && collide(path, &file) {
-                return Ok(Some(f));
-            }
-        }
-        Ok(None)
-    }
-
-    // Returns whether the file at a place doesn't move.
-    fn stays(&self, place: &NormalPath) -> bool
-        ensures { (cs : List Step) → IsSame cs (components place.now)
-            → IsTrue result ↔ IsUnmoved self.now cs }
-    {
-        self.by_old.get(place).is_none()
     }
 
     /// Returns the path of a file after the moves. If the path leads where the old path of a move leads,

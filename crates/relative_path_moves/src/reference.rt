@@ -29,8 +29,7 @@ use std::alloc::Global;
 /// target of the reference. The target is the place where the reference led before the moves; if that is
 /// the old path of a move, the target is its new path.
 ///
-/// Two moves may have the same new path, and a new path may be that of a file that stays: the calls
-/// [`MoveTable::same_new`] and [`MoveTable::same_new_as`] find both.
+/// Two moves may have the same new path, and a new path may be that of a file that stays.
 ///
 /// The call checks the moves before the reference, and looks for file names before it allocates. It then
 /// allocates for each old path: the normal form, and an entry of a table.

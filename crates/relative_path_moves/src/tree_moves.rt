@@ -19,9 +19,7 @@ ghost use Rattle.relative_path_moves.specs.Moves.{
 ghost use Rattle.relative_path_moves.specs.MoveError.{Refuses};
 ghost use Rattle.relative_path_moves.specs.MoveTable.{olds_of};
 ghost use Rattle.relative_path_moves.specs.TreeMoves.{AtTreePath, AtTreeTarget, IsLeftInPlace, IsTakenTo, NearestUpTo, IsSoundTree};
-ghost use Rattle.relative_path_moves.specs.Collisions.{CollideAfter, HoldsNowhere, IsLeastPair, HavePathsAfter};
 
-use crate::collisions::first_collision;
 use crate::leading::leads_to;
 use crate::move_error::{MoveTableError, ReferenceError};
 use crate::move_table::{MoveTable, new_paths};
@@ -43,7 +41,7 @@ use std::marker::Model;
 ///
 /// Old and new paths are relative to one root. A path that climbs above the root doesn't move.
 ///
-/// Two files may end in one place: [`TreeMoves::same_place`] finds the first two that do.
+/// Two files may end in one place.
 ///
 /// ```
 /// let moves = [("docs", "guide"), ("docs/a.md", "b.md")]
@@ -265,66 +263,6 @@ impl<'a> TreeMoves<'a> {
     {
         let target = self.target(alloc, &page.before, reference)?;
         link_from(alloc, &page.after, reference, &target)
-    }
-
-    /// Returns the first two of these files that collide after the moves: their paths after the moves lead to
-    /// one place, or one of the paths leads to a place below the other, as if the other file were a
-    /// directory. The result is the lexicographically least pair of numbers of files, the lesser number
-    /// first. The files are numbered from 0. `None` means that no two of the files collide.
-    ///
-    /// The files are given by their paths before the moves. A program that moves files calls this with all
-    /// files of the tree. The list has files only, since a directory collides with each file in it, and each
-    /// file once.
-    ///
-    /// The call sees only the files of the list, and only their paths. It doesn't see that two names are the
-    /// same on a file system that ignores case, that two spellings of a name beyond ASCII are the same
-    /// (Unicode's normal forms), or that a symbolic link leads elsewhere. Paths above the root collide only if
-    /// they do so from every base: `../site/a` and `a` don't, though the root may be called `site`.
-    ///
-    /// Allocates what [`TreeMoves::path_after`] does for each file, a list of the results, and an index of
-    /// them. Searches the index once for each file and for each directory above it. Fails only if an
-    /// allocation fails.
-    ///
-    /// ```
-    /// let moves = [("docs", "guide"), ("x.md", "guide/a.md")]
-    ///     .map(|(old, new)| (RelativePath::new(old), RelativePath::new(new)));
-    /// let tree = TreeMoves::new(alloc, &moves)?;
-    /// let files = ["x.md", "docs/b.md", "docs/a.md"].map(RelativePath::new);
-    /// assert_eq!(rt; tree.same_place(alloc, &files)?, Some((0, 2)));
-    /// assert_eq!(rt; tree.same_place(alloc, &files[..2])?, None);
-    /// ```
-    pub fn same_place(
-        &self,
-        alloc: Global,
-        files: &[RelativePath<'_>],
-    ) -> Result<Option<(usize, usize)>, AllocError>
-        // `None` exactly if no pair collides
-        ensures none { IfOk result (λ found. IsNone found
-            ↔ HoldsNowhere (CollideAfter self.now (map path_components files.now))) }
-        // the lexicographically least pair that collides
-        ensures first { (j k : ℕ) → IfOk result (λ found. (found ≡ Some (j, k))
-            ↔ IsLeastPair (CollideAfter self.now (map path_components files.now)) j k) }
-    {
-        // The table has one new path for each move. By the same invariant no two moves have the same old path.
-        prove_eq!(self.news.len(), self.len());
-        let after = self.paths_after(alloc, files)?;
-        first_collision(alloc, &after)
-    }
-
-    // Returns the normal paths of the files after the moves.
-    fn paths_after(
-        &self,
-        alloc: Global,
-        files: &[RelativePath<'_>],
-    ) -> Result<Vec<NormalPath>, AllocError>
-        ensures { IfOk result
-            (λ after. HavePathsAfter self.now (map path_components files.now) after.items) }
-    {
-        let mut after = Vec::with_capacity(alloc, files.len())?;
-        for file in files {
-            after.push(self.path_after(alloc, *file)?)?;
-        }
-        Ok(after)
     }
 
     // Returns the normal path, after the moves, of where a reference led from a directory.

@@ -1,6 +1,5 @@
 //! Tests of what no contract says.
 mod calling;
-mod collisions;
 mod large;
 mod many_moves;
 mod one_move;

@@ -213,66 +213,6 @@ fn the_path_of_a_file(rt: HostRuntime) -> Result<(), Fail> {
     ask_of_files(rt.alloc(), &table)
 }
 
-// The first two numbers that collide.
-fn end_with_pair(
-    alloc: Global,
-    answer: Result<Option<(usize, usize)>, AllocError>,
-    pair: Option<(usize, usize)>,
-) -> Result<(), Fail> {
-    match answer {
-        Ok(found) => end_with(alloc, "a pair", found, pair),
-        Err(_) => end(alloc, true),
-    }
-}
-
-// Requests: 48 1s 1 2s 3 1s 1 488 2s 3 = 0
-#[test]
-fn two_new_paths(rt: HostRuntime) -> Result<(), Fail> {
-    let moves = [("a", "x"), ("b", "x/y")].map(as_paths);
-    let table = MoveTable::new(rt.alloc(), &moves)?;
-    begin(rt.alloc());
-    let answer = table.same_new(rt.alloc());
-    end_with_pair(rt.alloc(), answer, Some((0, 1)))
-}
-
-// Requests: 24 1s 1 1s 1 2s 3 96 1s 1 488 2s 3 488 1s 1 2s 3 = 0
-#[test]
-fn a_new_path_and_a_file(rt: HostRuntime) -> Result<(), Fail> {
-    let moves = [("a", "x")].map(as_paths);
-    let table = MoveTable::new(rt.alloc(), &moves)?;
-    let files = ["a", "x/y"].map(RelativePath::new);
-    begin(rt.alloc());
-    let answer = table.same_new_as(rt.alloc(), &files);
-    end_with_pair(rt.alloc(), answer, Some((0, 1)))
-}
-
-// The first two of these files that are at one place after a move of a directory.
-fn ask_for_a_place(
-    alloc: Global,
-    tree: &TreeMoves<'_>,
-    files: &[RelativePath<'_>],
-    pair: Option<(usize, usize)>,
-) -> Result<(), Fail> {
-    begin(alloc);
-    let answer = tree.same_place(alloc, files);
-    end_with_pair(alloc, answer, pair)
-}
-
-// Files of which two are at one place, and no file.
-fn ask_for_places(alloc: Global, tree: &TreeMoves<'_>) -> Result<(), Fail> {
-    let files = ["docs/a", "guide/a"].map(RelativePath::new);
-    ask_for_a_place(alloc, tree, &files, Some((0, 1)))?;
-    ask_for_a_place(alloc, tree, &[], None)
-}
-
-// Requests: 48 2s 6 7 2s 7 2s 7 488 2s 7 = 0, = 0
-#[test]
-fn two_files_in_a_tree(rt: HostRuntime) -> Result<(), Fail> {
-    let moves = docs_moves();
-    let tree = TreeMoves::new(rt.alloc(), &moves)?;
-    ask_for_places(rt.alloc(), &tree)
-}
-
 fn plants(alloc: Global, moves: &[(RelativePath<'_>, RelativePath<'_>)]) -> Result<(), Fail> {
     begin(alloc);
     let answer = TreeMoves::new(alloc, moves);
