@@ -5,7 +5,7 @@ use crate::prose::sentences;
 use crate::refused;
 use crate::site::{Place, places, push_image_target, push_page_target, tree_of};
 use relmove_lib::report::print_dead_link;
-use relmove_lib::{Moving, Tree, changed_links_of, dead_links_of, moving_of};
+use relmove_lib::{Moving, NameRule, Tree, changed_links_of, dead_links_of, moving_of};
 use relmove_run::Machine;
 use std::alloc::{AllocError, Global};
 use std::io;
@@ -67,7 +67,7 @@ pub(crate) fn plan(
     for (old, new) in moves {
         pairs.push((old.as_str(), new.as_str()))?;
     }
-    let Ok(moving) = moving_of(&mut rt.store_at("site")?, tree, &pairs, false) else {
+    let Ok(moving) = moving_of(&mut rt.store_at("site")?, tree, &pairs, NameRule::Plain) else {
         return Err(refused());
     };
     add_moving(&moving, digest);

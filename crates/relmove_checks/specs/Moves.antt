@@ -7,6 +7,8 @@ use Rattle.relative_path.specs.Normalizing.{IsNormalTextOf}
 use Rattle.relative_path.specs.Prefixing.{StartsWith}
 use Rattle.relative_path_files.specs.Names.{IfName, IsPlainName}
 use Rattle.relative_path_moves.specs.Moves.{Move, move_at, LacksFileName}
+use Rattle.relmove_checks.specs.declared.name_rule.NameRule.{NameRule}
+use Rattle.relmove_checks.specs.declared.name_rule.NameRule.TheVariants.{Any}
 
 -- the move of a file from the old components to the new ones
 abbrev pub move_of : List Step → List Step → Move
@@ -45,9 +47,9 @@ is_own_step cur = false
 is_own_step up = false
 is_own_step (name n) = starts_with nat_eq n (codes ".relmove")
 
--- names that aren't plain on every platform are allowed, or the components have none
-abbrev pub HasNames : Bool → List Step → Type 0
-HasNames any_name cs = (any_name ≡ true) ⊎ All (IfName IsPlainName) cs
+-- any name is allowed, or all names of the components are plain
+abbrev pub HasNames : NameRule → List Step → Type 0
+HasNames rule cs = (rule ≡ Any) ⊎ All (IfName IsPlainName) cs
 
 -- a component is a name that begins as those of a run's own files
 abbrev pub HasOwnName : List Step → Type 0
@@ -58,9 +60,9 @@ abbrev pub HasNoOwnName : List Step → Type 0
 HasNoOwnName cs = list_any is_own_step cs ≡ false
 
 -- the paths of the move may be taken, whatever the tree is
-pub record HasFinePaths (any_name : Bool) (move : Move) : Type 0 where
+pub record HasFinePaths (rule : NameRule) (move : Move) : Type 0 where
   pub placed : IsPlaced move
   pub outside : StaysOutside move
-  pub names : HasNames any_name move.new
+  pub names : HasNames rule move.new
   pub not_own_old : HasNoOwnName move.old
   pub not_own_new : HasNoOwnName move.new

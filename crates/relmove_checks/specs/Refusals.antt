@@ -1,10 +1,12 @@
 -- Why moves are refused: the first move that isn't fine, in the first of the tests that it doesn't pass.
-use Rattle.std.specs.Prelude.{◌≡◌, ◌⊎◌, ◌<◌, ℕ, Bool, false, List, map, length, ⊤}
+use Rattle.std.specs.Prelude.{◌≡◌, ◌⊎◌, ◌<◌, ℕ, false, List, map, length, ⊤}
 use Rattle.std.specs.List.{All}
 use Rattle.relative_path_files.specs.Names.{IfName, IsPlainName}
 use Rattle.relative_path_moves.specs.Moves.{Move, move_at, LacksFileName, IsFirstPair}
 use Rattle.relative_path.specs.Steps.{Step}
 use Rattle.relmove_checks.specs.declared.entry.Entry.{Entry}
+use Rattle.relmove_checks.specs.declared.name_rule.NameRule.{NameRule}
+use Rattle.relmove_checks.specs.declared.name_rule.NameRule.TheVariants.{Plain}
 use Rattle.relmove_checks.specs.declared.refused.Barrier.{Barrier}
 use Rattle.relmove_checks.specs.declared.refused.Barrier.TheVariants.{Files, UnreadDirectories}
 use Rattle.relmove_checks.specs.declared.refusal.Refusal.{Refusal}
@@ -23,25 +25,25 @@ pub record IsOfFirst (Fine : Move → Type 0) (Refused : ℕ → Move → Refusa
 
 -- why the paths of move number k are refused by themselves: each test is tried after those above it. A failed
 -- allocation says nothing of the move
-abbrev pub IsPathRefusal : Bool → ℕ → Move → Refusal → Type 0
-IsPathRefusal any_name k move (NoFileName j) = (j ≡ k) × LacksFileName move
-IsPathRefusal any_name k move (LeavesRoot j) = (j ≡ k) × (¬ LacksFileName move) × paths.LeavesRoot move
-IsPathRefusal any_name k move (IntoItself j) = (j ≡ k) × IsPlaced move × LeadsIntoItself move
-IsPathRefusal any_name k move (NotPlain j) =
-    (j ≡ k) × IsPlaced move × StaysOutside move × (any_name ≡ false) × (¬ All (IfName IsPlainName) move.new)
-IsPathRefusal any_name k move (OwnName j) =
-    (j ≡ k) × IsPlaced move × StaysOutside move × HasNames any_name move.new
+abbrev pub IsPathRefusal : NameRule → ℕ → Move → Refusal → Type 0
+IsPathRefusal rule k move (NoFileName j) = (j ≡ k) × LacksFileName move
+IsPathRefusal rule k move (LeavesRoot j) = (j ≡ k) × (¬ LacksFileName move) × paths.LeavesRoot move
+IsPathRefusal rule k move (IntoItself j) = (j ≡ k) × IsPlaced move × LeadsIntoItself move
+IsPathRefusal rule k move (NotPlain j) =
+    (j ≡ k) × IsPlaced move × StaysOutside move × (rule ≡ Plain) × (¬ All (IfName IsPlainName) move.new)
+IsPathRefusal rule k move (OwnName j) =
+    (j ≡ k) × IsPlaced move × StaysOutside move × HasNames rule move.new
     × (HasOwnName move.old ⊎ HasOwnName move.new)
-IsPathRefusal any_name k move (SameOld i j) = ⊥
-IsPathRefusal any_name k move (NotThere j) = ⊥
-IsPathRefusal any_name k move (ForeignName j) = ⊥
-IsPathRefusal any_name k move (SameNew i j) = ⊥
-IsPathRefusal any_name k move (Taken j) = ⊥
-IsPathRefusal any_name k move (Collision d e) = ⊥
-IsPathRefusal any_name k move (BelowFile j) = ⊥
-IsPathRefusal any_name k move (BelowUnread j) = ⊥
-IsPathRefusal any_name k move NoFreeName = ⊥
-IsPathRefusal any_name k move OutOfMemory = ⊤
+IsPathRefusal rule k move (SameOld i j) = ⊥
+IsPathRefusal rule k move (NotThere j) = ⊥
+IsPathRefusal rule k move (ForeignName j) = ⊥
+IsPathRefusal rule k move (SameNew i j) = ⊥
+IsPathRefusal rule k move (Taken j) = ⊥
+IsPathRefusal rule k move (Collision d e) = ⊥
+IsPathRefusal rule k move (BelowFile j) = ⊥
+IsPathRefusal rule k move (BelowUnread j) = ⊥
+IsPathRefusal rule k move NoFreeName = ⊥
+IsPathRefusal rule k move OutOfMemory = ⊤
 
 -- why move number k is refused for what is at its old path
 abbrev pub IsOldRefusal : List Entry → ℕ → Move → Refusal → Type 0

@@ -1,8 +1,9 @@
 //! Whether moves may be done.
-ghost use Rattle.std.specs.Prelude.{◌≡◌, Bool, IfErr, IfOk, List, OnOk, map, ℕ};
+ghost use Rattle.std.specs.Prelude.{◌≡◌, IfErr, IfOk, List, OnOk, map, ℕ};
 ghost use Rattle.relative_path.specs.Steps.{components};
 ghost use Rattle.relative_path_moves.specs.Moves.{AreApart, AreNamed, moves_of};
 ghost use Rattle.relative_path_moves.specs.PlaceIndex.{Indexes};
+ghost use Rattle.relmove_checks.specs.declared.name_rule.NameRule.{NameRule};
 ghost use Rattle.relmove_checks.specs.Plan.{IsAccepted, IsRefused, IsRefusedThere, MayLeave};
 ghost use Rattle.relmove_checks.specs.Refusals.{IsSameNewRefusal, IsTableRefusal, turned};
 ghost use Rattle.relmove_checks.specs.Trees.{AreAfter, entry_paths};
@@ -10,6 +11,7 @@ ghost use Rattle.relmove_checks.specs.Trees.{AreAfter, entry_paths};
 use crate::after::{index_after, paths_after};
 use crate::entry::Entry;
 use crate::foreign::foreign_paths;
+use crate::name_rule::NameRule;
 use crate::refusal::Refusal;
 use crate::refused::{Barrier, check_above, check_news, check_olds, check_paths};
 use relative_path::RelativePath;
@@ -18,24 +20,24 @@ use std::alloc::{AllocError, Global};
 
 /// Returns the table of the moves. Fails if their paths, or what is at their old paths, are refused.
 ///
-/// The index is that of [`entry_index`](crate::entry_index). If `any_name` is true, new paths may have names that
-/// aren't plain on every platform.
+/// The index is that of [`entry_index`](crate::entry_index). `rule` says which names
+/// the new paths may have.
 pub fn leaving_table<'a>(
     alloc: Global,
     entries: &[Entry<'_>],
     index: &PlaceIndex,
     moves: &'a [(RelativePath<'a>, RelativePath<'a>)],
-    any_name: bool,
+    rule: NameRule,
 ) -> Result<TreeMoves<'a>, Refusal>
     requires { Indexes (entry_paths entries.now) index.now }
     // the table of the moves
     ensures table { IfOk result (λ tree. tree ≡ moves_of moves.now) }
     // paths are allowed, old paths differ, and entries there may move
-    ensures fine { OnOk result (MayLeave entries.now (moves_of moves.now) any_name) }
+    ensures fine { OnOk result (MayLeave entries.now (moves_of moves.now) rule) }
     // refusals but `OutOfMemory` are of the first failed check, and its first move or entry
-    ensures refused { IfErr result (IsRefused entries.now (moves_of moves.now) any_name) }
+    ensures refused { IfErr result (IsRefused entries.now (moves_of moves.now) rule) }
 {
-    check_paths(alloc, moves, any_name)?;
+    check_paths(alloc, moves, rule)?;
     let table = table_of(alloc, moves)?;
     let foreign = foreign_paths(alloc, entries)?;
     check_olds(alloc, &foreign, index, moves)?;
@@ -78,8 +80,8 @@ pub fn coming_index(
     // each path has to have a file name
     requires named { AreNamed (moves_of moves.now) }
     // moves that passed `leaving_table` pass each check but `NoFreeName`
-    ensures fine { OnOk result ((any_name : Bool) → MayLeave entries.now (moves_of moves.now) any_name
-        → IsAccepted entries.now (moves_of moves.now) any_name) }
+    ensures fine { OnOk result ((rule : NameRule) → MayLeave entries.now (moves_of moves.now) rule
+        → IsAccepted entries.now (moves_of moves.now) rule) }
     // the entries' paths after the moves, by number
     ensures index { IfOk result (λ index. (after : List (List ℕ)) × AreAfter (moves_of moves.now) entries.now after
         × Indexes (map components after) index) }

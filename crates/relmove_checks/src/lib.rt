@@ -6,7 +6,7 @@
 //! both checks           allowed
 //! what moves may not    after  refused
 //! what they need        foreign  above
-//! what all share        entry  refusal
+//! what all share        entry  name_rule  refusal
 //! ```
 #![tactic(auto)]
 
@@ -14,6 +14,7 @@ pub use self::above::directory_above;
 pub use self::after::entry_index;
 pub use self::allowed::{coming_index, leaving_table};
 pub use self::entry::{Entry, Kind};
+pub use self::name_rule::NameRule;
 pub use self::refusal::Refusal;
 
 mod above;
@@ -21,5 +22,6 @@ mod after;
 mod allowed;
 mod entry;
 mod foreign;
+mod name_rule;
 mod refusal;
 mod refused;

@@ -1,5 +1,5 @@
 //! Which moves are refused.
-ghost use Rattle.std.specs.Prelude.{◌≡◌, ◌≢◌, ◌<◌, ℕ, All, Bool, List, Option, None, IsSome, OnOk, IfOk, IfErr, MatchBool, true, false, length, slice_index_or};
+ghost use Rattle.std.specs.Prelude.{◌≡◌, ◌≢◌, ◌<◌, ℕ, All, List, Option, None, IsSome, OnOk, IfOk, IfErr, MatchBool, length, slice_index_or};
 ghost use Rattle.std.specs.List.{list_any};
 ghost use Rattle.relative_path.specs.Components.{step_of};
 ghost use Rattle.relative_path.specs.Steps.{Step, components};
@@ -26,10 +26,13 @@ ghost use Rattle.relmove_checks.specs.Trees.{
 ghost use Rattle.relmove_checks.specs.Trees as trees;
 ghost use Rattle.relmove_checks.specs.Refusals.{IsAboveRefusal, IsNewRefusal, IsOfFirst, IsOldRefusal, IsPathRefusal, refusal_below};
 ghost use Rattle.relmove_checks.specs.declared.entry.Entry.{Entry};
+ghost use Rattle.relmove_checks.specs.declared.name_rule.NameRule.{NameRule};
+ghost use Rattle.relmove_checks.specs.declared.name_rule.NameRule.TheVariants.{Plain};
 
 use crate::above::directory_above;
 use crate::entry::{Entry, Kind};
 use crate::foreign::has_path_below;
+use crate::name_rule::NameRule;
 use crate::refusal::Refusal;
 use relative_path::{Component, RelativePath};
 use relative_path_files::has_plain_names;
@@ -41,14 +44,14 @@ use std::alloc::{AllocError, Global};
 pub(crate) fn check_paths(
     alloc: Global,
     moves: &[(RelativePath<'_>, RelativePath<'_>)],
-    any_name: bool,
+    rule: NameRule,
 ) -> Result<(), Refusal>
-    ensures fine { OnOk result (EachMove (HasFinePaths any_name) (moves_of moves.now)) }
+    ensures fine { OnOk result (EachMove (HasFinePaths rule) (moves_of moves.now)) }
     ensures refused { IfErr result
-        (IsOfFirst (HasFinePaths any_name) (IsPathRefusal any_name) (moves_of moves.now)) }
+        (IsOfFirst (HasFinePaths rule) (IsPathRefusal rule) (moves_of moves.now)) }
 {
     for (number, (old, new)) in moves.iter().enumerate() {
-        check_move(alloc, number, *old, *new, any_name)?;
+        check_move(alloc, number, *old, *new, rule)?;
     }
     Ok(())
 }
@@ -59,23 +62,23 @@ fn check_move(
     number: usize,
     old: RelativePath<'_>,
     new: RelativePath<'_>,
-    any_name: bool,
+    rule: NameRule,
 ) -> Result<(), Refusal>
     ensures fine { OnOk result
-        (HasFinePaths any_name (move_of (path_components old.entry) (path_components new.entry))) }
-    ensures refused { IfErr result (IsPathRefusal any_name number
+        (HasFinePaths rule (move_of (path_components old.entry) (path_components new.entry))) }
+    ensures refused { IfErr result (IsPathRefusal rule number
         (move_of (path_components old.entry) (path_components new.entry))) }
 {
     check_placed(number, old, new)?;
     check_outside(alloc, number, old, new)?;
-    check_names(number, old, new, any_name)
+    check_names(number, old, new, rule)
 }
 
 // Fails if a path of a move has no file name, or leads above the root.
 fn check_placed(number: usize, old: RelativePath<'_>, new: RelativePath<'_>) -> Result<(), Refusal>
     ensures fine { OnOk result
         (IsPlaced (move_of (path_components old.entry) (path_components new.entry))) }
-    ensures refused { IfErr result (λ refusal. (any_name : Bool) → IsPathRefusal any_name number
+    ensures refused { IfErr result (λ refusal. (rule : NameRule) → IsPathRefusal rule number
         (move_of (path_components old.entry) (path_components new.entry)) refusal) }
 {
     if lacks_file_name(old) {
@@ -117,9 +120,9 @@ fn check_outside(
 ) -> Result<(), Refusal>
     ensures fine { OnOk result
         (StaysOutside (move_of (path_components old.entry) (path_components new.entry))) }
-    ensures refused { IfErr result (λ refusal. (any_name : Bool)
+    ensures refused { IfErr result (λ refusal. (rule : NameRule)
         → IsPlaced (move_of (path_components old.entry) (path_components new.entry))
-        → IsPathRefusal any_name number
+        → IsPathRefusal rule number
         (move_of (path_components old.entry) (path_components new.entry)) refusal) }
 {
     let old = NormalPath::of(alloc, old)?;
@@ -135,18 +138,18 @@ fn check_names(
     number: usize,
     old: RelativePath<'_>,
     new: RelativePath<'_>,
-    any_name: bool,
+    rule: NameRule,
 ) -> Result<(), Refusal>
     ensures fine { OnOk result (IsPlaced (move_of (path_components old.entry) (path_components new.entry))
         → StaysOutside (move_of (path_components old.entry) (path_components new.entry))
-        → HasFinePaths any_name (move_of (path_components old.entry) (path_components new.entry))) }
+        → HasFinePaths rule (move_of (path_components old.entry) (path_components new.entry))) }
     ensures refused { IfErr result (λ refusal.
         IsPlaced (move_of (path_components old.entry) (path_components new.entry))
         → StaysOutside (move_of (path_components old.entry) (path_components new.entry))
-        → IsPathRefusal any_name number
+        → IsPathRefusal rule number
         (move_of (path_components old.entry) (path_components new.entry)) refusal) }
 {
-    if !may_be_named(new, any_name) {
+    if !may_be_named(new, rule) {
         return Err(Refusal::NotPlain(number));
     }
     if has_own_name(old) {
@@ -159,11 +162,14 @@ fn check_names(
 }
 
 // Returns whether the names of a path are plain on every platform, or any name is allowed.
-fn may_be_named(path: RelativePath<'_>, any_name: bool) -> bool
-    ensures { MatchBool result (HasNames any_name (path_components path.entry))
-        ((any_name ≡ false) × (¬ All (IfName IsPlainName) (path_components path.entry))) }
+fn may_be_named(path: RelativePath<'_>, rule: NameRule) -> bool
+    ensures { MatchBool result (HasNames rule (path_components path.entry))
+        ((rule ≡ Plain) × (¬ All (IfName IsPlainName) (path_components path.entry))) }
 {
-    any_name || has_plain_names(path)
+    match rule {
+        NameRule::Any => true,
+        NameRule::Plain => has_plain_names(path),
+    }
 }
 
 // Returns whether a path has a name that begins as those of a run's own files.

@@ -1,4 +1,5 @@
 //! What the arguments of a call mean.
+use relmove_plan::NameRule;
 use relmove_run::{Printable, Way};
 use std::alloc::{AllocError, AllocFailed, Global};
 use std::error::Error;
@@ -37,8 +38,8 @@ pub enum Command<'a> {
         write: bool,
         /// `--json`
         json: bool,
-        /// `--any-name`
-        any_name: bool,
+        /// [`NameRule::Any`] with `--any-name`.
+        rule: NameRule,
     },
 }
 
@@ -227,8 +228,17 @@ fn move_of<'a>(
         moves: pairs_of(alloc, paths)?,
         write: has(options, "--write"),
         json: has(options, "--json"),
-        any_name: has(options, "--any-name"),
+        rule: rule_of(options),
     })
+}
+
+// Which names each NEW may have.
+fn rule_of(options: &[&str]) -> NameRule {
+    if has(options, "--any-name") {
+        NameRule::Any
+    } else {
+        NameRule::Plain
+    }
 }
 
 // Each OLD with its NEW.

@@ -25,6 +25,7 @@ pub use self::position::{Position, position_after};
 pub use self::program::{Status, answer};
 pub use self::progress::{Progress, StoreWithProgress, WithProgress};
 pub use self::tree::{EntryKind, LONGEST_PAGE, Page, Tree, Unread, read_tree};
+pub use relmove_plan::NameRule;
 
 mod arguments;
 mod dead_links;

@@ -13,7 +13,7 @@ use relative_path_links::{
     MovedSitePage, SitePage, Target, Unchanged, are_in_order, rewrite_links, targets,
 };
 use relative_path_moves::{MoveTableError, MovedPage, TreeMoves, directory};
-use relmove_plan::{Entry, Kind, Plan, Refusal, make_plan};
+use relmove_plan::{Entry, Kind, NameRule, Plan, Refusal, make_plan};
 use relmove_run::{
     Call, Fault, FoundKind, JOURNAL, LONGEST_PATH, Store, at, is_absence, join, need_short,
 };
@@ -145,13 +145,13 @@ pub fn moving_of<'a, S: Store>(
     store: &mut S,
     tree: &'a Tree,
     moves: &[(&str, &str)],
-    any_name: bool,
+    rule: NameRule,
 ) -> Result<Moving<'a>, WhyRefused> {
     let alloc = store.alloc();
     need_read_directories(alloc, moves)?;
     let pairs = pairs_of(alloc, moves)?;
     let found = found_targets(alloc, &tree.pages)?;
-    let plan = plan_of(alloc, tree, &found, &pairs, any_name)?;
+    let plan = plan_of(alloc, tree, &found, &pairs, rule)?;
     need_directories(alloc, tree, moves)?;
     need_other_names(moves)?;
     let table = TreeMoves::new(alloc, &pairs)?;
@@ -371,7 +371,7 @@ fn plan_of(
     tree: &Tree,
     found: &[Vec<Target>],
     moves: &[(RelativePath<'_>, RelativePath<'_>)],
-    any_name: bool,
+    rule: NameRule,
 ) -> Result<Plan, Refusal>
     requires { AreTargetsOf (λ page. string_bytes page.text) tree.now.pages.items found.now }
 {
@@ -381,7 +381,7 @@ fn plan_of(
         entries: &entries,
         pages: &pages,
     };
-    make_plan(alloc, tree, moves, any_name)
+    make_plan(alloc, tree, moves, rule)
 }
 
 // The entries of a tree, as the plan takes them.

@@ -11,6 +11,7 @@ use crate::summary::{
 };
 use crate::tree::{Tree, has_reserved_name, read_tree};
 use crate::writable::need_writable;
+use relmove_plan::NameRule;
 use relmove_run::{
     Call, Ended, Fault, Locked, Machine, PageText, Printable, Remark, StoppedRun, Store, Trust,
     Way, carry_out, directory_of, fault_of, need_no_journal_below, need_no_journal_near,
@@ -86,13 +87,9 @@ fn obey<R: Machine, O: Write, E: Write>(
             moves,
             write,
             json,
-            any_name,
+            rule,
         } => {
-            let options = MoveOptions {
-                write,
-                json,
-                any_name,
-            };
+            let options = MoveOptions { write, json, rule };
             move_below(runtime, root, &moves, options, out, errors)
         }
     }
@@ -103,7 +100,7 @@ fn obey<R: Machine, O: Write, E: Write>(
 struct MoveOptions {
     write: bool,
     json: bool,
-    any_name: bool,
+    rule: NameRule,
 }
 
 // Moves files below a root, or prints what would change.
@@ -221,7 +218,7 @@ fn plan<'a, S: Store, O: Write, E: Write>(
     out: &mut O,
     errors: &mut E,
 ) -> Result<(Moving<'a>, Counts, Status), CallEnd> {
-    let moving = match moving_of(store, tree, moves, options.any_name) {
+    let moving = match moving_of(store, tree, moves, options.rule) {
         Ok(moving) => moving,
         Err(why) => {
             let _ = print_refused(errors, store.root(), tree, moves, &why);

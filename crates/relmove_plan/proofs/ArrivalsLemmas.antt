@@ -19,6 +19,7 @@ use Rattle.relative_path_moves.specs.TreeMoves.{AtTreePath, IsLeftInPlace, IsTak
 use Rattle.relative_path_links.specs.declared.site.MovedSitePage.{MovedSitePage}
 use Rattle.relative_path_links.specs.declared.site.SitePage.{SitePage}
 use Rattle.relmove_checks.specs.declared.entry.Entry.{Entry}
+use Rattle.relmove_checks.specs.declared.name_rule.NameRule.{NameRule}
 use Rattle.relmove_checks.specs.Moves.{is_own_step}
 use Rattle.relmove_checks.specs.Trees.{IsAfter, is_directory}
 use Rattle.relmove_plan.specs.Runs.{names_of, carried, renames_of, ComesTo, EntriesArrive, TextArrives}
@@ -58,8 +59,8 @@ walk-own (name n ∷ cs) base place none fine leads =
     let parts = or_parts (is_own n) (list_any is_own_step cs) none in
     walk-own cs (base ++ n ∷ []) place parts.1 (All-push (λ n. is_own n ≡ false) base n fine parts.0) leads
 
-module _ {entries : List Entry} {pages changed : List (List Step)} {moves : List Move} {any_name : Bool} {steps : StepTexts}
-    (run : IsKnownRun entries pages changed moves any_name steps)
+module _ {entries : List Entry} {pages changed : List (List Step)} {moves : List Move} {rule : NameRule} {steps : StepTexts}
+    (run : IsKnownRun entries pages changed moves rule steps)
   where
     -- ---- new paths
 

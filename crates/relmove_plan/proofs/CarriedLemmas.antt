@@ -11,6 +11,7 @@ use Rattle.relative_path_moves.specs.PlaceIndex.{IsNoneAt}
 use Rattle.relmove_checks.specs.Moves.{is_own_step}
 use Rattle.relmove_checks.specs.Trees.{entry_paths}
 use Rattle.relmove_checks.specs.declared.entry.Entry.{Entry}
+use Rattle.relmove_checks.specs.declared.name_rule.NameRule.{NameRule}
 use Rattle.relmove_steps.specs.BetweenNames.{AreFreeNames, numbered_name}
 use Rattle.relmove_plan.specs.Runs.{carried, names_of, rename_places, renames_of}
 use Rattle.relmove_steps.specs.Steps.{Carries, LeavesFrom, StepTexts, names_come, names_left}
@@ -40,8 +41,8 @@ abbrev pub HasNoName : List Entry → List (List ℕ) → Type 0
 HasNoName entries place = (s : List ℕ) → is_own s ≡ true → IsNoneAt (entry_paths entries) (map name (s ∷ []))
     → ¬ IsUnder place (s ∷ [])
 
-module _ {entries : List Entry} {pages changed : List (List Step)} {moves : List Move} {any_name : Bool} {steps : StepTexts}
-    (run : IsKnownRun entries pages changed moves any_name steps)
+module _ {entries : List Entry} {pages changed : List (List Step)} {moves : List Move} {rule : NameRule} {steps : StepTexts}
+    (run : IsKnownRun entries pages changed moves rule steps)
   where
     -- the paths from which something leaves, in order
     pub source : (i : ℕ) (step : List ℕ × List ℕ) → i < length steps.apart → get_or steps.apart i step ≡ step

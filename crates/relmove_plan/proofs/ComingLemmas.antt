@@ -11,6 +11,7 @@ use Rattle.relative_path_moves.specs.Moves.{Move, move_at}
 use Rattle.relative_path_moves.specs.PlaceIndex.{IsNoneAt, path_at}
 use Rattle.relative_path_moves.specs.TreeMoves.{AtTreePath, IsTreeTarget}
 use Rattle.relmove_checks.specs.declared.entry.Entry.{Entry}
+use Rattle.relmove_checks.specs.declared.name_rule.NameRule.{NameRule}
 use Rattle.relmove_plan.specs.Runs.{names_of}
 use Rattle.relmove_steps.specs.Steps.{StepTexts, Carries, LeavesFrom, of_move, of_page, of_text, names_come}
 use Rattle.relmove_plan.specs.WholeTrees.{IsAt}
@@ -46,8 +47,8 @@ pub record IsDestination (entries : List Entry) (moves : List Move) (changed : L
       ⊎ ((c : ℕ) × (c < length changed) × (target : List Step) × IsTreeTarget moves (path_at changed c) target
       × (place_of target ≡ Some place))
 
-module _ {entries : List Entry} {pages changed : List (List Step)} {moves : List Move} {any_name : Bool} {steps : StepTexts}
-    (run : IsKnownRun entries pages changed moves any_name steps)
+module _ {entries : List Entry} {pages changed : List (List Step)} {moves : List Move} {rule : NameRule} {steps : StepTexts}
+    (run : IsKnownRun entries pages changed moves rule steps)
   where
     -- ---- the renames from names in between
 

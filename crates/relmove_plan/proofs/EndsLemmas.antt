@@ -15,6 +15,7 @@ use Rattle.relative_path_moves.specs.Moves.{Move, move_at}
 use Rattle.relative_path_moves.specs.PlaceIndex.{IsNoneAt, path_at}
 use Rattle.relative_path_moves.specs.TreeMoves.{IsLeftInPlace, IsTakenTo, IsTreeTarget, TakesAlong}
 use Rattle.relmove_checks.specs.declared.entry.Entry.{Entry}
+use Rattle.relmove_checks.specs.declared.name_rule.NameRule.{NameRule}
 use Rattle.relmove_checks.specs.Trees.{IsAfter, entry_paths, is_directory}
 use Rattle.relmove_steps.specs.Directories.{LeaveToNames}
 use Rattle.relmove_plan.specs.Runs.{carried, renames_of}
@@ -51,8 +52,8 @@ takes-more moves place whole below others k takes is = record {
   down = is ∙ ap (λ top. top ++ below) takes.down ∙ append_assoc takes.top others below;
 }
 
-module _ {entries : List Entry} {pages changed : List (List Step)} {moves : List Move} {any_name : Bool} {steps : StepTexts}
-    (run : IsKnownRun entries pages changed moves any_name steps)
+module _ {entries : List Entry} {pages changed : List (List Step)} {moves : List Move} {rule : NameRule} {steps : StepTexts}
+    (run : IsKnownRun entries pages changed moves rule steps)
   where
     abbrev pub after : List (List ℕ)
     after = run.accepted.apart.after

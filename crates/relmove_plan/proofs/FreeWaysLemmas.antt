@@ -15,6 +15,7 @@ use Rattle.relative_path_moves.specs.PlaceIndex.{IsNoneAt, path_at}
 use Rattle.relative_path_moves.specs.TreeMoves.{IsTreeTarget}
 use Rattle.relative_path_moves.proofs.ForCallers.{AtTreePath-same, IsTreeTarget-only}
 use Rattle.relmove_checks.specs.declared.entry.Entry.{Entry}
+use Rattle.relmove_checks.specs.declared.name_rule.NameRule.{NameRule}
 use Rattle.relmove_checks.specs.Trees.{IsAfter, entry_paths}
 use Rattle.relmove_checks.proofs.ForCallers.{AllZip-at}
 use Rattle.relmove_plan.specs.Runs.{names_of, rename_places, carried, renames_of, IsThereAfter, NothingInTheWay}
@@ -53,8 +54,8 @@ pub record BelongsTo (entries : List Entry) (changed : List (List Step)) (steps 
   pub arrives : place_of (components (get_or after number [])) ≡ Some end
   pub thing : ((start ≡ place) × IsNoneAt changed (map name place)) ⊎ IsFileOf changed steps start place
 
-module _ {entries : List Entry} {pages changed : List (List Step)} {moves : List Move} {any_name : Bool} {steps : StepTexts}
-    (run : IsKnownRun entries pages changed moves any_name steps)
+module _ {entries : List Entry} {pages changed : List (List Step)} {moves : List Move} {rule : NameRule} {steps : StepTexts}
+    (run : IsKnownRun entries pages changed moves rule steps)
   where
     -- the paths of the entries after the moves
     abbrev pub after : List (List ℕ)

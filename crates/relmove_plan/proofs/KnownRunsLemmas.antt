@@ -1,10 +1,11 @@
 -- What is known of a run over a whole tree, in one record.
-use Rattle.std.proofs.Common.{All, AllPairs, Bool, ◌≡◌, ◌≢◌, List, [], ◌∷◌, ℕ, Contains, map}
+use Rattle.std.proofs.Common.{All, AllPairs, ◌≡◌, ◌≢◌, List, [], ◌∷◌, ℕ, Contains, map}
 use Rattle.relative_path.specs.Steps.{Step, name, components}
 use Rattle.relative_path.specs.Normalizing.{IsNormalTextOf}
 use Rattle.relative_path_moves.specs.Moves.{Move}
 use Rattle.relative_path_moves.specs.TreeMoves.{AtTreePath}
 use Rattle.relmove_checks.specs.declared.entry.Entry.{Entry}
+use Rattle.relmove_checks.specs.declared.name_rule.NameRule.{NameRule}
 use Rattle.relmove_checks.specs.Moves.{EachMove}
 use Rattle.relmove_checks.specs.Plan.{IsAccepted}
 use Rattle.relmove_checks.specs.Trees.{entry_paths}
@@ -25,11 +26,11 @@ pub record IsReplaced (moves : List Move) (steps : StepTexts) (cs : List Step) :
   pub goes : AtTreePath moves cs (λ now. IsNormalTextOf now to)
 
 -- the tree is whole, the moves are accepted, the names in between are free, and the steps do what the moves say
-pub record IsKnownRun (entries : List Entry) (pages changed : List (List Step)) (moves : List Move) (any_name : Bool)
+pub record IsKnownRun (entries : List Entry) (pages changed : List (List Step)) (moves : List Move) (rule : NameRule)
     (steps : StepTexts) : Type 0 where
   pub whole : IsWhole entries pages
   pub files : All (LeadsToFile entries) changed
-  pub accepted : IsAccepted entries moves any_name
+  pub accepted : IsAccepted entries moves rule
   pub below_first : BelowFirst (map (λ step. step.0) steps.apart)
   pub above_first : AboveFirst (map (λ step. step.1) steps.together)
   pub once : LeaveOnce steps

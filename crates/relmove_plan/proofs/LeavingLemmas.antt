@@ -13,6 +13,7 @@ use Rattle.relative_path_links.specs.declared.site.SitePage.{SitePage}
 use Rattle.relative_path_moves.specs.Moves.{Move}
 use Rattle.relative_path_moves.specs.PlaceIndex.{IsNoneAt, path_at}
 use Rattle.relmove_checks.specs.declared.entry.Entry.{Entry}
+use Rattle.relmove_checks.specs.declared.name_rule.NameRule.{NameRule}
 use Rattle.relmove_checks.specs.Plan.{IsAccepted}
 use Rattle.relmove_checks.specs.Trees.{AreDistinct, entry_paths}
 use Rattle.relmove_steps.specs.declared.changed.ChangedPage.{ChangedPage}
@@ -54,7 +55,7 @@ AllPairs-changed_from k (page ∷ pages) (new ∷ news) =
         (changed_from (k + 1) pages news) (All-changed_from_late (k + 1) pages news)) rest
 
 module _ (entries : List Entry) (pages : List SitePage) (news : List MovedSitePage) (changed : List ChangedPage)
-    (moves : List Move) (any_name : Bool) (accepted : IsAccepted entries moves any_name)
+    (moves : List Move) (rule : NameRule) (accepted : IsAccepted entries moves rule)
     (whole : IsWhole entries (page_paths pages)) (within : All (λ page. page.number < length pages) changed)
     (numbers : map (λ page. page.number) changed ≡ changed_from 0 pages news)
   where

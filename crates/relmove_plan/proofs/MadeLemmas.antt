@@ -1,5 +1,5 @@
 -- The directories that a run makes come to those that are missing above new paths.
-use Rattle.std.proofs.Common.{All, Bool, false, ◌≡◌, ◌≢◌, ◌⊎◌, ℕ, zero, suc, ◌<◌, ◌≤◌, List, [], ◌∷◌, ◌++◌, Contains, Some, length, map, take, drop, get_or, inl, inr, refl, sym, ap, subst, ◌∙◌, append_assoc, append-nil, not, arith}
+use Rattle.std.proofs.Common.{All, false, ◌≡◌, ◌≢◌, ◌⊎◌, ℕ, zero, suc, ◌<◌, ◌≤◌, List, [], ◌∷◌, ◌++◌, Contains, Some, length, map, take, drop, get_or, inl, inr, refl, sym, ap, subst, ◌∙◌, append_assoc, append-nil, not, arith}
 use Rattle.std.specs.List.{AllZip, join_with_byte, zip}
 use Rattle.std.proofs.Math.Seq.{drop-append_seam}
 use Rattle.std.proofs.lemmas.List.{get_or-map, length-map, map-append, take_at, take-append-drop, take-map, drop-map}
@@ -14,6 +14,7 @@ use Rattle.relative_path_moves.specs.Moves.{Move, move_at}
 use Rattle.relative_path_moves.specs.PlaceIndex.{IsNoneAt}
 use Rattle.relative_path_moves.specs.TreeMoves.{AtTreePath, IsTreeTarget, TakesAlong}
 use Rattle.relmove_checks.specs.declared.entry.Entry.{Entry}
+use Rattle.relmove_checks.specs.declared.name_rule.NameRule.{NameRule}
 use Rattle.relmove_checks.specs.Moves.{move_of}
 use Rattle.relmove_checks.specs.Trees.{HasAt, is_file}
 use Rattle.relmove_steps.specs.Directories.{AreMade, IsMissingText, IsTakenTo, LeavesTo, LeaveToNames, moves_to_names}
@@ -107,8 +108,8 @@ pub record IsMissingAt (moves : List Move) (after : List (List Step)) (text : Li
   pub fine : arrivals.NotOwn place
   pub none : IsNoneAt after (map name place)
 
-module _ {entries : List Entry} {pages changed : List (List Step)} {moves : List Move} {any_name : Bool} {steps : StepTexts}
-    (run : IsKnownRun entries pages changed moves any_name steps)
+module _ {entries : List Entry} {pages changed : List (List Step)} {moves : List Move} {rule : NameRule} {steps : StepTexts}
+    (run : IsKnownRun entries pages changed moves rule steps)
   where
     -- ---- what leaves to a name, and what comes from there
 

@@ -1,5 +1,5 @@
 -- What the steps of a plan do to a whole tree, from what is known of the steps.
-use Rattle.std.proofs.Common.{All, AllPairs, Bool, ◌≡◌, ◌≢◌, ℕ, ◌<◌, List, [], ◌∷◌, Some, length, map, get_or, string_bytes, refl, sym, ap, subst, ◌∙◌, arith}
+use Rattle.std.proofs.Common.{All, AllPairs, ◌≡◌, ◌≢◌, ℕ, ◌<◌, List, [], ◌∷◌, Some, length, map, get_or, string_bytes, refl, sym, ap, subst, ◌∙◌, arith}
 use Rattle.std.specs.List.{slice_get}
 use Rattle.std.specs.Option.{IsSomeAnd, MatchOption}
 use Rattle.std.proofs.lemmas.List.{get_or-map, length-map}
@@ -20,6 +20,7 @@ use Rattle.relative_path_moves.specs.PlaceIndex.{path_at}
 use Rattle.relative_path_moves.specs.TreeMoves.{AtTreePath}
 use Rattle.relative_path_moves.proofs.ForCallers.{IsTreeTarget-only}
 use Rattle.relmove_checks.specs.declared.entry.Entry.{Entry}
+use Rattle.relmove_checks.specs.declared.name_rule.NameRule.{NameRule}
 use Rattle.relmove_checks.specs.Moves.{EachMove}
 use Rattle.relmove_checks.specs.Plan.{IsAccepted}
 use Rattle.relmove_checks.specs.Trees.{AreAfter, AreDistinct, entry_paths}
@@ -60,9 +61,9 @@ AreAfter-only moves (entry ∷ entries) (x ∷ one) (y ∷ other) apart are are_
 
 -- what is known of a plan for a whole tree, and of its steps
 pub record IsPlanned (entries : List Entry) (pages : List SitePage) (news : List MovedSitePage) (changed : List ChangedPage)
-    (moves : List Move) (any_name : Bool) (steps : Steps) : Type 0 where
+    (moves : List Move) (rule : NameRule) (steps : Steps) : Type 0 where
   pub whole : IsWhole entries (page_paths pages)
-  pub accepted : IsAccepted entries moves any_name
+  pub accepted : IsAccepted entries moves rule
   pub long : length news ≡ length pages
   pub links : KeepTheirLinks moves pages news
   pub within : All (λ page. page.number < length pages) changed
@@ -80,7 +81,7 @@ pub record IsPlanned (entries : List Entry) (pages : List SitePage) (news : List
   pub distinct : AreDistinct (changed_paths pages changed)
 
 module _ {entries : List Entry} {pages : List SitePage} {news : List MovedSitePage} {changed : List ChangedPage}
-    {moves : List Move} {any_name : Bool} {steps : Steps} (planned : IsPlanned entries pages news changed moves any_name steps)
+    {moves : List Move} {rule : NameRule} {steps : Steps} (planned : IsPlanned entries pages news changed moves rule steps)
   where
     -- a page is a file of the tree
     page_file : (k : ℕ) (page : SitePage) → slice_get pages k ≡ Some page → LeadsToFile entries (path_components page.path)
@@ -163,7 +164,7 @@ module _ {entries : List Entry} {pages : List SitePage} {news : List MovedSitePa
               (AllZip-left (ForMovedPage KeepsLinks moves) pages news planned.links n);
         }))
 
-    known : IsKnownRun entries (page_paths pages) (changed_paths pages changed) moves any_name (step_texts steps)
+    known : IsKnownRun entries (page_paths pages) (changed_paths pages changed) moves rule (step_texts steps)
     known = record {
       whole = planned.whole;
       files = changed_files;

@@ -9,6 +9,7 @@ use Rattle.relative_path.proofs.ForCallers.{walk-names}
 use Rattle.relative_path_moves.specs.Moves.{Move, move_at}
 use Rattle.relative_path_moves.specs.PlaceIndex.{path_at}
 use Rattle.relmove_checks.specs.declared.entry.Entry.{Entry}
+use Rattle.relmove_checks.specs.declared.name_rule.NameRule.{NameRule}
 use Rattle.relmove_plan.specs.Runs.{names_of, rename_places, carried, renames_of, IsThereAfter}
 use Rattle.relmove_steps.specs.Steps.{StepTexts, LeavesFrom, of_move, of_page, of_text, names_come, names_left}
 use Rattle.relmove_plan.specs.WholeTrees.{IsAt}
@@ -40,8 +41,8 @@ renames-coming steps m =
     ∙ ap (λ n. take (n + m) (leaving steps ++ coming steps)) (sym (length-map steps.apart rename_places))
     ∙ take-append_more (leaving steps) (coming steps) m
 
-module _ {entries : List Entry} {pages changed : List (List Step)} {moves : List Move} {any_name : Bool} {steps : StepTexts}
-    (run : IsKnownRun entries pages changed moves any_name steps)
+module _ {entries : List Entry} {pages changed : List (List Step)} {moves : List Move} {rule : NameRule} {steps : StepTexts}
+    (run : IsKnownRun entries pages changed moves rule steps)
   where
     -- ---- what leaves
 

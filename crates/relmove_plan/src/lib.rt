@@ -11,7 +11,7 @@
 pub use self::pages::have_targets;
 pub use self::plan::{Plan, Tree, make_plan};
 pub use self::symbolic::LinkNotice;
-pub use relmove_checks::{Entry, Kind, Refusal};
+pub use relmove_checks::{Entry, Kind, NameRule, Refusal};
 pub use relmove_steps::ChangedPage;
 
 mod pages;

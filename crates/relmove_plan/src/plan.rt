@@ -18,7 +18,7 @@ use relative_path::RelativePath;
 use relative_path_links::{MovedSitePage, SitePage, rewrite_site};
 use relative_path_moves::TreeMoves;
 use relmove_actions::Steps;
-use relmove_checks::{Entry, Refusal, coming_index, entry_index, leaving_table};
+use relmove_checks::{Entry, NameRule, Refusal, coming_index, entry_index, leaving_table};
 use relmove_steps::{After, ChangedPage, changed_pages, steps_of};
 use std::alloc::{AllocError, Global};
 
@@ -52,7 +52,7 @@ pub fn make_plan(
     alloc: Global,
     tree: Tree<'_>,
     moves: &[(RelativePath<'_>, RelativePath<'_>)],
-    any_name: bool,
+    rule: NameRule,
 ) -> Result<Plan, Refusal>
     requires { HaveTargets tree.pages.now }
     // each relative link still leads to its file, query and fragment kept, or is reported
@@ -62,7 +62,7 @@ pub fn make_plan(
     ensures changed { IfOk result (λ plan. map (λ page. page.number) plan.changed.items
         ≡ changed_from 0 tree.entry.pages.now plan.pages.items) }
     // the moves pass each check but `NoFreeName`
-    ensures accepted { OnOk result (IsAccepted tree.entry.entries.now (moves_of moves.now) any_name) }
+    ensures accepted { OnOk result (IsAccepted tree.entry.entries.now (moves_of moves.now) rule) }
     // what is below a path comes before it
     ensures apart { IfOk result
         (λ plan. BelowFirst (map (λ step. string_bytes step.from) plan.steps.apart.items)) }
@@ -123,10 +123,10 @@ pub fn make_plan(
     ensures can_come { IfOk result (λ plan. IsWhole tree.entry.entries.now (page_paths tree.entry.pages.now)
         → CanCome tree.entry.entries.now (step_texts plan.steps) (map string_bytes plan.steps.made.items)) }
     // refusals but `OutOfMemory` are of the first failed check, and its first move or entry
-    ensures refused { IfErr result (IsRefused tree.entry.entries.now (moves_of moves.now) any_name) }
+    ensures refused { IfErr result (IsRefused tree.entry.entries.now (moves_of moves.now) rule) }
 {
     let index = entry_index(alloc, tree.entries)?;
-    let table = leaving_table(alloc, tree.entries, &index, moves, any_name)?;
+    let table = leaving_table(alloc, tree.entries, &index, moves, rule)?;
     let after = coming_index(alloc, tree.entries, &index, &table, moves)?;
     let (pages, changed) = rewritten_pages(alloc, tree.pages, &table)?;
     let links = link_notices(alloc, tree.entries, &table)?;

@@ -2,7 +2,7 @@
 use super::model::DIRECTORY;
 use relative_path::RelativePath;
 use relative_path_links::{SitePage, Target, targets};
-use relmove_plan::{Entry, Kind, Plan, Refusal, Tree, have_targets, make_plan};
+use relmove_plan::{Entry, Kind, NameRule, Plan, Refusal, Tree, have_targets, make_plan};
 use std::alloc::Global;
 use std::test::Fail;
 
@@ -44,7 +44,7 @@ pub fn planned(
     alloc: Global,
     rows: &[(&str, &str)],
     moves: &[(&str, &str)],
-    any_name: bool,
+    rule: NameRule,
 ) -> Result<Result<Plan, Refusal>, Fail> {
     let mut entries = Vec::new(alloc);
     let mut found: Vec<Vec<Target>> = Vec::new(alloc);
@@ -73,5 +73,5 @@ pub fn planned(
         entries: &entries,
         pages: &pages,
     };
-    Ok(make_plan(alloc, tree, &pairs, any_name))
+    Ok(make_plan(alloc, tree, &pairs, rule))
 }

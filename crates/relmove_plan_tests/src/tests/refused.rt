@@ -1,7 +1,7 @@
 //! Moves that are refused.
 use super::planned::planned;
 use super::same;
-use relmove_plan::Refusal;
+use relmove_plan::{NameRule, Refusal};
 use std::alloc::Global;
 use std::test::Fail;
 
@@ -222,14 +222,14 @@ fn is_refused(
     moves: &[(&str, &str)],
     expected: Refusal,
 ) -> Result<(), Fail> {
-    match planned(alloc, &ROWS, moves, false)? {
+    match planned(alloc, &ROWS, moves, NameRule::Plain)? {
         Ok(_) => Err(Fail::new(format_args!("{case:?}: a plan"))),
         Err(refusal) => same(case, &refusal, &expected),
     }
 }
 
 fn is_accepted(alloc: Global, case: &str, moves: &[(&str, &str)]) -> Result<(), Fail> {
-    match planned(alloc, &ROWS, moves, false)? {
+    match planned(alloc, &ROWS, moves, NameRule::Plain)? {
         Ok(_) => Ok(()),
         Err(refusal) => Err(Fail::new(format_args!("{case:?}: {refusal}"))),
     }
@@ -269,8 +269,8 @@ fn accepts_moves(rt: HostRuntime) -> Result<(), Fail> {
 
 #[test]
 fn takes_any_name(rt: HostRuntime) -> Result<(), Fail> {
-    let plan = planned(rt.alloc(), &ROWS, &[("a.md", "m/nul.md")], true)?;
+    let plan = planned(rt.alloc(), &ROWS, &[("a.md", "m/nul.md")], NameRule::Any)?;
     same("a device", &plan.is_ok(), &true)?;
-    let own = planned(rt.alloc(), &ROWS, &[("a.md", ".relmove?")], true)?;
+    let own = planned(rt.alloc(), &ROWS, &[("a.md", ".relmove?")], NameRule::Any)?;
     same("a run's own", &own.err(), &Some(Refusal::OwnName(0)))
 }

@@ -2,6 +2,7 @@
 use super::model::Files;
 use super::planned::planned;
 use super::same;
+use relmove_plan::NameRule;
 use std::alloc::Global;
 use std::test::Fail;
 
@@ -15,7 +16,7 @@ fn leads(
     moves: Rows<'_>,
     after: Rows<'_>,
 ) -> Result<(), Fail> {
-    let plan = match planned(alloc, before, moves, false)? {
+    let plan = match planned(alloc, before, moves, NameRule::Plain)? {
         Ok(plan) => plan,
         Err(refusal) => return Err(Fail::new(format_args!("{case:?}: {refusal}"))),
     };
@@ -236,7 +237,7 @@ fn pages_that_change(rt: HostRuntime) -> Result<(), Fail> {
         ("c.md", "[b](d%2fe)"),
         ("l", "-> b.md"),
     ];
-    let plan = planned(rt.alloc(), &rows, &[("b.md", "d/b.md")], false)?;
+    let plan = planned(rt.alloc(), &rows, &[("b.md", "d/b.md")], NameRule::Plain)?;
     let plan = plan.map_err(|refusal| Fail::new(format_args!("{refusal}")))?;
     let numbers = [(0, 2), (1, 1)];
     same("changed", &plan.changed.len(), &2)?;

@@ -3,7 +3,7 @@ use crate::tests::reading::answers;
 use crate::tests::same;
 use relmove_disk::Disk;
 use relmove_lib::report::{HELP, USAGE};
-use relmove_lib::{Command, Effect, Status, WrongCall, command_of};
+use relmove_lib::{Command, Effect, NameRule, Status, WrongCall, command_of};
 use relmove_run::Way;
 use std::alloc::Global;
 use std::test::Fail;
@@ -12,14 +12,15 @@ use std::test::Fail;
 fn moves<'a>(
     alloc: Global,
     pairs: &[(&'a str, &'a str)],
-    [write, json, any_name]: [bool; 3],
+    [write, json]: [bool; 2],
+    rule: NameRule,
 ) -> Result<Command<'a>, Fail> {
     Ok(Command::Move {
         root: "docs",
         moves: Vec::from_slice(alloc, pairs)?,
         write,
         json,
-        any_name,
+        rule,
     })
 }
 
@@ -31,9 +32,14 @@ fn means(alloc: Global, words: &[&str], expected: Command<'_>) -> Result<(), Fai
 #[test]
 fn moves_files(rt: HostRuntime) -> Result<(), Fail> {
     let alloc = rt.alloc();
-    let plain = moves(alloc, &[("a", "b")], [false, false, false])?;
+    let plain = moves(alloc, &[("a", "b")], [false, false], NameRule::Plain)?;
     means(alloc, &["docs", "a", "b"], plain)?;
-    let all = moves(alloc, &[("a", "b"), ("c", "d")], [true, true, true])?;
+    let all = moves(
+        alloc,
+        &[("a", "b"), ("c", "d")],
+        [true, true],
+        NameRule::Any,
+    )?;
     let words = [
         "--write",
         "docs",
@@ -45,7 +51,7 @@ fn moves_files(rt: HostRuntime) -> Result<(), Fail> {
         "d",
     ];
     means(alloc, &words, all)?;
-    let odd = moves(alloc, &[("--write", "--")], [true, false, false])?;
+    let odd = moves(alloc, &[("--write", "--")], [true, false], NameRule::Plain)?;
     means(alloc, &["--write", "docs", "--", "--write", "--"], odd)
 }
 

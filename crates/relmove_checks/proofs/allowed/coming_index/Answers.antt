@@ -9,7 +9,7 @@ pub returns-in_err-check_news-clause-refused : goal.returns-in_err-check_news-cl
 returns-in_err-check_news-clause-refused c =
     IfErr-error c.from_residual-in_err-check_news.result c.in_err-check_news.field-0.0 _
     c.from_residual-in_err-check_news.ensures.1
-    (λ any_name leave. news leave c.in_ok-check_turned.ensures.apart
+    (λ rule leave. news leave c.in_ok-check_turned.ensures.apart
     (rw c.requires.table at c.in_err-check_news.ensures.refused))
 
 pub returns-in_err-after-clause-refused : goal.returns-in_err-after-clause-refused
@@ -18,7 +18,7 @@ returns-in_err-after-clause-refused c =
     let are_after = rw c.requires.table at c.in_ok-paths.ensures in
     let refused = rw c.deref.ensures.value at c.in_err-after.ensures.refused in
     IfErr-error c.from_residual-in_err-after.result c.in_err-after.field-0.0 _ c.from_residual-in_err-after.ensures.1
-    (λ any_name leave. collision
+    (λ rule leave. collision
     (record { leave = leave; apart = c.in_ok-check_turned.ensures.apart; free = free })
     (record { after = c.in_ok-paths.paths.items; are_after = are_after; refused = refused }))
 
@@ -31,8 +31,8 @@ returns-in_err-check_above-clause-refused c =
     let moves = moves_of c.args.moves.now in
     IfErr-error c.from_residual-in_err-check_above.result c.in_err-check_above.field-0.0 _
     c.from_residual-in_err-check_above.ensures.1
-    (λ any_name leave.
-    let apart : StayApart c.args.entries.now moves any_name = record {
+    (λ rule leave.
+    let apart : StayApart c.args.entries.now moves rule = record {
       come = record { leave = leave; apart = c.in_ok-check_turned.ensures.apart; free = free };
       after = c.in_ok-paths.paths.items;
       are_after = are_after;
@@ -40,7 +40,7 @@ returns-in_err-check_above-clause-refused c =
     } in
     below_file apart
     (c.in_err-check_above.ensures.refused moves
-    (IndexesAfter-apart c.args.entries.now moves any_name c.in_ok-after.after apart indexes)))
+    (IndexesAfter-apart c.args.entries.now moves rule c.in_ok-after.after apart indexes)))
 
 pub returns-in_err-check_above-2-clause-refused : goal.returns-in_err-check_above-2-clause-refused
 returns-in_err-check_above-2-clause-refused c =
@@ -51,14 +51,14 @@ returns-in_err-check_above-2-clause-refused c =
     let moves = moves_of c.args.moves.now in
     IfErr-error c.from_residual-in_err-check_above-2.result c.in_err-check_above-2.field-0.0 _
     c.from_residual-in_err-check_above-2.ensures.1
-    (λ any_name leave.
-    let apart : StayApart c.args.entries.now moves any_name = record {
+    (λ rule leave.
+    let apart : StayApart c.args.entries.now moves rule = record {
       come = record { leave = leave; apart = c.in_ok-check_turned.ensures.apart; free = free };
       after = c.in_ok-paths.paths.items;
       are_after = are_after;
       distinct = distinct;
     } in
-    let known = IndexesAfter-apart c.args.entries.now moves any_name c.in_ok-after.after apart indexes in
+    let known = IndexesAfter-apart c.args.entries.now moves rule c.in_ok-after.after apart indexes in
     below_unread apart (c.in_ok-check_above.ensures.fine moves known)
     (c.in_err-check_above-2.ensures.refused moves known))
 
@@ -69,14 +69,14 @@ returns-clause-fine c =
     let distinct = rw c.deref.ensures.value at c.in_ok-after.ensures.distinct in
     let indexes = rw c.deref.ensures.value at c.in_ok-after.ensures.indexes in
     let moves = moves_of c.args.moves.now in
-    λ any_name leave.
-    let apart : StayApart c.args.entries.now moves any_name = record {
+    λ rule leave.
+    let apart : StayApart c.args.entries.now moves rule = record {
       come = record { leave = leave; apart = c.in_ok-check_turned.ensures.apart; free = free };
       after = c.in_ok-paths.paths.items;
       are_after = are_after;
       distinct = distinct;
     } in
-    let known = IndexesAfter-apart c.args.entries.now moves any_name c.in_ok-after.after apart indexes in
+    let known = IndexesAfter-apart c.args.entries.now moves rule c.in_ok-after.after apart indexes in
     record {
       apart = apart;
       below_no_file = c.in_ok-check_above.ensures.fine moves known;

@@ -5,10 +5,10 @@ use Rattle.relmove_checks.proofs.refused.check_move.Goals as goal
 pub returns-in_err-check_placed-clause-refused : goal.returns-in_err-check_placed-clause-refused
 returns-in_err-check_placed-clause-refused c =
     IfErr-error c.from_residual.result c.in_err-check_placed.field-0.0 _ c.from_residual.ensures.1
-    (c.in_err-check_placed.ensures.refused c.args.any_name)
+    (c.in_err-check_placed.ensures.refused c.args.rule)
 
 pub returns-in_err-check_outside-clause-refused : goal.returns-in_err-check_outside-clause-refused
 returns-in_err-check_outside-clause-refused c =
     IfErr-error c.from_residual-in_err-check_outside.result c.in_err-check_outside.field-0.0 _
     c.from_residual-in_err-check_outside.ensures.1
-    (c.in_err-check_outside.ensures.refused c.args.any_name c.in_ok-check_placed.ensures.fine)
+    (c.in_err-check_outside.ensures.refused c.args.rule c.in_ok-check_placed.ensures.fine)

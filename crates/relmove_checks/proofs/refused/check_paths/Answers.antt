@@ -5,5 +5,5 @@ use Rattle.relmove_checks.proofs.refused.check_paths.Goals as goal
 
 pub loop-number-preserved : goal.loop-number-preserved
 loop-number-preserved c =
-    EachMove-next (HasFinePaths c.args.any_name) c.args.moves.now c.loop-number.number _
+    EachMove-next (HasFinePaths c.args.rule) c.args.moves.now c.loop-number.number _
     c.loop-number-test.true c.loop-number.invariant c.in_ok-check_move.ensures.fine

@@ -5,4 +5,4 @@ use Rattle.relmove_checks.specs.Moves.{HasFinePaths}
 use Rattle.relmove_checks.proofs.refused.check_paths.Given as goal
 
 abbrev pub invariant-loop-number : goal.invariant-loop-number
-invariant-loop-number l = (j : ℕ) → j < l.number → HasFinePaths l.any_name (move_at (moves_of l.moves) j)
+invariant-loop-number l = (j : ℕ) → j < l.number → HasFinePaths l.rule (move_at (moves_of l.moves) j)

@@ -1,7 +1,7 @@
 //! What moves do to a tree.
 use super::marks::{begin, end};
 use crate::tests::same;
-use relmove_lib::{EntryKind, Page, Tree, changed_links_of, is_directory, moving_of};
+use relmove_lib::{EntryKind, NameRule, Page, Tree, changed_links_of, is_directory, moving_of};
 use relmove_run::{Machine, PageFile};
 use std::alloc::{AllocError, Global};
 use std::collections::BTreeMap;
@@ -66,7 +66,7 @@ fn links_that_change(rt: HostRuntime) -> Result<(), Fail> {
     let tree = tree(rt.alloc())?;
     let moves = [("d/b.md", "e/c.md")];
     // No link stays, so only one name is asked for: whether the file system ignores case.
-    let Ok(moving) = moving_of(&mut rt.store_at(".")?, &tree, &moves, false) else {
+    let Ok(moving) = moving_of(&mut rt.store_at(".")?, &tree, &moves, NameRule::Plain) else {
         return Err(Fail::new("the moves are refused"));
     };
     begin(rt.alloc());

@@ -17,17 +17,17 @@ use Rattle.relmove_plan.proofs.plan.make_plan.Goals as goal
 pub returns-in_err-after-clause-refused : goal.returns-in_err-after-clause-refused
 returns-in_err-after-clause-refused c =
     IfErr-error c.from_residual-in_err-after.result c.in_err-after.field-0.0 _ c.from_residual-in_err-after.ensures.1
-    (c.in_err-after.ensures.refused c.args.any_name c.in_ok-table.ensures.fine)
+    (c.in_err-after.ensures.refused c.args.rule c.in_ok-table.ensures.fine)
 
 pub steps_of-requires-clause-named : goal.steps_of-requires-clause-named
 steps_of-requires-clause-named c = λ k l. (c.in_ok-table.ensures.fine.paths k l).placed.named
 
 pub steps_of-requires-clause-news_apart : goal.steps_of-requires-clause-news_apart
 steps_of-requires-clause-news_apart c =
-    (c.in_ok-after.ensures.fine c.args.any_name c.in_ok-table.ensures.fine).apart.come.apart
+    (c.in_ok-after.ensures.fine c.args.rule c.in_ok-table.ensures.fine).apart.come.apart
 
 pub returns-clause-accepted : goal.returns-clause-accepted
-returns-clause-accepted c = c.in_ok-after.ensures.fine c.args.any_name c.in_ok-table.ensures.fine
+returns-clause-accepted c = c.in_ok-after.ensures.fine c.args.rule c.in_ok-table.ensures.fine
 
 pub returns-clause-replaced : goal.returns-clause-replaced
 returns-clause-replaced c =
@@ -52,8 +52,8 @@ from_entries : (c : goal.After-drop-index-2) → IsWhole c.args.tree.entries.now
     (changed_paths c.args.tree.pages.now c.in_ok-pages.changed.items)
 from_entries c whole =
     LeaveFromEntries-whole c.args.tree.entries.now c.args.tree.pages.now c.in_ok-pages.pages.items
-    c.in_ok-pages.changed.items (moves_of c.args.moves.now) c.args.any_name
-    (c.in_ok-after.ensures.fine c.args.any_name c.in_ok-table.ensures.fine) whole c.in_ok-pages.ensures.within
+    c.in_ok-pages.changed.items (moves_of c.args.moves.now) c.args.rule
+    (c.in_ok-after.ensures.fine c.args.rule c.in_ok-table.ensures.fine) whole c.in_ok-pages.ensures.within
     c.in_ok-pages.ensures.changed
 
 -- no path leaves twice
@@ -69,10 +69,10 @@ returns-clause-once = leave_once
 -- what is known of the plan for a whole tree
 planned : (c : goal.After-drop-index-2) → IsWhole c.args.tree.entries.now (page_paths c.args.tree.pages.now)
     → IsPlanned c.args.tree.entries.now c.args.tree.pages.now c.in_ok-pages.pages.items c.in_ok-pages.changed.items
-    (moves_of c.args.moves.now) c.args.any_name c.in_ok-steps.steps
+    (moves_of c.args.moves.now) c.args.rule c.in_ok-steps.steps
 planned c whole = record {
   whole = whole;
-  accepted = c.in_ok-after.ensures.fine c.args.any_name c.in_ok-table.ensures.fine;
+  accepted = c.in_ok-after.ensures.fine c.args.rule c.in_ok-table.ensures.fine;
   long = c.in_ok-pages.ensures.long;
   links = rw c.in_ok-table.ensures.table at c.in_ok-pages.ensures.links;
   within = c.in_ok-pages.ensures.within;

@@ -3,7 +3,7 @@ use super::marks::{begin, end};
 use crate::tests::same;
 use relative_path::RelativePath;
 use relative_path_links::{SitePage, targets};
-use relmove_plan::{Entry, Kind, Plan, Refusal, Tree, have_targets, make_plan};
+use relmove_plan::{Entry, Kind, NameRule, Plan, Refusal, Tree, have_targets, make_plan};
 use std::alloc::Global;
 use std::test::Fail;
 
@@ -45,7 +45,7 @@ fn planned(alloc: Global, text: &str, new: &str) -> Result<Result<Plan, Refusal>
     };
     let moves = [(RelativePath::new("d/b.md"), RelativePath::new(new))];
     begin(alloc);
-    let answer = make_plan(alloc, tree, &moves, false);
+    let answer = make_plan(alloc, tree, &moves, NameRule::Plain);
     end(alloc, matches!(&answer, Err(Refusal::OutOfMemory)))?;
     Ok(answer)
 }
