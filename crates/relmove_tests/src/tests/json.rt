@@ -109,8 +109,7 @@ fn prints_what_a_run_leaves_that_is_taken_back(rt: HostRuntime) -> Result<(), Fa
     let disk = disk_of(rt.alloc(), SITE)?;
     let (mut out, mut errors) = (Vec::new(rt.alloc()), Vec::new(rt.alloc()));
     answer(&DiskMachine(&disk), WRITE, &mut out, &mut errors);
-    // The page has its staging name for more than three calls before the run looks for it.
-    for number in (1..=disk.calls()).step_by(3) {
+    for number in 1..=disk.calls() {
         if prints_what_is_gone(rt.alloc(), number)? {
             return Ok(());
         }
