@@ -1,8 +1,9 @@
 //! The lines of a text, and the fields of a line.
 ghost use Rattle.std.specs.Prelude.{◌≡◌, ◌<◌, ◌==◌, [], ◌∷◌, length, map, take, IfSome, IfNone};
-ghost use Rattle.std.specs.List.{slice_split};
+ghost use Rattle.std.specs.List.{position_or_len, slice_split};
 ghost use Rattle.relpath_lib.specs.Lines.{lines_of, fields_of, fields_left};
 
+use byte_classes::{OneByte, len_before};
 use memchr::memchr;
 
 /// How many fields of a line are read at most: one more than a command with its arguments has.
@@ -58,8 +59,32 @@ fn cut_at(text: &str, byte: u8) -> Option<(&str, &str)>
         ≡ parts.0.now ∷ slice_split (λ b. b == byte) parts.1.now) }
     ensures shorter { IfSome result (λ parts. length parts.1.now < length text.now) }
 {
-    let Some(at) = memchr(byte, text.as_bytes()) else {
+    let at = len_before_byte(byte, text.as_bytes());
+    if at == text.len() {
         return None;
-    };
+    }
     Some((&text[..at], &text[at + 1..]))
+}
+
+// How many bytes are searched block by block. In more bytes a call of `memchr` takes fewer instructions.
+const NEAR: usize = 64;
+
+// Returns how many bytes come before the first `byte`, or how many there are if it isn't there.
+#[inline(always)]
+fn len_before_byte(byte: u8, text: &[u8]) -> usize
+    ensures { result ≡ position_or_len (λ b. b == byte) text.now }
+{
+    let class = OneByte { byte };
+    if text.len() <= NEAR {
+        return len_before(&class, text);
+    }
+    let (near, far) = text.split_at(NEAR);
+    let len = len_before(&class, near);
+    if len < NEAR {
+        return len;
+    }
+    match memchr(byte, far) {
+        Some(at) => NEAR + at,
+        None => text.len(),
+    }
 }
