@@ -98,22 +98,19 @@ def foreign_files_do_not_race_in(at):
         begin_shared(at)
         with Beside(exchange_later, at.top, put, turn / TURNS * LONGEST_WAIT):
             done = at.call(*MOVE, **AS_NOBODY)
-        yield from (f"turn {turn}: {it}" for it in faults_of_attack(at, done, is_race=True))
+        yield from (f"turn {turn}: {it}" for it in faults_of_attack(at, done))
 
 
-def faults_of_attack(at, ended, is_race=False):
-    """The faults of a run in which another user did something to its own names, and of its end after that user has gone. In
-    a race nothing may have the name of the run's directory for a moment. What is in it is left then without a word, as the
-    page of relmove_run says."""
+def faults_of_attack(at, ended):
+    """The faults of a run in which another user did something to its own names, and of its end after that user has gone."""
     texts = plain(at)
     is_foreign = FOREIGN in texts.values()
     if ended.status in (0, 2):
         yield from (f"status {ended.status}, and {it}" for it in has_only(texts, {0: PAIR_MOVED, 2: PAIR}[ended.status]))
     elif ended.status not in (1, 3) or JOURNAL not in told(ended):
         yield f"it doesn't say what it did: {told(ended)}"
-    is_away = (at.top / "away").exists()
     remove_foreign(at)
-    if ended.status == 1 or is_race and is_away and ended.status in (0, 2):
+    if ended.status == 1:
         # It ended, and what is left in its directory is where the other user put that.
         yield from (f"{it!r} is lost: {at.texts()}" for it in lost_pages(at.texts() if is_foreign else plain(at)))
         return

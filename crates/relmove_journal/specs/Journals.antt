@@ -1,5 +1,5 @@
 -- The text of a journal: what it says, and how that is written.
-use Rattle.std.specs.Prelude.{ℕ, ◌==◌, List, [], ◌∷◌, ◌++◌, chars, codes, encode_utf8, if◌then◌else◌, length, string_bytes}
+use Rattle.std.specs.Prelude.{◌≡◌, ◌⊎◌, ℕ, ◌==◌, List, [], ◌∷◌, ◌++◌, chars, codes, encode_utf8, if◌then◌else◌, length, string_bytes}
 use Rattle.std.specs.Fmt.{decimal}
 use Rattle.std.specs.List.{flat_map}
 use Rattle.hex.specs.Hex.{encode_lower}
@@ -94,3 +94,8 @@ with_end lines = lines ++ end_line lines
 -- the text of a journal: a line of its own kind, where it was written, how far the run is, what it does, and the last line
 abbrev pub journal_bytes : Origin → Stage → Work → List ℕ
 journal_bytes origin stage work = with_end (codes "relmove journal 3\n" ++ head_lines origin stage ++ work_bytes work)
+
+-- the bytes begin with the first line of a journal, or they are the beginning of it
+abbrev pub CanBegin : List ℕ → Type 0
+CanBegin bytes = ((rest : List ℕ) × (bytes ≡ codes "relmove journal 3\n" ++ rest))
+    ⊎ ((rest : List ℕ) × (codes "relmove journal 3\n" ≡ bytes ++ rest))

@@ -29,7 +29,7 @@ ghost use Rattle.relmove_journal.specs.declared.journal.Origin.{Origin};
 ghost use Rattle.relmove_journal.specs.declared.text_digest.TextDigest.{TextDigest};
 ghost use Rattle.relmove_journal.specs.declared.work.Stage.{Stage};
 ghost use Rattle.relmove_journal.specs.declared.work.Work.{Work};
-ghost use Rattle.relmove_journal.specs.Journals.{digest_fields, directory_line, end_line, escaped, escaped_character, field_bytes, head_lines, journal_bytes, leftover_line, line_bytes, rename_line, stage_name, text_line, work_bytes};
+ghost use Rattle.relmove_journal.specs.Journals.{CanBegin, digest_fields, directory_line, end_line, escaped, escaped_character, field_bytes, head_lines, journal_bytes, leftover_line, line_bytes, rename_line, stage_name, text_line, work_bytes};
 ghost use Rattle.relmove_journal.specs.Reading.LeftoverParts.{Emptied, Removed};
 ghost use Rattle.relmove_journal.specs.Reading.{GivenMemory, IsDigest, IsLine, IsRenameParts, IsTextOfRun, IsTextParts, IsWorkLine, Line, Says, WorkLine, content_of, fields_text, leftover_parts, line_fields, line_text, line_word, parts_of, rename_fields, rename_parts, text_fields, text_parts, with_line, with_work_line, work_fields, work_word};
 ghost use Rattle.relmove_journal.specs.Shape.{IsOfRun};
@@ -119,7 +119,10 @@ const END: &str = "end";
 pub const HEAD_LENGTH: u64 = 18;
 
 /// Whether bytes may be the beginning of a journal.
-pub fn begins_as_journal(bytes: &[u8]) -> bool {
+pub fn begins_as_journal(bytes: &[u8]) -> bool
+    // whether the bytes and the first line of a journal begin alike, as far as the shorter one goes
+    ensures can_begin { IsTrue result ↔ CanBegin bytes.now }
+{
     bytes.starts_with(HEAD.as_bytes()) || HEAD.as_bytes().starts_with(bytes)
 }
 

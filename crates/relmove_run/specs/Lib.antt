@@ -1,3 +1,4 @@
 pub mod Printing
 pub mod Permissions
 pub mod Ends
+pub mod Faults

@@ -1,6 +1,7 @@
 //! Why a call fails.
 ghost use Rattle.std.specs.Prelude.{◌≡◌};
 ghost use Rattle.relmove_run.specs.declared.fault.Fault.TheVariants.{OutOfMemory};
+ghost use Rattle.relmove_run.specs.Faults.{fault_of_error};
 
 use crate::printable::Printable;
 use httpdate::{HttpDate, fmt_http_date};
@@ -260,6 +261,9 @@ fn words_alone(fault: &Fault) -> &'static str {
 impl Error for Fault {}
 
 impl From<JournalError> for Fault {
+    // the fault of the same name
+    ghost from_gives = { λ error fault. fault ≡ fault_of_error error };
+
     fn from(error: JournalError) -> Fault {
         match error {
             JournalError::OutOfMemory => Fault::OutOfMemory,

@@ -56,6 +56,8 @@ pub(crate) struct OwnFiles {
     // The inode of the root.
     root: u64,
     directory: OwnFile,
+    // Whether this call made the directory, or found it in its place.
+    has_directory: bool,
     // The user who owns the directory.
     owner: u32,
     // The journal in its place is the first or the second of these, once one was put there.
@@ -116,6 +118,7 @@ pub(crate) fn none_yet<S: Store>(store: &mut S) -> Result<OwnFiles, Fault> {
     Ok(OwnFiles {
         root: inode_of_root(store)?,
         directory: OwnFile::None,
+        has_directory: false,
         owner: 0,
         journal: OwnFile::None,
         next: OwnFile::None,
@@ -241,6 +244,7 @@ pub(crate) fn own_files_of<S: Store>(
     Ok(OwnFiles {
         root,
         directory: OwnFile::Inode(directory),
+        has_directory: false,
         owner: found.owner,
         journal: OwnFile::Inode(found.inode),
         next: OwnFile::None,
@@ -408,6 +412,7 @@ pub(crate) fn make_own_directory<S: Store>(
     match find(store, OWN_DIRECTORY)? {
         Some(found) if found.kind == FoundKind::Directory => {
             own.directory = OwnFile::Inode(found.inode);
+            own.has_directory = true;
             own.owner = found.owner;
             Ok(found.inode)
         }
@@ -616,7 +621,7 @@ pub(crate) fn take_directory<S: Store>(
     own: &mut OwnFiles,
 ) -> Result<(), Fault> {
     match find(store, OWN_DIRECTORY)? {
-        Some(found) if own.directory.may_be_directory(&found) => {}
+        Some(found) if own.directory.may_be_directory(&found) => own.has_directory = true,
         _ => return Ok(()),
     }
     if find(store, END)?.is_some() {
@@ -673,7 +678,7 @@ pub(crate) fn remove_all<S: Store>(
     if own.end != OwnFile::None {
         remove_end(store, own)?;
     }
-    remove_own_directory(store, own.directory, remarks)?;
+    remove_own_directory(store, own, remarks)?;
     if !own.may_have_journal {
         return Ok(());
     }
@@ -684,33 +689,49 @@ pub(crate) fn remove_all<S: Store>(
     }
 }
 
-// Removes the run's own directory. If something is in it, or if something else has its name, it stays, and this is noted. A
-// call that reports a failure after it removed the directory has done its work.
+// Removes the run's own directory. If something is in it, or if something else has its name, it stays, and this is noted. So
+// is one that went away during this call. A call that reports a failure after it removed the directory has done its work.
 fn remove_own_directory<S: Store>(
     store: &mut S,
-    own: OwnFile,
+    own: &OwnFiles,
     remarks: &mut Vec<Remark>,
 ) -> Result<(), Fault> {
-    if own == OwnFile::None {
+    if own.directory == OwnFile::None {
         return Ok(());
     }
     let Some(found) = find_to_remove(store, OWN_DIRECTORY)? else {
-        return Ok(());
+        return note_away(store, own, remarks);
     };
-    if !own.may_be_directory(&found) {
+    if !own.directory.may_be_directory(&found) {
         return Ok(remarks.push(Remark::Kept(copy_of(store, OWN_DIRECTORY)?))?);
     }
     let removed = store.remove_directory(OWN_DIRECTORY);
-    if let Err(error) = &removed
-        && error.kind() == ErrorKind::DirectoryNotEmpty
-    {
-        let why = fault_of(store.alloc(), Call::RemoveDirectory, OWN_DIRECTORY, error);
-        return Ok(remarks.push(Remark::Stays(why))?);
+    match &removed {
+        Err(error) if error.kind() == ErrorKind::DirectoryNotEmpty => {
+            let why = fault_of(store.alloc(), Call::RemoveDirectory, OWN_DIRECTORY, error);
+            return Ok(remarks.push(Remark::Stays(why))?);
+        }
+        Err(error) if error.kind() == ErrorKind::NotFound => {
+            return note_away(store, own, remarks);
+        }
+        _ => {}
     }
     if removed.is_err() && find(store, OWN_DIRECTORY)?.is_none() {
         return Ok(());
     }
     at(store.alloc(), Call::RemoveDirectory, OWN_DIRECTORY, removed)
+}
+
+// Notes that nothing has the name of the run's own directory, if this call had it.
+fn note_away<S: Store>(
+    store: &mut S,
+    own: &OwnFiles,
+    remarks: &mut Vec<Remark>,
+) -> Result<(), Fault> {
+    if own.has_directory {
+        remarks.push(Remark::Away(copy_of(store, OWN_DIRECTORY)?))?;
+    }
+    Ok(())
 }
 
 // Removes the journal. A call that reports a failure after it removed the journal has done its work.

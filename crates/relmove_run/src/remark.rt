@@ -30,6 +30,9 @@ pub enum Remark {
         /// The number of the user who owns it.
         owner: u32,
     },
+    /// The run's own directory, which another program moved or removed during the call. What the run had in it is where that
+    /// program put it.
+    Away(String),
     /// A directory that the run emptied, or its own directory, can't be removed.
     Stays(Fault),
 }
@@ -63,6 +66,13 @@ impl fmt::Display for Remark {
                 write!(
                     f,
                     "{path} is the journal of a run that didn't end, of the user of the number {owner}"
+                )
+            }
+            Remark::Away(path) => {
+                let path = Printable(path.as_str());
+                write!(
+                    f,
+                    "{path} isn't there: another program moved or removed it, with what was in it"
                 )
             }
             Remark::Stays(fault) => write!(f, "{fault}; this directory stays"),

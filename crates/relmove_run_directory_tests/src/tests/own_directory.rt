@@ -1,7 +1,7 @@
 //! The run's own directory, in which staging names are: nobody else sees what is there, and nothing foreign leaves it for a
 //! new path.
 use relmove_disk::{Content, Disk, Way, disk_of, file_of};
-use relmove_run::{Remark, Stage};
+use relmove_run::{Ended, Fault, Remark, Stage};
 use relmove_run_cases::{
     Case, End, Ending, calls_of, can_be_undone, cases, end_of, first_call_at, has_text, holds,
     remarks_of, resume_on, run, run_and_fail, same, stopped_at, stops_with, undo_on,
@@ -154,6 +154,58 @@ fn keeps_at_end(alloc: Global, ending: Ending, end: End) -> Result<(), Fail> {
 fn keeps_what_is_in_its_directory_at_its_end(rt: HostRuntime) -> Result<(), Fail> {
     keeps_at_end(rt.alloc(), Ending::Resume, End::Done)?;
     keeps_at_end(rt.alloc(), Ending::Undo, End::TakenBack)
+}
+
+// Whether a call ended without a word on the run's own directory.
+fn is_silent(ended: &Ended) -> bool {
+    match ended {
+        Ended::Done(remarks) => remarks.is_empty(),
+        Ended::TakenBack { remarks, .. } => remarks.is_empty(),
+        Ended::Refused(fault) => !matches!(fault, Fault::Exchanged(_)),
+        Ended::Stopped { .. } => false,
+    }
+}
+
+// Removes the directory before a call of a run. Whether the run says so, if the directory was there.
+fn says_that_it_went(alloc: Global, case: &Case, number: u32) -> Result<(), Fail> {
+    let (_, killed) = run_and_fail(alloc, case, number, Way::Killed)?;
+    let disk = disk_of(alloc, case.before)?;
+    disk.remove_before(number, "site/.relmove-run")?;
+    let is_said = !is_silent(&run(alloc, case, &disk)?);
+    let words = format!(in alloc; "it is said, before call {number}")?;
+    same(words.as_str(), &is_said, &killed.has("site/.relmove-run")?)
+}
+
+#[test]
+fn says_that_its_directory_went(rt: HostRuntime) -> Result<(), Fail> {
+    let (alloc, case) = (rt.alloc(), &cases::PAGE_CHANGES);
+    for number in 1..=calls_of(alloc, case)? {
+        says_that_it_went(alloc, case, number)?;
+    }
+    Ok(())
+}
+
+// The same for a run that stopped before a call, and is resumed: once the resumed run has taken the directory. Whether it had.
+fn resumed_says_that_it_went(alloc: Global, first: u32, number: u32) -> Result<bool, Fail> {
+    let (_, killed) = run_and_fail(alloc, &cases::PAGE_CHANGES, first, Way::Killed)?;
+    killed.fail_at(number, Way::Killed);
+    resume_on(&killed);
+    let is_taken = killed.has("site/.relmove-run/end")?;
+    let (_, disk) = run_and_fail(alloc, &cases::PAGE_CHANGES, first, Way::Killed)?;
+    disk.remove_before(number, "site/.relmove-run")?;
+    let ended = resume_on(&disk);
+    same("silent", &(is_taken && is_silent(&ended)), &false)?;
+    Ok(is_taken)
+}
+
+#[test]
+fn says_that_its_directory_went_when_it_is_resumed(rt: HostRuntime) -> Result<(), Fail> {
+    let first = first_call_at(rt.alloc(), &cases::PAGE_CHANGES, Stage::Cleaning)?;
+    let mut taken = false;
+    for number in 1..40u32 {
+        taken |= resumed_says_that_it_went(rt.alloc(), first, number)?;
+    }
+    same("taken", &taken, &true)
 }
 
 // A file system may lose what is in a directory that wasn't synced itself.

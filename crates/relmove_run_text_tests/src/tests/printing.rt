@@ -195,6 +195,7 @@ fn remark_at(alloc: Global, kind: usize) -> Result<Remark, AllocError> {
             path: from,
             owner: 7,
         },
+        3 => Remark::Away(from),
         _ => {
             let to = other_path(alloc)?;
             Remark::Gone { from, to }
@@ -202,10 +203,11 @@ fn remark_at(alloc: Global, kind: usize) -> Result<Remark, AllocError> {
     })
 }
 
-const REMARKS: [&str; 4] = [
+const REMARKS: [&str; 5] = [
     "a\\u{1b} is kept: another program changed it, or put it there",
     "something was at a\\u{1b} and at b\\u{7}: the first went back to the old path, and the second is kept",
     "a\\u{1b} is the journal of a run that didn't end, of the user of the number 7",
+    "a\\u{1b} isn't there: another program moved or removed it, with what was in it",
     "neither a\\u{1b} nor b\\u{7} is there: another program removed it",
 ];
 
