@@ -7,6 +7,8 @@ use std::io::{self, ErrorKind};
 pub enum Way {
     /// It does nothing, and fails.
     Refused,
+    /// It does nothing, and fails for lack of memory.
+    OutOfMemory,
     /// It does what it is to do, and fails.
     DoneAndFailed,
     /// It does nothing and fails, and so does every call after it, as if the process were killed.
@@ -90,6 +92,8 @@ impl Calls {
         match self.way.get() {
             Way::Refused if is_first => Err(io::Error::from(ErrorKind::Other)),
             Way::Refused => Ok(Turn::Succeeds),
+            Way::OutOfMemory if is_first => Err(io::Error::from(ErrorKind::OutOfMemory)),
+            Way::OutOfMemory => Ok(Turn::Succeeds),
             Way::DoneAndFailed if is_first => Ok(Turn::Fails),
             Way::DoneAndFailed => Ok(Turn::Succeeds),
             Way::Killed => Err(io::Error::from(ErrorKind::Other)),

@@ -38,7 +38,7 @@ pub struct Unread {
     pub why: String,
 }
 
-/// What is below a root. All paths are from the root, and sorted.
+/// What is below a root. All paths are from the root.
 #[derive(Debug, Drop)]
 pub struct Tree {
     /// What is at each path. What is in a directory whose name begins with a dot, or where a symbolic link leads,

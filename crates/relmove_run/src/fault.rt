@@ -8,8 +8,9 @@ use httpdate::{HttpDate, fmt_http_date};
 use relmove_journal::{JournalError, Stage};
 use std::alloc::{AllocError, AllocFailed, Global};
 use std::error::Error;
+use std::fmt;
+use std::io::{self, ErrorKind};
 use std::time::SystemTime;
-use std::{fmt, io};
 
 /// A call of the file system.
 #[derive(Clone, Copy, Debug, PartialEq, Eq)]
@@ -299,8 +300,11 @@ pub fn at<T>(alloc: Global, call: Call, path: &str, outcome: io::Result<T>) -> R
     }
 }
 
-/// The fault that a call failed.
+/// The fault that a call failed: [`Fault::OutOfMemory`] if it failed for lack of memory.
 pub fn fault_of(alloc: Global, call: Call, path: &str, error: &io::Error) -> Fault {
+    if error.kind() == ErrorKind::OutOfMemory {
+        return Fault::OutOfMemory;
+    }
     match (String::from_str(alloc, path), error.to_string(alloc)) {
         (Ok(path), Ok(why)) => Fault::System { call, path, why },
         _ => Fault::OutOfMemory,

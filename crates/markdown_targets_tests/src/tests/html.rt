@@ -201,6 +201,9 @@ a <a¶href =¶"b.md" > ⇒ b.md
 <script>¶</script_> <img src="b.png">¶</script/> <img src="c.png"> ⇒ c.png
 § Attributes of a base without an `href`
 <base src=b.md> ⇒ b.md
+§ Attributes of a base with an `href`
+<base href="b/">¶<img src="c.png"> ⇒ c.png
+a <base HREF=b> ⇒ none
 "##;
 
 // The names of tags that begin a block which goes on to a blank line, by start condition 6.

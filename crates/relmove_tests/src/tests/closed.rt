@@ -1,6 +1,6 @@
 //! Directories that the caller may not change: a call says so before it moves anything.
 use crate::tests::reading::answers;
-use crate::tests::{same, words_of};
+use crate::tests::{add_symlink, same, words_of};
 use relmove_disk::{Content, Disk, Place, disk_of};
 use relmove_lib::Status;
 use std::alloc::Global;
@@ -184,4 +184,15 @@ fn says_nothing_where_the_caller_is_not_known(rt: HostRuntime) -> Result<(), Fai
     says_why(rt.alloc(), &CASES[0], &disk, "")?;
     disk.remove("proc")?;
     says_why(rt.alloc(), &CASES[0], &disk, "")
+}
+
+// The system's name for the process is a symbolic link, which may belong to another user than the process.
+#[test]
+fn asks_who_the_process_is_through_a_symbolic_link(rt: HostRuntime) -> Result<(), Fail> {
+    let disk = disk_with(rt.alloc(), &CASES[0])?;
+    disk.remove("proc/self")?;
+    disk.add("proc/1", Content::Directory)?;
+    add_symlink(rt.alloc(), &disk, "proc/self", "1")?;
+    disk.set_owner("proc/self", 0, 0)?;
+    says_why(rt.alloc(), &CASES[0], &disk, CASES[0].why)
 }

@@ -2,8 +2,8 @@
 use crate::tests::moving::{Row, does};
 use crate::tests::reading::answers;
 use crate::tests::{add_symlink, holds, same};
-use relmove_disk::{Content, Disk, Place, disk_of};
-use relmove_lib::Status;
+use relmove_disk::{Content, Disk, DiskMachine, Place, disk_of};
+use relmove_lib::{Status, answer};
 use std::alloc::Global;
 use std::test::Fail;
 
@@ -260,4 +260,28 @@ fn names_directories_in_order(rt: HostRuntime) -> Result<(), Fail> {
         "relmove: a name in the directory d can't be read, or isn't UTF-8\nrelmove: a name in the directory e can't be read, or isn't UTF-8\n";
     let expected = (Status::Kept, "", errors);
     answers(rt.alloc(), &disk, &["--check", "site"], expected)
+}
+
+// What is in a directory that can't be listed isn't known, wherever it is among such directories. So the system is asked
+// for it.
+#[test]
+fn follows_links_into_each_directory_that_cannot_be_listed(rt: HostRuntime) -> Result<(), Fail> {
+    let places: &[Place] = &[
+        ("d", None),
+        ("d/x", Some("xx")),
+        ("e", None),
+        ("e/x", Some("xx")),
+        ("p.md", Some("[d](d/x) [e](e/x)")),
+    ];
+    let disk = disk_of(rt.alloc(), places)?;
+    disk.set_mode("site/d", 0o300)?;
+    disk.set_mode("site/e", 0o300)?;
+    let (mut out, mut errors) = (Vec::new(rt.alloc()), Vec::new(rt.alloc()));
+    let words = ["--check", "site"];
+    let status = answer(&DiskMachine(&disk), &words, &mut out, &mut errors);
+    same(
+        "no dead link",
+        &(status, out.as_slice()),
+        &(Status::Kept, b"".as_slice()),
+    )
 }

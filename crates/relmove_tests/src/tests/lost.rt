@@ -1,7 +1,7 @@
 //! Links that lead to something before a run, and to nothing or to something else after it.
 use crate::tests::reading::answers;
 use crate::tests::{add_symlink, same, words_of};
-use relmove_disk::{Content, Disk, DiskMachine, Place, disk_of};
+use relmove_disk::{Content, Disk, DiskMachine, Place, disk_of, file_of};
 use relmove_lib::{Status, answer};
 use std::alloc::Global;
 use std::test::Fail;
@@ -419,6 +419,22 @@ fn names_no_link_to_a_directory_that_stays(rt: HostRuntime) -> Result<(), Fail> 
     let errors = "relmove: a name in the directory d can't be read, or isn't UTF-8\n";
     let words = ["--write", "site", "d/a.md", "b.md"];
     answers(rt.alloc(), &disk, &words, (Status::Kept, printed, errors))
+}
+
+// A symbolic link leads to the third directory above the root, and back.
+#[test]
+fn follows_a_link_far_above_the_root(rt: HostRuntime) -> Result<(), Fail> {
+    let disk = Disk::new(rt.alloc())?;
+    for directory in ["u", "u/v", "u/v/site"] {
+        disk.add(directory, Content::Directory)?;
+    }
+    disk.add("u/v/site/a.md", file_of(rt.alloc(), "aa")?)?;
+    disk.add("u/v/site/p.md", file_of(rt.alloc(), "[x](s/a.md)")?)?;
+    add_symlink(rt.alloc(), &disk, "u/v/site/s", "../../../u/v/site")?;
+    let printed =
+        "u/v/site/p.md:1:5: s/a.md leads through a symbolic link, and to nothing after the moves\n0 pages would change, 1 file would move. Nothing is written: add --write.\n";
+    let words = ["u/v/site", "a.md", "b.md"];
+    answers(rt.alloc(), &disk, &words, (Status::LinksLeft, printed, ""))
 }
 
 // What a relative symbolic link leads to outside of the root is a FIFO.

@@ -1,6 +1,6 @@
 //! What a call that moves files prints, its status, and the tree after it.
 use crate::tests::reading::answers;
-use crate::tests::{holds, same};
+use crate::tests::{add_symlink, holds, same};
 use relmove_disk::{Content, Disk, DiskMachine, Place, Way, disk_of, file_of};
 use relmove_lib::{Status, answer};
 use relmove_run::{Ended, Locked, Machine, Trust, resume};
@@ -363,7 +363,11 @@ fn refuses_moves(rt: HostRuntime) -> Result<(), Fail> {
 
 #[test]
 fn refuses_all_else_beside_a_journal(rt: HostRuntime) -> Result<(), Fail> {
-    let places: &[Place] = &[("a.md", Some("aa")), (".relmove", Some("jj"))];
+    let places: &[Place] = &[
+        ("a.md", Some("aa")),
+        ("p.md", Some("[a](a.md)")),
+        (".relmove", Some("jj")),
+    ];
     let disk = disk_of(rt.alloc(), places)?;
     let printed =
         "relmove: site: a run before this one didn't end; its journal .relmove was written on Sun, 09 Sep 2001 01:46:40 GMT. If it was your run, call relmove --resume ROOT or relmove --undo ROOT. If the folder came from elsewhere, the journal may have come with it: then remove it\n";
@@ -453,6 +457,25 @@ fn names_runs_of_other_users_near(rt: HostRuntime) -> Result<(), Fail> {
         }
     }
     Ok(())
+}
+
+// Another user's journal has the names beside it, and no others.
+#[test]
+fn names_what_is_beside_no_journal(rt: HostRuntime) -> Result<(), Fail> {
+    let alloc = rt.alloc();
+    let places: &[Place] = &[
+        ("d", None),
+        ("d/.relmove", Some("jj")),
+        ("d/.relmove-run", None),
+        ("e", None),
+        ("e/.relmove-run", None),
+    ];
+    let disk = disk_of(alloc, places)?;
+    disk.set_owner("site/d/.relmove", 7, 7)?;
+    let printed =
+        "relmove: e/.relmove-run has a name of relmove's own, and there is no run to which it belongs\nsite: d/.relmove is the journal of a run that didn't end, of the user of the number 7\n";
+    let expected = (Status::Kept, "", printed);
+    answers(alloc, &disk, &["--check", "site"], expected)
 }
 
 // This letter so many times.
@@ -592,6 +615,38 @@ fn stops_in_the_middle(rt: HostRuntime) -> Result<(), Fail> {
     }
     same("some stop", &(stopped > 0), &true)?;
     same("some are refused", &(refused > 0), &true)
+}
+
+// Whether a call is refused, whichever of its calls of the file system fails for lack of memory. A page has a link through a
+// symbolic link.
+fn refuses_for_lack_of_memory(alloc: Global, words: &[&str]) -> Result<(), Fail> {
+    let disk = disk_of(
+        alloc,
+        &[("a.md", Some("aa")), ("p.md", Some("[x](s/o.md)"))],
+    )?;
+    disk.add("o", Content::Directory)?;
+    disk.add("o/o.md", file_of(alloc, "oo")?)?;
+    add_symlink(alloc, &disk, "site/s", "../o")?;
+    let (mut out, mut errors) = (Vec::new(alloc), Vec::new(alloc));
+    let status = answer(&DiskMachine(&disk), words, &mut out, &mut errors);
+    same("with memory", &status, &Status::Kept)?;
+    for number in 1..=disk.calls() {
+        disk.fail_at(number, Way::OutOfMemory);
+        let (mut out, mut errors) = (Vec::new(alloc), Vec::new(alloc));
+        let status = answer(&DiskMachine(&disk), words, &mut out, &mut errors);
+        same(
+            "without memory",
+            &(number, status),
+            &(number, Status::Refused),
+        )?;
+    }
+    Ok(())
+}
+
+#[test]
+fn refuses_where_memory_runs_out(rt: HostRuntime) -> Result<(), Fail> {
+    refuses_for_lack_of_memory(rt.alloc(), &["--check", "site"])?;
+    refuses_for_lack_of_memory(rt.alloc(), &["site", "a.md", "b.md"])
 }
 
 /// What a call of [`WRITE`] prints before it moves anything.

@@ -22,7 +22,7 @@ const NO_BASE: &[u8] =
 
 const HIDDEN: &[u8] = b"[x](nothing.md)";
 
-const GUIDE: &[u8] = b"[a](../a.md)\n![i](i.png)";
+const GUIDE: &[u8] = b"[a](../a.md) [r](..) [r](../.)\n![i](i.png)";
 
 // A site with a page of links, names with dots, symbolic links, and what isn't UTF-8.
 fn site(alloc: Global) -> io::Result<Disk> {
