@@ -13,7 +13,7 @@ use Rattle.relative_path.specs.RelativePath.{path_components}
 use Rattle.relative_path.specs.Relating.{Leads}
 use Rattle.relative_path.proofs.ForCallers.{IsSame-refl, IsSame-sym, IsSame-trans, IsSame-append_left, IsSame-append_right, IsReachable-same, IsShortestText-same, Leads-same, SpellThemselves-components, has_root-spell, components-trailing_slash}
 use Rattle.relative_path.proofs.OnLiterals.{relative_path_on_literals}
-use Rattle.relative_path_moves.specs.Places.{directory}
+use Rattle.relative_path_places.specs.Places.{directory}
 use Rattle.relative_path_moves.specs.declared.tree_moves.MovedPage.{MovedPage}
 use Rattle.relative_path_moves.specs.Moves.{Move, BelowTop}
 use Rattle.relative_path_moves.specs.TreeMoves.{IsLeftInPlace, AtTreePath}

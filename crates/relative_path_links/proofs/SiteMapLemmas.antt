@@ -14,11 +14,11 @@ use Rattle.relative_path.specs.Editing.{pushed, with_separator, unslashed}
 use Rattle.relative_path.specs.Naming.{last_name}
 use Rattle.relative_path.proofs.ForCallers.{walk-append, walk-append_some, walk-some, IsSame-sym, IsSame-trans, IsSame-append_right, IsSame-name_up, IsSame-last_name, Leads-same, IsReachable-same, SpellsItself-last_name, last_name-name, spell-pushed}
 use Rattle.relative_path.proofs.OnLiterals.{relative_path_on_literals}
-use Rattle.relative_path_moves.specs.Places.{directory}
+use Rattle.relative_path_places.specs.Places.{directory}
 use Rattle.relative_path.specs.RelativePath.{path_components}
 use Rattle.relative_path.specs.declared.path.RelativePath.{RelativePath}
-use Rattle.relative_path_moves.specs.PlaceIndex.{Indexes}
-use Rattle.relative_path_moves.specs.declared.place_index.PlaceIndex.{PlaceIndex}
+use Rattle.relative_path_places.specs.PlaceIndex.{Indexes}
+use Rattle.relative_path_places.specs.declared.place_index.PlaceIndex.{PlaceIndex}
 use Rattle.target_paths.specs.Writing.{target_of}
 use Rattle.relative_path_links.specs.UrlPath.{Page, page_of, url_steps, segments_of, resolved, decoded, Resolves}
 use Rattle.relative_path_links.specs.SiteMap.{page_at, paths_of, AreNamedPages, IsSamePage, start_of, IsShortestNamed, IsFirstNamelessPage, IsFirstOtherPage, IsPlainPage, IsHref}

@@ -7,7 +7,7 @@ use Rattle.relative_path.specs.Normalizing.{IsNormalTextOf}
 use Rattle.relative_path.specs.Relating.{Leads}
 use Rattle.relative_path.specs.RelativePath.{path_components}
 use Rattle.relative_path_moves.specs.Moves.{Move}
-use Rattle.relative_path_moves.specs.Places.{directory}
+use Rattle.relative_path_places.specs.Places.{directory}
 use Rattle.relative_path_moves.specs.TreeMoves.{AtTreePath, IsLeftInPlace}
 use Rattle.target_paths.specs.declared.target.TargetSyntax.{TargetSyntax}
 use Rattle.target_paths.specs.Reading.{Meaning, not_relative, path_before, unknown, meaning}

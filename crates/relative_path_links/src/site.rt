@@ -7,7 +7,8 @@ ghost use Rattle.relative_path_links.specs.Targets.{HasTargets};
 use crate::rewriter::{RewrittenPage, rewrite_links};
 use crate::target::Target;
 use relative_path::RelativePath;
-use relative_path_moves::{NormalPath, TreeMoves};
+use relative_path_moves::TreeMoves;
+use relative_path_places::NormalPath;
 use std::alloc::{AllocError, Global};
 
 /// A page of a site before the moves.

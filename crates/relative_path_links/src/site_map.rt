@@ -6,15 +6,15 @@ ghost use Rattle.relative_path.specs.Steps.{Step};
 ghost use Rattle.relative_path.specs.Walk.{IsSame};
 ghost use Rattle.relative_path.specs.Naming.{last_name};
 ghost use Rattle.relative_path.specs.RelativePath.{path_text, path_components};
-ghost use Rattle.relative_path_moves.specs.PlaceIndex.{Indexes, IsFirstAt, IsFoundAt};
-ghost use Rattle.relative_path_moves.specs.Places.{directory};
+ghost use Rattle.relative_path_places.specs.PlaceIndex.{Indexes, IsFirstAt, IsFoundAt};
+ghost use Rattle.relative_path_places.specs.Places.{directory};
 ghost use Rattle.target_paths.specs.Writing.{ends_target};
 ghost use Rattle.relative_path_links.specs.SiteMap.{page_at, paths_of, AreNamedPages, ArePlainPages, IsFirstNamelessPage, IsFirstOtherPage, IsSamePage, IsHref};
 ghost use Rattle.relative_path_links.specs.UrlPath.{Page, page_of, ends_in_slash, url_steps, Resolves};
 
 use relative_path::RelativePath;
 use relative_path_files::has_plain_names;
-use relative_path_moves::{NormalPath, PlaceIndex, directory};
+use relative_path_places::{NormalPath, PlaceIndex, directory};
 use std::alloc::{AllocError, AllocFailed, Global};
 use std::error::Error;
 use std::fmt;

@@ -16,7 +16,7 @@ use Rattle.relative_path.specs.Comparing.{step_eq}
 use Rattle.relative_path.specs.ComparingLaws.{step_eq-Decides}
 use Rattle.relative_path.specs.Relating.{Leads}
 use Rattle.relative_path.proofs.ForCallers.{IsSame-refl, IsSame-sym, IsSame-trans, IsSame-append_left, IsSame-append_right, IsSame-name_up, IsNormal-append_left, IsNormal-push_name, IsNormalForm-some, IsSame-last_name, last_name-name, last_name-split}
-use Rattle.relative_path_moves.proofs.NormalPathLemmas.{AreNames-names, AreNames-normal, AreNames-end, normal_unique}
+use Rattle.relative_path_places.proofs.ForCallers.{AreNames-names, IsNormal-end, normal_unique}
 
 -- ---- lists that lead to the same
 
@@ -235,13 +235,6 @@ last_name-ups k = tell (last_name (replicate k up)) refl where
   tell (Some n) is =
       let (count, split) = last_name-split (replicate k up) n is in
       absurd (ups-no_name k (kept (replicate k up)) (replicate count cur) n split)
-
--- the end of a normal list is normal
-pub IsNormal-end : (cs ds : List Step) → IsNormal (cs ++ ds) → IsNormal ds
-IsNormal-end [] ds normal = normal
-IsNormal-end (cur ∷ cs) ds normal = absurd normal
-IsNormal-end (up ∷ cs) ds normal = IsNormal-end cs ds normal
-IsNormal-end (name n ∷ cs) ds normal = AreNames-normal ds (AreNames-end cs ds normal)
 
 -- at the top of the walk nothing can go any more
 IsNormal-top : (above : List Step) (ups : ℕ) → IsNormal above → (ups ≡ 0) ⊎ (last_name above ≡ None)

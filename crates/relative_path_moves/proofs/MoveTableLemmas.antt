@@ -9,8 +9,8 @@ use Rattle.relative_path.specs.RelativePathBuf.{Buffer}
 use Rattle.relative_path.proofs.ForCallers.{IsSame-refl, IsSame-sym, IsSame-trans, IsReachable-same, IsShortestText-same}
 use Rattle.relative_path_moves.specs.declared.move_error.ReferenceError.{ReferenceError}
 use Rattle.relative_path_moves.specs.declared.move_error.ReferenceError.TheVariants.{AboveRoot, NoPath, OutOfMemory}
-use Rattle.relative_path_moves.specs.Places.{directory}
-use Rattle.relative_path_moves.specs.PlaceIndex.{IsFirstAt, IsNoneAt, IsFoundAt}
+use Rattle.relative_path_places.specs.Places.{directory}
+use Rattle.relative_path_places.specs.PlaceIndex.{IsFirstAt, IsNoneAt, IsFoundAt}
 use Rattle.relative_path_moves.specs.Moves.{Move, move_at, MovesFrom, AreApart, IsUnmoved, IsTarget, AtNewPath, ForTargetOfLink, ClimbsAbove, BelowTop}
 use Rattle.relative_path_moves.specs.MoveError.{Refuses}
 use Rattle.relative_path_moves.specs.MoveTable.{olds_of, LeadToTarget, IsWay, IsShortestBuffer, IsLink}

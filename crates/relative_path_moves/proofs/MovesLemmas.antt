@@ -11,7 +11,7 @@ use Rattle.relative_path.specs.RelativePath.{path_text, path_components}
 use Rattle.relative_path.specs.declared.path.RelativePath.{RelativePath}
 use Rattle.relative_path.proofs.ForCallers.{IsSame-sym, IsSame-trans}
 use Rattle.relative_path_moves.specs.Moves.{Move, LacksFileName, IsFirstNameless, moves_of, move_at, AreApart, MovesFrom, IsTarget}
-use Rattle.relative_path_moves.specs.PlaceIndex.{path_at}
+use Rattle.relative_path_places.specs.PlaceIndex.{path_at}
 use Rattle.relative_path_moves.specs.MoveTable.{olds_of}
 use Rattle.relative_path_moves.specs.TreeMoves.{HaveNewTexts}
 

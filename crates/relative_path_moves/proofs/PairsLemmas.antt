@@ -4,7 +4,7 @@ use Rattle.std.proofs.lemmas.Bool.{cases_lt}
 use Rattle.std.proofs.lemmas.List.{get_or-take}
 use Rattle.relative_path.proofs.ForCallers.{IsSame-sym}
 use Rattle.relative_path_moves.specs.Moves.{Move, move_at, HaveSameOld}
-use Rattle.relative_path_moves.specs.PlaceIndex.{path_at, IsFirstAt}
+use Rattle.relative_path_places.specs.PlaceIndex.{path_at, IsFirstAt}
 use Rattle.relative_path_moves.specs.MoveTable.{olds_of}
 use Rattle.relative_path_moves.proofs.MovesLemmas.{old_at}
 

@@ -1,74 +1,43 @@
 -- The nearest move above a place, found from the place upwards, and where it takes a file.
-use Rattle.std.proofs.Common.{◌≡◌, ℕ, ◌<◌, ◌≤◌, ◌+◌, List, [], ◌∷◌, ◌++◌, length, map, take, drop, Option, Some, None, Bool, false, not, is_some, unwrap_or, IsSome, inl, inr, refl, sym, ap, ◌∙◌, subst, arith, append_assoc, append-nil, take_at, take-append-drop, true≢false, IfSome, Result, Ok, Err, IfOk}
+use Rattle.std.proofs.Common.{◌≡◌, ◌≢◌, ℕ, ◌<◌, ◌≤◌, ◌+◌, List, [], ◌∷◌, ◌++◌, length, map, take, drop, Option, Some, None, unwrap_or, IsSome, inl, inr, refl, sym, ap, ◌∙◌, subst, arith, append_assoc, append-nil, take_at, take-append-drop, true≢false, option_and_then, IfSome, Result, Ok, Err, IfOk}
 use Rattle.std.proofs.lemmas.Bool.{cases_lt, cases_order}
 use Rattle.std.proofs.lemmas.List.{append_cancel_left, length-map, length-append, length-take-le, map-append, take-map}
 use Rattle.relative_path.specs.Steps.{Step, name, components}
-use Rattle.relative_path.specs.Walk.{IsSame, place_of}
-use Rattle.relative_path.specs.Slices.{IsFront}
-use Rattle.relative_path.specs.Components.{step_of, TakesLast}
-use Rattle.relative_path.specs.declared.component.Component.{Component}
+use Rattle.relative_path.specs.Walk.{IsSame, walk, place_of}
+use Rattle.relative_path.specs.Relating.{IsReachable}
 use Rattle.relative_path.specs.Naming.{last_name}
-use Rattle.relative_path.specs.Normalizing.{AreNames, IsNormal, IsNormalText, IsNormalTextOf}
-use Rattle.relative_path.proofs.ForCallers.{IsSame-refl, IsSame-trans, IsSame-append_right, IsSame-last_name, last_name-name, kept-name, IsNormal-append_left, spelled-front, walk-names, components-place, IsSame-sym, IsSame-place}
-use Rattle.relative_path_moves.specs.Places.{directory}
-use Rattle.relative_path_moves.specs.PlaceIndex.{path_at, IsFirstAt, IsNoneAt}
+use Rattle.relative_path.specs.Normalizing.{AreNames, IsNormalText, IsNormalTextOf}
+use Rattle.relative_path.proofs.ForCallers.{IsSame-refl, IsSame-trans, IsSame-append_right, IsSame-last_name, last_name-name, kept-name, walk-append, walk-names, components-place, IsSame-sym, IsSame-place}
+use Rattle.relative_path_places.specs.Places.{directory}
+use Rattle.relative_path_places.specs.PlaceIndex.{path_at, IsFirstAt, IsNoneAt}
 use Rattle.relative_path_moves.specs.Moves.{Move, move_at, AreNamed, AreApart}
 use Rattle.relative_path_moves.specs.MoveTable.{olds_of}
 use Rattle.relative_path_moves.specs.TreeMoves.{TakesAlong, IsNearest, IsTakenTo, IsLeftInPlace, IsTreeTarget, AtTreePath, NearestUpTo}
 use Rattle.relative_path_moves.proofs.MovesLemmas.{old_at}
-use Rattle.relative_path_moves.proofs.NormalPathLemmas.{IsNormalTextOf-same}
+use Rattle.relative_path_places.proofs.ForCallers.{IsNormalTextOf-same}
 use Rattle.relative_path_moves.proofs.LeadingLemmas.{last_name_of, last_name_same, some_of}
 
 -- ---- the walk up from a place
 
--- the text is that of a front of the list, and no old path leads to a longer front
-pub record IsAbove (olds : List (List Step)) (cs : List Step) (text : List ℕ) : Type 0 where
-  pub normal : IsNormalText text
+-- the front begins the list, and no old path leads to a longer front
+pub record IsAbove (olds : List (List Step)) (cs front : List Step) : Type 0 where
   pub under : List Step
-  pub split : components text ++ under ≡ cs
-  pub none : (m : ℕ) → length (components text) < m → m ≤ length cs → IsNoneAt olds (take m cs)
+  pub split : front ++ under ≡ cs
+  pub none : (m : ℕ) → length front < m → m ≤ length cs → IsNoneAt olds (take m cs)
 
--- the front that the text has
-front_of : (olds : List (List Step)) (cs : List Step) (text : List ℕ) (above : IsAbove olds cs text) (m : ℕ)
-    → length (components text) ≡ m → take m cs ≡ components text
-front_of olds cs text above m count =
-    ap (take m) (sym above.split) ∙ take_at (components text) above.under m count
-
-pub IsAbove-next : (olds : List (List Step)) (cs : List Step) (text front : List ℕ) (c : Step) → IsAbove olds cs text
-    → IsNoneAt olds (components text) → components text ≡ components front ++ c ∷ [] → IsFront text front
-    → IsAbove olds cs front
-IsAbove-next olds cs text front c above none last is_front =
-    let count = ap length last ∙ length-append (components front) (c ∷ []) in
-    record {
-      normal = record {
-        spelled = spelled-front text front above.normal.spelled is_front;
-        normal = IsNormal-append_left (components front) (c ∷ []) (subst IsNormal last above.normal.normal);
-      };
-      under = c ∷ above.under;
-      split = sym (append_assoc (components front) (c ∷ []) above.under) ∙ ap (λ ds. ds ++ above.under) (sym last)
-          ∙ above.split;
-      none = λ m less le. elim (cases_lt (length (components text)) m) [
-        | inl longer ↦ above.none m longer le
-        | inr no_longer ↦
-            subst (IsNoneAt olds) (sym (front_of olds cs text above m (omega (arith, count, less, no_longer)))) none
-      ];
-    }
-
--- the last component is taken off
-pub IsAbove-taken : (olds : List (List Step)) (cs : List Step) (text front : List ℕ) (taken : Option Component)
-    (none : Bool) → IsAbove olds cs text → IsNoneAt olds (components text) → TakesLast text taken front
-    → is_some taken ≡ not none → none ≡ false → IsAbove olds cs front
-IsAbove-taken olds cs text front None none above absent takes is some = absurd (true≢false (sym (is ∙ ap not some)))
-IsAbove-taken olds cs text front (Some c) none above absent takes is some =
-    IsAbove-next olds cs text front (step_of c) above absent takes.0 takes.1
+-- the front, by how many components it has
+front_of : (olds : List (List Step)) (cs front : List Step) (above : IsAbove olds cs front) (m : ℕ)
+    → length front ≡ m → take m cs ≡ front
+front_of olds cs front above m count =
+    ap (take m) (sym above.split) ∙ take_at front above.under m count
 
 -- the first old path that is found is the nearest
-pub NearestUpTo-found : (olds : List (List Step)) (cs : List Step) (text : List ℕ) (j : ℕ) → IsAbove olds cs text
-    → IsFirstAt olds (components text) j → NearestUpTo olds cs (length cs) (Some j)
-NearestUpTo-found olds cs text j above first = (
-  length (components text),
-  omega (arith, ap length above.split, length-append (components text) above.under),
-  subst (λ ds. IsFirstAt olds ds j) (sym (front_of olds cs text above (length (components text)) refl)) first,
+pub NearestUpTo-found : (olds : List (List Step)) (cs front : List Step) (j : ℕ) → IsAbove olds cs front
+    → IsFirstAt olds front j → NearestUpTo olds cs (length cs) (Some j)
+NearestUpTo-found olds cs front j above first = (
+  length front,
+  omega (arith, ap length above.split, length-append front above.under),
+  subst (λ ds. IsFirstAt olds ds j) (sym (front_of olds cs front above (length front) refl)) first,
   above.none,
 )
 
@@ -137,6 +106,11 @@ IsNearest-found moves place j (m, within, first, longer) =
         | inr no_less ↦ no_less
       ]
 
+-- no list leads from above the top to a place
+pub unreachable-place : (f t : List Step) → place_of f ≡ None → place_of t ≢ None → IsReachable f t → ⊥
+unreachable-place f t none some (r, leads) =
+    some (sym (leads.everywhere []) ∙ walk-append [] f r ∙ ap (option_and_then (λ place. walk place r)) none)
+
 -- ---- the target of a file
 
 -- no move takes the file along
@@ -184,11 +158,6 @@ IsTaken-rest moves file text top j rest taken split =
 pub AreNames-map : (ns : List (List ℕ)) → AreNames (map name ns)
 AreNames-map [] = tt
 AreNames-map (n ∷ ns) = AreNames-map ns
-
-pub AreNames-rest : (moves : List Move) (file : List Step) (text top : List ℕ) (j : ℕ) (rest : List Step)
-    → IsTaken moves file text top j → components text ≡ components top ++ rest → AreNames rest
-AreNames-rest moves file text top j rest taken split =
-    rw (IsTaken-rest moves file text top j rest taken split) (AreNames-map taken.below)
 
 -- the number of the nearest move is that of a move
 pub within-nearest : (moves : List Move) (cs : List Step) (j : ℕ) → NearestUpTo (olds_of moves) cs (length cs) (Some j)

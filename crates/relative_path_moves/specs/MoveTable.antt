@@ -6,8 +6,8 @@ use Rattle.relative_path.specs.Relating.{IsReachable, IsShortestText}
 use Rattle.relative_path.specs.RelativePathBuf.{Buffer}
 use Rattle.relative_path_moves.specs.declared.move_error.ReferenceError.{ReferenceError}
 use Rattle.relative_path_moves.specs.declared.move_error.ReferenceError.TheVariants.{AboveRoot, NoPath, OutOfMemory}
-use Rattle.relative_path_moves.specs.declared.place_index.PlaceIndex.{PlaceIndex}
-use Rattle.relative_path_moves.specs.PlaceIndex.{Indexes}
+use Rattle.relative_path_places.specs.declared.place_index.PlaceIndex.{PlaceIndex}
+use Rattle.relative_path_places.specs.PlaceIndex.{Indexes}
 use Rattle.relative_path_moves.specs.Moves.{Move, AreNamed, AreApart, IsTarget}
 
 -- the old paths of the moves

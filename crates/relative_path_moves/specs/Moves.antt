@@ -6,7 +6,7 @@ use Rattle.relative_path.specs.Naming.{last_name}
 use Rattle.relative_path.specs.Relating.{IsReachable, IsShortestText}
 use Rattle.relative_path.specs.RelativePath.{path_components}
 use Rattle.relative_path.specs.declared.path.RelativePath.{RelativePath}
-use Rattle.relative_path_moves.specs.Places.{directory}
+use Rattle.relative_path_places.specs.Places.{directory}
 
 -- a move of a file: the components of its old path and of its new one
 pub record Move : Type 0 where

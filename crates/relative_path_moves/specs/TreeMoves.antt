@@ -3,7 +3,7 @@ use Rattle.std.specs.Prelude.{◌≡◌, ◌⊎◌, ◌<◌, ◌≤◌, ℕ, Lis
 use Rattle.relative_path.specs.Steps.{Step, name}
 use Rattle.relative_path.specs.Normalizing.{IsNormalTextOf}
 use Rattle.relative_path.specs.Walk.{place_of}
-use Rattle.relative_path_moves.specs.PlaceIndex.{IsFirstAt, IsNoneAt}
+use Rattle.relative_path_places.specs.PlaceIndex.{IsFirstAt, IsNoneAt}
 use Rattle.relative_path_moves.specs.Moves.{Move, move_at, AreNamed, AreApart}
 
 -- the old path of move number j leads to the place or to a directory above it, and these names lead on to the place

@@ -6,9 +6,8 @@ ghost use Rattle.relative_path.specs.Normalizing.{IsNormal};
 ghost use Rattle.relative_path.specs.Relating.{Leads};
 ghost use Rattle.relative_path.specs.RelativePath.{path_components};
 
-use crate::normal_path::NormalPath;
-use crate::places::directory as parent_directory;
 use relative_path::{Component, RelativePath};
+use relative_path_places::{NormalPath, directory as parent_directory};
 
 // Returns whether a reference leads from a directory to a target. Allocates nothing.
 pub(crate) fn leads_to(

@@ -23,15 +23,13 @@ ghost use Rattle.relative_path_moves.specs.Moves.{
 };
 ghost use Rattle.relative_path_moves.specs.MoveError.{Refuses};
 ghost use Rattle.relative_path_moves.specs.MoveTable.{olds_of, IsSound, IsWay, IsShortestBuffer, IsLink, LeadToTarget};
-ghost use Rattle.relative_path.specs.Normalizing.{IsNormalText};
-ghost use Rattle.relative_path_moves.specs.PlaceIndex.{Indexes, IsFoundAt};
+ghost use Rattle.relative_path_places.specs.PlaceIndex.{Indexes, IsFoundAt};
+ghost use Rattle.relative_path_places.specs.Views.{view_components};
 ghost use Rattle.relative_path_moves.specs.TreeMoves.{HaveNewTexts};
 
 use crate::move_error::{MoveTableError, ReferenceError};
-use crate::normal_path::NormalPath;
-use crate::place_index::PlaceIndex;
-use crate::places::{directory, has_place};
 use relative_path::{RelativePath, RelativePathBuf};
+use relative_path_places::{NormalPath, NormalView, PlaceIndex, directory, has_place};
 use std::alloc::{AllocError, Global};
 use std::marker::Model;
 
@@ -274,12 +272,11 @@ impl<'a> MoveTable<'a> {
         }
     }
 
-    // Returns the number of the move whose old path has this normal text.
-    pub(crate) fn move_from(&self, place: RelativePath<'_>) -> Option<usize>
-        requires { IsNormalText (path_text place) }
-        ensures { IsFoundAt (olds_of self.now) (path_components place.entry) result }
+    // Returns the number of the move whose old path has this normal form.
+    pub(crate) fn move_from(&self, place: NormalView<'_>) -> Option<usize>
+        ensures { IsFoundAt (olds_of self.now) (view_components place.entry) result }
     {
-        self.by_old.get_text(place.as_str())
+        self.by_old.get_view(place)
     }
 
     // Returns the old and the new path of a move.

@@ -3,8 +3,9 @@ ghost use Rattle.std.specs.Prelude.{◌≡◌, ◌↔◌, ℕ, List, length, map
 ghost use Rattle.relative_path.specs.Steps.{Step, components};
 ghost use Rattle.relative_path.specs.Normalizing.{IsNormalTextOf};
 ghost use Rattle.relative_path.specs.Relating.{Leads, IsReachable, IsShortestText};
-ghost use Rattle.relative_path.specs.RelativePath.{path_text, path_components};
-ghost use Rattle.relative_path_moves.specs.Places.{directory};
+ghost use Rattle.relative_path.specs.RelativePath.{path_components};
+ghost use Rattle.relative_path_places.specs.Places.{directory};
+ghost use Rattle.relative_path_places.specs.Views.{view_text, view_components};
 ghost use Rattle.relative_path_moves.specs.Moves.{
   Move,
   moves_of,
@@ -23,10 +24,8 @@ ghost use Rattle.relative_path_moves.specs.TreeMoves.{AtTreePath, AtTreeTarget, 
 use crate::leading::leads_to;
 use crate::move_error::{MoveTableError, ReferenceError};
 use crate::move_table::{MoveTable, new_paths};
-use crate::normal_path::NormalPath;
-use crate::places::directory;
-use crate::way::way_between;
 use relative_path::{RelativePath, RelativePathBuf};
+use relative_path_places::{NormalPath, NormalView, directory};
 use std::alloc::{AllocError, Global};
 use std::marker::Model;
 
@@ -290,36 +289,37 @@ impl<'a> TreeMoves<'a> {
             (λ now. (target : List Step) × IsTakenTo self.now file target × IsNormalTextOf target now)) }
         ensures named { IfOk result (λ now. IfSome now (λ _. AreNamed self.now)) }
     {
-        if !place.has_place() {
+        let file = place.view();
+        if file.names().is_none() {
             return Ok(None);
         }
-        let Some((j, old)) = self.nearest(place) else {
+        let Some((j, old)) = self.nearest(file) else {
             return Ok(None);
         };
-        let below = place.as_relative_path().strip_prefix(old);
+        let below = file.below(old);
         let now = self.news[j].followed_by(alloc, below.unwrap())?;
         Ok(Some(now))
     }
 
     // Returns the number of the nearest move whose old path leads to the place or to a directory above it,
     // and the normal form of that old path. Allocates nothing.
-    fn nearest<'p>(&self, place: &'p NormalPath) -> Option<(usize, RelativePath<'p>)>
-        ensures none { IfNone result (NearestUpTo (olds_of self.now) (components place.now)
-            (length (components place.now)) None) }
-        ensures nearest { IfSome result (λ found. NearestUpTo (olds_of self.now) (components place.now)
-            (length (components place.now)) (Some found.0)) }
+    fn nearest<'p>(&self, place: NormalView<'p>) -> Option<(usize, NormalView<'p>)>
+        ensures none { IfNone result (NearestUpTo (olds_of self.now) (view_components place.entry)
+            (length (view_components place.entry)) None) }
+        ensures nearest { IfSome result (λ found. NearestUpTo (olds_of self.now)
+            (view_components place.entry) (length (view_components place.entry)) (Some found.0)) }
         ensures old { IfSome result
-            (λ found. IsNormalTextOf (move_at self.now found.0).old (path_text found.1)) }
+            (λ found. IsNormalTextOf (move_at self.now found.0).old (view_text found.1)) }
     {
-        let mut left = place.as_relative_path().components();
+        let mut above = place;
         loop {
-            let above = left.as_relative_path();
             if let Some(j) = self.table.move_from(above) {
                 return Some((j, above));
             }
-            if left.next_back().is_none() {
+            let Some(parent) = above.parent() else {
                 return None;
-            }
+            };
+            above = parent;
         }
     }
 }
@@ -348,16 +348,11 @@ fn link_from(
     if leads_to(directory, reference, target) {
         return Ok(None);
     }
-    if !target.has_place() {
+    let Some(to) = target.view().names() else {
         return Err(ReferenceError::AboveRoot);
-    }
-    if !directory.has_place() {
+    };
+    let Some(from) = directory.view().names() else {
         return Err(ReferenceError::NoPath);
-    }
-    let way = way_between(
-        alloc,
-        directory.as_relative_path(),
-        target.as_relative_path(),
-    )?;
-    Ok(Some(way))
+    };
+    Ok(Some(from.way_to(alloc, to)?))
 }

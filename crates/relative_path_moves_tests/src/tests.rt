@@ -3,12 +3,11 @@ mod calling;
 mod large;
 mod many_moves;
 mod one_move;
-mod places;
 mod refusals;
 mod tree_moves;
 
 use relative_path::{RelativePath, RelativePathBuf};
-use relative_path_moves::{NormalPath, PlaceIndex, ReferenceError, moved};
+use relative_path_moves::{ReferenceError, moved};
 use std::alloc::{AllocError, Global};
 use std::fmt::Debug;
 use std::test::Fail;
@@ -107,15 +106,4 @@ fn told_of(
         Ok(None) => String::from_str(alloc, "as it is"),
         Err(refusal) => format!(in alloc; "! {refusal}"),
     }
-}
-
-// Fails where an index finds another number by this path than is expected.
-fn finds(
-    alloc: Global,
-    index: &PlaceIndex,
-    path: &str,
-    expected: Option<usize>,
-) -> Result<(), Fail> {
-    let place = NormalPath::of(alloc, RelativePath::new(path))?;
-    same(path, index.get(&place), expected)
 }

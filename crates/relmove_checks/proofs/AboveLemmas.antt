@@ -12,9 +12,9 @@ use Rattle.relative_path.specs.RelativePath.{path_components}
 use Rattle.relative_path.specs.Normalizing.{IsNormal, IsNormalText}
 use Rattle.relative_path.proofs.ForCallers.{IsNormal-append_left, IsSame-sym, IsSame-trans, spelled-front}
 use Rattle.relative_path.proofs.OnLiterals.{relative_path_on_literals}
-use Rattle.relative_path_moves.specs.declared.place_index.PlaceIndex.{PlaceIndex}
+use Rattle.relative_path_places.specs.declared.place_index.PlaceIndex.{PlaceIndex}
 use Rattle.relative_path_moves.specs.Moves.{Move}
-use Rattle.relative_path_moves.specs.PlaceIndex.{IsFirstAt, IsNoneAt, path_at}
+use Rattle.relative_path_places.specs.PlaceIndex.{IsFirstAt, IsNoneAt, path_at}
 use Rattle.relative_path_moves.proofs.ForCallers.{IsTreeTarget-only}
 use Rattle.relmove_checks.specs.declared.entry.Entry.{Entry}
 use Rattle.relmove_checks.specs.declared.entry.Kind.{Kind}

@@ -10,8 +10,8 @@ use Rattle.relative_path.specs.RelativePath.{path_components}
 use Rattle.relative_path.proofs.ForCallers.{IsSame-refl, IsSame-sym, IsSame-trans}
 use Rattle.relative_path_moves.specs.Moves.{Move}
 use Rattle.relative_path_moves.specs.TreeMoves.{AtTreePath}
-use Rattle.relative_path_moves.specs.PlaceIndex.{Indexes, IsFirstAt, IsFoundAt, path_at}
-use Rattle.relative_path_moves.specs.declared.place_index.PlaceIndex.{PlaceIndex}
+use Rattle.relative_path_places.specs.PlaceIndex.{Indexes, IsFirstAt, IsFoundAt, path_at}
+use Rattle.relative_path_places.specs.declared.place_index.PlaceIndex.{PlaceIndex}
 use Rattle.relmove_checks.specs.declared.entry.Entry.{Entry}
 use Rattle.relmove_checks.specs.Trees.{entry_paths, IsThere, IsAfter, AreAfter}
 

@@ -11,9 +11,9 @@ use Rattle.relative_path.specs.Normalizing.{IsNormalTextOf}
 use Rattle.relative_path.specs.Prefixing.{StartsWith}
 use Rattle.relative_path.specs.RelativePath.{path_components}
 use Rattle.relative_path_moves.specs.Moves.{Move, AreApart}
-use Rattle.relative_path_moves.specs.PlaceIndex.{Indexes, IsFirstAt, IsNoneAt, path_at}
+use Rattle.relative_path_places.specs.PlaceIndex.{Indexes, IsFirstAt, IsNoneAt, path_at}
 use Rattle.relative_path_moves.specs.TreeMoves.{AtTreePath}
-use Rattle.relative_path_moves.specs.declared.place_index.PlaceIndex.{PlaceIndex}
+use Rattle.relative_path_places.specs.declared.place_index.PlaceIndex.{PlaceIndex}
 use Rattle.relmove_checks.specs.declared.entry.Entry.{Entry}
 use Rattle.relmove_checks.specs.declared.entry.Kind.{Kind}
 use Rattle.relmove_checks.specs.declared.entry.Kind.TheVariants.{File, Directory, Link}

@@ -1,14 +1,15 @@
 //! Where the entries of a tree are after the moves.
 ghost use Rattle.std.specs.Prelude.{◌≡◌, IfErr, IfOk, OnOk, map};
 ghost use Rattle.relative_path.specs.Steps.{components};
-ghost use Rattle.relative_path_moves.specs.PlaceIndex.{Indexes};
+ghost use Rattle.relative_path_places.specs.PlaceIndex.{Indexes};
 ghost use Rattle.relmove_checks.specs.Trees.{AreAfter, AreDistinct, entry_paths};
 ghost use Rattle.relmove_checks.specs.Refusals.{IsCollisionRefusal};
 
 use crate::entry::Entry;
 use crate::refusal::Refusal;
 use relative_path::RelativePath;
-use relative_path_moves::{NormalPath, PlaceIndex, TreeMoves};
+use relative_path_moves::TreeMoves;
+use relative_path_places::{NormalPath, PlaceIndex};
 use std::alloc::{AllocError, Global};
 
 /// Returns the paths of the entries, by number. Fails only if an allocation fails.

@@ -2,7 +2,7 @@
 ghost use Rattle.std.specs.Prelude.{◌≡◌, IfErr, IfOk, List, OnOk, map, ℕ};
 ghost use Rattle.relative_path.specs.Steps.{components};
 ghost use Rattle.relative_path_moves.specs.Moves.{AreApart, AreNamed, moves_of};
-ghost use Rattle.relative_path_moves.specs.PlaceIndex.{Indexes};
+ghost use Rattle.relative_path_places.specs.PlaceIndex.{Indexes};
 ghost use Rattle.relmove_checks.specs.declared.name_rule.NameRule.{NameRule};
 ghost use Rattle.relmove_checks.specs.Plan.{IsAccepted, IsRefused, IsRefusedThere, MayLeave};
 ghost use Rattle.relmove_checks.specs.Refusals.{IsSameNewRefusal, IsTableRefusal, turned};
@@ -15,7 +15,8 @@ use crate::name_rule::NameRule;
 use crate::refusal::Refusal;
 use crate::refused::{Barrier, check_above, check_news, check_olds, check_paths};
 use relative_path::RelativePath;
-use relative_path_moves::{MoveTableError, PlaceIndex, TreeMoves};
+use relative_path_moves::{MoveTableError, TreeMoves};
+use relative_path_places::PlaceIndex;
 use std::alloc::{AllocError, Global};
 
 /// Returns the table of the moves. Fails if their paths, or what is at their old paths, are refused.

@@ -8,7 +8,7 @@ ghost use Rattle.relative_path.specs.Naming.{last_name};
 ghost use Rattle.relative_path.specs.RelativePath.{path_components, path_text};
 ghost use Rattle.relative_path_files.specs.Names.{IfName, IsPlainName};
 ghost use Rattle.relative_path_moves.specs.Moves.{AreApart, Move, moves_of};
-ghost use Rattle.relative_path_moves.specs.PlaceIndex.{Indexes};
+ghost use Rattle.relative_path_places.specs.PlaceIndex.{Indexes};
 ghost use Rattle.relmove_checks.specs.Moves.{EachMove, HasFinePaths, HasNames, IsPlaced, StaysOutside, is_own_step, move_of};
 ghost use Rattle.relmove_checks.specs.Trees.{
   AreForeignPaths,
@@ -36,7 +36,8 @@ use crate::name_rule::NameRule;
 use crate::refusal::Refusal;
 use relative_path::{Component, RelativePath};
 use relative_path_files::has_plain_names;
-use relative_path_moves::{NormalPath, PlaceIndex, TreeMoves};
+use relative_path_moves::TreeMoves;
+use relative_path_places::{NormalPath, PlaceIndex};
 use relmove_actions::RESERVED;
 use std::alloc::{AllocError, Global};
 

@@ -12,7 +12,8 @@ use relative_path::RelativePath;
 use relative_path_links::{
     MovedSitePage, SitePage, Target, Unchanged, are_in_order, rewrite_links, targets,
 };
-use relative_path_moves::{MoveTableError, MovedPage, TreeMoves, directory};
+use relative_path_moves::{MoveTableError, MovedPage, TreeMoves};
+use relative_path_places::directory;
 use relmove_plan::{Entry, Kind, NameRule, Plan, Refusal, make_plan};
 use relmove_run::{
     Call, Fault, FoundKind, JOURNAL, LONGEST_PATH, Store, at, is_absence, join, need_short,

@@ -14,7 +14,7 @@ use Rattle.relative_path.specs.Editing.{kept}
 use Rattle.relative_path.specs.Naming.{last_name}
 use Rattle.relative_path.proofs.ForCallers.{IsSame-last_name, IsSame-place, IsSame-trans, walk-append, walk-append_some, walk-names}
 use Rattle.relative_path_moves.specs.Moves.{Move, move_at}
-use Rattle.relative_path_moves.specs.PlaceIndex.{IsNoneAt, path_at}
+use Rattle.relative_path_places.specs.PlaceIndex.{IsNoneAt, path_at}
 use Rattle.relative_path_moves.specs.TreeMoves.{AtTreePath, IsLeftInPlace, IsTakenTo, IsTreeTarget, TakesAlong}
 use Rattle.relative_path_links.specs.declared.site.MovedSitePage.{MovedSitePage}
 use Rattle.relative_path_links.specs.declared.site.SitePage.{SitePage}

@@ -7,7 +7,7 @@ use Rattle.std.proofs.lemmas.List.Sorted.{All-permutation}
 use Rattle.std.proofs.lemmas.List.{get_or-map, get_or_append_left, get_or_default, length-append, length-map, map-append}
 use Rattle.relative_path.specs.Steps.{Step, components, name, slash}
 use Rattle.relative_path_moves.specs.Moves.{Move}
-use Rattle.relative_path_moves.specs.PlaceIndex.{IsNoneAt}
+use Rattle.relative_path_places.specs.PlaceIndex.{IsNoneAt}
 use Rattle.relmove_checks.specs.Moves.{is_own_step}
 use Rattle.relmove_checks.specs.Trees.{entry_paths}
 use Rattle.relmove_checks.specs.declared.entry.Entry.{Entry}

@@ -12,7 +12,7 @@ use Rattle.relative_path.specs.RelativePath.{path_components}
 use Rattle.relative_path.specs.Walk.{place_of}
 use Rattle.relative_path.proofs.ForCallers.{IsSame-refl, walk-names}
 use Rattle.relative_path_moves.specs.Moves.{Move, move_at}
-use Rattle.relative_path_moves.specs.PlaceIndex.{IsNoneAt, path_at}
+use Rattle.relative_path_places.specs.PlaceIndex.{IsNoneAt, path_at}
 use Rattle.relative_path_moves.specs.TreeMoves.{IsLeftInPlace, IsTakenTo, IsTreeTarget, TakesAlong}
 use Rattle.relmove_checks.specs.declared.entry.Entry.{Entry}
 use Rattle.relmove_checks.specs.declared.name_rule.NameRule.{NameRule}

@@ -11,7 +11,7 @@ use Rattle.relative_path.proofs.ForCallers.{IsSame-place, IsSame-refl, IsSame-sy
 use Rattle.relative_path_links.specs.declared.site.MovedSitePage.{MovedSitePage}
 use Rattle.relative_path_links.specs.declared.site.SitePage.{SitePage}
 use Rattle.relative_path_moves.specs.Moves.{Move}
-use Rattle.relative_path_moves.specs.PlaceIndex.{IsNoneAt, path_at}
+use Rattle.relative_path_places.specs.PlaceIndex.{IsNoneAt, path_at}
 use Rattle.relmove_checks.specs.declared.entry.Entry.{Entry}
 use Rattle.relmove_checks.specs.declared.name_rule.NameRule.{NameRule}
 use Rattle.relmove_checks.specs.Plan.{IsAccepted}

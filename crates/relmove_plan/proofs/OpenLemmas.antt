@@ -12,7 +12,7 @@ use Rattle.relative_path.specs.Walk.{place_of}
 use Rattle.relative_path.specs.Normalizing.{IsNormalTextOf}
 use Rattle.relative_path.proofs.ForCallers.{components-place, walk-names}
 use Rattle.relative_path_moves.specs.Moves.{Move, move_at}
-use Rattle.relative_path_moves.specs.PlaceIndex.{IsNoneAt, path_at}
+use Rattle.relative_path_places.specs.PlaceIndex.{IsNoneAt, path_at}
 use Rattle.relative_path_moves.specs.TreeMoves.{IsLeftInPlace, IsTreeTarget}
 use Rattle.relmove_checks.specs.declared.entry.Entry.{Entry}
 use Rattle.relmove_checks.specs.declared.name_rule.NameRule.{NameRule}

@@ -16,7 +16,7 @@ use Rattle.relative_path_links.specs.Site.{ForMovedPage, KeepTheirLinks, KeepsLi
 use Rattle.relative_path_links.specs.declared.site.MovedSitePage.{MovedSitePage}
 use Rattle.relative_path_links.specs.declared.site.SitePage.{SitePage}
 use Rattle.relative_path_moves.specs.Moves.{Move, AreApart}
-use Rattle.relative_path_moves.specs.PlaceIndex.{path_at}
+use Rattle.relative_path_places.specs.PlaceIndex.{path_at}
 use Rattle.relative_path_moves.specs.TreeMoves.{AtTreePath}
 use Rattle.relative_path_moves.proofs.ForCallers.{IsTreeTarget-only}
 use Rattle.relmove_checks.specs.declared.entry.Entry.{Entry}

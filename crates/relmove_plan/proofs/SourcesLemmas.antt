@@ -8,8 +8,8 @@ use Rattle.relative_path.specs.Walk.{IsSame, place_of}
 use Rattle.relative_path.specs.Normalizing.{IsNormalTextOf}
 use Rattle.relative_path.proofs.ForCallers.{components-place, kept-name, walk-names}
 use Rattle.relative_path_moves.specs.Moves.{Move, move_at}
-use Rattle.relative_path_moves.specs.Places.{directory}
-use Rattle.relative_path_moves.specs.PlaceIndex.{IsNoneAt, path_at}
+use Rattle.relative_path_places.specs.Places.{directory}
+use Rattle.relative_path_places.specs.PlaceIndex.{IsNoneAt, path_at}
 use Rattle.relative_path_moves.specs.TreeMoves.{TakesAlong}
 use Rattle.relmove_checks.specs.declared.entry.Entry.{Entry}
 use Rattle.relmove_checks.specs.Moves.{EachMove}

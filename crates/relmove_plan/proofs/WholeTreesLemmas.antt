@@ -7,7 +7,7 @@ use Rattle.relative_path.specs.Steps.{Step}
 use Rattle.relative_path.specs.RelativePath.{path_components}
 use Rattle.relative_path.specs.Walk.{IsSame, place_of}
 use Rattle.relative_path.proofs.ForCallers.{IsSame-place, IsSame-sym, IsSame-trans}
-use Rattle.relative_path_moves.specs.PlaceIndex.{IsNoneAt, path_at}
+use Rattle.relative_path_places.specs.PlaceIndex.{IsNoneAt, path_at}
 use Rattle.relmove_checks.specs.declared.entry.Entry.{Entry}
 use Rattle.relmove_checks.specs.Trees.{entry_paths, is_directory}
 use Rattle.relmove_plan.specs.WholeTrees.{IsAt, HasDirectoryAt, IsHeld, LeadsToFile, IsWhole}

@@ -9,7 +9,7 @@ use Rattle.relative_path.specs.RelativePath.{path_components}
 use Rattle.relative_path_links.specs.declared.site.MovedSitePage.{MovedSitePage}
 use Rattle.relative_path_links.specs.declared.site.SitePage.{SitePage}
 use Rattle.relative_path_moves.specs.Moves.{Move}
-use Rattle.relative_path_moves.specs.PlaceIndex.{IsNoneAt}
+use Rattle.relative_path_places.specs.PlaceIndex.{IsNoneAt}
 use Rattle.relative_path_moves.specs.TreeMoves.{AtTreePath}
 use Rattle.relmove_checks.specs.declared.entry.Entry.{Entry}
 use Rattle.relmove_checks.specs.Trees.{AreAfter}

@@ -1,6 +1,7 @@
 //! Symbolic links that moves concern.
 use relative_path::RelativePath;
-use relative_path_moves::{NormalPath, TreeMoves};
+use relative_path_moves::TreeMoves;
+use relative_path_places::NormalPath;
 use relmove_checks::{Entry, Kind};
 use std::alloc::{AllocError, Global};
 

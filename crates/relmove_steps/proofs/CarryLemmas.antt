@@ -16,8 +16,8 @@ use Rattle.relative_path_links.specs.declared.site.MovedSitePage.{MovedSitePage}
 use Rattle.relative_path_links.specs.declared.site.SitePage.{SitePage}
 use Rattle.relative_path.specs.declared.path.RelativePath.{RelativePath}
 use Rattle.relative_path_moves.specs.Moves.{Move, move_at, moves_of}
-use Rattle.relative_path_moves.specs.PlaceIndex.{Indexes, IsFoundAt, IsNoneAt, path_at}
-use Rattle.relative_path_moves.specs.declared.place_index.PlaceIndex.{PlaceIndex}
+use Rattle.relative_path_places.specs.PlaceIndex.{Indexes, IsFoundAt, IsNoneAt, path_at}
+use Rattle.relative_path_places.specs.declared.place_index.PlaceIndex.{PlaceIndex}
 use Rattle.relmove_checks.specs.Moves.{EachMove}
 use Rattle.relmove_checks.proofs.ForCallers.{length-moves_of, move_at-moves_of}
 use Rattle.relmove_steps.specs.declared.changed.ChangedPage.{ChangedPage}

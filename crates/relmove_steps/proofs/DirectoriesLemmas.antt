@@ -24,7 +24,7 @@ use Rattle.relative_path.specs.Walk.{IsSame}
 use Rattle.relative_path.specs.declared.path.RelativePath.{RelativePath}
 use Rattle.relative_path.proofs.ForCallers.{IsSame-refl, last_name-name}
 use Rattle.relative_path_moves.specs.Moves.{Move, move_at, moves_of, AreApart, AreNamed}
-use Rattle.relative_path_moves.specs.PlaceIndex.{IsFoundAt, IsNoneAt}
+use Rattle.relative_path_places.specs.PlaceIndex.{IsFoundAt, IsNoneAt}
 use Rattle.relative_path_moves.specs.TreeMoves.{AtTreePath}
 use Rattle.relmove_checks.specs.Moves.{move_of}
 use Rattle.relmove_checks.specs.Refusals.{turned}

@@ -13,8 +13,8 @@ use Rattle.std.proofs.lemmas.List.Sorted.{All-permutation}
 use Rattle.std.proofs.lemmas.Map.Keys.{IsDistinct-IsPermutation, IsDistinct-from_apart, apart_from_distinct}
 use Rattle.std.proofs.lemmas.Slice.Eq.{bytes_eq-Decides}
 use Rattle.relative_path.specs.Steps.{Step, components}
-use Rattle.relative_path_moves.specs.PlaceIndex.{IsNoneAt}
-use Rattle.relative_path_moves.specs.declared.place_index.PlaceIndex.{PlaceIndex}
+use Rattle.relative_path_places.specs.PlaceIndex.{IsNoneAt}
+use Rattle.relative_path_places.specs.declared.place_index.PlaceIndex.{PlaceIndex}
 use Rattle.relmove_steps.specs.declared.between.FreeNames.{FreeNames}
 use Rattle.relmove_steps.specs.BetweenNames.{numbered_name, IsNumbered, AreFreeNames, AreDrawn, IsDrawn}
 

@@ -18,9 +18,9 @@ use Rattle.relative_path.specs.Steps.{Step, cur, up, name, is_slash, is_not_empt
 use Rattle.relative_path.specs.Walk.{IsSame}
 use Rattle.relative_path.proofs.ForCallers.{IsNormal-append_left, IsNormal-push_name, IsSame-refl, SpellThemselves-components, components-pushed, last_name-name, spell-pushed}
 use Rattle.relative_path.proofs.OnLiterals.{relative_path_on_literals}
-use Rattle.relative_path_moves.specs.Places.{directory}
-use Rattle.relative_path_moves.specs.PlaceIndex.{Indexes, IsNoneAt, path_at}
-use Rattle.relative_path_moves.specs.declared.place_index.PlaceIndex.{PlaceIndex}
+use Rattle.relative_path_places.specs.Places.{directory}
+use Rattle.relative_path_places.specs.PlaceIndex.{Indexes, IsNoneAt, path_at}
+use Rattle.relative_path_places.specs.declared.place_index.PlaceIndex.{PlaceIndex}
 use Rattle.relmove_checks.proofs.ForCallers.{components-nil}
 use Rattle.relmove_steps.specs.declared.between.FreeNames.{FreeNames}
 use Rattle.relmove_steps.specs.BetweenNames.{numbered_name, IsNumbered, AreDrawn, AreFreeNames, IsDrawn, IsDrawnIn}

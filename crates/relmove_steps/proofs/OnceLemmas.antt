@@ -13,7 +13,7 @@ use Rattle.relative_path.specs.Steps.{Step, name, components}
 use Rattle.relative_path.specs.Walk.{IsSame}
 use Rattle.relative_path.proofs.ForCallers.{IsSame-sym, IsSame-trans}
 use Rattle.relative_path_moves.specs.Moves.{Move, move_at, AreApart}
-use Rattle.relative_path_moves.specs.PlaceIndex.{IsNoneAt, path_at}
+use Rattle.relative_path_places.specs.PlaceIndex.{IsNoneAt, path_at}
 use Rattle.relmove_checks.specs.Trees.{AreDistinct}
 use Rattle.relmove_steps.specs.BetweenNames.{numbered_name}
 use Rattle.relmove_steps.specs.NewFiles.{LeaveOnce, EndsBelow, StaysThere, LeavesToo, LeaveFromEntries}

@@ -2,8 +2,8 @@
 use Rattle.std.specs.Prelude.{◌≡◌, ◌≢◌, ◌<◌, ◌≤◌, ℕ, ◌+◌, ◌^◌, List, ◌++◌, All, AllPairs, codes, decimal, ⊤}
 use Rattle.relative_path.specs.Steps.{Step, components}
 use Rattle.relative_path.specs.Normalizing.{IsNormalTextOf}
-use Rattle.relative_path_moves.specs.PlaceIndex.{Indexes, IsNoneAt}
-use Rattle.relative_path_moves.specs.declared.place_index.PlaceIndex.{PlaceIndex}
+use Rattle.relative_path_places.specs.PlaceIndex.{Indexes, IsNoneAt}
+use Rattle.relative_path_places.specs.declared.place_index.PlaceIndex.{PlaceIndex}
 use Rattle.relmove_checks.specs.declared.refusal.Refusal.{Refusal}
 use Rattle.relmove_checks.specs.declared.refusal.Refusal.TheVariants.{NoFileName, LeavesRoot, IntoItself, NotPlain, OwnName, SameOld, NotThere, ForeignName, SameNew, Taken, Collision, BelowFile, BelowUnread, NoFreeName, OutOfMemory}
 use Rattle.relmove_steps.specs.declared.between.FreeNames.{FreeNames}

@@ -5,7 +5,7 @@ use Rattle.std.specs.declared.alloc.Global.{Global}
 use Rattle.relative_path.specs.Steps.{Step, components}
 use Rattle.relative_path.specs.Normalizing.{IsNormalTextOf}
 use Rattle.relative_path_moves.specs.Moves.{Move, move_at, AreApart}
-use Rattle.relative_path_moves.specs.PlaceIndex.{IsNoneAt}
+use Rattle.relative_path_places.specs.PlaceIndex.{IsNoneAt}
 use Rattle.relative_path_moves.specs.TreeMoves.{AtTreePath}
 use Rattle.relmove_checks.specs.Moves.{move_of}
 use Rattle.relmove_steps.specs.Steps.{AboveFirst, StepTexts}

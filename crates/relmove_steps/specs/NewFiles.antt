@@ -3,9 +3,9 @@ use Rattle.std.specs.Prelude.{◌≡◌, ◌≢◌, ◌⊎◌, ◌<◌, ℕ, ◌
 use Rattle.relative_path.specs.Steps.{Step, name, components, spell}
 use Rattle.relative_path.specs.Normalizing.{IsNormalTextOf}
 use Rattle.relative_path_moves.specs.Moves.{Move, AreApart}
-use Rattle.relative_path_moves.specs.Places.{directory}
-use Rattle.relative_path_moves.specs.PlaceIndex.{Indexes, IsNoneAt, path_at}
-use Rattle.relative_path_moves.specs.declared.place_index.PlaceIndex.{PlaceIndex}
+use Rattle.relative_path_places.specs.Places.{directory}
+use Rattle.relative_path_places.specs.PlaceIndex.{Indexes, IsNoneAt, path_at}
+use Rattle.relative_path_places.specs.declared.place_index.PlaceIndex.{PlaceIndex}
 use Rattle.relmove_checks.specs.Moves.{EachMove}
 use Rattle.relmove_checks.specs.Trees.{AreDistinct}
 use Rattle.relmove_steps.specs.declared.between.FreeNames.{FreeNames}

@@ -9,7 +9,7 @@ use Rattle.relative_path.specs.Walk.{IsSame}
 use Rattle.relative_path_links.specs.declared.site.MovedSitePage.{MovedSitePage}
 use Rattle.relative_path_links.specs.declared.site.SitePage.{SitePage}
 use Rattle.relative_path_moves.specs.Moves.{Move, move_at}
-use Rattle.relative_path_moves.specs.PlaceIndex.{IsNoneAt, path_at}
+use Rattle.relative_path_places.specs.PlaceIndex.{IsNoneAt, path_at}
 use Rattle.relmove_steps.specs.Pages.{page_paths}
 use Rattle.relmove_steps.specs.declared.changed.ChangedPage.{ChangedPage}
 use Rattle.relmove_steps.specs.declared.renames.Renames.{Renames}

@@ -4,7 +4,7 @@ ghost use Rattle.relative_path.specs.RelativePath.{path_components};
 ghost use Rattle.relmove_steps.specs.BetweenNames.{AreDrawn, IsDrawn, IsDrawnIn, IsStepsRefusal};
 
 use relative_path::RelativePath;
-use relative_path_moves::{NormalPath, PlaceIndex};
+use relative_path_places::{NormalPath, PlaceIndex};
 use relmove_actions::STAGING;
 use relmove_checks::Refusal;
 use std::alloc::Global;

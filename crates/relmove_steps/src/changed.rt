@@ -1,11 +1,12 @@
 //! Which pages change.
 ghost use Rattle.std.specs.Prelude.{◌≡◌, ◌<◌, All, IfOk, length, map};
-ghost use Rattle.relative_path_moves.specs.PlaceIndex.{Indexes};
+ghost use Rattle.relative_path_places.specs.PlaceIndex.{Indexes};
 ghost use Rattle.relmove_steps.specs.Pages.{changed_from};
 ghost use Rattle.relmove_steps.specs.Steps.{changed_paths};
 
 use relative_path_links::{MovedSitePage, SitePage, Target, are_in_order, rewrite_links};
-use relative_path_moves::{MovedPage, PlaceIndex, TreeMoves};
+use relative_path_moves::{MovedPage, TreeMoves};
+use relative_path_places::PlaceIndex;
 use std::alloc::{AllocError, Global};
 
 /// A page that changes.

@@ -6,13 +6,14 @@ ghost use Rattle.relative_path.specs.Normalizing.{IsNormalText, IsNormalTextOf};
 ghost use Rattle.relative_path.specs.RelativePath.{path_components, path_text};
 ghost use Rattle.relative_path.specs.Steps.{Step};
 ghost use Rattle.relative_path_moves.specs.Moves.{Move, move_at, moves_of};
-ghost use Rattle.relative_path_moves.specs.PlaceIndex.{Indexes, IsNoneAt};
+ghost use Rattle.relative_path_places.specs.PlaceIndex.{Indexes, IsNoneAt};
 ghost use Rattle.relmove_steps.specs.Directories.{AreLeftByMoves, AreMissingTexts, AreTaken, HasDirectory, HaveTextOf};
 ghost use Rattle.relmove_steps.specs.Steps.{BelowFirst};
 
 use relative_path::RelativePath;
 use relative_path_links::{SitePage, Target};
-use relative_path_moves::{NormalPath, PlaceIndex, TreeMoves, directory};
+use relative_path_moves::TreeMoves;
+use relative_path_places::{NormalPath, PlaceIndex, directory};
 use relmove_checks::directory_above;
 use std::alloc::{AllocError, Global};
 use std::collections::BTreeSet;

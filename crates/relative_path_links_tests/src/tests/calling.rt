@@ -1,7 +1,7 @@
 //! The caller that the page of `relative_path_links` shows.
 ghost use Rattle.std.specs.Prelude.{◌<◌, ℕ, IfOk, IfSome, length, string_bytes};
 ghost use Rattle.relative_path.specs.RelativePath.{path_components};
-ghost use Rattle.relative_path_moves.specs.PlaceIndex.{IsFirstAt};
+ghost use Rattle.relative_path_places.specs.PlaceIndex.{IsFirstAt};
 ghost use Rattle.relative_path_links.specs.SiteMap.{page_at, paths_of};
 ghost use Rattle.relative_path_links.specs.UrlPath.{Resolves};
 

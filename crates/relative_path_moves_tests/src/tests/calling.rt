@@ -1,4 +1,4 @@
-//! The caller that the page of `relative_path_moves` shows.
+//! The caller to which the page of `relative_path_moves` leads.
 ghost use Rattle.std.specs.Prelude.{IfOk};
 ghost use Rattle.relative_path.specs.Steps.{components};
 ghost use Rattle.relative_path.specs.Relating.{Leads};

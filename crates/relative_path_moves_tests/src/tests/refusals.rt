@@ -4,12 +4,11 @@
 //! result.
 use super::same;
 use marks::end;
-use relative_path_moves::NormalPath;
+use relative_path_places::NormalPath;
 use std::alloc::{AllocError, Global};
 use std::fmt::Debug;
 use std::test::Fail;
 
-mod index;
 mod marks;
 mod moves;
 

@@ -1,7 +1,8 @@
 //! Where files are after moves of directories.
 use super::{gives_text, read_moves, same, told_of};
 use relative_path::RelativePath;
-use relative_path_moves::{MoveTableError, MovedPage, NormalPath, TreeMoves};
+use relative_path_moves::{MoveTableError, MovedPage, TreeMoves};
+use relative_path_places::NormalPath;
 use std::alloc::Global;
 use std::test::Fail;
 

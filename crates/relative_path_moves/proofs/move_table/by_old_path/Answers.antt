@@ -2,7 +2,7 @@
 use Rattle.std.proofs.Common.{◌≡◌, length, take, arith}
 use Rattle.std.proofs.lemmas.List.{length-take-le}
 use Rattle.relative_path_moves.specs.Moves.{moves_of}
-use Rattle.relative_path_moves.specs.PlaceIndex.{Indexes, IsFirstAt}
+use Rattle.relative_path_places.specs.PlaceIndex.{Indexes, IsFirstAt}
 use Rattle.relative_path_moves.specs.MoveTable.{olds_of}
 use Rattle.relative_path_moves.proofs.MovesLemmas.{length-moves_of, length-olds_of, olds_of-next}
 use Rattle.relative_path_moves.proofs.PairsLemmas.{HasPair-next}

@@ -1,7 +1,7 @@
 -- The next path is a new one.
 use Rattle.std.proofs.Common.{map}
 use Rattle.relative_path.specs.Steps.{components}
-use Rattle.relative_path_moves.specs.PlaceIndex.{IsFirstAt, path_at}
+use Rattle.relative_path_places.specs.PlaceIndex.{IsFirstAt, path_at}
 use Rattle.relmove_checks.proofs.TreesLemmas.{Indexes-paths, IsFirstAt-paths, IsFirstAt-self, length-take_paths}
 use Rattle.relmove_checks.proofs.after.index_after.Goals as goal
 use borrow.Author.Count.{below_more}

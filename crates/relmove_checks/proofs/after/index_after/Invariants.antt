@@ -1,7 +1,7 @@
 -- The index has the paths so far, and no two of them lead to the same place.
 use Rattle.std.proofs.Common.{ℕ, ◌<◌, map, take}
 use Rattle.relative_path.specs.Steps.{components}
-use Rattle.relative_path_moves.specs.PlaceIndex.{Indexes, IsFirstAt, path_at}
+use Rattle.relative_path_places.specs.PlaceIndex.{Indexes, IsFirstAt, path_at}
 use Rattle.relmove_checks.proofs.after.index_after.Given as goal
 
 abbrev pub invariant-loop-number : goal.invariant-loop-number

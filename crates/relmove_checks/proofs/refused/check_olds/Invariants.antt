@@ -1,7 +1,7 @@
 -- Each move so far is fine.
 use Rattle.std.proofs.Common.{ℕ, ◌<◌, List}
 use Rattle.relative_path_moves.specs.Moves.{Move, moves_of, move_at}
-use Rattle.relative_path_moves.specs.PlaceIndex.{Indexes}
+use Rattle.relative_path_places.specs.PlaceIndex.{Indexes}
 use Rattle.relmove_checks.specs.declared.entry.Entry.{Entry}
 use Rattle.relmove_checks.specs.Trees.{AreForeignPaths, IsOldFine, entry_paths}
 use Rattle.relmove_checks.proofs.refused.check_olds.Given as goal

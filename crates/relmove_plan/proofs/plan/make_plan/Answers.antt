@@ -1,7 +1,7 @@
 -- What is accepted, or refused, of moves that may leave.
 use Rattle.std.proofs.Common.{map, string_bytes, subst}
 use Rattle.relative_path_moves.specs.Moves.{moves_of}
-use Rattle.relative_path_moves.specs.PlaceIndex.{Indexes}
+use Rattle.relative_path_places.specs.PlaceIndex.{Indexes}
 use Rattle.relmove_checks.proofs.ForCallers.{IfErr-error}
 use Rattle.relmove_checks.specs.Trees.{entry_paths}
 use Rattle.relmove_steps.specs.Directories.{AreLeftByMoves, MakesMissing}

@@ -1,6 +1,6 @@
 -- The index has the paths so far.
 use Rattle.std.proofs.Common.{take}
-use Rattle.relative_path_moves.specs.PlaceIndex.{Indexes}
+use Rattle.relative_path_places.specs.PlaceIndex.{Indexes}
 use Rattle.relmove_steps.specs.Steps.{changed_paths}
 use Rattle.relmove_steps.proofs.changed.changed_index.Given as goal
 

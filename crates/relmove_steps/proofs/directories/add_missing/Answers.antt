@@ -7,7 +7,7 @@ use Rattle.relative_path.specs.Normalizing.{IsNormalText}
 use Rattle.relative_path.specs.RelativePath.{path_components, path_text}
 use Rattle.relative_path.specs.Steps.{Step}
 use Rattle.relative_path.specs.declared.path.RelativePath.{RelativePath}
-use Rattle.relative_path_moves.specs.PlaceIndex.{Indexes}
+use Rattle.relative_path_places.specs.PlaceIndex.{Indexes}
 use Rattle.relmove_steps.specs.Directories.{HasDirectory, IsMissingText}
 use Rattle.relmove_steps.proofs.CarryLemmas.{All-taken}
 use Rattle.relmove_steps.proofs.DirectoriesLemmas.{All-IsServed-more, Contains-insert_key_kept, IsMissingText-here, IsNoneAt-found, IsNoneAt-not, IsNormalTextOf-itself, IsServed, IsServed-any, IsServed-insert, text_cmp, text_ties}

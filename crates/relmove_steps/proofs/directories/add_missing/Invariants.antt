@@ -4,7 +4,7 @@ use Rattle.relative_path.specs.Normalizing.{IsNormalTextOf}
 use Rattle.relative_path.specs.RelativePath.{path_text}
 use Rattle.relative_path.specs.Steps.{Step}
 use Rattle.relative_path_moves.specs.Moves.{Move, move_at}
-use Rattle.relative_path_moves.specs.PlaceIndex.{Indexes}
+use Rattle.relative_path_places.specs.PlaceIndex.{Indexes}
 use Rattle.relmove_steps.specs.Directories.{AreMissingTexts}
 use Rattle.relmove_steps.proofs.DirectoriesLemmas.{IsServed}
 use Rattle.relmove_steps.proofs.directories.add_missing.Given as goal

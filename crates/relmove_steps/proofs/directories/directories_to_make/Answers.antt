@@ -6,7 +6,7 @@ use Rattle.std.proofs.lemmas.Map.Iter.{rest_all, rest_more}
 use Rattle.relative_path.specs.Normalizing.{IsNormalTextOf}
 use Rattle.relative_path.specs.Steps.{Step}
 use Rattle.relative_path_moves.specs.Moves.{move_at, moves_of}
-use Rattle.relative_path_moves.specs.PlaceIndex.{IsNoneAt}
+use Rattle.relative_path_places.specs.PlaceIndex.{IsNoneAt}
 use Rattle.relmove_checks.proofs.ForCallers.{length-moves_of, move_at-moves_of}
 use Rattle.relmove_steps.specs.Directories.{HaveTextOf, IsAbove, IsTakenTo}
 use Rattle.relmove_steps.proofs.DirectoriesLemmas.{AllZip-IsTakenTo-next, AreMissing-ordered, HasDirectory-normal, HaveTextOf-more, IsTakenTo-here}

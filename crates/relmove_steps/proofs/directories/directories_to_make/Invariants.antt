@@ -3,7 +3,7 @@ use Rattle.std.proofs.Common.{◌≡◌, ◌<◌, ◌++◌, List, ℕ, String, G
 use Rattle.std.specs.List.{AllZip}
 use Rattle.relative_path.specs.Steps.{Step}
 use Rattle.relative_path_moves.specs.Moves.{move_at, moves_of}
-use Rattle.relative_path_moves.specs.PlaceIndex.{Indexes, IsNoneAt}
+use Rattle.relative_path_places.specs.PlaceIndex.{Indexes, IsNoneAt}
 use Rattle.relmove_steps.specs.Directories.{AreMissingTexts, HaveTextOf, IsAbove, IsTakenTo}
 use Rattle.relmove_steps.proofs.directories.directories_to_make.Given as goal
 

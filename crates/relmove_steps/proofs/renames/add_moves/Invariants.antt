@@ -2,7 +2,7 @@
 use Rattle.std.proofs.Common.{◌≡◌, ◌++◌, ℕ, ◌<◌, [], List, get_or, map, take, string_bytes}
 use Rattle.relative_path.specs.Steps.{Step}
 use Rattle.relative_path_moves.specs.Moves.{AreApart, moves_of, move_at}
-use Rattle.relative_path_moves.specs.PlaceIndex.{Indexes}
+use Rattle.relative_path_places.specs.PlaceIndex.{Indexes}
 use Rattle.relmove_steps.specs.Steps.{DoesMove, LosesNothing, OnlyTheseLeave, names_left, rename_texts}
 use Rattle.relmove_steps.specs.NewFiles.{DoNothingYet, LeaveOnce}
 use Rattle.relmove_steps.specs.Directories.{LeavesTo}

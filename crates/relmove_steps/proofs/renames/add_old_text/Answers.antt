@@ -1,7 +1,7 @@
 -- The old text is removed, or a move leads from there already.
 use Rattle.std.proofs.Common.{◌++◌, ◌∷◌, [], sym, ap, subst, string_bytes, ◌∙◌}
 use Rattle.relative_path.specs.Normalizing.{IsNormalTextOf}
-use Rattle.relative_path_moves.specs.PlaceIndex.{path_at}
+use Rattle.relative_path_places.specs.PlaceIndex.{path_at}
 use Rattle.relmove_steps.specs.Steps.{LosesNothing, OnlyTheseLeave, StepTexts, of_page, RemovesAt, names_left, old_paths, rename_texts, with_removed}
 use Rattle.relmove_steps.specs.NewFiles.{LeaveOnce, LeavesToo}
 use Rattle.relmove_steps.proofs.StepsLemmas.{LosesNothing-with_removed, names_left-push}

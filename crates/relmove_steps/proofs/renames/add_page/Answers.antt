@@ -11,8 +11,8 @@ use Rattle.relmove_steps.proofs.OnlyLemmas.{OnlyTheseLeave-with_carried, OnlyThe
 use Rattle.std.proofs.lemmas.List.Elements.{Contains-push}
 use Rattle.relative_path.specs.Steps.{components}
 use Rattle.relative_path.specs.Normalizing.{IsNormalTextOf}
-use Rattle.relative_path_moves.specs.Places.{directory}
-use Rattle.relative_path_moves.specs.PlaceIndex.{Indexes, IsNoneAt, path_at}
+use Rattle.relative_path_places.specs.Places.{directory}
+use Rattle.relative_path_places.specs.PlaceIndex.{Indexes, IsNoneAt, path_at}
 use Rattle.relmove_steps.proofs.NewFilesLemmas.{AreFilesDrawn-file, AreFilesDrawn-name, components-next_to}
 use Rattle.relmove_steps.proofs.OnceLemmas.{IsNoneAt-take, LeaveOnce-with_file, StaysThere-page, file-leaves}
 use Rattle.relmove_steps.proofs.renames.add_page.Goals as goal

@@ -2,8 +2,8 @@
 use Rattle.std.proofs.Common.{All, ◌≡◌, List, [], take}
 use Rattle.relative_path.specs.Steps.{Step}
 use Rattle.relative_path_moves.specs.Moves.{Move}
-use Rattle.relative_path_moves.specs.PlaceIndex.{Indexes}
-use Rattle.relative_path_moves.specs.declared.place_index.PlaceIndex.{PlaceIndex}
+use Rattle.relative_path_places.specs.PlaceIndex.{Indexes}
+use Rattle.relative_path_places.specs.declared.place_index.PlaceIndex.{PlaceIndex}
 use Rattle.relmove_checks.specs.Moves.{EachMove}
 use Rattle.relmove_steps.specs.Steps.{AreAmong, DoesMove, LosesNothing, OnlyTheseLeave, RemovesAt, ReplacesPages, WritesPages, changed_paths, names_left, old_paths, rename_texts}
 use Rattle.relmove_steps.specs.BetweenNames.{AreDrawn}

@@ -1,6 +1,6 @@
 -- Each turn draws one name.
 use Rattle.std.proofs.Common.{◌≡◌, [], length, map, string_bytes}
-use Rattle.relative_path_moves.specs.declared.place_index.PlaceIndex.{PlaceIndex}
+use Rattle.relative_path_places.specs.declared.place_index.PlaceIndex.{PlaceIndex}
 use Rattle.relmove_steps.specs.BetweenNames.{AreDrawn}
 use Rattle.relmove_steps.proofs.renames.names_between.Given as goal
 

@@ -1,7 +1,7 @@
 -- The index has the old paths so far.
 use Rattle.std.proofs.Common.{take}
 use Rattle.relative_path_moves.specs.Moves.{moves_of}
-use Rattle.relative_path_moves.specs.PlaceIndex.{Indexes}
+use Rattle.relative_path_places.specs.PlaceIndex.{Indexes}
 use Rattle.relmove_steps.specs.Steps.{old_paths}
 use Rattle.relmove_steps.proofs.renames.old_index.Given as goal
 

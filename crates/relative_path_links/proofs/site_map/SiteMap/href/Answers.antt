@@ -7,7 +7,7 @@ use Rattle.relative_path.specs.Relating.{IsShortestText}
 use Rattle.relative_path.specs.RelativePath.{path_text, path_components}
 use Rattle.relative_path.proofs.ForCallers.{SpellThemselves-components}
 use Rattle.relative_path.specs.Steps.{name, components, spell, SpellThemselves}
-use Rattle.relative_path_moves.specs.Places.{directory}
+use Rattle.relative_path_places.specs.Places.{directory}
 use Rattle.target_paths.specs.Writing.{target_of}
 use Rattle.relative_path_links.specs.UrlPath.{url_steps}
 use Rattle.relative_path_links.specs.SiteMap.{page_at, start_of, IsShortestNamed}

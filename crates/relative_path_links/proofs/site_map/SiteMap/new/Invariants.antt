@@ -1,6 +1,6 @@
 -- The index has the pages so far.
 use Rattle.std.proofs.Common.{map, take}
-use Rattle.relative_path_moves.specs.PlaceIndex.{Indexes}
+use Rattle.relative_path_places.specs.PlaceIndex.{Indexes}
 use Rattle.relative_path_links.specs.SiteMap.{paths_of}
 use Rattle.relative_path_links.specs.UrlPath.{page_of}
 use Rattle.relative_path_links.proofs.site_map.SiteMap.new.Given as goal

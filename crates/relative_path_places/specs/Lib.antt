@@ -1,0 +1,5 @@
+pub mod Places
+pub mod OneProof
+pub mod Views
+pub mod PlaceIndex
+pub mod Ways
