@@ -194,7 +194,7 @@ fn passes_over_a_page_that_is_too_long(rt: HostRuntime) -> Result<(), Fail> {
 fn reads_the_longest_page(rt: HostRuntime) -> Result<(), Fail> {
     let disk = disk_of(rt.alloc(), LONG)?;
     disk.add_hole("site/l.md", (64 << 20) - 9)?;
-    let printed = "relmove: site: can't read l.md: out of memory\n";
+    let printed = "relmove: site: memory ran out\n";
     let expected = (Status::Refused, "", printed);
     answers(rt.alloc(), &disk, &["--check", "site"], expected)
 }
