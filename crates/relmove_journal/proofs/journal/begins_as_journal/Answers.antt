@@ -25,7 +25,9 @@ returns-else-starts_with c =
     let bytes = c.args.bytes.now in
     let head = codes "relmove journal 3\n" in
     let first = ap (starts_with (λ x y. x == y) bytes) (sym c.as_bytes.ensures.value) ∙ sym c.starts_with.ensures.value in
-    let other = ap (λ head. starts_with (λ x y. x == y) head bytes) (sym c.as_bytes-else-starts_with.ensures.value) ∙ sym c.starts_with-else-starts_with.ensures.value in
+    let other =
+    ap (λ head. starts_with (λ x y. x == y) head bytes) (sym c.as_bytes-else-starts_with.ensures.value)
+    ∙ sym c.starts_with-else-starts_with.ensures.value in
     let back : (CanBegin bytes) → c.starts_with-else-starts_with.result ≡ true = elim [
       | inl has ↦ absurd (true≢false (sym ((starts bytes head).1 has.0 has.1) ∙ first ∙ c.if-starts_with.false))
       | inr has ↦ sym other ∙ (starts head bytes).1 has.0 has.1
