@@ -1,10 +1,10 @@
 -- A label that is normalized byte by byte.
-use Rattle.std.proofs.Common.{◌≡◌, ℕ, ◌+◌, ◌<◌, ◌≤◌, Bool, true, false, not, ◌==◌, ◌&&◌, List, [], ◌∷◌, ◌++◌, length, map, take, drop, get_or, if◌then◌else◌, refl, sym, ap, ap₂, subst, ◌∙◌, arith, append-nil}
+use Rattle.std.proofs.Common.{◌≡◌, ℕ, ◌+◌, ◌<◌, Bool, true, false, not, ◌==◌, ◌&&◌, List, [], ◌∷◌, ◌++◌, length, map, drop, get_or, if◌then◌else◌, refl, sym, ap, ap₂, ◌∙◌, arith, append-nil}
 use Rattle.std.proofs.lemmas.Bool.Decides.{nat_tests}
 use Rattle.std.proofs.lemmas.List.{append_assoc, drop_more, length-append}
 use Rattle.std.specs.Char.{to_ascii_lowercase}
 use Rattle.markdown_targets.specs.Classes.{is_space}
-use Rattle.markdown_targets.specs.Labels.{drop_spaces, begins_word, collapsed, normalized_label}
+use Rattle.markdown_targets.specs.Labels.{drop_spaces, begins_word, collapse_spaces, normalized_label}
 
 -- the space before a word, if a word came before it
 abbrev pub gap : Bool → Bool → List ℕ
@@ -17,34 +17,34 @@ left_of begun apart (b ∷ bs) =
     if is_space b then left_of begun true bs else gap begun apart ++ (to_ascii_lowercase b ∷ left_of true false bs)
 
 -- what is left of the spaces and words of a label after a word
-abbrev spaced : Bool → List ℕ → List ℕ
-spaced apart text = if apart && begins_word text then 32 ∷ collapsed text else collapsed text
+abbrev left_after_word : Bool → List ℕ → List ℕ
+left_after_word apart text = if apart && begins_word text then 32 ∷ collapse_spaces text else collapse_spaces text
 
-left_of-word : (apart : Bool) (text : List ℕ) → left_of true apart text ≡ map to_ascii_lowercase (spaced apart text)
+left_of-word : (apart : Bool) (text : List ℕ) → left_of true apart text ≡ map to_ascii_lowercase (left_after_word apart text)
 left_of-word false [] = refl
 left_of-word true [] = refl
 left_of-word apart (b ∷ bs) = of apart (is_space b) refl (left_of-word true bs) (left_of-word false bs) where
-  of : (a s : Bool) → is_space b ≡ s → left_of true true bs ≡ map to_ascii_lowercase (spaced true bs)
-      → left_of true false bs ≡ map to_ascii_lowercase (spaced false bs)
-      → left_of true a (b ∷ bs) ≡ map to_ascii_lowercase (spaced a (b ∷ bs))
+  of : (a s : Bool) → is_space b ≡ s → left_of true true bs ≡ map to_ascii_lowercase (left_after_word true bs)
+      → left_of true false bs ≡ map to_ascii_lowercase (left_after_word false bs)
+      → left_of true a (b ∷ bs) ≡ map to_ascii_lowercase (left_after_word a (b ∷ bs))
   of false true is after_space after_byte =
       ap (λ t. if t then left_of true true bs else [] ++ (to_ascii_lowercase b ∷ left_of true false bs)) is
       ∙ after_space
-      ∙ sym (ap (λ t. map to_ascii_lowercase (if t then spaced true bs else b ∷ collapsed bs)) is)
+      ∙ sym (ap (λ t. map to_ascii_lowercase (if t then left_after_word true bs else b ∷ collapse_spaces bs)) is)
   of false false is after_space after_byte =
       ap (λ t. if t then left_of true true bs else [] ++ (to_ascii_lowercase b ∷ left_of true false bs)) is
       ∙ ap (λ l. to_ascii_lowercase b ∷ l) after_byte
-      ∙ sym (ap (λ t. map to_ascii_lowercase (if t then spaced true bs else b ∷ collapsed bs)) is)
+      ∙ sym (ap (λ t. map to_ascii_lowercase (if t then left_after_word true bs else b ∷ collapse_spaces bs)) is)
   of true true is after_space after_byte =
       ap (λ t. if t then left_of true true bs else (32 ∷ []) ++ (to_ascii_lowercase b ∷ left_of true false bs)) is
       ∙ after_space
-      ∙ sym (ap (λ t. map to_ascii_lowercase (if not t then 32 ∷ (if t then spaced true bs else b ∷ collapsed bs)
-      else (if t then spaced true bs else b ∷ collapsed bs))) is)
+      ∙ sym (ap (λ t. map to_ascii_lowercase (if not t then 32 ∷ (if t then left_after_word true bs else b ∷ collapse_spaces bs)
+      else (if t then left_after_word true bs else b ∷ collapse_spaces bs))) is)
   of true false is after_space after_byte =
       ap (λ t. if t then left_of true true bs else (32 ∷ []) ++ (to_ascii_lowercase b ∷ left_of true false bs)) is
       ∙ ap (λ l. 32 ∷ to_ascii_lowercase b ∷ l) after_byte
-      ∙ sym (ap (λ t. map to_ascii_lowercase (if not t then 32 ∷ (if t then spaced true bs else b ∷ collapsed bs)
-      else (if t then spaced true bs else b ∷ collapsed bs))) is)
+      ∙ sym (ap (λ t. map to_ascii_lowercase (if not t then 32 ∷ (if t then left_after_word true bs else b ∷ collapse_spaces bs)
+      else (if t then left_after_word true bs else b ∷ collapse_spaces bs))) is)
 
 left_of-start : (apart : Bool) (text : List ℕ) → left_of false apart text ≡ normalized_label text
 left_of-start apart [] = refl
@@ -54,12 +54,12 @@ left_of-start apart (b ∷ bs) = of (is_space b) refl (left_of-start true bs) wh
   of true is others =
       ap (λ t. if t then left_of false true bs else [] ++ (to_ascii_lowercase b ∷ left_of true false bs)) is
       ∙ others
-      ∙ sym (ap (λ t. map to_ascii_lowercase (collapsed (if t then drop_spaces bs else b ∷ bs))) is)
+      ∙ sym (ap (λ t. map to_ascii_lowercase (collapse_spaces (if t then drop_spaces bs else b ∷ bs))) is)
   of false is others =
       ap (λ t. if t then left_of false true bs else [] ++ (to_ascii_lowercase b ∷ left_of true false bs)) is
       ∙ ap (λ l. to_ascii_lowercase b ∷ l) (left_of-word false bs)
-      ∙ sym (ap (λ t. map to_ascii_lowercase (if t then spaced true bs else b ∷ collapsed bs)) is)
-      ∙ sym (ap (λ t. map to_ascii_lowercase (collapsed (if t then drop_spaces bs else b ∷ bs))) is)
+      ∙ sym (ap (λ t. map to_ascii_lowercase (if t then left_after_word true bs else b ∷ collapse_spaces bs)) is)
+      ∙ sym (ap (λ t. map to_ascii_lowercase (collapse_spaces (if t then drop_spaces bs else b ∷ bs))) is)
 
 -- these bytes and what is left from an offset on are the normalized label
 abbrev pub IsSoFar : List ℕ → List ℕ → Bool → ℕ → Type 0

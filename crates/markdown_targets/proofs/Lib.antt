@@ -1,3 +1,3 @@
 mod LabelsLemmas
 pub mod SpansLemmas
-mod StepsLemmas
+mod OffsetsLemmas

@@ -14,12 +14,12 @@ begins_word [] = false
 begins_word (b ∷ bs) = not (is_space b)
 
 -- the text with one space in place of all spaces, tabs and line ends between two words, and none after the last word
-abbrev pub collapsed : List ℕ → List ℕ
-collapsed [] = []
-collapsed (b ∷ bs) =
-    if is_space b then (if begins_word bs then 32 ∷ collapsed bs else collapsed bs) else b ∷ collapsed bs
+abbrev pub collapse_spaces : List ℕ → List ℕ
+collapse_spaces [] = []
+collapse_spaces (b ∷ bs) =
+    if is_space b then (if begins_word bs then 32 ∷ collapse_spaces bs else collapse_spaces bs) else b ∷ collapse_spaces bs
 
 -- the label as it is compared with others: without case as far as ASCII, without spaces at its ends, with one space
 -- between two words
 abbrev pub normalized_label : List ℕ → List ℕ
-normalized_label label = map to_ascii_lowercase (collapsed (drop_spaces label))
+normalized_label label = map to_ascii_lowercase (collapse_spaces (drop_spaces label))

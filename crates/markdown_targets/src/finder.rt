@@ -35,7 +35,7 @@ use crate::finder::inlines::read_inlines;
 use crate::target::LinkTargets;
 use std::alloc::{AllocError, Global};
 
-// The targets of a page, in the order in which what they belong to ends, and what is passed over.
+// Returns the targets of a page, in the order in which what they belong to ends, and what is passed over.
 pub(crate) fn find(alloc: Global, page: &str) -> Result<LinkTargets, AllocError> {
     let text = read_blocks(alloc, page)?;
     read_inlines(alloc, &text)

@@ -59,13 +59,17 @@ pub fn link_targets(alloc: Global, page: &str) -> Result<LinkTargets, AllocError
 {
     let mut found = finder::find(alloc, page)?;
     found.passed_over.retain(|passed| passed.span.is_of(page));
-    let targets = in_order(alloc, page, &found.targets)?;
+    let targets = targets_in_order(alloc, page, &found.targets)?;
     Ok(LinkTargets { targets, ..found })
 }
 
-// The targets that are spans of the page, without those that begin before the last one ends. None does,
-// which isn't proved.
-fn in_order(alloc: Global, page: &str, found: &[LinkTarget]) -> Result<Vec<LinkTarget>, AllocError>
+// Returns the targets that are spans of the page, without those that begin before the last one ends. None does, which
+// isn't proved.
+fn targets_in_order(
+    alloc: Global,
+    page: &str,
+    found: &[LinkTarget],
+) -> Result<Vec<LinkTarget>, AllocError>
     ensures { IfOk result (λ targets. AreInOrder page.now 0 (map (λ target. target.span) targets.items)) }
 {
     let mut targets = Vec::new(alloc);

@@ -12,7 +12,7 @@ pub struct Span {
 }
 
 impl Span {
-    // Whether the span lies within a page, between two ends of characters.
+    // Returns whether the span lies within a page, between two ends of characters.
     pub(crate) fn is_of(self, page: &str) -> bool
         ensures { IsTrue result ↔ IsSpanOf page.now self }
     {

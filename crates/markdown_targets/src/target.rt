@@ -58,6 +58,6 @@ pub struct LinkTargets {
     pub targets: Vec<LinkTarget>,
     /// What is passed over on purpose, in the order in which it ends. A name in `[a][b][]` is there twice.
     pub passed_over: Vec<PassedOver>,
-    /// Whether the page has a `<base href>`. Then no target is relative to the page's place.
+    /// Whether the page has a `<base href>`. Then no target is relative to the page's directory.
     pub has_base: bool,
 }

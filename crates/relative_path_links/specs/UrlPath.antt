@@ -6,7 +6,7 @@ use Rattle.relative_path.specs.Steps.{Step, cur, up, name, slash, is_slash, clas
 use Rattle.relative_path.specs.RelativePath.{path_text, path_components}
 use Rattle.relative_path.specs.declared.path.RelativePath.{RelativePath}
 use Rattle.relative_path.specs.Walk.{place_of}
-use Rattle.target_paths.specs.Pieces.{pieces, joined}
+use Rattle.target_paths.specs.Pieces.{bytes_of_pieces, read_pieces}
 use Rattle.target_paths.specs.Url.{url_piece}
 use Rattle.target_paths.specs.Writing.{is_nul}
 use Rattle.target_paths.specs.declared.target.WhyUnknown.{WhyUnknown}
@@ -62,7 +62,7 @@ resolved base reference = url_path (without_dots [] (map classed (merged base re
 
 -- what a segment's percent signs are decoded to, once, or why it isn't known
 abbrev pub decoded : List ℕ → Result (List ℕ) WhyUnknown
-decoded segment = joined (pieces url_piece 0 segment)
+decoded segment = bytes_of_pieces (read_pieces url_piece 0 segment)
 
 -- the URL path has these segments, after it is cut at its slashes and each segment is decoded
 abbrev pub HasSegments : List ℕ → List (List ℕ) → Type 0

@@ -2,12 +2,12 @@
 use Rattle.std.proofs.Common.{◌≡◌, ℕ, zero, suc, ◌-◌, ◌+◌, ◌<◌, ◌≤◌, List, [], ◌∷◌, length, take, drop, get_or, Result, Ok, Err, refl, sym, ap, ◌∙◌, arith, append_assoc, length-drop}
 use Rattle.std.proofs.lemmas.List.{take_all, drop-drop}
 use Rattle.target_paths.specs.declared.target.WhyUnknown.{WhyUnknown}
-use Rattle.target_paths.specs.Pieces.{Piece, pieces, followed, joined, total_size}
+use Rattle.target_paths.specs.Pieces.{Piece, read_pieces, append_read, bytes_of_pieces, total_size}
 
-pub pieces-skip : (first : ℕ → List ℕ → Piece) (k : ℕ) (bs : List ℕ) → pieces first k bs ≡ pieces first 0 (drop k bs)
-pieces-skip first zero bs = refl
-pieces-skip first (suc k) [] = refl
-pieces-skip first (suc k) (b ∷ bs) = pieces-skip first k bs
+pub read_pieces-skip : (first : ℕ → List ℕ → Piece) (k : ℕ) (bs : List ℕ) → read_pieces first k bs ≡ read_pieces first 0 (drop k bs)
+read_pieces-skip first zero bs = refl
+read_pieces-skip first (suc k) [] = refl
+read_pieces-skip first (suc k) (b ∷ bs) = read_pieces-skip first k bs
 
 drop-pred : (n b : ℕ) (bs : List ℕ) → 0 < n → drop (n - 1) bs ≡ drop n (b ∷ bs)
 drop-pred zero b bs some = absurd (omega (arith, some))
@@ -21,33 +21,33 @@ pub from_byte-drop : (k : ℕ) (text : List ℕ) → from_byte k text ≡ drop k
 from_byte-drop k text = take_all (length text - k) (drop k text) (omega (arith, length-drop k text))
 
 -- a text by its first piece
-pub pieces-left : (first : ℕ → List ℕ → Piece) (left : List ℕ) (piece : Piece) → 1 ≤ length left
+pub read_pieces-left : (first : ℕ → List ℕ → Piece) (left : List ℕ) (piece : Piece) → 1 ≤ length left
     → piece ≡ first (get_or left 0 0) (from_byte 1 left) → 0 < piece.size
-    → pieces first 0 left ≡ piece ∷ pieces first 0 (from_byte piece.size left)
-pieces-left first [] piece some is size = absurd (omega (arith, some))
-pieces-left first (b ∷ bs) piece some is size =
-    ap (λ p. p ∷ pieces first (p.size - 1) bs) (ap (first b) (sym (from_byte-drop 1 (b ∷ bs))) ∙ sym is)
+    → read_pieces first 0 left ≡ piece ∷ read_pieces first 0 (from_byte piece.size left)
+read_pieces-left first [] piece some is size = absurd (omega (arith, some))
+read_pieces-left first (b ∷ bs) piece some is size =
+    ap (λ p. p ∷ read_pieces first (p.size - 1) bs) (ap (first b) (sym (from_byte-drop 1 (b ∷ bs))) ∙ sym is)
     ∙ ap (λ ps. piece ∷ ps)
-    (pieces-skip first (piece.size - 1) bs
-    ∙ ap (pieces first 0) (drop-pred piece.size b bs size ∙ sym (from_byte-drop piece.size (b ∷ bs))))
+    (read_pieces-skip first (piece.size - 1) bs
+    ∙ ap (read_pieces first 0) (drop-pred piece.size b bs size ∙ sym (from_byte-drop piece.size (b ∷ bs))))
 
-pub followed-assoc : (x y z : Result (List ℕ) WhyUnknown) → followed (followed x y) z ≡ followed x (followed y z)
-followed-assoc (Err why) y z = refl
-followed-assoc (Ok x) (Err why) z = refl
-followed-assoc (Ok x) (Ok y) (Err why) = refl
-followed-assoc (Ok x) (Ok y) (Ok z) = ap Ok (append_assoc x y z)
+pub append_read-assoc : (x y z : Result (List ℕ) WhyUnknown) → append_read (append_read x y) z ≡ append_read x (append_read y z)
+append_read-assoc (Err why) y z = refl
+append_read-assoc (Ok x) (Err why) z = refl
+append_read-assoc (Ok x) (Ok y) (Err why) = refl
+append_read-assoc (Ok x) (Ok y) (Ok z) = ap Ok (append_assoc x y z)
 
-pub followed-nil : (x : Result (List ℕ) WhyUnknown) → followed (Ok []) x ≡ x
-followed-nil (Err why) = refl
-followed-nil (Ok x) = refl
+pub append_read-nil : (x : Result (List ℕ) WhyUnknown) → append_read (Ok []) x ≡ x
+append_read-nil (Err why) = refl
+append_read-nil (Ok x) = refl
 
 -- after one more piece is read, the rest of the pieces follow
-pub joined-next : (old new : List ℕ) (piece : Piece) (whole rest : List Piece) → whole ≡ piece ∷ rest
-    → followed (Ok old) piece.read ≡ Ok new → followed (Ok new) (joined rest) ≡ followed (Ok old) (joined whole)
-joined-next old new piece whole rest is read =
-    ap (λ r. followed r (joined rest)) (sym read)
-    ∙ followed-assoc (Ok old) piece.read (joined rest)
-    ∙ ap (λ ps. followed (Ok old) (joined ps)) (sym is)
+pub bytes_of_pieces-next : (old new : List ℕ) (piece : Piece) (whole rest : List Piece) → whole ≡ piece ∷ rest
+    → append_read (Ok old) piece.read ≡ Ok new → append_read (Ok new) (bytes_of_pieces rest) ≡ append_read (Ok old) (bytes_of_pieces whole)
+bytes_of_pieces-next old new piece whole rest is read =
+    ap (λ r. append_read r (bytes_of_pieces rest)) (sym read)
+    ∙ append_read-assoc (Ok old) piece.read (bytes_of_pieces rest)
+    ∙ ap (λ ps. append_read (Ok old) (bytes_of_pieces ps)) (sym is)
 
 pub length-from_byte : (k : ℕ) (text : List ℕ) → length (from_byte k text) ≡ length text - k
 length-from_byte k text = ap length (from_byte-drop k text) ∙ length-drop k text

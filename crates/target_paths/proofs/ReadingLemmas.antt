@@ -4,15 +4,14 @@ use Rattle.std.proofs.lemmas.Bool.Decides.{nat_tests}
 use Rattle.std.proofs.lemmas.Str.{encode_ascii, length-encode, IsUtf8-from_is_utf8, is_utf8-from_IsUtf8}
 use Rattle.std.specs.Char.{encode_utf8, len_utf8}
 use Rattle.std.specs.Str.{is_utf8, IsUtf8}
-use Rattle.target_paths.specs.declared.piece.ReadError.TheVariants as error
 use Rattle.target_paths.specs.declared.target.TargetSyntax.{TargetSyntax}
 use Rattle.target_paths.specs.declared.target.WhyUnknown.{WhyUnknown}
 use Rattle.target_paths.specs.declared.target.WhyUnknown.TheVariants.{NotUtf8}
-use Rattle.target_paths.specs.Pieces.{Piece, pieces, joined, total_size}
+use Rattle.target_paths.specs.Pieces.{Piece, read_pieces, bytes_of_pieces, total_size}
 use Rattle.target_paths.specs.Reading.{is_tail_byte, begins_tail, before_tail, path_pieces, not_relative, path_before, unknown, meaning_decoded, meaning_of_url, meaning_read, has_tail, meaning}
 use Rattle.target_paths.specs.Source.{source_piece}
 use Rattle.target_paths.specs.Url.{is_not_relative, url_piece}
-use Rattle.target_paths.proofs.PiecesLemmas.{from_byte, pieces-left}
+use Rattle.target_paths.proofs.PiecesLemmas.{from_byte, read_pieces-left}
 
 -- ---- what begins a tail
 
@@ -43,22 +42,22 @@ pub path_pieces-next : (syntax : TargetSyntax) (left : List ℕ) (piece : Piece)
     → piece ≡ source_piece syntax (get_or left 0 0) (from_byte 1 left) → 0 < piece.size → begins_tail piece.read ≡ false
     → path_pieces syntax left ≡ piece ∷ path_pieces syntax (from_byte piece.size left)
 path_pieces-next syntax left piece some is size none =
-    ap before_tail (pieces-left (source_piece syntax) left piece some is size)
+    ap before_tail (read_pieces-left (source_piece syntax) left piece some is size)
     ∙ ap (λ t. if t then [] else piece ∷ path_pieces syntax (from_byte piece.size left)) none
 
 -- ---- what a target means
 
 -- the meaning of a target, by what its path is read as
 pub meaning-read : (syntax : TargetSyntax) (target : List ℕ) (read : Result (List ℕ) WhyUnknown) (tail_at : ℕ)
-    → joined (path_pieces syntax target) ≡ read → tail_at ≡ total_size (path_pieces syntax target)
+    → bytes_of_pieces (path_pieces syntax target) ≡ read → tail_at ≡ total_size (path_pieces syntax target)
     → meaning syntax target ≡ meaning_read syntax (nat_lt tail_at (length target)) read tail_at
 meaning-read syntax target read tail_at is at =
     ap₂ (λ r n. meaning_read syntax (has_tail target n) r n) is (sym at)
 
 pub meaning-decoded : (text : List ℕ) (read : Result (List ℕ) WhyUnknown) (tail_at : ℕ) → is_not_relative text ≡ false
-    → joined (pieces url_piece 0 text) ≡ read → meaning_of_url text tail_at ≡ meaning_decoded read tail_at
+    → bytes_of_pieces (read_pieces url_piece 0 text) ≡ read → meaning_of_url text tail_at ≡ meaning_decoded read tail_at
 meaning-decoded text read tail_at is decoded =
-    ap (λ t. if t then not_relative else meaning_decoded (joined (pieces url_piece 0 text)) tail_at) is
+    ap (λ t. if t then not_relative else meaning_decoded (bytes_of_pieces (read_pieces url_piece 0 text)) tail_at) is
     ∙ ap (λ r. meaning_decoded r tail_at) decoded
 
 pub meaning-utf8 : (bytes : List ℕ) (tail_at : ℕ) → IsUtf8 bytes → meaning_decoded (Ok bytes) tail_at ≡ path_before bytes tail_at

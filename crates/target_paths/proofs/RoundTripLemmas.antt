@@ -10,19 +10,19 @@ use Rattle.target_paths.specs.declared.target.TargetSyntax.{TargetSyntax}
 use Rattle.target_paths.specs.declared.target.TargetSyntax.TheVariants.{Markdown, Attribute}
 use Rattle.target_paths.specs.declared.target.WhyUnknown.{WhyUnknown}
 use Rattle.target_paths.specs.declared.target.WhyUnknown.TheVariants.{EncodedNul, EncodedSlash}
-use Rattle.target_paths.specs.declared.place.Place.{Place}
-use Rattle.target_paths.specs.declared.place.Place.TheVariants.{Start, Mark, FirstSegment, AfterSlash}
-use Rattle.target_paths.specs.Pieces.{plain, pieces, followed, joined, total_size}
-use Rattle.target_paths.specs.Reading.{is_tail_byte, before_tail, path_pieces, trimmed, path_before, unknown, meaning_decoded, meaning_of_url, meaning, IsTail, BeginsRelative}
-use Rattle.target_paths.specs.Source.{source_piece, is_escape, reference_piece, reference_character, byte_piece, byte_read, character_read, is_tab_or_line_end}
+use Rattle.target_paths.specs.declared.path_position.PathPosition.{PathPosition}
+use Rattle.target_paths.specs.declared.path_position.PathPosition.TheVariants.{Start, Mark, FirstSegment, AfterSlash}
+use Rattle.target_paths.specs.Pieces.{plain, read_pieces, append_read, bytes_of_pieces, total_size}
+use Rattle.target_paths.specs.Reading.{is_tail_byte, before_tail, path_pieces, trim_url, path_before, unknown, meaning_decoded, meaning_of_url, meaning, IsTail, BeginsRelative}
+use Rattle.target_paths.specs.Source.{source_piece, is_escape, character_reference_piece, read_character_reference, byte_piece, byte_read, character_read, is_tab_or_line_end}
 use Rattle.target_paths.specs.Url.{is_blank, before_text, without_leading, without_trailing, is_slash, is_colon, is_scheme_byte, has_scheme, is_not_relative, decoded_byte, has_digits, digits_byte, url_piece}
-use Rattle.target_paths.specs.Writing.{is_reserved, is_template_byte, is_block_byte, is_line_byte, is_digit_byte, last_byte, is_mark, begins_mark, is_escaped_at_start, is_escaped, start_of, place_after, hexadecimal, percent_text, written_byte, written, without_slashes, some_path, path_written, spelled, target_of, is_nul, IsTakenAs, ends_target, begins_template, begins_block}
+use Rattle.target_paths.specs.Writing.{is_always_escaped, is_template_byte, is_block_byte, is_line_byte, is_digit_byte, last_byte, is_mark, begins_mark, is_escaped_at_start, is_escaped, first_position, next_position, hexadecimal, percent_text, written_byte, spelling_from, without_slashes, some_path, path_written, spelling, target_of, is_nul, IsTakenAs, ends_target, begins_template, begins_block}
 use Rattle.target_paths.proofs.ReadingLemmas.{tail-past_ascii, meaning-read, meaning-decoded, meaning-utf8}
 
 -- ---- what is written is calm: it has no reserved byte but percent signs
 
 abbrev pub is_calm : ℕ → Bool
-is_calm b = not (is_reserved b) || b == 37
+is_calm b = not (is_always_escaped b) || b == 37
 
 -- each written byte is calm
 abbrev pub AreCalm : List ℕ → Type 0
@@ -54,21 +54,21 @@ or_none false b none = refl
 kept-start : (b : ℕ) → is_escaped Mark b ≡ false → is_escaped Start b ≡ false
 kept-start b keeps = or_none (is_escaped_at_start b) (begins_mark b) keeps
 
-kept_at_start-plain : (b : ℕ) → is_escaped_at_start b ≡ false → is_reserved b ≡ false
+kept_at_start-plain : (b : ℕ) → is_escaped_at_start b ≡ false → is_always_escaped b ≡ false
 kept_at_start-plain b keeps = grind (arith, nat_tests)
 
 -- no byte that stays is reserved
-kept-plain : (place : Place) (b : ℕ) → is_escaped place b ≡ false → is_reserved b ≡ false
+kept-plain : (position : PathPosition) (b : ℕ) → is_escaped position b ≡ false → is_always_escaped b ≡ false
 kept-plain Start b keeps = kept_at_start-plain b keeps
 kept-plain Mark b keeps = kept_at_start-plain b (kept-start b keeps)
-kept-plain FirstSegment b keeps = or_none (is_reserved b) (is_colon b) keeps
+kept-plain FirstSegment b keeps = or_none (is_always_escaped b) (is_colon b) keeps
 kept-plain AfterSlash b keeps = keeps
 
-plain-calm : (b : ℕ) → is_reserved b ≡ false → is_calm b ≡ true
+plain-calm : (b : ℕ) → is_always_escaped b ≡ false → is_calm b ≡ true
 plain-calm b plain = ap (λ t. not t || b == 37) plain
 
 -- an escaped byte is ASCII
-escaped-ascii : (place : Place) (b : ℕ) → is_escaped place b ≡ true → b < 128
+escaped-ascii : (position : PathPosition) (b : ℕ) → is_escaped position b ≡ true → b < 128
 escaped-ascii Start b escaped = grind (arith, nat_tests)
 escaped-ascii Mark b escaped = grind (arith, nat_tests)
 escaped-ascii FirstSegment b escaped = grind (arith, nat_tests)
@@ -79,17 +79,17 @@ pub by_escape : (P : Bool → Type 0) (t : Bool) → (t ≡ true → P true) →
 by_escape P true escaped keeps = escaped refl
 by_escape P false escaped keeps = keeps refl
 
-written_byte-calm : (place : Place) (b : ℕ) → AreCalm (written_byte (is_escaped place b) b)
-written_byte-calm place b =
-    by_escape (λ t. AreCalm (written_byte t b)) (is_escaped place b)
-    (λ escaped. let ascii = escaped-ascii place b escaped in percent_text-calm b (omega (arith, ascii)))
-    (λ keeps. (plain-calm b (kept-plain place b keeps), tt))
+written_byte-calm : (position : PathPosition) (b : ℕ) → AreCalm (written_byte (is_escaped position b) b)
+written_byte-calm position b =
+    by_escape (λ t. AreCalm (written_byte t b)) (is_escaped position b)
+    (λ escaped. let ascii = escaped-ascii position b escaped in percent_text-calm b (omega (arith, ascii)))
+    (λ keeps. (plain-calm b (kept-plain position b keeps), tt))
 
-pub written-calm : (place : Place) (bs : List ℕ) → AreCalm (written place bs)
-written-calm place [] = tt
-written-calm place (b ∷ bs) =
-    AreCalm-append (written_byte (is_escaped place b) b) (written (place_after place b) bs) (written_byte-calm place b)
-    (written-calm (place_after place b) bs)
+pub spelling_from-calm : (position : PathPosition) (bs : List ℕ) → AreCalm (spelling_from position bs)
+spelling_from-calm position [] = tt
+spelling_from-calm position (b ∷ bs) =
+    AreCalm-append (written_byte (is_escaped position b) b) (spelling_from (next_position position b) bs) (written_byte-calm position b)
+    (spelling_from-calm (next_position position b) bs)
 
 -- ---- calm bytes are read as themselves, in each syntax
 
@@ -109,8 +109,8 @@ calm-no_tail b calm = grind (arith, nat_tests)
 literal-some : (b : ℕ) → is_literal b ≡ true → (b == 0) ≡ false
 literal-some b literal = grind (arith, nat_tests)
 
-literal-no_reference : (b : ℕ) → is_literal b ≡ true → (b == 38) ≡ false
-literal-no_reference b literal = grind (arith, nat_tests)
+literal-no_character_reference : (b : ℕ) → is_literal b ≡ true → (b == 38) ≡ false
+literal-no_character_reference b literal = grind (arith, nat_tests)
 
 literal-no_backslash : (b : ℕ) → is_literal b ≡ true → (b == 92) ≡ false
 literal-no_backslash b literal = grind (arith, nat_tests)
@@ -143,10 +143,10 @@ literal-piece : (syntax : TargetSyntax) (b : ℕ) (rest : List ℕ) → is_liter
     → source_piece syntax b rest ≡ plain b
 literal-piece syntax b rest literal =
     ap (λ t. if t then record { size = 2; read = Ok (get_or rest 0 0 ∷ []) }
-    else if b == 38 then reference_piece syntax rest (reference_character syntax rest) else byte_piece syntax b)
+    else if b == 38 then character_reference_piece syntax rest (read_character_reference syntax rest) else byte_piece syntax b)
     (literal-no_escape syntax b (get_or rest 0 0) literal)
-    ∙ ap (λ t. if t then reference_piece syntax rest (reference_character syntax rest) else byte_piece syntax b)
-    (literal-no_reference b literal)
+    ∙ ap (λ t. if t then character_reference_piece syntax rest (read_character_reference syntax rest) else byte_piece syntax b)
+    (literal-no_character_reference b literal)
     ∙ ap (λ bytes. record { size = 1; read = Ok bytes }) (literal-byte syntax b literal)
 
 -- calm bytes before a tail are the path's pieces
@@ -155,14 +155,14 @@ path_pieces-calm : (syntax : TargetSyntax) (ws tail : List ℕ) → AreCalm ws �
 path_pieces-calm syntax [] tail calm is = is
 path_pieces-calm syntax (w ∷ ws) tail (first, others) is =
     let begin = source_piece syntax in
-    ap (λ p. before_tail (p ∷ pieces begin (p.size - 1) (ws ++ tail)))
+    ap (λ p. before_tail (p ∷ read_pieces begin (p.size - 1) (ws ++ tail)))
     (literal-piece syntax w (ws ++ tail) (calm-literal w first))
     ∙ ap (λ b. if b then [] else plain w ∷ path_pieces syntax (ws ++ tail)) (calm-no_tail w first)
     ∙ ap (λ ps. plain w ∷ ps) (path_pieces-calm syntax ws tail others is)
 
-joined-plain : (ws : List ℕ) → joined (map plain ws) ≡ Ok ws
-joined-plain [] = refl
-joined-plain (w ∷ ws) = ap (followed (Ok (w ∷ []))) (joined-plain ws)
+bytes_of_pieces-plain : (ws : List ℕ) → bytes_of_pieces (map plain ws) ≡ Ok ws
+bytes_of_pieces-plain [] = refl
+bytes_of_pieces-plain (w ∷ ws) = ap (append_read (Ok (w ∷ []))) (bytes_of_pieces-plain ws)
 
 total_size-plain : (ws : List ℕ) → total_size (map plain ws) ≡ length ws
 total_size-plain [] = refl
@@ -187,10 +187,10 @@ without_trailing-calm [] calm = refl
 without_trailing-calm (w ∷ ws) (first, others) =
     ap (before_text w) (without_trailing-calm ws others) ∙ before_text-kept w ws (calm-no_blank w first)
 
-trimmed-calm : (syntax : TargetSyntax) (tail : Bool) (ws : List ℕ) → AreCalm ws → trimmed syntax tail ws ≡ ws
-trimmed-calm Markdown tail ws calm = refl
-trimmed-calm Attribute true ws calm = without_leading-calm ws calm
-trimmed-calm Attribute false ws calm =
+trim_url-calm : (syntax : TargetSyntax) (tail : Bool) (ws : List ℕ) → AreCalm ws → trim_url syntax tail ws ≡ ws
+trim_url-calm Markdown tail ws calm = refl
+trim_url-calm Attribute true ws calm = without_leading-calm ws calm
+trim_url-calm Attribute false ws calm =
     ap without_trailing (without_leading-calm ws calm) ∙ without_trailing-calm ws calm
 
 -- ---- what is written has no scheme
@@ -216,11 +216,11 @@ and_false : (a : Bool) → (a && false) ≡ false
 and_false true = refl
 and_false false = refl
 
-swapped : (a s l e : Bool) → (a && l) ≡ e → (a && (s && l)) ≡ (s && e)
-swapped true true l e is = is
-swapped true false l e is = refl
-swapped false true l e is = is
-swapped false false l e is = refl
+and-swapped : (a s l e : Bool) → (a && l) ≡ e → (a && (s && l)) ≡ (s && e)
+and-swapped true true l e is = is
+and-swapped true false l e is = refl
+and-swapped false true l e is = is
+and-swapped false false l e is = refl
 
 ends_scheme-is : (ws : List ℕ)
     → (list_any is_colon ws && list_all is_scheme_byte (before_first is_colon ws)) ≡ ends_scheme ws
@@ -233,7 +233,7 @@ ends_scheme-is (w ∷ ws) =
           → ((colon || list_any is_colon ws) && list_all is_scheme_byte (cond colon [] (w ∷ before_first is_colon ws)))
           ≡ (colon || is_scheme_byte w && ends_scheme ws)
       of true byte rest = refl
-      of false byte rest = swapped (list_any is_colon ws) (is_scheme_byte w)
+      of false byte rest = and-swapped (list_any is_colon ws) (is_scheme_byte w)
           (list_all is_scheme_byte (before_first is_colon ws)) (ends_scheme ws) rest
 
 no_scheme : (ws : List ℕ) → ends_scheme ws ≡ false → has_scheme ws ≡ false
@@ -253,24 +253,24 @@ slash-no_scheme : (b : ℕ) → is_slash b ≡ true → is_scheme_byte b ≡ fal
 slash-no_scheme b is = grind (arith, nat_tests)
 
 -- a written byte, and what is written after it
-written-no_scheme : (escaped : Bool) (b : ℕ) (bs : List ℕ) → (escaped ≡ false → is_colon b ≡ false)
-    → ends_scheme (written FirstSegment bs) ≡ false
-    → ends_scheme (written_byte escaped b ++ written (place_after FirstSegment b) bs) ≡ false
-written-no_scheme true b bs colon rest = refl
-written-no_scheme false b bs colon rest =
-    ap (λ t. t || is_scheme_byte b && ends_scheme (written (place_after FirstSegment b) bs)) (colon refl)
+spelling_from-no_scheme : (escaped : Bool) (b : ℕ) (bs : List ℕ) → (escaped ≡ false → is_colon b ≡ false)
+    → ends_scheme (spelling_from FirstSegment bs) ≡ false
+    → ends_scheme (written_byte escaped b ++ spelling_from (next_position FirstSegment b) bs) ≡ false
+spelling_from-no_scheme true b bs colon rest = refl
+spelling_from-no_scheme false b bs colon rest =
+    ap (λ t. t || is_scheme_byte b && ends_scheme (spelling_from (next_position FirstSegment b) bs)) (colon refl)
     ∙ by_escape
-    (λ t. (is_scheme_byte b && ends_scheme (written (if t then AfterSlash else FirstSegment) bs)) ≡ false) (is_slash b)
-    (λ is. ap (λ t. t && ends_scheme (written AfterSlash bs)) (slash-no_scheme b is))
+    (λ t. (is_scheme_byte b && ends_scheme (spelling_from (if t then AfterSlash else FirstSegment) bs)) ≡ false) (is_slash b)
+    (λ is. ap (λ t. t && ends_scheme (spelling_from AfterSlash bs)) (slash-no_scheme b is))
     (λ other. ap (λ t. is_scheme_byte b && t) rest ∙ and_false (is_scheme_byte b))
 
-segment-no_scheme : (bs : List ℕ) → ends_scheme (written FirstSegment bs) ≡ false
+segment-no_scheme : (bs : List ℕ) → ends_scheme (spelling_from FirstSegment bs) ≡ false
 segment-no_scheme [] = refl
 segment-no_scheme (b ∷ bs) =
-    written-no_scheme (is_escaped FirstSegment b) b bs (colon-escaped b) (segment-no_scheme bs)
+    spelling_from-no_scheme (is_escaped FirstSegment b) b bs (colon-escaped b) (segment-no_scheme bs)
 
--- the place at the start of a path
-abbrev start : Bool → Place
+-- the position at the start of a path
+abbrev start : Bool → PathPosition
 start mark = if mark then Mark else Start
 
 colon-kept_at_start : (b : ℕ) → is_escaped_at_start b ≡ false → is_colon b ≡ false
@@ -280,7 +280,7 @@ colon-escaped_start : (mark : Bool) (b : ℕ) → is_escaped (start mark) b ≡ 
 colon-escaped_start true b keeps = colon-kept_at_start b (kept-start b keeps)
 colon-escaped_start false b keeps = colon-kept_at_start b keeps
 
-after_start : (mark : Bool) (b : ℕ) → place_after (start mark) b ≡ place_after FirstSegment b
+after_start : (mark : Bool) (b : ℕ) → next_position (start mark) b ≡ next_position FirstSegment b
 after_start true b = refl
 after_start false b = refl
 
@@ -298,35 +298,35 @@ start-relative true b rest other scheme =
     relative-by_first 37 (hexadecimal (b / 16) ∷ hexadecimal (b % 16) ∷ rest) refl scheme
 start-relative false b rest other scheme = relative-by_first b rest other scheme
 
-written-relative : (mark : Bool) (b : ℕ) (bs : List ℕ) → is_slash b ≡ false
-    → is_not_relative (written (start mark) (b ∷ bs)) ≡ false
-written-relative mark b bs other =
+spelling_from-relative : (mark : Bool) (b : ℕ) (bs : List ℕ) → is_slash b ≡ false
+    → is_not_relative (spelling_from (start mark) (b ∷ bs)) ≡ false
+spelling_from-relative mark b bs other =
     let escaped = is_escaped (start mark) b in
-    start-relative escaped b (written (place_after (start mark) b) bs) other
-    (no_scheme (written (start mark) (b ∷ bs))
-    (ap (λ place. ends_scheme (written_byte escaped b ++ written place bs)) (after_start mark b)
-    ∙ written-no_scheme escaped b bs (colon-escaped_start mark b) (segment-no_scheme bs)))
+    start-relative escaped b (spelling_from (next_position (start mark) b) bs) other
+    (no_scheme (spelling_from (start mark) (b ∷ bs))
+    (ap (λ position. ends_scheme (written_byte escaped b ++ spelling_from position bs)) (after_start mark b)
+    ∙ spelling_from-no_scheme escaped b bs (colon-escaped_start mark b) (segment-no_scheme bs)))
 
 -- ---- what is written is decoded to the path
 
 -- what the bytes of a path are decoded to: only NUL is unknown
-abbrev decoded : List ℕ → Result (List ℕ) WhyUnknown
-decoded bs = if list_any is_nul bs then Err EncodedNul else Ok bs
+abbrev decoding : List ℕ → Result (List ℕ) WhyUnknown
+decoding bs = if list_any is_nul bs then Err EncodedNul else Ok bs
 
-decoded-byte : (b : ℕ) (bs : List ℕ) → is_nul b ≡ false → followed (Ok (b ∷ [])) (decoded bs) ≡ decoded (b ∷ bs)
-decoded-byte b bs some =
+decoding-byte : (b : ℕ) (bs : List ℕ) → is_nul b ≡ false → append_read (Ok (b ∷ [])) (decoding bs) ≡ decoding (b ∷ bs)
+decoding-byte b bs some =
     of (list_any is_nul bs) ∙ ap (λ t. if t || list_any is_nul bs then Err EncodedNul else Ok (b ∷ bs)) (sym some) where
-      of : (t : Bool) → followed (Ok (b ∷ [])) (if t then Err EncodedNul else Ok bs) ≡ (if t then Err EncodedNul else Ok (b ∷ bs))
+      of : (t : Bool) → append_read (Ok (b ∷ [])) (if t then Err EncodedNul else Ok bs) ≡ (if t then Err EncodedNul else Ok (b ∷ bs))
       of true = refl
       of false = refl
 
-plain-no_percent : (b : ℕ) → is_reserved b ≡ false → (b == 37) ≡ false
+plain-no_percent : (b : ℕ) → is_always_escaped b ≡ false → (b == 37) ≡ false
 plain-no_percent b plain = grind (arith, nat_tests)
 
-plain-some : (b : ℕ) → is_reserved b ≡ false → is_nul b ≡ false
+plain-some : (b : ℕ) → is_always_escaped b ≡ false → is_nul b ≡ false
 plain-some b plain = grind (arith, nat_tests)
 
-escaped-no_slash : (place : Place) (b : ℕ) → is_escaped place b ≡ true → is_slash b ≡ false
+escaped-no_slash : (position : PathPosition) (b : ℕ) → is_escaped position b ≡ true → is_slash b ≡ false
 escaped-no_slash Start b escaped = grind (arith, nat_tests)
 escaped-no_slash Mark b escaped = grind (arith, nat_tests)
 escaped-no_slash FirstSegment b escaped = grind (arith, nat_tests)
@@ -351,63 +351,65 @@ digits-percent b rest byte =
     )
 
 -- a byte that isn't escaped
-decoded-kept : (b : ℕ) (rest : List ℕ) (bs : List ℕ) → (b == 37) ≡ false → is_nul b ≡ false
-    → joined (pieces url_piece 0 rest) ≡ decoded bs → joined (pieces url_piece 0 (b ∷ rest)) ≡ decoded (b ∷ bs)
-decoded-kept b rest bs other some is =
-    ap (λ p. joined (p ∷ pieces url_piece (p.size - 1) rest))
+decoding-kept : (b : ℕ) (rest : List ℕ) (bs : List ℕ) → (b == 37) ≡ false → is_nul b ≡ false
+    → bytes_of_pieces (read_pieces url_piece 0 rest) ≡ decoding bs
+    → bytes_of_pieces (read_pieces url_piece 0 (b ∷ rest)) ≡ decoding (b ∷ bs)
+decoding-kept b rest bs other some is =
+    ap (λ p. bytes_of_pieces (p ∷ read_pieces url_piece (p.size - 1) rest))
     (ap (λ t. if t && has_digits rest then record { size = 3; read = decoded_byte (digits_byte rest) } else plain b) other)
-    ∙ ap (followed (Ok (b ∷ []))) is
-    ∙ decoded-byte b bs some
+    ∙ ap (append_read (Ok (b ∷ []))) is
+    ∙ decoding-byte b bs some
 
 -- what a byte other than a slash is decoded to
-decoded_byte-followed : (b : ℕ) (bs : List ℕ) → is_slash b ≡ false → followed (decoded_byte b) (decoded bs) ≡ decoded (b ∷ bs)
-decoded_byte-followed b bs other =
+decoded_byte-append_read : (b : ℕ) (bs : List ℕ) → is_slash b ≡ false → append_read (decoded_byte b) (decoding bs) ≡ decoding (b ∷ bs)
+decoded_byte-append_read b bs other =
     by_escape
-    (λ t. is_nul b ≡ t → followed
+    (λ t. is_nul b ≡ t → append_read
     (if t then Err EncodedNul else if is_slash b then Err EncodedSlash else Ok (b ∷ []))
-    (decoded bs) ≡ decoded (b ∷ bs))
+    (decoding bs) ≡ decoding (b ∷ bs))
     (is_nul b)
     (λ nul is. ap (λ t. if t || list_any is_nul bs then Err EncodedNul else Ok (b ∷ bs)) (sym is))
-    (λ some is. ap (λ t. followed (if t then Err EncodedSlash else Ok (b ∷ [])) (decoded bs)) other ∙ decoded-byte b bs some)
+    (λ some is. ap (λ t. append_read (if t then Err EncodedSlash else Ok (b ∷ [])) (decoding bs)) other ∙ decoding-byte b bs some)
     refl
 
 -- an escaped byte
-decoded-escaped : (b : ℕ) (rest : List ℕ) (bs : List ℕ) → b < 256 → is_slash b ≡ false
-    → joined (pieces url_piece 0 rest) ≡ decoded bs
-    → joined (pieces url_piece 0 (percent_text b ++ rest)) ≡ decoded (b ∷ bs)
-decoded-escaped b rest bs byte other is =
+decoding-escaped : (b : ℕ) (rest : List ℕ) (bs : List ℕ) → b < 256 → is_slash b ≡ false
+    → bytes_of_pieces (read_pieces url_piece 0 rest) ≡ decoding bs
+    → bytes_of_pieces (read_pieces url_piece 0 (percent_text b ++ rest)) ≡ decoding (b ∷ bs)
+decoding-escaped b rest bs byte other is =
     let text = hexadecimal (b / 16) ∷ hexadecimal (b % 16) ∷ rest in
     let (digits, value) = digits-percent b rest byte in
-    ap (λ p. joined (p ∷ pieces url_piece (p.size - 1) text))
+    ap (λ p. bytes_of_pieces (p ∷ read_pieces url_piece (p.size - 1) text))
     (ap (λ t. if t then record { size = 3; read = decoded_byte (digits_byte text) } else plain 37) digits
     ∙ ap (λ d. record { size = 3; read = decoded_byte d }) value)
-    ∙ ap (followed (decoded_byte b)) is
-    ∙ decoded_byte-followed b bs other
+    ∙ ap (append_read (decoded_byte b)) is
+    ∙ decoded_byte-append_read b bs other
 
-pub written-decoded : (place : Place) (bs : List ℕ) → joined (pieces url_piece 0 (written place bs)) ≡ decoded bs
-written-decoded place [] = refl
-written-decoded place (b ∷ bs) =
-    let rest = written (place_after place b) bs in
-    let is = written-decoded (place_after place b) bs in
-    by_escape (λ t. joined (pieces url_piece 0 (written_byte t b ++ rest)) ≡ decoded (b ∷ bs)) (is_escaped place b)
-    (λ escaped. let ascii = escaped-ascii place b escaped in
-    decoded-escaped b rest bs (omega (arith, ascii)) (escaped-no_slash place b escaped) is)
-    (λ keeps. let plain = kept-plain place b keeps in
-    decoded-kept b rest bs (plain-no_percent b plain) (plain-some b plain) is)
+pub spelling_from-decoding : (position : PathPosition) (bs : List ℕ)
+    → bytes_of_pieces (read_pieces url_piece 0 (spelling_from position bs)) ≡ decoding bs
+spelling_from-decoding position [] = refl
+spelling_from-decoding position (b ∷ bs) =
+    let rest = spelling_from (next_position position b) bs in
+    let is = spelling_from-decoding (next_position position b) bs in
+    by_escape (λ t. bytes_of_pieces (read_pieces url_piece 0 (written_byte t b ++ rest)) ≡ decoding (b ∷ bs)) (is_escaped position b)
+    (λ escaped. let ascii = escaped-ascii position b escaped in
+    decoding-escaped b rest bs (omega (arith, ascii)) (escaped-no_slash position b escaped) is)
+    (λ keeps. let plain = kept-plain position b keeps in
+    decoding-kept b rest bs (plain-no_percent b plain) (plain-some b plain) is)
 
 -- ---- the whole target
 
-pub meaning-spelled : (syntax : TargetSyntax) (b : ℕ) (bs tail : List ℕ) → is_slash b ≡ false → IsTail syntax tail
-    → meaning syntax (spelled (b ∷ bs) ++ tail) ≡ meaning_decoded (decoded (b ∷ bs)) (length (spelled (b ∷ bs)))
-meaning-spelled syntax b bs tail other is =
-    let ws = spelled (b ∷ bs) in
-    let calm = written-calm (start_of (b ∷ bs)) (b ∷ bs) in
+pub meaning-spelling : (syntax : TargetSyntax) (b : ℕ) (bs tail : List ℕ) → is_slash b ≡ false → IsTail syntax tail
+    → meaning syntax (spelling (b ∷ bs) ++ tail) ≡ meaning_decoded (decoding (b ∷ bs)) (length (spelling (b ∷ bs)))
+meaning-spelling syntax b bs tail other is =
+    let ws = spelling (b ∷ bs) in
+    let calm = spelling_from-calm (first_position (b ∷ bs)) (b ∷ bs) in
     let parts = path_pieces-calm syntax ws tail calm is in
-    meaning-read syntax (ws ++ tail) (Ok ws) (length ws) (ap joined parts ∙ joined-plain ws)
+    meaning-read syntax (ws ++ tail) (Ok ws) (length ws) (ap bytes_of_pieces parts ∙ bytes_of_pieces-plain ws)
     (sym (ap total_size parts ∙ total_size-plain ws))
-    ∙ ap (λ text. meaning_of_url text (length ws)) (trimmed-calm syntax (nat_lt (length ws) (length (ws ++ tail))) ws calm)
-    ∙ meaning-decoded ws (decoded (b ∷ bs)) (length ws) (written-relative (is_mark (b ∷ bs)) b bs other)
-    (written-decoded (start_of (b ∷ bs)) (b ∷ bs))
+    ∙ ap (λ text. meaning_of_url text (length ws)) (trim_url-calm syntax (nat_lt (length ws) (length (ws ++ tail))) ws calm)
+    ∙ meaning-decoded ws (decoding (b ∷ bs)) (length ws) (spelling_from-relative (is_mark (b ∷ bs)) b bs other)
+    (spelling_from-decoding (first_position (b ∷ bs)) (b ∷ bs))
 
 path_written-relative : (path : List ℕ) → BeginsRelative (path_written path)
 path_written-relative [] = refl
@@ -428,9 +430,9 @@ path_written-nul (b ∷ bs) =
 
 -- a text that begins as a relative path is read back
 meaning-relative : (path : List ℕ) → BeginsRelative path
-    → IsTakenAs (spelled path) (meaning_decoded (decoded path) (length (spelled path)))
+    → IsTakenAs (spelling path) (meaning_decoded (decoding path) (length (spelling path)))
 meaning-relative [] none syntax tail is = absurd none
-meaning-relative (b ∷ bs) other syntax tail is = meaning-spelled syntax b bs tail other is
+meaning-relative (b ∷ bs) other syntax tail is = meaning-spelling syntax b bs tail other is
 
 -- a path without NUL is read back
 pub target_of-read : (path : List ℕ) → IsUtf8 (path_written path) → list_any is_nul path ≡ false
@@ -458,7 +460,7 @@ AreCalm-whole (w ∷ ws) (first, others) =
     ap (λ t. t || list_any ends_target ws) (calm-whole w first) ∙ AreCalm-whole ws others
 
 pub target_of-whole : (path : List ℕ) → list_any ends_target (target_of path) ≡ false
-target_of-whole path = AreCalm-whole (target_of path) (written-calm (start_of (path_written path)) (path_written path))
+target_of-whole path = AreCalm-whole (target_of path) (spelling_from-calm (first_position (path_written path)) (path_written path))
 
 -- ---- what is written begins no template and no block
 
@@ -479,44 +481,44 @@ ends_in_dot-next : (b : ℕ) (bs : List ℕ) → 0 < length bs → ends_in_dot (
 ends_in_dot-next b [] some = absurd (omega (arith, some))
 ends_in_dot-next b (c ∷ cs) some = refl
 
-written-some : (place : Place) (b : ℕ) (bs : List ℕ) → 0 < length (written place (b ∷ bs))
-written-some place b bs =
-    by_escape (λ t. 0 < length (written_byte t b ++ written (place_after place b) bs)) (is_escaped place b)
+spelling_from-some : (position : PathPosition) (b : ℕ) (bs : List ℕ) → 0 < length (spelling_from position (b ∷ bs))
+spelling_from-some position b bs =
+    by_escape (λ t. 0 < length (written_byte t b ++ spelling_from (next_position position b) bs)) (is_escaped position b)
     (λ _. omega arith) (λ _. omega arith)
 
 hexadecimal-no_dot : (d : ℕ) → (hexadecimal d == 46) ≡ false
 hexadecimal-no_dot d = grind (arith, nat_tests)
 
-dot-kept : (place : Place) (b : ℕ) → is_escaped place b ≡ true → (b == 46) ≡ false
+dot-kept : (position : PathPosition) (b : ℕ) → is_escaped position b ≡ true → (b == 46) ≡ false
 dot-kept Start b escaped = grind (arith, nat_tests)
 dot-kept Mark b escaped = grind (arith, nat_tests)
 dot-kept FirstSegment b escaped = grind (arith, nat_tests)
 dot-kept AfterSlash b escaped = grind (arith, nat_tests)
 
-ends_in_dot-written : (place : Place) (bs : List ℕ) → ends_in_dot (written place bs) ≡ ends_in_dot bs
-ends_in_dot-written place [] = refl
-ends_in_dot-written place (b ∷ []) =
-    by_escape (λ t. ends_in_dot (written_byte t b ++ []) ≡ (b == 46)) (is_escaped place b)
-    (λ escaped. hexadecimal-no_dot (b % 16) ∙ sym (dot-kept place b escaped)) (λ keeps. refl)
-ends_in_dot-written place (b ∷ c ∷ cs) =
-    let rest = written (place_after place b) (c ∷ cs) in
-    let some = written-some (place_after place b) c cs in
-    let is = ends_in_dot-written (place_after place b) (c ∷ cs) in
-    by_escape (λ t. ends_in_dot (written_byte t b ++ rest) ≡ ends_in_dot (c ∷ cs)) (is_escaped place b)
+ends_in_dot-spelling_from : (position : PathPosition) (bs : List ℕ) → ends_in_dot (spelling_from position bs) ≡ ends_in_dot bs
+ends_in_dot-spelling_from position [] = refl
+ends_in_dot-spelling_from position (b ∷ []) =
+    by_escape (λ t. ends_in_dot (written_byte t b ++ []) ≡ (b == 46)) (is_escaped position b)
+    (λ escaped. hexadecimal-no_dot (b % 16) ∙ sym (dot-kept position b escaped)) (λ keeps. refl)
+ends_in_dot-spelling_from position (b ∷ c ∷ cs) =
+    let rest = spelling_from (next_position position b) (c ∷ cs) in
+    let some = spelling_from-some (next_position position b) c cs in
+    let is = ends_in_dot-spelling_from (next_position position b) (c ∷ cs) in
+    by_escape (λ t. ends_in_dot (written_byte t b ++ rest) ≡ ends_in_dot (c ∷ cs)) (is_escaped position b)
     (λ escaped. ends_in_dot-next (hexadecimal (b % 16)) rest some ∙ is) (λ keeps. ends_in_dot-next b rest some ∙ is)
 
 -- a text that isn't a line of dashes and underscores
-written-no_line : (place : Place) (bs : List ℕ) → list_all is_line_byte bs ≡ false
-    → list_all is_line_byte (written place bs) ≡ false
-written-no_line place [] none = none
-written-no_line place (b ∷ bs) none =
-    let rest = written (place_after place b) bs in
-    by_escape (λ t. list_all is_line_byte (written_byte t b ++ rest) ≡ false) (is_escaped place b) (λ escaped. refl)
+spelling_from-no_line : (position : PathPosition) (bs : List ℕ) → list_all is_line_byte bs ≡ false
+    → list_all is_line_byte (spelling_from position bs) ≡ false
+spelling_from-no_line position [] none = none
+spelling_from-no_line position (b ∷ bs) none =
+    let rest = spelling_from (next_position position b) bs in
+    by_escape (λ t. list_all is_line_byte (written_byte t b ++ rest) ≡ false) (is_escaped position b) (λ escaped. refl)
     (λ keeps.
     by_escape
     (λ t. (t && list_all is_line_byte bs) ≡ false → (t && list_all is_line_byte rest) ≡ false)
     (is_line_byte b)
-    (λ line others. written-no_line (place_after place b) bs others)
+    (λ line others. spelling_from-no_line (next_position position b) bs others)
     (λ other _. refl)
     none)
 
@@ -525,19 +527,19 @@ by_dot true digit dot other none same = absurd cc
 by_dot false digit dot other none same = ap (λ t. digit && t) same ∙ none
 
 -- a first byte that stays, and what is written after it
-kept-no_mark : (place : Place) (b : ℕ) (bs : List ℕ) → is_mark (b ∷ bs) ≡ false → is_escaped place b ≡ false
-    → is_mark (written place (b ∷ bs)) ≡ false
-kept-no_mark place b bs none keeps =
+kept-no_mark : (position : PathPosition) (b : ℕ) (bs : List ℕ) → is_mark (b ∷ bs) ≡ false → is_escaped position b ≡ false
+    → is_mark (spelling_from position (b ∷ bs)) ≡ false
+kept-no_mark position b bs none keeps =
     let line = list_all is_line_byte (b ∷ bs) in
     let dot = last_byte (b ∷ bs) == 46 in
-    let first : written place (b ∷ bs) ≡ b ∷ written (place_after place b) bs =
-    ap (λ t. written_byte t b ++ written (place_after place b) bs) keeps in
-    let same : (last_byte (written place (b ∷ bs)) == 46) ≡ dot =
-    last_byte-dot (written place (b ∷ bs)) ∙ ends_in_dot-written place (b ∷ bs) ∙ sym (last_byte-dot (b ∷ bs)) in
-    ap (λ t. t || is_digit_byte (get_or (written place (b ∷ bs)) 0 0) && (last_byte (written place (b ∷ bs)) == 46))
-    (written-no_line place (b ∷ bs) (or_none line (is_digit_byte b && dot) none))
-    ∙ ap (λ text. is_digit_byte (get_or text 0 0) && (last_byte (written place (b ∷ bs)) == 46)) first
-    ∙ by_dot line (is_digit_byte b) dot (last_byte (written place (b ∷ bs)) == 46) none same
+    let first : spelling_from position (b ∷ bs) ≡ b ∷ spelling_from (next_position position b) bs =
+    ap (λ t. written_byte t b ++ spelling_from (next_position position b) bs) keeps in
+    let same : (last_byte (spelling_from position (b ∷ bs)) == 46) ≡ dot =
+    last_byte-dot (spelling_from position (b ∷ bs)) ∙ ends_in_dot-spelling_from position (b ∷ bs) ∙ sym (last_byte-dot (b ∷ bs)) in
+    ap (λ t. t || is_digit_byte (get_or (spelling_from position (b ∷ bs)) 0 0) && (last_byte (spelling_from position (b ∷ bs)) == 46))
+    (spelling_from-no_line position (b ∷ bs) (or_none line (is_digit_byte b && dot) none))
+    ∙ ap (λ text. is_digit_byte (get_or text 0 0) && (last_byte (spelling_from position (b ∷ bs)) == 46)) first
+    ∙ by_dot line (is_digit_byte b) dot (last_byte (spelling_from position (b ∷ bs)) == 46) none same
 
 start-kept : (b : ℕ) → is_escaped Start b ≡ false → (is_template_byte b ≡ false) × (is_block_byte b ≡ false)
 start-kept b keeps = (grind (arith, nat_tests), grind (arith, nat_tests))
@@ -549,21 +551,21 @@ mark-first b bs mark = grind (arith, nat_tests)
 abbrev BeginsNothing : List ℕ → Type 0
 BeginsNothing text = (begins_template text ≡ false) × (begins_block text ≡ false)
 
-spelled-begins : (b : ℕ) (bs : List ℕ) → BeginsNothing (spelled (b ∷ bs))
-spelled-begins b bs =
-    by_escape (λ t. is_mark (b ∷ bs) ≡ t → BeginsNothing (written (start t) (b ∷ bs))) (is_mark (b ∷ bs))
+spelling-begins : (b : ℕ) (bs : List ℕ) → BeginsNothing (spelling (b ∷ bs))
+spelling-begins b bs =
+    by_escape (λ t. is_mark (b ∷ bs) ≡ t → BeginsNothing (spelling_from (start t) (b ∷ bs))) (is_mark (b ∷ bs))
     (λ _ mark.
-    subst (λ t. BeginsNothing (written_byte t b ++ written (place_after Mark b) bs)) (sym (mark-first b bs mark))
+    subst (λ t. BeginsNothing (written_byte t b ++ spelling_from (next_position Mark b) bs)) (sym (mark-first b bs mark))
     (refl, refl))
     (λ _ none.
     by_escape
-    (λ t. is_escaped Start b ≡ t → BeginsNothing (written_byte t b ++ written (place_after Start b) bs))
+    (λ t. is_escaped Start b ≡ t → BeginsNothing (written_byte t b ++ spelling_from (next_position Start b) bs))
     (is_escaped Start b)
     (λ _ _. (refl, refl))
     (λ _ keeps.
-    let rest = b ∷ written (place_after Start b) bs in
-    let first : written Start (b ∷ bs) ≡ rest =
-    ap (λ t. written_byte t b ++ written (place_after Start b) bs) keeps in
+    let rest = b ∷ spelling_from (next_position Start b) bs in
+    let first : spelling_from Start (b ∷ bs) ≡ rest =
+    ap (λ t. written_byte t b ++ spelling_from (next_position Start b) bs) keeps in
     let (template, block) = start-kept b keeps in (
       template,
       ap (λ t. t || is_mark rest) block ∙ sym (ap is_mark first) ∙ kept-no_mark Start b bs none keeps,
@@ -571,9 +573,9 @@ spelled-begins b bs =
     refl)
     refl
 
-BeginsNothing-relative : (path : List ℕ) → BeginsRelative path → BeginsNothing (spelled path)
+BeginsNothing-relative : (path : List ℕ) → BeginsRelative path → BeginsNothing (spelling path)
 BeginsNothing-relative [] none = absurd none
-BeginsNothing-relative (b ∷ bs) other = spelled-begins b bs
+BeginsNothing-relative (b ∷ bs) other = spelling-begins b bs
 
 target_of-begins : (path : List ℕ) → BeginsNothing (target_of path)
 target_of-begins path = BeginsNothing-relative (path_written path) (path_written-relative path)
@@ -590,7 +592,7 @@ target_of-no_block path = (target_of-begins path).1
 pub IsTail-byte : (syntax : TargetSyntax) (b : ℕ) (bs : List ℕ) → is_tail_byte b ≡ true → IsTail syntax (b ∷ bs)
 IsTail-byte syntax b bs is =
     let first = source_piece syntax in
-    ap (λ p. before_tail (p ∷ pieces first (p.size - 1) bs)) (literal-piece syntax b bs (tail-literal b is))
+    ap (λ p. before_tail (p ∷ read_pieces first (p.size - 1) bs)) (literal-piece syntax b bs (tail-literal b is))
     ∙ ap (λ t. if t then [] else plain b ∷ path_pieces syntax bs) is
 
 past_ascii-literal : (b : ℕ) → 128 ≤ b → is_literal b ≡ true
@@ -604,7 +606,7 @@ not_tail : (syntax : TargetSyntax) (b : ℕ) (bs : List ℕ) → 128 ≤ b
     → path_pieces syntax (b ∷ bs) ≡ plain b ∷ path_pieces syntax bs
 not_tail syntax b bs past =
     let first = source_piece syntax in
-    ap (λ p. before_tail (p ∷ pieces first (p.size - 1) bs)) (literal-piece syntax b bs (past_ascii-literal b past))
+    ap (λ p. before_tail (p ∷ read_pieces first (p.size - 1) bs)) (literal-piece syntax b bs (past_ascii-literal b past))
     ∙ ap (λ t. if t then [] else plain b ∷ path_pieces syntax bs) (tail-past_ascii b past)
 
 IsTail-ascii : (syntax : TargetSyntax) (b : ℕ) (bs : List ℕ) → IsTail syntax (b ∷ bs) → b < 128

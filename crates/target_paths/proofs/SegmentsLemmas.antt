@@ -3,13 +3,13 @@ use Rattle.std.proofs.Common.{◌≡◌, ℕ, ◌/◌, ◌%◌, Bool, true, fals
 use Rattle.std.specs.List.{slice_split, list_any, onto_first, AllByRecursion, AllZip}
 use Rattle.std.proofs.lemmas.Bool.Decides.{nat_tests}
 use Rattle.std.proofs.lemmas.List.Splits.{slice_split-cons_no}
-use Rattle.target_paths.specs.declared.place.Place.{Place}
-use Rattle.target_paths.specs.declared.place.Place.TheVariants.{Start, Mark, FirstSegment, AfterSlash}
+use Rattle.target_paths.specs.declared.path_position.PathPosition.{PathPosition}
+use Rattle.target_paths.specs.declared.path_position.PathPosition.TheVariants.{Start, Mark, FirstSegment, AfterSlash}
 use Rattle.target_paths.specs.declared.target.WhyUnknown.TheVariants.{EncodedNul}
-use Rattle.target_paths.specs.Pieces.{pieces, joined}
+use Rattle.target_paths.specs.Pieces.{read_pieces, bytes_of_pieces}
 use Rattle.target_paths.specs.Url.{slash, is_slash, url_piece}
-use Rattle.target_paths.specs.Writing.{is_escaped, start_of, place_after, hexadecimal, written_byte, written, path_written, target_of, is_nul}
-use Rattle.target_paths.proofs.RoundTripLemmas.{by_escape, written-decoded}
+use Rattle.target_paths.specs.Writing.{is_escaped, first_position, next_position, hexadecimal, written_byte, spelling_from, path_written, target_of, is_nul}
+use Rattle.target_paths.proofs.RoundTripLemmas.{by_escape, spelling_from-decoding}
 
 -- ---- where slashes cut
 
@@ -53,48 +53,49 @@ written_byte-no_slash false b none = (none, tt)
 
 -- ---- what is written for segments
 
--- what is written for the segments of a path's bytes from this place on
-abbrev segments_written : Place → List (List ℕ) → List (List ℕ)
-segments_written place [] = []
-segments_written place (n ∷ ns) = written place n ∷ map (written AfterSlash) ns
+-- what is written for the segments of a path's bytes from this position on
+abbrev segments_written : PathPosition → List (List ℕ) → List (List ℕ)
+segments_written position [] = []
+segments_written position (n ∷ ns) = spelling_from position n ∷ map (spelling_from AfterSlash) ns
 
-segments_written-after : (ns : List (List ℕ)) → segments_written AfterSlash ns ≡ map (written AfterSlash) ns
+segments_written-after : (ns : List (List ℕ)) → segments_written AfterSlash ns ≡ map (spelling_from AfterSlash) ns
 segments_written-after [] = refl
 segments_written-after (n ∷ ns) = refl
 
-segments_written-byte : (place : Place) (b : ℕ) (ns : List (List ℕ))
-    → onto (written_byte (is_escaped place b) b) (segments_written (place_after place b) ns)
-    ≡ segments_written place (onto_first b ns)
-segments_written-byte place b [] = ap (λ text. text ∷ []) (sym (append-nil (written_byte (is_escaped place b) b)))
-segments_written-byte place b (n ∷ ns) = refl
+segments_written-byte : (position : PathPosition) (b : ℕ) (ns : List (List ℕ))
+    → onto (written_byte (is_escaped position b) b) (segments_written (next_position position b) ns)
+    ≡ segments_written position (onto_first b ns)
+segments_written-byte position b [] = ap (λ text. text ∷ []) (sym (append-nil (written_byte (is_escaped position b) b)))
+segments_written-byte position b (n ∷ ns) = refl
 
 -- a slash is written as it is
-written-slash : (place : Place) (rest : List ℕ) → written place (slash ∷ rest) ≡ slash ∷ written AfterSlash rest
-written-slash Start rest = refl
-written-slash Mark rest = refl
-written-slash FirstSegment rest = refl
-written-slash AfterSlash rest = refl
+spelling_from-slash : (position : PathPosition) (rest : List ℕ)
+    → spelling_from position (slash ∷ rest) ≡ slash ∷ spelling_from AfterSlash rest
+spelling_from-slash Start rest = refl
+spelling_from-slash Mark rest = refl
+spelling_from-slash FirstSegment rest = refl
+spelling_from-slash AfterSlash rest = refl
 
-slice_split-written : (place : Place) (bs : List ℕ)
-    → slice_split is_slash (written place bs) ≡ segments_written place (slice_split is_slash bs)
-slice_split-written place [] = refl
-slice_split-written place (b ∷ bs) =
+slice_split-spelling_from : (position : PathPosition) (bs : List ℕ)
+    → slice_split is_slash (spelling_from position bs) ≡ segments_written position (slice_split is_slash bs)
+slice_split-spelling_from position [] = refl
+slice_split-spelling_from position (b ∷ bs) =
     by_escape
     (λ t. is_slash b ≡ t
-    → slice_split is_slash (written place (b ∷ bs)) ≡ segments_written place (slice_split is_slash (b ∷ bs)))
+    → slice_split is_slash (spelling_from position (b ∷ bs)) ≡ segments_written position (slice_split is_slash (b ∷ bs)))
     (is_slash b)
     (λ slashed is.
     let same : b ≡ slash = eqb-true b slash is in
-    subst (λ c. slice_split is_slash (written place (c ∷ bs)) ≡ segments_written place (slice_split is_slash (c ∷ bs)))
+    subst (λ c. slice_split is_slash (spelling_from position (c ∷ bs)) ≡ segments_written position (slice_split is_slash (c ∷ bs)))
     (sym same)
-    (ap (slice_split is_slash) (written-slash place bs)
-    ∙ ap (λ texts. [] ∷ texts) (slice_split-written AfterSlash bs ∙ segments_written-after (slice_split is_slash bs))))
+    (ap (slice_split is_slash) (spelling_from-slash position bs)
+    ∙ ap (λ texts. [] ∷ texts) (slice_split-spelling_from AfterSlash bs ∙ segments_written-after (slice_split is_slash bs))))
     (λ kept is.
-    slice_split-no_slash (written_byte (is_escaped place b) b) (written (place_after place b) bs)
-    (written_byte-no_slash (is_escaped place b) b is)
-    ∙ ap (onto (written_byte (is_escaped place b) b)) (slice_split-written (place_after place b) bs)
-    ∙ segments_written-byte place b (slice_split is_slash bs)
-    ∙ ap (segments_written place) (sym (slice_split-cons_no is_slash b bs is)))
+    slice_split-no_slash (written_byte (is_escaped position b) b) (spelling_from (next_position position b) bs)
+    (written_byte-no_slash (is_escaped position b) b is)
+    ∙ ap (onto (written_byte (is_escaped position b) b)) (slice_split-spelling_from (next_position position b) bs)
+    ∙ segments_written-byte position b (slice_split is_slash bs)
+    ∙ ap (segments_written position) (sym (slice_split-cons_no is_slash b bs is)))
     refl
 
 -- ---- what they are read as
@@ -102,41 +103,41 @@ slice_split-written place (b ∷ bs) =
 -- the text is decoded to the segment, unless that has a NUL; and if the segment is a dot segment, the text is the segment
 pub record IsWrittenAs (text segment : List ℕ) : Type 0 where
   pub decoded :
-      joined (pieces url_piece 0 text) ≡ (if list_any is_nul segment then Err EncodedNul else Ok segment)
+      bytes_of_pieces (read_pieces url_piece 0 text) ≡ (if list_any is_nul segment then Err EncodedNul else Ok segment)
   pub dot : segment ≡ codes "." → text ≡ codes "."
   pub dots : segment ≡ codes ".." → text ≡ codes ".."
 
-written-dot : (place : Place) → written place (codes ".") ≡ codes "."
-written-dot Start = refl
-written-dot Mark = refl
-written-dot FirstSegment = refl
-written-dot AfterSlash = refl
+spelling_from-dot : (position : PathPosition) → spelling_from position (codes ".") ≡ codes "."
+spelling_from-dot Start = refl
+spelling_from-dot Mark = refl
+spelling_from-dot FirstSegment = refl
+spelling_from-dot AfterSlash = refl
 
-written-dots : (place : Place) → written place (codes "..") ≡ codes ".."
-written-dots Start = refl
-written-dots Mark = refl
-written-dots FirstSegment = refl
-written-dots AfterSlash = refl
+spelling_from-dots : (position : PathPosition) → spelling_from position (codes "..") ≡ codes ".."
+spelling_from-dots Start = refl
+spelling_from-dots Mark = refl
+spelling_from-dots FirstSegment = refl
+spelling_from-dots AfterSlash = refl
 
-IsWrittenAs-written : (place : Place) (n : List ℕ) → IsWrittenAs (written place n) n
-IsWrittenAs-written place n = record {
-  decoded = written-decoded place n;
-  dot = λ is. ap (written place) is ∙ written-dot place;
-  dots = λ is. ap (written place) is ∙ written-dots place;
+IsWrittenAs-spelling_from : (position : PathPosition) (n : List ℕ) → IsWrittenAs (spelling_from position n) n
+IsWrittenAs-spelling_from position n = record {
+  decoded = spelling_from-decoding position n;
+  dot = λ is. ap (spelling_from position) is ∙ spelling_from-dot position;
+  dots = λ is. ap (spelling_from position) is ∙ spelling_from-dots position;
 }
 
-AreWrittenAs-after : (ns : List (List ℕ)) → AllZip IsWrittenAs (map (written AfterSlash) ns) ns
+AreWrittenAs-after : (ns : List (List ℕ)) → AllZip IsWrittenAs (map (spelling_from AfterSlash) ns) ns
 AreWrittenAs-after [] = tt
-AreWrittenAs-after (n ∷ ns) = (IsWrittenAs-written AfterSlash n, AreWrittenAs-after ns)
+AreWrittenAs-after (n ∷ ns) = (IsWrittenAs-spelling_from AfterSlash n, AreWrittenAs-after ns)
 
-AreWrittenAs-segments : (place : Place) (ns : List (List ℕ)) → AllZip IsWrittenAs (segments_written place ns) ns
-AreWrittenAs-segments place [] = tt
-AreWrittenAs-segments place (n ∷ ns) = (IsWrittenAs-written place n, AreWrittenAs-after ns)
+AreWrittenAs-segments : (position : PathPosition) (ns : List (List ℕ)) → AllZip IsWrittenAs (segments_written position ns) ns
+AreWrittenAs-segments position [] = tt
+AreWrittenAs-segments position (n ∷ ns) = (IsWrittenAs-spelling_from position n, AreWrittenAs-after ns)
 
 pub target_of-segments : (path : List ℕ)
     → AllZip IsWrittenAs (slice_split is_slash (target_of path)) (slice_split is_slash (path_written path))
 target_of-segments path =
-    let start = start_of (path_written path) in
+    let start = first_position (path_written path) in
     subst (λ texts. AllZip IsWrittenAs texts (slice_split is_slash (path_written path)))
-    (sym (slice_split-written start (path_written path)))
+    (sym (slice_split-spelling_from start (path_written path)))
     (AreWrittenAs-segments start (slice_split is_slash (path_written path)))

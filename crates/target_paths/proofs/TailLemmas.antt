@@ -7,8 +7,8 @@ use Rattle.target_paths.specs.declared.target.TargetReading.TheVariants.{NotRela
 use Rattle.target_paths.specs.declared.target.TargetSyntax.{TargetSyntax}
 use Rattle.target_paths.specs.declared.target.WhyUnknown.{WhyUnknown}
 use Rattle.target_paths.specs.declared.target.WhyUnknown.TheVariants.{EncodedNul, EncodedSlash, NotUtf8}
-use Rattle.target_paths.specs.Pieces.{plain, pieces, followed, joined, total_size}
-use Rattle.target_paths.specs.Reading.{path_pieces, trimmed, not_relative, path_before, unknown, meaning_decoded, meaning_of_url, meaning_read, has_tail, meaning, Says, IsTailAt, BeginsRelative, IfPath}
+use Rattle.target_paths.specs.Pieces.{plain, read_pieces, append_read, bytes_of_pieces, total_size}
+use Rattle.target_paths.specs.Reading.{path_pieces, trim_url, not_relative, path_before, unknown, meaning_decoded, meaning_of_url, meaning_read, has_tail, meaning, Says, IsTailAt, BeginsRelative, IfPath}
 use Rattle.target_paths.specs.Shown.{HasTail}
 use Rattle.target_paths.specs.Url.{is_slash, has_scheme, is_not_relative, decoded_byte, has_digits, digits_byte, url_piece}
 use Rattle.target_paths.proofs.RoundTripLemmas.{by_escape, IsTail-boundary}
@@ -20,11 +20,11 @@ abbrev ReadsRelative : Result (List ℕ) WhyUnknown → Type 0
 ReadsRelative (Err why) = Unit {0}
 ReadsRelative (Ok bytes) = BeginsRelative bytes
 
-followed-relative : (read others : Result (List ℕ) WhyUnknown) → ReadsRelative read → ReadsRelative (followed read others)
-followed-relative (Err why) others is = tt
-followed-relative (Ok []) others is = absurd is
-followed-relative (Ok (b ∷ bs)) (Err why) is = tt
-followed-relative (Ok (b ∷ bs)) (Ok cs) is = is
+append_read-relative : (read others : Result (List ℕ) WhyUnknown) → ReadsRelative read → ReadsRelative (append_read read others)
+append_read-relative (Err why) others is = tt
+append_read-relative (Ok []) others is = absurd is
+append_read-relative (Ok (b ∷ bs)) (Err why) is = tt
+append_read-relative (Ok (b ∷ bs)) (Ok cs) is = is
 
 decoded_byte-relative : (b : ℕ) → ReadsRelative (decoded_byte b)
 decoded_byte-relative b =
@@ -39,11 +39,11 @@ url_piece-relative b rest other =
     (b == 37 && has_digits rest)
     (λ escape. decoded_byte-relative (digits_byte rest)) (λ none. other)
 
-decoded-relative : (text : List ℕ) → is_not_relative text ≡ false → ReadsRelative (joined (pieces url_piece 0 text))
+decoded-relative : (text : List ℕ) → is_not_relative text ≡ false → ReadsRelative (bytes_of_pieces (read_pieces url_piece 0 text))
 decoded-relative [] relative = absurd (cc)
 decoded-relative (b ∷ rest) relative =
     let (some, scheme) = or_parts (length (b ∷ rest) == 0 || is_slash b) (has_scheme (b ∷ rest)) relative in
-    followed-relative (url_piece b rest).read (joined (pieces url_piece ((url_piece b rest).size - 1) rest))
+    append_read-relative (url_piece b rest).read (bytes_of_pieces (read_pieces url_piece ((url_piece b rest).size - 1) rest))
     (url_piece-relative b rest (or_parts (length (b ∷ rest) == 0) (is_slash b) some).1)
 
 -- ---- what a reading says
@@ -63,11 +63,12 @@ says-url : (text : List ℕ) (n : ℕ) (reading : TargetReading) → Says (meani
     → IfPath reading (λ path at. (at ≡ n) × BeginsRelative path)
 says-url text n reading says =
     by_escape
-    (λ t. is_not_relative text ≡ t → Says (if t then not_relative else meaning_decoded (joined (pieces url_piece 0 text)) n) reading
+    (λ t. is_not_relative text ≡ t
+    → Says (if t then not_relative else meaning_decoded (bytes_of_pieces (read_pieces url_piece 0 text)) n) reading
     → IfPath reading (λ path at. (at ≡ n) × BeginsRelative path))
     (is_not_relative text)
     (λ keeps at told. not_relative-none reading told)
-    (λ relative at told. says-decoded (joined (pieces url_piece 0 text)) n reading (decoded-relative text at) told)
+    (λ relative at told. says-decoded (bytes_of_pieces (read_pieces url_piece 0 text)) n reading (decoded-relative text at) told)
     refl says where
       not_relative-none : (reading : TargetReading) → Says not_relative reading
           → IfPath reading (λ path at. (at ≡ n) × BeginsRelative path)
@@ -80,13 +81,13 @@ says-read : (syntax : TargetSyntax) (tail : Bool) (read : Result (List ℕ) WhyU
 says-read syntax tail (Err why) n NotRelative says = tt
 says-read syntax tail (Err why) n (Unknown other) says = tt
 says-read syntax tail (Err why) n (Path path at) says = absurd (cc)
-says-read syntax tail (Ok text) n reading says = says-url (trimmed syntax tail text) n reading says
+says-read syntax tail (Ok text) n reading says = says-url (trim_url syntax tail text) n reading says
 
 pub says-tail : (syntax : TargetSyntax) (target : List ℕ) (reading : TargetReading) → HasTail syntax target
     → Says (meaning syntax target) reading → IfPath reading (λ _ at. IsTailAt syntax target at)
 says-tail syntax target reading (within, tail) says =
     of reading
-    (says-read syntax (has_tail target (total_size (path_pieces syntax target))) (joined (path_pieces syntax target))
+    (says-read syntax (has_tail target (total_size (path_pieces syntax target))) (bytes_of_pieces (path_pieces syntax target))
     (total_size (path_pieces syntax target)) reading says) where
       of : (reading : TargetReading)
           → IfPath reading (λ path at. (at ≡ total_size (path_pieces syntax target)) × BeginsRelative path)
@@ -101,7 +102,7 @@ pub says-relative : (syntax : TargetSyntax) (target : List ℕ) (reading : Targe
     → Says (meaning syntax target) reading → IfPath reading (λ path _. BeginsRelative path)
 says-relative syntax target reading says =
     of reading
-    (says-read syntax (has_tail target (total_size (path_pieces syntax target))) (joined (path_pieces syntax target))
+    (says-read syntax (has_tail target (total_size (path_pieces syntax target))) (bytes_of_pieces (path_pieces syntax target))
     (total_size (path_pieces syntax target)) reading says) where
       of : (reading : TargetReading)
           → IfPath reading (λ path at. (at ≡ total_size (path_pieces syntax target)) × BeginsRelative path)

@@ -9,11 +9,11 @@ use Rattle.std.specs.Char.{encode_utf8}
 use Rattle.std.specs.List.{list_all}
 use Rattle.std.specs.Str.{encode_utf8_all}
 use Rattle.std.specs.Str.Pattern.{FindsCharPrefix, IsTrimStartMatches, CutsPrefixes, IsFullyTrimmed}
-use Rattle.target_paths.specs.declared.place.Place.{Place}
-use Rattle.target_paths.specs.declared.place.Place.TheVariants.{Start, Mark, FirstSegment, AfterSlash}
+use Rattle.target_paths.specs.declared.path_position.PathPosition.{PathPosition}
+use Rattle.target_paths.specs.declared.path_position.PathPosition.TheVariants.{Start, Mark, FirstSegment, AfterSlash}
 use Rattle.target_paths.specs.Url.{slash, is_slash, is_colon}
 use Rattle.target_paths.proofs.PiecesLemmas.{from_byte, from_byte-drop}
-use Rattle.target_paths.specs.Writing.{is_reserved, is_escaped, is_unescaped, start_of, spelled, place_after, percent_text, written_byte, written_character, written, without_slashes}
+use Rattle.target_paths.specs.Writing.{is_always_escaped, is_escaped, is_unescaped, first_position, spelling, next_position, percent_text, written_byte, written_character, spelling_from, without_slashes}
 
 -- each byte is past ASCII
 abbrev ArePastAscii : List ℕ → Type 0
@@ -39,75 +39,76 @@ encode-past_ascii c past = from_reads (encode_utf8 c) reads where
       high (get_or (encode_utf8 c) k 0)
       (λ low. inside_one c [] (encode_utf8 c) k (sym (append-nil (encode_utf8 c))) inside low)
 
-past_ascii-kept : (place : Place) (b : ℕ) → 128 ≤ b → is_escaped place b ≡ false
+past_ascii-kept : (position : PathPosition) (b : ℕ) → 128 ≤ b → is_escaped position b ≡ false
 past_ascii-kept Start b past = grind (arith, nat_tests)
 past_ascii-kept Mark b past = grind (arith, nat_tests)
 past_ascii-kept FirstSegment b past = grind (arith, nat_tests)
 past_ascii-kept AfterSlash b past = grind (arith, nat_tests)
 
 -- no byte past ASCII is escaped
-place_after-past : (place : Place) (b c : ℕ) → 128 ≤ b → 128 ≤ c → place_after place b ≡ place_after place c
-place_after-past Start b c past beyond = grind (arith, nat_tests)
-place_after-past Mark b c past beyond = grind (arith, nat_tests)
-place_after-past FirstSegment b c past beyond = grind (arith, nat_tests)
-place_after-past AfterSlash b c past beyond = refl
+next_position-past : (position : PathPosition) (b c : ℕ) → 128 ≤ b → 128 ≤ c → next_position position b ≡ next_position position c
+next_position-past Start b c past beyond = grind (arith, nat_tests)
+next_position-past Mark b c past beyond = grind (arith, nat_tests)
+next_position-past FirstSegment b c past beyond = grind (arith, nat_tests)
+next_position-past AfterSlash b c past beyond = refl
 
-place_after-twice : (place : Place) (b c : ℕ) → 128 ≤ b → 128 ≤ c
-    → place_after (place_after place b) c ≡ place_after place c
-place_after-twice Start b c past beyond = grind (arith, nat_tests)
-place_after-twice Mark b c past beyond = grind (arith, nat_tests)
-place_after-twice FirstSegment b c past beyond = grind (arith, nat_tests)
-place_after-twice AfterSlash b c past beyond = refl
+next_position-twice : (position : PathPosition) (b c : ℕ) → 128 ≤ b → 128 ≤ c
+    → next_position (next_position position b) c ≡ next_position position c
+next_position-twice Start b c past beyond = grind (arith, nat_tests)
+next_position-twice Mark b c past beyond = grind (arith, nat_tests)
+next_position-twice FirstSegment b c past beyond = grind (arith, nat_tests)
+next_position-twice AfterSlash b c past beyond = refl
 
 -- bytes past ASCII are written as they are
-written-past : (place : Place) (bs : List ℕ) (rest : List ℕ) (c : ℕ) → 128 ≤ c → 0 < length bs → ArePastAscii bs
-    → written place (bs ++ rest) ≡ bs ++ written (place_after place c) rest
-written-past place [] rest c past some high = absurd (omega (arith, some))
-written-past place (b ∷ []) rest c past some (first, others) =
-    ap (λ t. written_byte t b ++ written (place_after place b) rest) (past_ascii-kept place b first)
-    ∙ ap (λ p. b ∷ written p rest) (place_after-past place b c first past)
-written-past place (b ∷ d ∷ bs) rest c past some (first, others) =
-    ap (λ t. written_byte t b ++ written (place_after place b) (d ∷ bs ++ rest)) (past_ascii-kept place b first)
+spelling_from-past : (position : PathPosition) (bs : List ℕ) (rest : List ℕ) (c : ℕ) → 128 ≤ c → 0 < length bs → ArePastAscii bs
+    → spelling_from position (bs ++ rest) ≡ bs ++ spelling_from (next_position position c) rest
+spelling_from-past position [] rest c past some high = absurd (omega (arith, some))
+spelling_from-past position (b ∷ []) rest c past some (first, others) =
+    ap (λ t. written_byte t b ++ spelling_from (next_position position b) rest) (past_ascii-kept position b first)
+    ∙ ap (λ p. b ∷ spelling_from p rest) (next_position-past position b c first past)
+spelling_from-past position (b ∷ d ∷ bs) rest c past some (first, others) =
+    ap (λ t. written_byte t b ++ spelling_from (next_position position b) (d ∷ bs ++ rest)) (past_ascii-kept position b first)
     ∙ ap (λ text. b ∷ text)
-    (written-past (place_after place b) (d ∷ bs) rest c past (omega arith) others
-    ∙ ap (λ p. d ∷ bs ++ written p rest) (place_after-twice place b c first past))
+    (spelling_from-past (next_position position b) (d ∷ bs) rest c past (omega arith) others
+    ∙ ap (λ p. d ∷ bs ++ spelling_from p rest) (next_position-twice position b c first past))
 
 -- what is written for one character
-pub written-character : (place : Place) (c : ℕ) (rest : List ℕ)
-    → written place (encode_utf8 c ++ rest) ≡ written_character place c ++ written (place_after place c) rest
-written-character place c rest = of (nat_lt c 128) refl where
+pub spelling_from-character : (position : PathPosition) (c : ℕ) (rest : List ℕ)
+    → spelling_from position (encode_utf8 c ++ rest) ≡ written_character position c ++ spelling_from (next_position position c) rest
+spelling_from-character position c rest = of (nat_lt c 128) refl where
   of : (t : Bool) → nat_lt c 128 ≡ t
-      → written place (encode_utf8 c ++ rest) ≡ written_character place c ++ written (place_after place c) rest
+      → spelling_from position (encode_utf8 c ++ rest) ≡ written_character position c ++ spelling_from (next_position position c) rest
   of true below =
       let ascii : encode_utf8 c ≡ c ∷ [] = encode_ascii c (grind (arith, nat_tests)) in
-      ap (λ bs. written place (bs ++ rest)) ascii
-      ∙ ap (λ bs. (if is_escaped place c then percent_text c else bs) ++ written (place_after place c) rest) (sym ascii)
+      ap (λ bs. spelling_from position (bs ++ rest)) ascii
+      ∙ ap (λ bs. (if is_escaped position c then percent_text c else bs) ++ spelling_from (next_position position c) rest) (sym ascii)
   of false above =
       let past : 128 ≤ c = grind (arith, nat_tests) in
       let count : 0 < length (encode_utf8 c) = omega (arith, length-encode c, (len_utf8_bounds c).0) in
-      written-past place (encode_utf8 c) rest c past count (encode-past_ascii c past)
-      ∙ ap (λ t. (if t then percent_text c else encode_utf8 c) ++ written (place_after place c) rest)
-      (sym (past_ascii-kept place c past))
+      spelling_from-past position (encode_utf8 c) rest c past count (encode-past_ascii c past)
+      ∙ ap (λ t. (if t then percent_text c else encode_utf8 c) ++ spelling_from (next_position position c) rest)
+      (sym (past_ascii-kept position c past))
 
 -- what is written for a path with one more character
-pub written-next : (place : Place) (cs : List ℕ) (n c more : ℕ) (old new : List ℕ) → n < length cs → c ≡ get_or cs n c
-    → more ≡ n + 1 → new ≡ old ++ written_character place c
-    → new ++ written (place_after place c) (encode_utf8_all (drop more cs)) ≡ old ++ written place (encode_utf8_all (drop n cs))
-written-next place cs n c more old new inside is count grew =
+pub spelling_from-next : (position : PathPosition) (cs : List ℕ) (n c more : ℕ) (old new : List ℕ) → n < length cs → c ≡ get_or cs n c
+    → more ≡ n + 1 → new ≡ old ++ written_character position c
+    → new ++ spelling_from (next_position position c) (encode_utf8_all (drop more cs))
+    ≡ old ++ spelling_from position (encode_utf8_all (drop n cs))
+spelling_from-next position cs n c more old new inside is count grew =
     let rest = encode_utf8_all (drop (n + 1) cs) in
     let at : drop n cs ≡ c ∷ drop (n + 1) cs =
     at_drop_more (λ xs. xs) cs n c inside ∙ ap (λ d. d ∷ drop (n + 1) cs) (sym is) in
-    ap₂ (λ bs k. bs ++ written (place_after place c) (encode_utf8_all (drop k cs))) grew count
-    ∙ append_assoc old (written_character place c) (written (place_after place c) rest)
-    ∙ ap (λ bs. old ++ bs) (sym (written-character place c rest))
-    ∙ ap (λ xs. old ++ written place (encode_utf8_all xs)) (sym at)
+    ap₂ (λ bs k. bs ++ spelling_from (next_position position c) (encode_utf8_all (drop k cs))) grew count
+    ∙ append_assoc old (written_character position c) (spelling_from (next_position position c) rest)
+    ∙ ap (λ bs. old ++ bs) (sym (spelling_from-character position c rest))
+    ∙ ap (λ xs. old ++ spelling_from position (encode_utf8_all xs)) (sym at)
 
 -- what is written for a whole path
-pub written-end : (place : Place) (cs : List ℕ) (n : ℕ) (text all : List ℕ) → n ≡ length cs
-    → text ++ written place (encode_utf8_all (drop n cs)) ≡ all → text ≡ all
-written-end place cs n text all count is =
+pub spelling_from-end : (position : PathPosition) (cs : List ℕ) (n : ℕ) (text all : List ℕ) → n ≡ length cs
+    → text ++ spelling_from position (encode_utf8_all (drop n cs)) ≡ all → text ≡ all
+spelling_from-end position cs n text all count is =
     sym (append-nil text)
-    ∙ ap (λ xs. text ++ written place (encode_utf8_all xs)) (sym (drop_all n cs (omega (arith, count))))
+    ∙ ap (λ xs. text ++ spelling_from position (encode_utf8_all xs)) (sym (drop_all n cs (omega (arith, count))))
     ∙ is
 
 -- ---- slashes at the start
@@ -140,8 +141,8 @@ without_slashes-trimmed s r trimmed =
 
 -- ---- a path of which no byte is escaped
 
--- a place after the first byte of a path
-data IsLater : Place → Type 0 where
+-- a position after the first byte of a path
+data IsLater : PathPosition → Type 0 where
   in_first : IsLater FirstSegment
   after_slash : IsLater AfterSlash
 
@@ -149,38 +150,39 @@ later-slash : (slash : Bool) → IsLater (if slash then AfterSlash else FirstSeg
 later-slash true = after_slash
 later-slash false = in_first
 
-later-after : (place : Place) (b : ℕ) → IsLater (place_after place b)
+later-after : (position : PathPosition) (b : ℕ) → IsLater (next_position position b)
 later-after Start b = later-slash (is_slash b)
 later-after Mark b = later-slash (is_slash b)
 later-after FirstSegment b = later-slash (is_slash b)
 later-after AfterSlash b = after_slash
 
-later-unescaped : (place : Place) (b : ℕ) → IsLater place → is_unescaped b ≡ true → is_escaped place b ≡ false
+later-unescaped : (position : PathPosition) (b : ℕ) → IsLater position → is_unescaped b ≡ true → is_escaped position b ≡ false
 later-unescaped Start b later is = elim later [ ]
 later-unescaped Mark b later is = elim later [ ]
 later-unescaped FirstSegment b in_first is = not-true (is_escaped FirstSegment b) is
 later-unescaped AfterSlash b after_slash is =
-    (or_parts (is_reserved b) (is_colon b) (not-true (is_escaped FirstSegment b) is)).0
+    (or_parts (is_always_escaped b) (is_colon b) (not-true (is_escaped FirstSegment b) is)).0
 
-written-unescaped : (place : Place) (bs : List ℕ) → IsLater place → list_all is_unescaped bs ≡ true → written place bs ≡ bs
-written-unescaped place [] later all = refl
-written-unescaped place (b ∷ bs) later all =
+spelling_from-unescaped : (position : PathPosition) (bs : List ℕ) → IsLater position → list_all is_unescaped bs ≡ true
+    → spelling_from position bs ≡ bs
+spelling_from-unescaped position [] later all = refl
+spelling_from-unescaped position (b ∷ bs) later all =
     let (first, others) = and_parts (is_unescaped b) (list_all is_unescaped bs) all in
-    ap (λ e. written_byte e b ++ written (place_after place b) bs) (later-unescaped place b later first)
-    ∙ ap (λ rest. b ∷ rest) (written-unescaped (place_after place b) bs (later-after place b) others)
+    ap (λ e. written_byte e b ++ spelling_from (next_position position b) bs) (later-unescaped position b later first)
+    ∙ ap (λ rest. b ∷ rest) (spelling_from-unescaped (next_position position b) bs (later-after position b) others)
 
-pub spelled-itself : (b : ℕ) (bs : List ℕ) → is_escaped (start_of (b ∷ bs)) b ≡ false
-    → list_all is_unescaped bs ≡ true → spelled (b ∷ bs) ≡ b ∷ bs
-spelled-itself b bs first all =
-    let place = start_of (b ∷ bs) in
-    ap (λ e. written_byte e b ++ written (place_after place b) bs) first
-    ∙ ap (λ rest. b ∷ rest) (written-unescaped (place_after place b) bs (later-after place b) all)
+pub spelling-itself : (b : ℕ) (bs : List ℕ) → is_escaped (first_position (b ∷ bs)) b ≡ false
+    → list_all is_unescaped bs ≡ true → spelling (b ∷ bs) ≡ b ∷ bs
+spelling-itself b bs first all =
+    let position = first_position (b ∷ bs) in
+    ap (λ e. written_byte e b ++ spelling_from (next_position position b) bs) first
+    ∙ ap (λ rest. b ∷ rest) (spelling_from-unescaped (next_position position b) bs (later-after position b) all)
 
 -- the same, by the bytes of the text
-pub spelled-itself-bytes : (text bytes : List ℕ) → bytes ≡ text → 1 ≤ length bytes
-    → is_escaped (start_of text) (get_or bytes 0 0) ≡ false → list_all is_unescaped (from_byte 1 bytes) ≡ true
-    → spelled text ≡ text
-spelled-itself-bytes [] bytes is some first all = refl
-spelled-itself-bytes (b ∷ bs) bytes is some first all =
-    spelled-itself b bs (ap (λ l. is_escaped (start_of (b ∷ bs)) (get_or l 0 0)) (sym is) ∙ first)
+pub spelling-itself-bytes : (text bytes : List ℕ) → bytes ≡ text → 1 ≤ length bytes
+    → is_escaped (first_position text) (get_or bytes 0 0) ≡ false → list_all is_unescaped (from_byte 1 bytes) ≡ true
+    → spelling text ≡ text
+spelling-itself-bytes [] bytes is some first all = refl
+spelling-itself-bytes (b ∷ bs) bytes is some first all =
+    spelling-itself b bs (ap (λ l. is_escaped (first_position (b ∷ bs)) (get_or l 0 0)) (sym is) ∙ first)
     (ap (λ l. list_all is_unescaped l) (sym (from_byte-drop 1 (b ∷ bs)) ∙ ap (from_byte 1) (sym is)) ∙ all)

@@ -1,5 +1,5 @@
 pub mod Pieces
-pub mod References
+pub mod CharacterReferences
 pub mod Source
 pub mod Url
 pub mod Reading

@@ -13,21 +13,21 @@ plain b = record { size = 1; read = Ok (b ∷ []) }
 
 -- the pieces of a text after its first `skip` bytes; `first` returns the piece that begins with a byte, given the bytes
 -- after it
-abbrev pub pieces : (ℕ → List ℕ → Piece) → ℕ → List ℕ → List Piece
-pieces first skip [] = []
-pieces first zero (b ∷ bs) = first b bs ∷ pieces first ((first b bs).size - 1) bs
-pieces first (suc skip) (b ∷ bs) = pieces first skip bs
+abbrev pub read_pieces : (ℕ → List ℕ → Piece) → ℕ → List ℕ → List Piece
+read_pieces first skip [] = []
+read_pieces first zero (b ∷ bs) = first b bs ∷ read_pieces first ((first b bs).size - 1) bs
+read_pieces first (suc skip) (b ∷ bs) = read_pieces first skip bs
 
 -- two results, one after another: the bytes of both, or the first reason why they aren't known
-abbrev pub followed : Result (List ℕ) WhyUnknown → Result (List ℕ) WhyUnknown → Result (List ℕ) WhyUnknown
-followed (Err why) rest = Err why
-followed (Ok bytes) (Err why) = Err why
-followed (Ok bytes) (Ok rest) = Ok (bytes ++ rest)
+abbrev pub append_read : Result (List ℕ) WhyUnknown → Result (List ℕ) WhyUnknown → Result (List ℕ) WhyUnknown
+append_read (Err why) rest = Err why
+append_read (Ok bytes) (Err why) = Err why
+append_read (Ok bytes) (Ok rest) = Ok (bytes ++ rest)
 
 -- the bytes that pieces are read as, or why the first unknown piece isn't known
-abbrev pub joined : List Piece → Result (List ℕ) WhyUnknown
-joined [] = Ok []
-joined (piece ∷ pieces) = followed piece.read (joined pieces)
+abbrev pub bytes_of_pieces : List Piece → Result (List ℕ) WhyUnknown
+bytes_of_pieces [] = Ok []
+bytes_of_pieces (piece ∷ pieces) = append_read piece.read (bytes_of_pieces pieces)
 
 -- how many bytes some pieces have
 abbrev pub total_size : List Piece → ℕ

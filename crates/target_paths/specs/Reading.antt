@@ -8,7 +8,7 @@ use Rattle.target_paths.specs.declared.target.TargetSyntax.{TargetSyntax}
 use Rattle.target_paths.specs.declared.target.TargetSyntax.TheVariants.{Markdown, Attribute}
 use Rattle.target_paths.specs.declared.target.WhyUnknown.{WhyUnknown}
 use Rattle.target_paths.specs.declared.target.WhyUnknown.TheVariants.{NotUtf8}
-use Rattle.target_paths.specs.Pieces.{Piece, pieces, joined, total_size}
+use Rattle.target_paths.specs.Pieces.{Piece, read_pieces, bytes_of_pieces, total_size}
 use Rattle.target_paths.specs.Source.{source_piece}
 use Rattle.target_paths.specs.Url.{without_leading, without_trailing, is_slash, is_not_relative, url_piece}
 
@@ -30,14 +30,14 @@ before_tail (piece ∷ pieces) = if begins_tail piece.read then [] else piece �
 
 -- the pieces of a target before its query and its fragment
 abbrev pub path_pieces : TargetSyntax → List ℕ → List Piece
-path_pieces syntax target = before_tail (pieces (source_piece syntax) 0 target)
+path_pieces syntax target = before_tail (read_pieces (source_piece syntax) 0 target)
 
 -- the text of a URL without the control bytes and spaces that a reader removes: in Markdown none, in an attribute those
 -- at the start, and those at the end if no tail follows
-abbrev pub trimmed : TargetSyntax → Bool → List ℕ → List ℕ
-trimmed Markdown has_tail text = text
-trimmed Attribute true text = without_leading text
-trimmed Attribute false text = without_trailing (without_leading text)
+abbrev pub trim_url : TargetSyntax → Bool → List ℕ → List ℕ
+trim_url Markdown has_tail text = text
+trim_url Attribute true text = without_leading text
+trim_url Attribute false text = without_trailing (without_leading text)
 
 -- what a target means: not a relative path; the bytes of a path, and the offset of the tail; or unknown, for a reason
 pub data Meaning : Type 0 where
@@ -53,12 +53,12 @@ meaning_decoded (Ok bytes) tail_at = if is_utf8 bytes then path_before bytes tai
 -- the meaning of a target, by its text as a URL
 abbrev pub meaning_of_url : List ℕ → ℕ → Meaning
 meaning_of_url text tail_at =
-    if is_not_relative text then not_relative else meaning_decoded (joined (pieces url_piece 0 text)) tail_at
+    if is_not_relative text then not_relative else meaning_decoded (bytes_of_pieces (read_pieces url_piece 0 text)) tail_at
 
 -- the meaning of a target, by the bytes that its pieces are read as
 abbrev pub meaning_read : TargetSyntax → Bool → Result (List ℕ) WhyUnknown → ℕ → Meaning
 meaning_read syntax has_tail (Err why) tail_at = unknown why
-meaning_read syntax has_tail (Ok text) tail_at = meaning_of_url (trimmed syntax has_tail text) tail_at
+meaning_read syntax has_tail (Ok text) tail_at = meaning_of_url (trim_url syntax has_tail text) tail_at
 
 -- the target has a tail
 abbrev pub has_tail : List ℕ → ℕ → Bool
@@ -68,7 +68,7 @@ has_tail target tail_at = nat_lt tail_at (length target)
 abbrev pub meaning : TargetSyntax → List ℕ → Meaning
 meaning syntax target =
     let tail_at : ℕ = total_size (path_pieces syntax target) in
-    meaning_read syntax (has_tail target tail_at) (joined (path_pieces syntax target)) tail_at
+    meaning_read syntax (has_tail target tail_at) (bytes_of_pieces (path_pieces syntax target)) tail_at
 
 -- the result has this meaning
 abbrev pub Says : Meaning → TargetReading → Type 0

@@ -1,6 +1,6 @@
 -- The pieces of a target as a page has it: CommonMark 0.31.2, sections 2.3 (NUL), 2.4 (backslash escapes) and 2.5
--- (references); of an attribute, the tokenizer of the HTML standard, and in it the URL standard's section 4.4, by which
--- tabs and line ends go and a backslash is a slash.
+-- (character references); of an attribute, the tokenizer of the HTML standard, and in it the URL standard's section 4.4,
+-- by which tabs and line ends go and a backslash is a slash.
 use Rattle.std.specs.Prelude.{ℕ, ◌+◌, Bool, false, not, ◌==◌, ◌&&◌, ◌||◌, nat_lt, List, [], ◌∷◌, length, Option, Some, None, Ok, Err, if◌then◌else◌, slice_index}
 use Rattle.std.specs.Char.{encode_utf8, is_ascii_alphabetic, is_ascii_punctuation}
 use Rattle.std.specs.Int.{is_in_range}
@@ -8,7 +8,7 @@ use Rattle.target_paths.specs.declared.target.TargetSyntax.{TargetSyntax}
 use Rattle.target_paths.specs.declared.target.TargetSyntax.TheVariants.{Markdown, Attribute}
 use Rattle.target_paths.specs.declared.target.WhyUnknown.TheVariants.{CharacterReference}
 use Rattle.target_paths.specs.Pieces.{Piece, plain}
-use Rattle.target_paths.specs.References.{body_of, is_closed, character_of, body_number, body_name, is_name}
+use Rattle.target_paths.specs.CharacterReferences.{body_of, is_closed, character_of, body_number, character_of_name, is_name}
 
 -- a tab or the end of a line
 abbrev pub is_tab_or_line_end : ℕ → Bool
@@ -22,7 +22,7 @@ character_read Attribute c =
     else if c == 92 then 47 ∷ []
     else encode_utf8 c
 
--- the bytes that a byte is read as, outside references and escapes: NUL is read as U+FFFD
+-- the bytes that a byte is read as, outside character references and escapes: NUL is read as U+FFFD
 abbrev pub byte_read : TargetSyntax → ℕ → List ℕ
 byte_read syntax b =
     if b == 0 then encode_utf8 0xFFFD
@@ -39,29 +39,29 @@ is_replaced Markdown number = false
 is_replaced Attribute number = is_in_range 128 159 number
 
 -- the character of a number, unless browsers take another
-abbrev pub numbered : TargetSyntax → Option ℕ → Option ℕ
-numbered syntax None = None
-numbered syntax (Some number) = if is_replaced syntax number then None else Some (character_of number)
+abbrev pub character_unless_replaced : TargetSyntax → Option ℕ → Option ℕ
+character_unless_replaced syntax None = None
+character_unless_replaced syntax (Some number) = if is_replaced syntax number then None else Some (character_of number)
 
--- the character that the body of a reference stands for
+-- the character that the body of a character reference stands for
 abbrev pub body_character : TargetSyntax → List ℕ → Option ℕ
 body_character syntax body =
-    if slice_index body 0 == 35 then numbered syntax (body_number body) else body_name body
+    if slice_index body 0 == 35 then character_unless_replaced syntax (body_number body) else character_of_name body
 
--- the character that a reference stands for, by the text after its `&`
-abbrev pub reference_character : TargetSyntax → List ℕ → Option ℕ
-reference_character syntax text = if is_closed text then body_character syntax (body_of text) else None
+-- the character that a character reference stands for, by the text after its `&`
+abbrev pub read_character_reference : TargetSyntax → List ℕ → Option ℕ
+read_character_reference syntax text = if is_closed text then body_character syntax (body_of text) else None
 
--- an `&` before this text doesn't begin a known reference, but may begin another
-abbrev pub may_refer : TargetSyntax → List ℕ → Bool
-may_refer Markdown text = is_closed text && is_name (body_of text)
-may_refer Attribute text = is_ascii_alphabetic (slice_index text 0) || slice_index text 0 == 35
+-- an `&` before this text doesn't begin a known character reference, but may begin another
+abbrev pub may_begin_character_reference : TargetSyntax → List ℕ → Bool
+may_begin_character_reference Markdown text = is_closed text && is_name (body_of text)
+may_begin_character_reference Attribute text = is_ascii_alphabetic (slice_index text 0) || slice_index text 0 == 35
 
--- the piece of an `&` before this text: a reference, an unknown reference, or the `&` itself
-abbrev pub reference_piece : TargetSyntax → List ℕ → Option ℕ → Piece
-reference_piece syntax text (Some c) = record { size = length (body_of text) + 2; read = Ok (character_read syntax c) }
-reference_piece syntax text None =
-    if may_refer syntax text then record { size = 1; read = Err CharacterReference } else plain 38
+-- the piece of an `&` before this text: a character reference, an unknown one, or the `&` itself
+abbrev pub character_reference_piece : TargetSyntax → List ℕ → Option ℕ → Piece
+character_reference_piece syntax text (Some c) = record { size = length (body_of text) + 2; read = Ok (character_read syntax c) }
+character_reference_piece syntax text None =
+    if may_begin_character_reference syntax text then record { size = 1; read = Err CharacterReference } else plain 38
 
 -- a backslash before this byte escapes it
 abbrev pub is_escape : TargetSyntax → ℕ → ℕ → Bool
@@ -72,7 +72,7 @@ is_escape Attribute b next = false
 abbrev pub source_piece : TargetSyntax → ℕ → List ℕ → Piece
 source_piece syntax b text =
     if is_escape syntax b (slice_index text 0) then record { size = 2; read = Ok (slice_index text 0 ∷ []) }
-    else if b == 38 then reference_piece syntax text (reference_character syntax text)
+    else if b == 38 then character_reference_piece syntax text (read_character_reference syntax text)
     else byte_piece syntax b
 
 -- a byte that is read otherwise than as itself in some syntax, or begins a query or a fragment
@@ -80,5 +80,5 @@ abbrev pub is_read_otherwise : ℕ → Bool
 is_read_otherwise b = b == 0 || b == 9 || b == 10 || b == 13 || b == 35 || b == 38 || b == 63 || b == 92
 
 -- a byte that is read as itself in each syntax, and begins no query and no fragment
-abbrev pub is_plain_byte : ℕ → Bool
-is_plain_byte b = not (is_read_otherwise b)
+abbrev pub is_read_as_itself : ℕ → Bool
+is_read_as_itself b = not (is_read_otherwise b)

@@ -5,15 +5,15 @@ use Rattle.std.specs.Prelude.{◌≡◌, ℕ, ◌+◌, ◌/◌, ◌%◌, ◌-◌
 use Rattle.std.specs.Char.{encode_utf8}
 use Rattle.std.specs.Int.{is_in_range}
 use Rattle.std.specs.List.{list_all}
-use Rattle.target_paths.specs.declared.place.Place.{Place}
-use Rattle.target_paths.specs.declared.place.Place.TheVariants.{Start, Mark, FirstSegment, AfterSlash}
+use Rattle.target_paths.specs.declared.path_position.PathPosition.{PathPosition}
+use Rattle.target_paths.specs.declared.path_position.PathPosition.TheVariants.{Start, Mark, FirstSegment, AfterSlash}
 use Rattle.target_paths.specs.declared.target.TargetSyntax.{TargetSyntax}
 use Rattle.target_paths.specs.Reading.{IsTail, Meaning, meaning}
 use Rattle.target_paths.specs.Url.{is_slash, is_colon}
 
 -- wherever it is, the byte would be read otherwise or end a target: 0 to 32, 127, and "#%&'()<=>?\`|
-abbrev pub is_reserved : ℕ → Bool
-is_reserved b =
+abbrev pub is_always_escaped : ℕ → Bool
+is_always_escaped b =
     nat_lt b 33 || is_in_range 34 35 b || is_in_range 37 41 b || is_in_range 60 63 b
     || b == 92 || b == 96 || b == 124 || b == 127
 
@@ -48,15 +48,15 @@ begins_mark b = is_line_byte b || is_digit_byte b
 
 -- the byte is escaped at the start of each path
 abbrev pub is_escaped_at_start : ℕ → Bool
-is_escaped_at_start b = is_reserved b || is_colon b || is_template_byte b || is_block_byte b
+is_escaped_at_start b = is_always_escaped b || is_colon b || is_template_byte b || is_block_byte b
 
--- the byte is escaped at this place: in the first segment a colon too, at the start what may begin a template or a block,
+-- the byte is escaped at this position: in the first segment a colon too, at the start what may begin a template or a block,
 -- and at the start of a mark the mark's first byte
-abbrev pub is_escaped : Place → ℕ → Bool
+abbrev pub is_escaped : PathPosition → ℕ → Bool
 is_escaped Start b = is_escaped_at_start b
 is_escaped Mark b = is_escaped_at_start b || begins_mark b
-is_escaped FirstSegment b = is_reserved b || is_colon b
-is_escaped AfterSlash b = is_reserved b
+is_escaped FirstSegment b = is_always_escaped b || is_colon b
+is_escaped AfterSlash b = is_always_escaped b
 
 -- the byte is escaped somewhere after the first one of a path
 abbrev pub is_escaped_later : ℕ → Bool
@@ -66,16 +66,16 @@ is_escaped_later b = is_escaped FirstSegment b
 abbrev pub is_unescaped : ℕ → Bool
 is_unescaped b = not (is_escaped_later b)
 
--- the place at the start of a path
-abbrev pub start_of : List ℕ → Place
-start_of path = if is_mark path then Mark else Start
+-- the position at the start of a path
+abbrev pub first_position : List ℕ → PathPosition
+first_position path = if is_mark path then Mark else Start
 
--- the place after a byte
-abbrev pub place_after : Place → ℕ → Place
-place_after Start b = if is_slash b then AfterSlash else FirstSegment
-place_after Mark b = if is_slash b then AfterSlash else FirstSegment
-place_after FirstSegment b = if is_slash b then AfterSlash else FirstSegment
-place_after AfterSlash b = AfterSlash
+-- the position after a byte
+abbrev pub next_position : PathPosition → ℕ → PathPosition
+next_position Start b = if is_slash b then AfterSlash else FirstSegment
+next_position Mark b = if is_slash b then AfterSlash else FirstSegment
+next_position FirstSegment b = if is_slash b then AfterSlash else FirstSegment
+next_position AfterSlash b = AfterSlash
 
 -- the digit of a number below 16
 abbrev pub hexadecimal : ℕ → ℕ
@@ -90,20 +90,20 @@ abbrev pub written_byte : Bool → ℕ → List ℕ
 written_byte escaped b = if escaped then percent_text b else b ∷ []
 
 -- what is written for a character
-abbrev pub written_character : Place → ℕ → List ℕ
-written_character place c = if is_escaped place c then percent_text c else encode_utf8 c
+abbrev pub written_character : PathPosition → ℕ → List ℕ
+written_character position c = if is_escaped position c then percent_text c else encode_utf8 c
 
--- what is written for a path's bytes from this place on
-abbrev pub written : Place → List ℕ → List ℕ
-written place [] = []
-written place (b ∷ bs) = written_byte (is_escaped place b) b ++ written (place_after place b) bs
+-- what is written for a path's bytes from this position on
+abbrev pub spelling_from : PathPosition → List ℕ → List ℕ
+spelling_from position [] = []
+spelling_from position (b ∷ bs) = written_byte (is_escaped position b) b ++ spelling_from (next_position position b) bs
 
 -- the text without the slashes at its start
 abbrev pub without_slashes : List ℕ → List ℕ
 without_slashes [] = []
 without_slashes (b ∷ bs) = if is_slash b then without_slashes bs else b ∷ bs
 
--- the text, or `./` in place of the empty text, which as a reference leads to the page itself
+-- the text, or `./` in place of the empty text, which as a URL reference leads to the page itself
 abbrev pub some_path : List ℕ → List ℕ
 some_path [] = codes "./"
 some_path (b ∷ bs) = b ∷ bs
@@ -113,12 +113,12 @@ abbrev pub path_written : List ℕ → List ℕ
 path_written path = some_path (without_slashes path)
 
 -- the target that spells a path
-abbrev pub spelled : List ℕ → List ℕ
-spelled path = written (start_of path) path
+abbrev pub spelling : List ℕ → List ℕ
+spelling path = spelling_from (first_position path) path
 
 -- the target that is written for a path
 abbrev pub target_of : List ℕ → List ℕ
-target_of path = spelled (path_written path)
+target_of path = spelling (path_written path)
 
 -- the byte is NUL, which no file's path has
 abbrev pub is_nul : ℕ → Bool

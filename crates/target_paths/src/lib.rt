@@ -3,8 +3,8 @@
 //! A module uses those to the right of it in its row, and those of the rows below.
 //!
 //! ```text
-//! reading     reading - source, reference
-//! writing     writing - place - mark
+//! reading     reading - source, character_reference
+//! writing     writing - path_position - mark
 //! both        url - piece - target
 //! ```
 #![tactic(auto)]
@@ -13,11 +13,11 @@ pub use self::reading::path_of_target;
 pub use self::target::{TargetReading, TargetSyntax, WhyUnknown};
 pub use self::writing::{push_target_of_path, target_of_path};
 
+mod character_reference;
 mod mark;
+mod path_position;
 mod piece;
-mod place;
 mod reading;
-mod reference;
 mod source;
 mod target;
 mod url;

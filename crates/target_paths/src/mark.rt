@@ -3,21 +3,21 @@ ghost use Rattle.std.specs.Prelude.{◌≡◌, ◌==◌, ◌&&◌, slice_index};
 ghost use Rattle.std.specs.List.{list_all};
 ghost use Rattle.target_paths.specs.Writing.{is_digit_byte, is_line_byte, is_mark, last_byte};
 
-// Whether a text may be the mark of a block.
+// Returns whether a text may be the mark of a block.
 pub(crate) fn is_mark(text: &[u8]) -> bool
     ensures { result ≡ is_mark text.now }
 {
     is_line(text) || is_number(text)
 }
 
-// Whether a text consists of dashes and underscores.
+// Returns whether a text consists of dashes and underscores.
 fn is_line(text: &[u8]) -> bool
     ensures { result ≡ list_all is_line_byte text.now }
 {
     text.iter().all(|&byte| byte == b'-' || byte == b'_')
 }
 
-// Whether a text begins with a digit and ends in a dot.
+// Returns whether a text begins with a digit and ends in a dot.
 fn is_number(text: &[u8]) -> bool
     ensures { result ≡ (is_digit_byte (slice_index text.now 0) && last_byte text.now == 46) }
 {

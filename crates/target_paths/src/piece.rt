@@ -1,6 +1,6 @@
 //! Pieces of a text, and what they are read as.
 ghost use Rattle.std.specs.Prelude.{◌≡◌, ◌++◌, Ok, IfOk, IfErr};
-ghost use Rattle.target_paths.specs.Pieces.{followed};
+ghost use Rattle.target_paths.specs.Pieces.{append_read};
 ghost use Rattle.target_paths.specs.Shown.{read_bytes, SaysWhy};
 
 use crate::target::WhyUnknown;
@@ -41,7 +41,7 @@ impl From<AllocError> for ReadError {
 
 // Adds the bytes that a piece is read as.
 pub(crate) fn push_read(bytes: &mut Vec<u8>, read: Read) -> Result<(), ReadError>
-    ensures ok { IfOk result (λ _. followed (Ok bytes.old.items) (read_bytes read) ≡ Ok bytes.new.items) }
+    ensures ok { IfOk result (λ _. append_read (Ok bytes.old.items) (read_bytes read) ≡ Ok bytes.new.items) }
     ensures err { IfErr result (SaysWhy (read_bytes read)) }
 {
     match read {

@@ -1,10 +1,10 @@
 //! What a target means to a reader of its page.
 ghost use Rattle.std.specs.Prelude.{◌≡◌, ◌≤◌, ◌-◌, ◌+◌, length, not, take, true, Ok, IfOk, IfErr};
 ghost use Rattle.std.specs.List.{list_all};
-ghost use Rattle.target_paths.specs.Pieces.{joined, pieces, total_size};
+ghost use Rattle.target_paths.specs.Pieces.{bytes_of_pieces, read_pieces, total_size};
 ghost use Rattle.target_paths.specs.Reading.{
-  BeginsRelative,
   begins_tail,
+  BeginsRelative,
   IfPath,
   IsTailAt,
   meaning,
@@ -12,10 +12,10 @@ ghost use Rattle.target_paths.specs.Reading.{
   meaning_of_url,
   path_pieces,
   Says,
-  trimmed,
+  trim_url,
 };
 ghost use Rattle.target_paths.specs.Shown.{HasTail, read_bytes, SaysWhy, SaysWhyOfTarget};
-ghost use Rattle.target_paths.specs.Source.{is_plain_byte, is_read_otherwise};
+ghost use Rattle.target_paths.specs.Source.{is_read_as_itself, is_read_otherwise};
 ghost use Rattle.target_paths.specs.Url.{is_unencoded, url_piece};
 
 use crate::piece::{Read, ReadError, push_read};
@@ -36,7 +36,7 @@ struct PathPart {
 /// Returns what a target means to a reader of its page: a path that is relative to the page's directory, with
 /// the offset of the query or fragment; not such a path; or that the meaning isn't known.
 ///
-/// The call first reads escapes and references to characters, up to the first `?` or `#`. An escape or a
+/// The call first reads escapes and character references, up to the first `?` or `#`. An escape or a character
 /// reference may stand for that `?` or `#`. What comes after it is the tail, and has no influence. The text that
 /// was read is a URL. If it is empty, has a scheme or begins with a slash, the result is
 /// [`TargetReading::NotRelative`]. Otherwise the call decodes percent signs, once.
@@ -51,8 +51,8 @@ struct PathPart {
 /// | tabs and line ends | themselves | nothing |
 /// | control bytes and spaces at the ends | themselves | nothing |
 ///
-/// A reference to 0, to a surrogate or past U+10FFFF is read as U+FFFD. The meaning is also unknown if the path
-/// has `%2F` or `%00`, or if the decoded path isn't UTF-8. [`WhyUnknown`] has the reasons.
+/// A character reference to 0, to a surrogate or past U+10FFFF is read as U+FFFD. The meaning is also unknown if
+/// the path has `%2F` or `%00`, or if the decoded path isn't UTF-8. [`WhyUnknown`] has the reasons.
 ///
 /// Allocates once, or twice for a path: as many bytes as the target has, and two more for each NUL; and then as many
 /// bytes as were read before the tail. Time is linear.
@@ -87,7 +87,7 @@ pub fn path_of_target(
     }
 }
 
-// The meaning of a target; an unknown meaning is an error.
+// Returns the meaning of a target; an unknown meaning is an error.
 fn read_target(
     alloc: Global,
     syntax: TargetSyntax,
@@ -98,11 +98,11 @@ fn read_target(
     ensures err { IfErr result (SaysWhyOfTarget (meaning syntax target.now)) }
 {
     let part = read_path(alloc, syntax, target)?;
-    let text = trimmed(syntax, part.tail_at < target.len(), &part.bytes);
+    let text = trim_url(syntax, part.tail_at < target.len(), &part.bytes);
     read_url(alloc, text, part.tail_at)
 }
 
-// The meaning of a target, by its text as a URL.
+// Returns the meaning of a target, by its text as a URL.
 fn read_url(alloc: Global, text: &[u8], tail_at: usize) -> Result<TargetReading, ReadError>
     ensures ok { IfOk result (Says (meaning_of_url text.now tail_at)) }
     ensures err { IfErr result (SaysWhyOfTarget (meaning_of_url text.now tail_at)) }
@@ -110,11 +110,11 @@ fn read_url(alloc: Global, text: &[u8], tail_at: usize) -> Result<TargetReading,
     if is_not_relative(text) {
         return Ok(TargetReading::NotRelative);
     }
-    let path = decoded(alloc, text)?;
+    let path = decode(alloc, text)?;
     read_path_bytes(path, tail_at)
 }
 
-// The meaning of a target, by the bytes of its path.
+// Returns the meaning of a target, by the bytes of its path.
 fn read_path_bytes(path: Vec<u8>, tail_at: usize) -> Result<TargetReading, ReadError>
     ensures ok { IfOk result (Says (meaning_decoded (Ok path.items) tail_at)) }
     ensures err { IfErr result (SaysWhyOfTarget (meaning_decoded (Ok path.items) tail_at)) }
@@ -125,12 +125,12 @@ fn read_path_bytes(path: Vec<u8>, tail_at: usize) -> Result<TargetReading, ReadE
     }
 }
 
-// What a target is read as before its tail.
+// Returns what a target is read as before its tail.
 fn read_path(alloc: Global, syntax: TargetSyntax, target: &[u8]) -> Result<PathPart, ReadError>
-    ensures bytes { IfOk result (λ part. joined (path_pieces syntax target.now) ≡ Ok part.bytes.items) }
+    ensures bytes { IfOk result (λ part. bytes_of_pieces (path_pieces syntax target.now) ≡ Ok part.bytes.items) }
     ensures size { IfOk result (λ part. part.tail_at ≡ total_size (path_pieces syntax target.now)) }
     ensures tail { IfOk result (λ _. HasTail syntax target.now) }
-    ensures err { IfErr result (SaysWhy (joined (path_pieces syntax target.now))) }
+    ensures err { IfErr result (SaysWhy (bytes_of_pieces (path_pieces syntax target.now))) }
 {
     let plain = plain_len(target);
     let room = plain.saturating_add(room_for(&target[plain..]));
@@ -150,10 +150,10 @@ fn read_path(alloc: Global, syntax: TargetSyntax, target: &[u8]) -> Result<PathP
     Ok(PathPart { bytes, tail_at })
 }
 
-// How many bytes a target begins with that are read as themselves.
+// Returns how many bytes a target begins with that are read as themselves.
 fn plain_len(target: &[u8]) -> usize
     ensures within { result ≤ length target.now }
-    ensures plain { list_all is_plain_byte (take result target.now) ≡ true }
+    ensures plain { list_all is_read_as_itself (take result target.now) ≡ true }
 {
     len_before(&ReadOtherwise, target)
 }
@@ -181,7 +181,7 @@ impl ByteClass for ReadOtherwise {
     }
 }
 
-// How many bytes of a URL come before its first percent sign.
+// Returns how many bytes of a URL come before its first percent sign.
 fn unencoded_len(text: &[u8]) -> usize
     ensures within { result ≤ length text.now }
     ensures plain { list_all is_unencoded (take result text.now) ≡ true }
@@ -189,13 +189,13 @@ fn unencoded_len(text: &[u8]) -> usize
     len_before(&OneByte { byte: b'%' }, text)
 }
 
-// How many bytes a text is read as at most. A NUL, which is one byte, is read as U+FFFD, which has three.
+// Returns how many bytes a text is read as at most. A NUL, which is one byte, is read as U+FFFD, which has three.
 fn room_for(text: &[u8]) -> usize {
     let nuls = text.iter().filter(|byte| **byte == 0).count();
     text.len().saturating_add(nuls.saturating_mul(2))
 }
 
-// Whether a piece that is read as these bytes begins a query or a fragment.
+// Returns whether a piece that is read as these bytes begins a query or a fragment.
 fn begins_tail(read: Read) -> bool
     ensures { result ≡ begins_tail (read_bytes read) }
 {
@@ -207,9 +207,9 @@ fn begins_tail(read: Read) -> bool
     }
 }
 
-// A text without the control bytes and spaces that a reader removes from its ends.
-fn trimmed(syntax: TargetSyntax, has_tail: bool, text: &[u8]) -> &[u8]
-    ensures { result.now ≡ trimmed syntax has_tail text.now }
+// Returns the text of a URL without the control bytes and spaces that a reader removes from its ends.
+fn trim_url(syntax: TargetSyntax, has_tail: bool, text: &[u8]) -> &[u8]
+    ensures { result.now ≡ trim_url syntax has_tail text.now }
 {
     match syntax {
         TargetSyntax::Markdown => text,
@@ -218,10 +218,10 @@ fn trimmed(syntax: TargetSyntax, has_tail: bool, text: &[u8]) -> &[u8]
     }
 }
 
-// The path of a URL, with percent signs decoded once.
-fn decoded(alloc: Global, text: &[u8]) -> Result<Vec<u8>, ReadError>
-    ensures ok { IfOk result (λ path. joined (pieces url_piece 0 text.now) ≡ Ok path.items) }
-    ensures err { IfErr result (SaysWhy (joined (pieces url_piece 0 text.now))) }
+// Decodes the percent signs of a URL's path, once.
+fn decode(alloc: Global, text: &[u8]) -> Result<Vec<u8>, ReadError>
+    ensures ok { IfOk result (λ path. bytes_of_pieces (read_pieces url_piece 0 text.now) ≡ Ok path.items) }
+    ensures err { IfErr result (SaysWhy (bytes_of_pieces (read_pieces url_piece 0 text.now))) }
 {
     let mut bytes = Vec::with_capacity(alloc, text.len())?;
     let plain = unencoded_len(text);

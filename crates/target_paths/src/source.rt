@@ -1,25 +1,27 @@
 //! The pieces of a target as a page has it.
 ghost use Rattle.std.specs.Prelude.{◌≡◌, ◌≤◌, ◌<◌, ◌+◌, length, Ok, IfSome, if◌then◌else◌};
 ghost use Rattle.std.specs.Option.{option_map};
-ghost use Rattle.target_paths.specs.References.{body_of, character_of};
+ghost use Rattle.target_paths.specs.CharacterReferences.{body_of, character_of};
 ghost use Rattle.target_paths.specs.Shown.{piece_of, read_bytes};
 ghost use Rattle.target_paths.specs.Source.{
   body_character,
   byte_read,
   character_read,
+  character_reference_piece,
   is_escape,
   is_replaced,
-  may_refer,
-  reference_character,
-  reference_piece,
+  may_begin_character_reference,
+  read_character_reference,
   source_piece,
 };
 
+use crate::character_reference::{
+    begins_with_letter, body, character_of, character_of_name, is_name, number,
+};
 use crate::piece::{Piece, Read};
-use crate::reference::{begins_with_letter, body, character_of, is_name, named, number};
 use crate::target::{TargetSyntax, WhyUnknown};
 
-// The piece that a byte and the text after it begin with.
+// Returns the piece that a byte and the text after it begin with.
 pub(crate) fn source_piece(syntax: TargetSyntax, byte: u8, text: &[u8]) -> Piece
     ensures piece { piece_of result ≡ source_piece syntax byte text.now }
     ensures some { 0 < result.size }
@@ -30,7 +32,7 @@ pub(crate) fn source_piece(syntax: TargetSyntax, byte: u8, text: &[u8]) -> Piece
             size: 2,
             read: Read::Byte(*next),
         },
-        _ if byte == b'&' => reference_piece(syntax, text),
+        _ if byte == b'&' => character_reference_piece(syntax, text),
         _ => Piece {
             size: 1,
             read: byte_read(syntax, byte),
@@ -38,7 +40,7 @@ pub(crate) fn source_piece(syntax: TargetSyntax, byte: u8, text: &[u8]) -> Piece
     }
 }
 
-// Whether a backslash before a byte escapes it.
+// Returns whether a backslash before a byte escapes it.
 fn is_escape(syntax: TargetSyntax, byte: u8, next: u8) -> bool
     ensures { result ≡ is_escape syntax byte next }
 {
@@ -48,7 +50,7 @@ fn is_escape(syntax: TargetSyntax, byte: u8, next: u8) -> bool
     }
 }
 
-// What a byte outside references and escapes is read as.
+// Returns what a byte outside character references and escapes is read as.
 fn byte_read(syntax: TargetSyntax, byte: u8) -> Read
     ensures { read_bytes result ≡ Ok (byte_read syntax byte) }
 {
@@ -61,7 +63,7 @@ fn byte_read(syntax: TargetSyntax, byte: u8) -> Read
     }
 }
 
-// What a character is read as.
+// Returns what a character is read as.
 fn character_read(syntax: TargetSyntax, character: char) -> Read
     ensures { read_bytes result ≡ Ok (character_read syntax character) }
 {
@@ -77,18 +79,19 @@ fn character_read(syntax: TargetSyntax, character: char) -> Read
     }
 }
 
-// The piece of an `&` before a text.
-fn reference_piece(syntax: TargetSyntax, text: &[u8]) -> Piece
-    ensures piece { piece_of result ≡ reference_piece syntax text.now (reference_character syntax text.now) }
+// Returns the piece of an `&` before a text.
+fn character_reference_piece(syntax: TargetSyntax, text: &[u8]) -> Piece
+    ensures piece { piece_of result
+        ≡ character_reference_piece syntax text.now (read_character_reference syntax text.now) }
     ensures some { 0 < result.size }
     ensures within { result.size ≤ length text.now + 1 }
 {
-    match reference_character(syntax, text) {
+    match read_character_reference(syntax, text) {
         Some((character, length)) => Piece {
             size: length + 2,
             read: character_read(syntax, character),
         },
-        None if may_refer(syntax, text) => Piece {
+        None if may_begin_character_reference(syntax, text) => Piece {
             size: 1,
             read: Read::Unknown(WhyUnknown::CharacterReference),
         },
@@ -99,9 +102,9 @@ fn reference_piece(syntax: TargetSyntax, text: &[u8]) -> Piece
     }
 }
 
-// The character that a reference stands for, by the text after its `&`, and the length of its body.
-fn reference_character(syntax: TargetSyntax, text: &[u8]) -> Option<(char, usize)>
-    ensures character { option_map (λ found. found.0) result ≡ reference_character syntax text.now }
+// Reads a character reference: returns its character, by the text after its `&`, and the length of its body.
+fn read_character_reference(syntax: TargetSyntax, text: &[u8]) -> Option<(char, usize)>
+    ensures character { option_map (λ found. found.0) result ≡ read_character_reference syntax text.now }
     ensures length { IfSome result (λ found. (found.1 ≡ length (body_of text.now)) × (found.1 < length text.now)) }
 {
     let body = body(text)?;
@@ -109,18 +112,18 @@ fn reference_character(syntax: TargetSyntax, text: &[u8]) -> Option<(char, usize
     Some((character, body.len()))
 }
 
-// The character that the body of a reference stands for.
+// Returns the character that the body of a character reference stands for.
 fn body_character(syntax: TargetSyntax, body: &[u8]) -> Option<char>
     ensures { result ≡ body_character syntax body.now }
 {
     match body {
-        [b'#', ..] => numbered(syntax, number(body)?),
-        _ => named(body),
+        [b'#', ..] => character_unless_replaced(syntax, number(body)?),
+        _ => character_of_name(body),
     }
 }
 
-// The character of a number, unless browsers take another.
-fn numbered(syntax: TargetSyntax, number: u32) -> Option<char>
+// Returns the character of a number, unless browsers take another.
+fn character_unless_replaced(syntax: TargetSyntax, number: u32) -> Option<char>
     ensures { result ≡ (if is_replaced syntax number then None else Some (character_of number)) }
 {
     if is_replaced(syntax, number) {
@@ -130,7 +133,7 @@ fn numbered(syntax: TargetSyntax, number: u32) -> Option<char>
     }
 }
 
-// Whether browsers take another character for a number.
+// Returns whether browsers take another character for a number.
 fn is_replaced(syntax: TargetSyntax, number: u32) -> bool
     ensures { result ≡ is_replaced syntax number }
 {
@@ -140,9 +143,9 @@ fn is_replaced(syntax: TargetSyntax, number: u32) -> bool
     }
 }
 
-// Whether an `&` before a text, which doesn't begin a known reference, may begin another.
-fn may_refer(syntax: TargetSyntax, text: &[u8]) -> bool
-    ensures { result ≡ may_refer syntax text.now }
+// Returns whether an `&` before a text, which doesn't begin a known character reference, may begin another.
+fn may_begin_character_reference(syntax: TargetSyntax, text: &[u8]) -> bool
+    ensures { result ≡ may_begin_character_reference syntax text.now }
 {
     match syntax {
         TargetSyntax::Markdown => body(text).is_some_and(is_name),

@@ -30,7 +30,7 @@ pub enum TargetReading {
 /// Why the meaning of a target isn't known.
 #[derive(Clone, Copy, Debug, PartialEq, Eq)]
 pub enum WhyUnknown {
-    /// The target has a reference to a character that this crate doesn't read.
+    /// The target has a character reference that this crate doesn't read.
     CharacterReference,
     /// The target has `%2F`, a slash that doesn't separate directories.
     EncodedSlash,

@@ -14,11 +14,11 @@ ghost use Rattle.target_paths.specs.Url.{
   without_trailing,
 };
 
+use crate::character_reference::begins_with_letter;
 use crate::piece::{Piece, Read};
-use crate::reference::begins_with_letter;
 use crate::target::WhyUnknown;
 
-// A text without control bytes and spaces at its start.
+// Returns a text without control bytes and spaces at its start.
 pub(crate) fn without_leading(text: &[u8]) -> &[u8]
     ensures { result.now ≡ without_leading text.now }
 {
@@ -32,7 +32,7 @@ pub(crate) fn without_leading(text: &[u8]) -> &[u8]
     left
 }
 
-// A text without control bytes and spaces at its end.
+// Returns a text without control bytes and spaces at its end.
 pub(crate) fn without_trailing(text: &[u8]) -> &[u8]
     ensures { result.now ≡ without_trailing text.now }
 {
@@ -46,7 +46,7 @@ pub(crate) fn without_trailing(text: &[u8]) -> &[u8]
     left
 }
 
-// Whether a text isn't relative to the page's directory.
+// Returns whether a text isn't relative to the page's directory.
 pub(crate) fn is_not_relative(text: &[u8]) -> bool
     ensures { result ≡ is_not_relative text.now }
 {
@@ -57,7 +57,7 @@ pub(crate) fn is_not_relative(text: &[u8]) -> bool
     }
 }
 
-// Whether a text begins with a scheme and a colon.
+// Returns whether a text begins with a scheme and a colon.
 fn has_scheme(text: &[u8]) -> bool
     ensures { result ≡ has_scheme text.now }
 {
@@ -76,28 +76,28 @@ fn first_colon(text: &[u8]) -> Option<usize>
     text.iter().position(|&byte| byte == b':')
 }
 
-// Whether a text is a scheme: a letter, and then letters, digits, `+`, `-` and `.`.
+// Returns whether a text is a scheme: a letter, and then letters, digits, `+`, `-` and `.`.
 fn is_scheme(text: &[u8]) -> bool
     ensures { result ≡ is_scheme text.now }
 {
     begins_with_letter(text) && are_scheme_bytes(text)
 }
 
-// Whether each byte of a text may be in a scheme.
+// Returns whether each byte of a text may be in a scheme.
 fn are_scheme_bytes(text: &[u8]) -> bool
     ensures { result ≡ list_all is_scheme_byte text.now }
 {
     text.iter().all(|&byte| is_scheme_byte(byte))
 }
 
-// Whether a byte may be in a scheme.
+// Returns whether a byte may be in a scheme.
 fn is_scheme_byte(byte: u8) -> bool
     ensures { result ≡ is_scheme_byte byte }
 {
     byte.is_ascii_alphanumeric() || byte == b'+' || byte == b'-' || byte == b'.'
 }
 
-// The piece that a byte of a URL's path and the text after it begin with.
+// Returns the piece that a byte of a URL's path and the text after it begin with.
 pub(crate) fn url_piece(byte: u8, text: &[u8]) -> Piece
     ensures piece { piece_of result ≡ url_piece byte text.now }
     ensures some { 0 < result.size }
@@ -119,7 +119,7 @@ pub(crate) fn url_piece(byte: u8, text: &[u8]) -> Piece
     }
 }
 
-// What a percent sign and the two digits of a byte are read as.
+// Returns what a percent sign and the two digits of a byte are read as.
 fn decoded_byte(byte: u8) -> Read
     ensures { read_bytes result ≡ decoded_byte byte }
 {

@@ -13,19 +13,19 @@ ghost use Rattle.target_paths.specs.Writing.{
   IsTakenAs,
   path_written,
   percent_text,
-  spelled,
+  spelling,
   target_of,
   without_slashes,
   written_character,
 };
 ghost use Rattle.target_paths.specs.declared.target.WhyUnknown.TheVariants.{EncodedNul};
 
-use crate::place::Place;
+use crate::path_position::PathPosition;
 use byte_classes::{ByteClass, len_before};
 use std::alloc::{AllocError, Global};
 use std::simd::prelude::*;
 
-// The digit of a number below 16.
+// Returns the digit of a number below 16.
 fn hexadecimal(digit: u8) -> char
     requires { digit < 16 }
     ensures { result ≡ hexadecimal digit }
@@ -46,18 +46,18 @@ fn push_percent(target: &mut String, byte: u8) -> Result<(), AllocError>
     target.push(hexadecimal(byte % 16))
 }
 
-// The target that spells a path.
-fn spelled(alloc: Global, path: &str) -> Result<String, AllocError>
-    ensures { IfOk result (λ target. string_bytes target ≡ spelled path.now) }
+// Returns the target that spells a path.
+fn spelling(alloc: Global, path: &str) -> Result<String, AllocError>
+    ensures { IfOk result (λ target. string_bytes target ≡ spelling path.now) }
 {
     let mut target = String::with_capacity(alloc, path.len())?;
-    push_spelled(&mut target, path)?;
+    push_spelling(&mut target, path)?;
     Ok(target)
 }
 
 // Adds the target that spells a path.
-fn push_spelled(target: &mut String, path: &str) -> Result<(), AllocError>
-    ensures { IfOk result (λ _. string_bytes target.new ≡ string_bytes target.old ++ spelled path.now) }
+fn push_spelling(target: &mut String, path: &str) -> Result<(), AllocError>
+    ensures { IfOk result (λ _. string_bytes target.new ≡ string_bytes target.old ++ spelling path.now) }
 {
     if has_room(target, path) && spells_itself(path) {
         target.push_str(path)
@@ -66,25 +66,25 @@ fn push_spelled(target: &mut String, path: &str) -> Result<(), AllocError>
     }
 }
 
-// Whether a text fits into the capacity of a target. A text that doesn't fit is added character by character, so that the
-// capacity grows by doubling alone.
+// Returns whether a text fits into the capacity of a target. A text that doesn't fit is added character by character,
+// so that the capacity grows by doubling alone.
 fn has_room(target: &String, text: &str) -> bool {
     text.len() <= target.capacity().saturating_sub(target.len())
 }
 
-// Whether a path spells itself, since none of its bytes is escaped. A path with a colon may do so all the same.
+// Returns whether a path spells itself, since none of its bytes is escaped. A path with a colon may do so all the same.
 fn spells_itself(path: &str) -> bool
-    ensures { IsTrue result → spelled path.now ≡ path.now }
+    ensures { IsTrue result → spelling path.now ≡ path.now }
 {
     match path.as_bytes() {
         [] => true,
         [first, rest @ ..] => {
-            !Place::start_of(path).escapes(char::from(*first)) && are_unescaped(rest)
+            !PathPosition::first(path).escapes(char::from(*first)) && are_unescaped(rest)
         }
     }
 }
 
-// Whether no byte after the first one of a path is escaped.
+// Returns whether no byte after the first one of a path is escaped.
 fn are_unescaped(text: &[u8]) -> bool
     ensures { result ≡ list_all is_unescaped text.now }
 {
@@ -99,7 +99,7 @@ impl ByteClass for EscapedLater {
     ghost has = { λ _. is_escaped_later };
 
     fn has(&self, byte: u8) -> bool {
-        Place::FirstSegment.escapes(char::from(byte))
+        PathPosition::FirstSegment.escapes(char::from(byte))
     }
 
     fn those_in(&self, block: u8x16) -> u64 {
@@ -118,35 +118,40 @@ impl ByteClass for EscapedLater {
 
 // Adds the target that spells a path, character by character.
 fn push_characters(target: &mut String, path: &str) -> Result<(), AllocError>
-    ensures { IfOk result (λ _. string_bytes target.new ≡ string_bytes target.old ++ spelled path.now) }
+    ensures { IfOk result (λ _. string_bytes target.new ≡ string_bytes target.old ++ spelling path.now) }
 {
-    let mut place = Place::start_of(path);
+    let mut position = PathPosition::first(path);
     for character in path.chars() {
-        push_character(target, place, character)?;
-        place = place.after(character);
+        push_character(target, position, character)?;
+        position = position.after(character);
     }
     Ok(())
 }
 
 // Adds what is written for a character.
-fn push_character(target: &mut String, place: Place, character: char) -> Result<(), AllocError>
-    ensures { IfOk result (λ _. string_bytes target.new ≡ string_bytes target.old ++ written_character place character) }
+fn push_character(
+    target: &mut String,
+    position: PathPosition,
+    character: char,
+) -> Result<(), AllocError>
+    ensures { IfOk result
+        (λ _. string_bytes target.new ≡ string_bytes target.old ++ written_character position character) }
 {
-    if place.escapes(character) {
+    if position.escapes(character) {
         push_percent(target, character as u8)
     } else {
         target.push(character)
     }
 }
 
-// A path without the slashes at its start.
+// Returns a path without the slashes at its start.
 fn without_slashes(path: &str) -> &str
     ensures { result.now ≡ without_slashes path.now }
 {
     path.trim_start_matches('/')
 }
 
-// The path that a target spells for a path: without slashes at its start, and `./` for an empty path.
+// Returns the path that a target spells for a path: without slashes at its start, and `./` for an empty path.
 fn path_written(path: &str) -> &str
     ensures { result.now ≡ path_written path.now }
 {
@@ -166,7 +171,7 @@ fn path_written(path: &str) -> &str
 /// around it.
 ///
 /// The call leaves out slashes at the start of the path. The path without them has the same components, but a
-/// reference that begins with a slash leads elsewhere. For an empty path it writes `./`, since an empty
+/// URL reference that begins with a slash leads elsewhere. For an empty path it writes `./`, since an empty URL
 /// reference leads to the page itself. No target spells a path with NUL; what is written for such a path is
 /// read as unknown.
 ///
@@ -194,7 +199,7 @@ pub fn target_of_path(alloc: Global, path: &str) -> Result<String, AllocError>
     // no defined form with which a block may begin
     ensures block { IfOk result (λ target. begins_block (string_bytes target) ≡ false) }
 {
-    spelled(alloc, path_written(path))
+    spelling(alloc, path_written(path))
 }
 
 /// Appends to a text what [`target_of_path`] returns for a path.
@@ -215,5 +220,5 @@ pub fn push_target_of_path(text: &mut String, path: &str) -> Result<(), AllocErr
     ensures read { list_any is_nul path.now ≡ false
         → IsTakenAs (target_of path.now) (path_before (path_written path.now) (length (target_of path.now))) }
 {
-    push_spelled(text, path_written(path))
+    push_spelling(text, path_written(path))
 }

@@ -2,7 +2,7 @@
 ghost use Rattle.std.specs.Prelude.{◌≡◌, ◌≤◌, length, IfSome};
 ghost use Rattle.markdown_targets.specs.Classes.{is_of_scheme, is_of_domain};
 ghost use Rattle.markdown_targets.specs.Destinations.{is_of_uri};
-ghost use Rattle.markdown_targets.specs.Steps.{Advances};
+ghost use Rattle.markdown_targets.specs.Offsets.{Advances};
 
 use crate::finder::bytes::{is_space_or_control, run_end, skip_byte};
 
@@ -12,7 +12,7 @@ const LONGEST_SCHEME: usize = 32;
 // How long a name of a domain may be, between two dots.
 const LONGEST_NAME: usize = 63;
 
-// The end of the autolink at an offset, where an angle opens.
+// Returns the end of the autolink at an offset, where an angle opens.
 pub(crate) fn autolink_end(text: &[u8], start: usize) -> Option<usize>
     ensures { IfSome result (λ end. Advances text.now start end) }
 {
@@ -20,7 +20,7 @@ pub(crate) fn autolink_end(text: &[u8], start: usize) -> Option<usize>
     uri_end(text, inside).or_else(|| address_end(text, inside))
 }
 
-// The end of the URI at an offset and of its angle.
+// Returns the end of the URI at an offset and of its angle.
 fn uri_end(text: &[u8], start: usize) -> Option<usize>
     requires { start ≤ length text.now }
     ensures { IfSome result (λ end. Advances text.now start end) }
@@ -37,7 +37,7 @@ fn uri_end(text: &[u8], start: usize) -> Option<usize>
     skip_byte(text, run_end(text, rest, is_of_uri), b'>')
 }
 
-// The end of the e-mail address at an offset and of its angle.
+// Returns the end of the e-mail address at an offset and of its angle.
 fn address_end(text: &[u8], start: usize) -> Option<usize>
     requires { start ≤ length text.now }
     ensures { IfSome result (λ end. Advances text.now start end) }
@@ -54,12 +54,12 @@ fn address_end(text: &[u8], start: usize) -> Option<usize>
     skip_byte(text, end, b'>')
 }
 
-// Whether each part between the dots of a domain is the name of a host.
+// Returns whether each part between the dots of a domain is the name of a host.
 fn is_domain(domain: &[u8]) -> bool {
     domain.split(|byte| *byte == b'.').all(is_domain_name)
 }
 
-// Whether a name of a domain is of a fit length, and has its dashes inside.
+// Returns whether a name of a domain is of a fit length, and has its dashes inside.
 fn is_domain_name(name: &[u8]) -> bool {
     let has_ends = name
         .first()
@@ -68,26 +68,26 @@ fn is_domain_name(name: &[u8]) -> bool {
     has_ends && name.len() <= LONGEST_NAME
 }
 
-// Whether a scheme may have a byte.
+// Returns whether a scheme may have a byte.
 fn is_of_scheme(byte: u8) -> bool
     ensures { result ≡ is_of_scheme byte }
 {
     byte.is_ascii_alphanumeric() || byte == b'+' || byte == b'.' || byte == b'-'
 }
 
-// Whether a URI may have a byte.
+// Returns whether a URI may have a byte.
 fn is_of_uri(byte: u8) -> bool
     ensures { result ≡ is_of_uri byte }
 {
     !is_space_or_control(byte) && byte != b'<' && byte != b'>'
 }
 
-// Whether an address may have a byte before its `@`.
+// Returns whether an address may have a byte before its `@`.
 fn is_of_local_part(byte: u8) -> bool {
     byte.is_ascii_alphanumeric() || b".!#$%&'*+/=?^_`{|}~-".contains(&byte)
 }
 
-// Whether a domain may have a byte.
+// Returns whether a domain may have a byte.
 fn is_of_domain(byte: u8) -> bool
     ensures { result ≡ is_of_domain byte }
 {

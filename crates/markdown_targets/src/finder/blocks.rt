@@ -1,6 +1,6 @@
 //! Reads a page line by line, and says which of its blocks have text, and where.
 ghost use Rattle.std.specs.Prelude.{◌≤◌, ◌<◌, length};
-ghost use Rattle.markdown_targets.specs.Steps.{Skips};
+ghost use Rattle.markdown_targets.specs.Offsets.{Skips};
 
 use crate::finder::bytes::line_end;
 use crate::finder::containers::Container;
@@ -45,7 +45,7 @@ struct Line<'a> {
 }
 
 impl<'a> Line<'a> {
-    // The offset of the rest of the line in the page.
+    // Returns the offset of the rest of the line in the page.
     fn offset_of(self, rest: &[u8]) -> usize {
         self.end.saturating_sub(rest.len())
     }
@@ -53,7 +53,7 @@ impl<'a> Line<'a> {
 
 // The blocks that are open after some lines of a page.
 #[derive(Drop)]
-struct Reader {
+struct BlockReader {
     // The text of the blocks so far.
     text: TextBlocks,
     // The containers that are open, the outermost first.
@@ -64,12 +64,12 @@ struct Reader {
     is_container_empty: bool,
 }
 
-// The text of the paragraphs, headings and blocks of HTML of a page in Markdown.
+// Returns the text of the paragraphs, headings and blocks of HTML of a page in Markdown.
 //
 // The blocks are those of CommonMark 0.31. What is in more than 100 containers is read as text.
 pub(crate) fn read_blocks(alloc: Global, page: &str) -> Result<TextBlocks, AllocError> {
     let page = page.as_bytes();
-    let mut reader = Reader::new(alloc, page)?;
+    let mut reader = BlockReader::new(alloc, page)?;
     let mut start = text_start(page);
     while start < page.len() {
         let end = line_end(page, start);
@@ -77,11 +77,11 @@ pub(crate) fn read_blocks(alloc: Global, page: &str) -> Result<TextBlocks, Alloc
         reader.read_line(Line { start, end, bytes })?;
         start = next_line_start(page, end);
     }
-    let Reader { text, .. } = reader;
+    let BlockReader { text, .. } = reader;
     Ok(text)
 }
 
-// Where the text of a page begins, after a byte order mark.
+// Returns where the text of a page begins, after a byte order mark.
 fn text_start(page: &[u8]) -> usize
     ensures { result ≤ length page.now }
 {
@@ -91,7 +91,7 @@ fn text_start(page: &[u8]) -> usize
     }
 }
 
-// The offset after what ends a line at an offset.
+// Returns the offset after what ends a line at an offset.
 fn next_line_start(page: &[u8], end: usize) -> usize
     requires { end ≤ length page.now }
     ensures within { Skips page.now end result }
@@ -104,10 +104,10 @@ fn next_line_start(page: &[u8], end: usize) -> usize
     }
 }
 
-impl Reader {
-    // No line was read.
-    fn new(alloc: Global, page: &[u8]) -> Result<Reader, AllocError> {
-        Ok(Reader {
+impl BlockReader {
+    // Returns a reader that has read no line.
+    fn new(alloc: Global, page: &[u8]) -> Result<BlockReader, AllocError> {
+        Ok(BlockReader {
             text: TextBlocks::new(alloc, page)?,
             containers: Vec::new(alloc),
             leaf: Leaf::Nothing,
@@ -143,7 +143,7 @@ impl Reader {
         }
     }
 
-    // How many containers a line belongs to, and the place after what it has for them.
+    // Returns how many containers a line belongs to, and the position after what it has for them.
     fn enter_containers<'a>(&self, line: Line<'a>) -> (usize, Cursor<'a>) {
         let mut cursor = Cursor::new(line.bytes);
         for (depth, container) in self.containers.iter().enumerate() {
@@ -159,7 +159,7 @@ impl Reader {
         (depth, cursor)
     }
 
-    // Whether the innermost block takes a line as it is. The line that ends the block belongs to it.
+    // Returns whether the innermost block takes a line as it is. The line that ends the block belongs to it.
     fn takes(&mut self, line: Line<'_>, cursor: Cursor<'_>) -> bool {
         match self.leaf {
             Leaf::Nothing | Leaf::Paragraph => false,
@@ -180,7 +180,7 @@ impl Reader {
         }
     }
 
-    // What a line of so many containers finds before it.
+    // Returns what a line of so many containers finds before it.
     fn before(&self, depth: usize) -> Before {
         match self.leaf {
             Leaf::Paragraph if depth == self.containers.len() => Before::Paragraph,
@@ -189,7 +189,7 @@ impl Reader {
         }
     }
 
-    // Opens the containers that begin in a line. Returns the place after their markers, and whether
+    // Opens the containers that begin in a line. Returns the position after their markers, and whether
     // there are any.
     fn open_containers<'a>(
         &mut self,
@@ -204,7 +204,7 @@ impl Reader {
                 break;
             }
             let is_in_paragraph = marker.is_none() && before.is_paragraph();
-            let Some((container, inner)) = Container::begun_at(cursor, is_in_paragraph) else {
+            let Some((container, inner)) = Container::read(cursor, is_in_paragraph) else {
                 break;
             };
             if marker.is_none() {
@@ -217,7 +217,7 @@ impl Reader {
         Ok((cursor, marker.is_some()))
     }
 
-    // What the rest of a line begins. An underline below definitions alone is text.
+    // Returns what the rest of a line begins. An underline below definitions alone is text.
     fn read_start(&self, cursor: Cursor<'_>, before: Before) -> Start {
         let start = Start::read(cursor, before);
         if matches!(start, Start::Rule)
@@ -230,13 +230,13 @@ impl Reader {
     }
 }
 
-// Whether a thematic break begins after a marker. None does before the marker's own byte, as the
-// marker would be a part of it: so each part of a line is looked at once.
+// Returns whether a thematic break begins after a marker. None does before the marker's own byte, as the marker would
+// be a part of it: so each part of a line is looked at once.
 fn begins_break(cursor: Cursor<'_>, marker: Option<u8>) -> bool {
     cursor.rest.first().copied() != marker && is_thematic_break(cursor.rest)
 }
 
-// The block that is open after its first line.
+// Returns the block that is open after its first line.
 fn leaf_after(start: Start, cursor: Cursor<'_>) -> Leaf {
     match start {
         Start::Blank | Start::Heading | Start::Rule => Leaf::Nothing,
@@ -247,7 +247,7 @@ fn leaf_after(start: Start, cursor: Cursor<'_>) -> Leaf {
     }
 }
 
-// The block that is open after a line of a block in HTML.
+// Returns the block that is open after a line of a block in HTML.
 fn html_leaf(block: HtmlBlock, cursor: Cursor<'_>) -> Leaf {
     if block.is_ended_by(cursor.rest) {
         Leaf::Nothing

@@ -26,7 +26,7 @@ pub(crate) struct Brackets {
 }
 
 impl Brackets {
-    // No open brackets.
+    // Returns no open brackets.
     pub(crate) fn new(alloc: Global) -> Brackets {
         Brackets {
             open: Vec::new(alloc),

@@ -3,55 +3,55 @@ ghost use Rattle.std.specs.Prelude.{◌≡◌, ◌≤◌, ◌<◌, ◌==◌, ◌
 ghost use Rattle.std.specs.List.{list_all};
 ghost use Rattle.markdown_targets.specs.Classes.{is_blank, is_line_end, is_space, is_special, is_destination_mark};
 ghost use Rattle.markdown_targets.specs.Destinations.{is_space_or_control};
-ghost use Rattle.markdown_targets.specs.Steps.{Skips, Advances, first_from, step_len};
+ghost use Rattle.markdown_targets.specs.Offsets.{Skips, Advances, first_from, escape_or_byte_len};
 ghost use Rattle.markdown_targets.specs.Words.{word_end};
 
 use byte_classes::{ByteClass, OneByte, len_before};
 use std::simd::prelude::*;
 
-// Whether a byte ends a line.
+// Returns whether a byte ends a line.
 pub(crate) fn is_line_end(byte: u8) -> bool
     ensures { result ≡ is_line_end byte }
 {
     byte == b'\n' || byte == b'\r'
 }
 
-// Whether a byte is a space or a tab.
+// Returns whether a byte is a space or a tab.
 pub(crate) fn is_blank(byte: u8) -> bool
     ensures { result ≡ is_blank byte }
 {
     byte == b' ' || byte == b'\t'
 }
 
-// Whether a byte is a space or a tab, or ends a line.
+// Returns whether a byte is a space or a tab, or ends a line.
 pub(crate) fn is_space(byte: u8) -> bool
     ensures { result ≡ is_space byte }
 {
     is_blank(byte) || is_line_end(byte)
 }
 
-// Whether a byte is a space or a control byte of ASCII other than NUL, which CommonMark reads as U+FFFD.
+// Returns whether a byte is a space or a control byte of ASCII other than NUL, which CommonMark reads as U+FFFD.
 pub(crate) fn is_space_or_control(byte: u8) -> bool
     ensures { result ≡ is_space_or_control byte }
 {
     byte != 0 && byte <= b' ' || byte == 127
 }
 
-// Whether a text has only spaces and tabs.
+// Returns whether a text has only spaces and tabs.
 pub(crate) fn is_blank_text(text: &[u8]) -> bool
     ensures { result ≡ list_all is_blank text.now }
 {
     text.iter().all(|&byte| is_blank(byte))
 }
 
-// How many times a byte is repeated at the beginning of a text.
+// Returns how many times a byte is repeated at the beginning of a text.
 pub(crate) fn run_length(text: &[u8], byte: u8) -> usize
     ensures { result ≤ length text.now }
 {
     run_end(text, 0, |other| other == byte)
 }
 
-// The offset of the first byte from an offset on that fails a test, or the end of the text.
+// Returns the offset of the first byte from an offset on that fails a test, or the end of the text.
 pub(crate) fn run_end<F: Fn(u8) -> bool>(text: &[u8], from: usize, test: F) -> usize
     requires callable { F.IsAlwaysCallable test }
     requires within { from ≤ length text.now }
@@ -65,7 +65,7 @@ pub(crate) fn run_end<F: Fn(u8) -> bool>(text: &[u8], from: usize, test: F) -> u
     text.len()
 }
 
-// The offset of the first byte of a class from an offset on, or the end of the text.
+// Returns the offset of the first byte of a class from an offset on, or the end of the text.
 fn first_at<C: ByteClass>(text: &[u8], from: usize, class: &C) -> usize
     requires { from ≤ length text.now }
     ensures first { result ≡ first_from (C.has class.now) text.now from }
@@ -74,7 +74,7 @@ fn first_at<C: ByteClass>(text: &[u8], from: usize, class: &C) -> usize
     from + len_before(class, &text[from..])
 }
 
-// The offset of the first of this byte from an offset on, or the end of the text.
+// Returns the offset of the first of this byte from an offset on, or the end of the text.
 pub(crate) fn byte_at(text: &[u8], from: usize, byte: u8) -> usize
     requires { from ≤ length text.now }
     ensures first { result ≡ first_from (λ b. b == byte) text.now from }
@@ -83,7 +83,7 @@ pub(crate) fn byte_at(text: &[u8], from: usize, byte: u8) -> usize
     first_at(text, from, &OneByte { byte })
 }
 
-// The offset of the first line end from an offset on, or the end of the text.
+// Returns the offset of the first line end from an offset on, or the end of the text.
 pub(crate) fn line_end(text: &[u8], from: usize) -> usize
     requires { from ≤ length text.now }
     ensures first { result ≡ first_from is_line_end text.now from }
@@ -109,7 +109,8 @@ impl ByteClass for LineEnd {
     }
 }
 
-// The offset of the first byte from an offset on with which an inline or an escape may begin, or the end of the text.
+// Returns the offset of the first byte from an offset on with which an inline or an escape may begin, or the end of the
+// text.
 pub(crate) fn special_at(text: &[u8], from: usize) -> usize
     requires { from ≤ length text.now }
     ensures first { result ≡ first_from is_special text.now from }
@@ -140,8 +141,8 @@ impl ByteClass for Special {
     }
 }
 
-// The offset of the first byte from an offset on with which a destination may end, or with which parentheses or an
-// escape may begin or end, or the end of the text.
+// Returns the offset of the first byte from an offset on with which a destination may end, or with which parentheses or
+// an escape may begin or end, or the end of the text.
 pub(crate) fn destination_mark_at(text: &[u8], from: usize) -> usize
     requires { from ≤ length text.now }
     ensures first { result ≡ first_from is_destination_mark text.now from }
@@ -171,7 +172,7 @@ impl ByteClass for DestinationMark {
     }
 }
 
-// The offset after the spaces and line ends at an offset.
+// Returns the offset after the spaces and line ends at an offset.
 pub(crate) fn skip_spaces(text: &[u8], from: usize) -> usize
     requires { from ≤ length text.now }
     ensures { Skips text.now from result }
@@ -179,7 +180,7 @@ pub(crate) fn skip_spaces(text: &[u8], from: usize) -> usize
     run_end(text, from, is_space)
 }
 
-// The offset after this byte, where it is at an offset.
+// Returns the offset after this byte, where it is at an offset.
 pub(crate) fn skip_byte(text: &[u8], k: usize, byte: u8) -> Option<usize>
     ensures { IfSome result (λ end. Advances text.now k end) }
 {
@@ -190,7 +191,7 @@ pub(crate) fn skip_byte(text: &[u8], k: usize, byte: u8) -> Option<usize>
     }
 }
 
-// The offset after the first of these words from an offset on.
+// Returns the offset after the first of these words from an offset on.
 pub(crate) fn find_end(text: &[u8], from: usize, word: &[u8]) -> Option<usize>
     requires { from ≤ length text.now }
     ensures end { result ≡ word_end word.now from (drop from text.now) }
@@ -206,7 +207,7 @@ pub(crate) fn find_end(text: &[u8], from: usize, word: &[u8]) -> Option<usize>
     None
 }
 
-// The first offset from an offset on where a word may begin, or the end of the text.
+// Returns the first offset from an offset on where a word may begin, or the end of the text.
 fn word_start(text: &[u8], from: usize, word: &[u8]) -> usize
     requires { from ≤ length text.now }
     ensures none_before { word_end word.now from (drop from text.now) ≡ word_end word.now result (drop result text.now) }
@@ -218,11 +219,11 @@ fn word_start(text: &[u8], from: usize, word: &[u8]) -> usize
     }
 }
 
-// The offset after the character at an offset, or after the two bytes of an escape.
+// Returns the offset after the escape at an offset, or after the one byte.
 #[inline(always)]
-pub(crate) fn step_over(text: &[u8], k: usize) -> usize
+pub(crate) fn skip_escape_or_byte(text: &[u8], k: usize) -> usize
     requires { k < length text.now }
-    ensures step { result ≡ k + step_len (drop k text.now) }
+    ensures step { result ≡ k + escape_or_byte_len (drop k text.now) }
     ensures within { Advances text.now k result }
 {
     match &text[k..] {
@@ -231,7 +232,7 @@ pub(crate) fn step_over(text: &[u8], k: usize) -> usize
     }
 }
 
-// The offset of the first byte from an offset on that passes a test and isn't escaped.
+// Returns the offset of the first byte from an offset on that passes a test and isn't escaped.
 pub(crate) fn find_unescaped<F: Fn(u8) -> bool>(text: &[u8], from: usize, test: F) -> Option<usize>
     requires callable { F.IsAlwaysCallable test }
     requires within { from ≤ length text.now }
@@ -242,7 +243,7 @@ pub(crate) fn find_unescaped<F: Fn(u8) -> bool>(text: &[u8], from: usize, test: 
         if test(text[k]) {
             return Some(k);
         }
-        k = step_over(text, k);
+        k = skip_escape_or_byte(text, k);
     }
     None
 }

@@ -1,6 +1,6 @@
 //! Code spans: text between two runs of backticks of the same length.
 ghost use Rattle.std.specs.Prelude.{◌≤◌, ◌<◌, length, IfSome};
-ghost use Rattle.markdown_targets.specs.Steps.{Skips, Advances};
+ghost use Rattle.markdown_targets.specs.Offsets.{Skips, Advances};
 
 use crate::finder::bytes::{byte_at, run_end};
 use crate::span::Span;
@@ -17,7 +17,7 @@ pub(crate) struct BacktickRuns {
 }
 
 impl BacktickRuns {
-    // No run was seen.
+    // Returns a table in which no run was seen.
     pub(crate) fn new(alloc: Global) -> Result<BacktickRuns, AllocError> {
         let mut last = Vec::with_capacity(alloc, LONGEST_RUN + 1)?;
         for _ in 0..=LONGEST_RUN {
@@ -39,7 +39,7 @@ impl BacktickRuns {
         }
     }
 
-    // The end of the code span whose first run is at an offset, or of that run where none closes it.
+    // Returns the end of the code span whose first run is at an offset, or of that run where none closes it.
     pub(crate) fn span_end(&self, text: &[u8], start: usize) -> usize
         requires { start < length text.now }
         ensures { Advances text.now start result }
@@ -55,7 +55,7 @@ impl BacktickRuns {
     }
 }
 
-// The first run of backticks from an offset on.
+// Returns the first run of backticks from an offset on.
 fn next_run(text: &[u8], from: usize) -> Option<Span>
     requires { from ≤ length text.now }
     ensures { IfSome result (λ run. (from ≤ run.start) × Advances text.now run.start run.end) }
@@ -68,7 +68,7 @@ fn next_run(text: &[u8], from: usize) -> Option<Span>
     Some(Span { start, end })
 }
 
-// The end of the first run of a width from an offset on, or the offset where there is none.
+// Returns the end of the first run of a width from an offset on, or the offset where there is none.
 fn closer_end(text: &[u8], from: usize, width: usize) -> usize
     requires { from ≤ length text.now }
     ensures { Skips text.now from result }

@@ -20,8 +20,8 @@ pub(crate) enum Container {
 }
 
 impl Container {
-    // The container that begins at a place which is no thematic break, and the place after its marker.
-    pub(crate) fn begun_at<'a>(
+    // Returns the container that begins at a position which is no thematic break, and the position after its marker.
+    pub(crate) fn read<'a>(
         cursor: Cursor<'a>,
         is_in_paragraph: bool,
     ) -> Option<(Container, Cursor<'a>)> {
@@ -38,7 +38,7 @@ impl Container {
         Some(item_after(cursor, width))
     }
 
-    // The place after what a line has for the container, if the line belongs to it.
+    // Returns the position after what a line has for the container, if the line belongs to it.
     pub(crate) fn after_prefix<'a>(self, cursor: Cursor<'a>) -> Option<Cursor<'a>> {
         match self {
             Container::Quote => after_quote_mark(cursor),
@@ -49,7 +49,7 @@ impl Container {
     }
 }
 
-// The place after the `>` of a block quote, and after one space.
+// Returns the position after the `>` of a block quote, and after one space.
 fn after_quote_mark<'a>(cursor: Cursor<'a>) -> Option<Cursor<'a>> {
     if cursor.is_indented() || cursor.rest.is_empty() || cursor.rest[0] != b'>' {
         return None;
@@ -58,7 +58,7 @@ fn after_quote_mark<'a>(cursor: Cursor<'a>) -> Option<Cursor<'a>> {
     Some(inner.after_columns(inner.indent().min(1)))
 }
 
-// The item that a marker begins, and the place where its text begins.
+// Returns the item that a marker begins, and the position where its text begins.
 fn item_after<'a>(cursor: Cursor<'a>, width: usize) -> (Container, Cursor<'a>)
     requires { width ≤ length cursor.rest.now }
 {
@@ -74,7 +74,7 @@ fn item_after<'a>(cursor: Cursor<'a>, width: usize) -> (Container, Cursor<'a>)
     )
 }
 
-// How many columns there are between the marker of an item and its text.
+// Returns how many columns there are between the marker of an item and its text.
 fn item_padding(inner: Cursor<'_>) -> usize {
     if inner.is_at_end() || inner.indent() >= CODE_PADDING {
         return 1;
@@ -82,7 +82,7 @@ fn item_padding(inner: Cursor<'_>) -> usize {
     inner.indent()
 }
 
-// How many bytes the marker of an item has that a text begins with.
+// Returns how many bytes the marker of an item has that a text begins with.
 fn item_marker(text: &[u8]) -> Option<usize>
     ensures { IfSome result (λ width. width ≤ length text.now) }
 {
@@ -96,7 +96,7 @@ fn item_marker(text: &[u8]) -> Option<usize>
     }
 }
 
-// How many bytes the marker of an ordered item has that a text begins with.
+// Returns how many bytes the marker of an ordered item has that a text begins with.
 fn number_marker(text: &[u8]) -> Option<usize>
     ensures { IfSome result (λ width. width ≤ length text.now) }
 {
@@ -110,14 +110,14 @@ fn number_marker(text: &[u8]) -> Option<usize>
     }
 }
 
-// How many digits a text begins with.
+// Returns how many digits a text begins with.
 fn digit_count(text: &[u8]) -> usize
     ensures { result ≤ length text.now }
 {
     run_end(text, 0, |byte| byte.is_ascii_digit())
 }
 
-// Whether an item with a marker of some bytes ends a paragraph: it has text, and no number but 1.
+// Returns whether an item with a marker of some bytes ends a paragraph: it has text, and no number but 1.
 fn interrupts_paragraph(text: &[u8], width: usize) -> bool
     requires { width ≤ length text.now }
 {

@@ -1,4 +1,4 @@
-//! A place in a line, known by its column.
+//! A position in a line, known by its column.
 ghost use Rattle.std.specs.Prelude.{◌≤◌, length};
 
 use crate::finder::bytes::{is_blank, run_end};
@@ -9,25 +9,25 @@ const TAB_STOP: usize = 4;
 // From how many columns of indentation on a line is code.
 pub(crate) const CODE_INDENT: usize = 4;
 
-// A place in a line among spaces and tabs. A container may use up a part of a tab, so the place is a
+// A position in a line among spaces and tabs. A container may use up a part of a tab, so the position is a
 // column. Columns saturate, since a line of tabs has four times as many as it has bytes.
 #[derive(Clone, Copy)]
 pub(crate) struct Cursor<'a> {
     // The line from its first byte on that is no space or tab.
     pub(crate) rest: &'a [u8],
-    // The column of the place.
+    // The column of the position.
     column: usize,
     // The column of the rest.
     rest_column: usize,
 }
 
 impl<'a> Cursor<'a> {
-    // The place at the beginning of a line.
+    // Returns the position at the beginning of a line.
     pub(crate) fn new(line: &'a [u8]) -> Cursor<'a> {
         Cursor::from_column(line, 0)
     }
 
-    // The place before a text that begins at a column.
+    // Returns the position before a text that begins at a column.
     fn from_column(text: &'a [u8], column: usize) -> Cursor<'a> {
         let (blanks, rest) = text.split_at(run_end(text, 0, is_blank));
         let mut rest_column = column;
@@ -45,22 +45,22 @@ impl<'a> Cursor<'a> {
         }
     }
 
-    // How many columns the rest is indented.
+    // Returns how many columns the rest is indented.
     pub(crate) fn indent(self) -> usize {
         self.rest_column.saturating_sub(self.column)
     }
 
-    // Whether the rest is indented as far as code.
+    // Returns whether the rest is indented as far as code.
     pub(crate) fn is_indented(self) -> bool {
         self.indent() >= CODE_INDENT
     }
 
-    // Whether only spaces and tabs are left.
+    // Returns whether only spaces and tabs are left.
     pub(crate) fn is_at_end(self) -> bool {
         self.rest.is_empty()
     }
 
-    // The place some columns on, within the spaces and tabs.
+    // Returns the position some columns on, within the spaces and tabs.
     pub(crate) fn after_columns(self, columns: usize) -> Cursor<'a> {
         Cursor {
             column: self.column.saturating_add(columns),
@@ -68,7 +68,7 @@ impl<'a> Cursor<'a> {
         }
     }
 
-    // The place after the first bytes of the rest.
+    // Returns the position after the first bytes of the rest.
     pub(crate) fn after_bytes(self, count: usize) -> Cursor<'a>
         requires { count ≤ length self.rest.now }
     {
@@ -76,7 +76,7 @@ impl<'a> Cursor<'a> {
     }
 }
 
-// The first tab stop after a column.
+// Returns the first tab stop after a column.
 fn next_tab_stop(column: usize) -> usize {
     (column - column % TAB_STOP).saturating_add(TAB_STOP)
 }

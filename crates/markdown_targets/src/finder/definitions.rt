@@ -1,6 +1,6 @@
 //! Link reference definitions.
 ghost use Rattle.std.specs.Prelude.{◌≤◌, ◌<◌, length, IfSome, IfOk};
-ghost use Rattle.markdown_targets.specs.Steps.{Skips, Advances};
+ghost use Rattle.markdown_targets.specs.Offsets.{Skips, Advances};
 
 use crate::finder::bytes::{is_blank, is_line_end, run_end, skip_byte, skip_spaces};
 use crate::finder::links::{read_destination, title_end};
@@ -28,7 +28,7 @@ pub(crate) fn add_names(text: &[u8], start: usize, names: &mut Names) -> Result<
     Ok(())
 }
 
-// Whether a paragraph holds definitions alone.
+// Returns whether a paragraph holds definitions alone.
 pub(crate) fn is_definitions(text: &[u8]) -> bool {
     let mut k = 0;
     while let Some(definition) = Definition::read(text, k) {
@@ -38,7 +38,7 @@ pub(crate) fn is_definitions(text: &[u8]) -> bool {
 }
 
 impl<'a> Definition<'a> {
-    // The definition at an offset. The definition of a footnote isn't one of a link.
+    // Returns the definition at an offset. The definition of a footnote isn't one of a link.
     pub(crate) fn read(text: &'a [u8], start: usize) -> Option<Definition<'a>>
         requires { start ≤ length text.now }
         ensures { IfSome result (λ definition. Advances text.now start definition.after) }
@@ -47,8 +47,8 @@ impl<'a> Definition<'a> {
         if label.is_footnote() {
             return None;
         }
-        let place = skip_spaces(text, skip_byte(text, label.after, b':')?);
-        let destination = read_destination(text, place)?;
+        let destination_start = skip_spaces(text, skip_byte(text, label.after, b':')?);
+        let destination = read_destination(text, destination_start)?;
         let after = definition_end(text, destination.after)?;
         Some(Definition {
             name: label.name,
@@ -58,7 +58,7 @@ impl<'a> Definition<'a> {
     }
 }
 
-// The line after a definition, whose destination ends at an offset.
+// Returns the line after a definition, whose destination ends at an offset.
 fn definition_end(text: &[u8], from: usize) -> Option<usize>
     requires { from ≤ length text.now }
     ensures { IfSome result (λ end. Skips text.now from end) }
@@ -71,7 +71,7 @@ fn definition_end(text: &[u8], from: usize) -> Option<usize>
     next_line(text, from)
 }
 
-// The offset of the next line, if the rest of this line is blank.
+// Returns the offset of the next line, if the rest of this line is blank.
 fn next_line(text: &[u8], from: usize) -> Option<usize>
     requires { from ≤ length text.now }
     ensures { IfSome result (λ end. Skips text.now from end) }

@@ -16,7 +16,7 @@ pub(crate) struct Fence {
 }
 
 impl Fence {
-    // The fence at the beginning of a text, if it begins a block of code.
+    // Returns the fence at the beginning of a text, if it begins a block of code.
     pub(crate) fn read(text: &[u8]) -> Option<Fence> {
         let byte = *text.first()?;
         let length = run_length(text, byte);
@@ -31,7 +31,7 @@ impl Fence {
         Some(Fence { byte, length })
     }
 
-    // Whether a line closes the block.
+    // Returns whether a line closes the block.
     pub(crate) fn is_closed_by(self, cursor: Cursor<'_>) -> bool {
         let length = run_length(cursor.rest, self.byte);
         !cursor.is_indented() && length >= self.length && is_blank_text(&cursor.rest[length..])

@@ -1,6 +1,6 @@
 //! HTML in a text: tags, comments and the like.
 ghost use Rattle.std.specs.Prelude.{◌≤◌, ◌<◌, length, IfSome};
-ghost use Rattle.markdown_targets.specs.Steps.{Skips, Advances};
+ghost use Rattle.markdown_targets.specs.Offsets.{Skips, Advances};
 
 use crate::finder::bytes::{find_end, run_end};
 use crate::finder::tags::{StartTag, closing_tag_end};
@@ -21,7 +21,7 @@ struct Ending {
 }
 
 impl Ending {
-    // A word that wasn't searched for.
+    // Returns a word that wasn't searched for.
     fn new(word: &'static [u8]) -> Ending {
         Ending {
             word,
@@ -29,7 +29,7 @@ impl Ending {
         }
     }
 
-    // The offset after the first of these words from an offset on.
+    // Returns the offset after the first of these words from an offset on.
     fn find(&mut self, text: &[u8], from: usize) -> Option<usize>
         requires { from ≤ length text.now }
         ensures { IfSome result (λ end. Skips text.now from end) }
@@ -53,7 +53,7 @@ pub(crate) struct Endings {
 }
 
 impl Endings {
-    // No word was searched for.
+    // Returns the endings, of which none was searched for.
     pub(crate) fn new() -> Endings {
         Endings {
             comment: Ending::new(b"-->"),
@@ -63,7 +63,7 @@ impl Endings {
         }
     }
 
-    // The HTML at an offset.
+    // Returns the HTML at an offset.
     pub(crate) fn read<'a>(&mut self, text: &'a [u8], start: usize) -> Option<Html<'a>>
         requires { start ≤ length text.now }
         ensures { IfSome result (λ html. Advances text.now start html.after) }
@@ -81,8 +81,8 @@ impl Endings {
         Some(Html { after, tag: None })
     }
 
-    // The end of the HTML at an offset that is no tag. The dashes that open a comment may be those that
-    // close it.
+    // Returns the end of the HTML at an offset that is no tag. The dashes that open a comment may be
+    // those that close it.
     fn untagged_end(&mut self, text: &[u8], start: usize) -> Option<usize>
         requires { start ≤ length text.now }
         ensures { IfSome result (λ end. Advances text.now start end) }
@@ -101,8 +101,8 @@ impl Endings {
     }
 }
 
-// The offset after what a browser reads at an angle where CommonMark has no HTML: a comment goes to the end of its
-// block, and an instruction or the like, which is a comment to a browser, to the next `>`.
+// Returns the offset after what a browser reads at an angle where CommonMark has no HTML: a comment goes to the end of
+// its block, and an instruction or the like, which is a comment to a browser, to the next `>`.
 pub(crate) fn unclosed_end(text: &[u8], start: usize) -> usize
     requires { start < length text.now }
     ensures { Advances text.now start result }

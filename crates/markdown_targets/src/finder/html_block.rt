@@ -97,8 +97,8 @@ pub(crate) enum HtmlBlock {
 }
 
 impl HtmlBlock {
-    // The block that a text begins. Within a paragraph, a tag of any name doesn't begin a block.
-    pub(crate) fn begun_by(text: &[u8], is_in_paragraph: bool) -> Option<HtmlBlock> {
+    // Returns the block that a text begins. Within a paragraph, a tag of any name doesn't begin a block.
+    pub(crate) fn read(text: &[u8], is_in_paragraph: bool) -> Option<HtmlBlock> {
         let tag = text.strip_prefix(b"<")?;
         if let Some(block) = untagged_block(tag) {
             return Some(block);
@@ -112,12 +112,12 @@ impl HtmlBlock {
         None
     }
 
-    // Whether a line ends the block before it. Only a blank line does so.
+    // Returns whether a line ends the block before it. Only a blank line does so.
     pub(crate) fn is_ended_before(self, cursor: Cursor<'_>) -> bool {
         matches!(self, HtmlBlock::Tags) && cursor.is_at_end()
     }
 
-    // Whether a line of the block is its last line.
+    // Returns whether a line of the block is its last line.
     pub(crate) fn is_ended_by(self, text: &[u8]) -> bool {
         match self {
             HtmlBlock::Raw => RAW_ENDS.iter().any(|end| has_part(text, end)),
@@ -130,7 +130,7 @@ impl HtmlBlock {
     }
 }
 
-// The block that something else than a tag begins, after its `<`.
+// Returns the block that something else than a tag begins, after its `<`.
 fn untagged_block(text: &[u8]) -> Option<HtmlBlock> {
     match text {
         [b'?', ..] => Some(HtmlBlock::Instruction),
@@ -216,7 +216,7 @@ fn is_apart_or_closed(rest: &[u8]) -> bool
     is_apart(rest) || rest.starts_with(b"/>")
 }
 
-// Whether a text is a whole tag, and spaces. `<pre/>` and its like are none.
+// Returns whether a text is a whole tag, and spaces. `<pre/>` and its like are none.
 fn is_lone_tag(text: &[u8]) -> bool {
     let end = match StartTag::read(text, 0) {
         Some(tag) if RAW_NAMES.iter().any(|name| tag.is(name)) => None,
@@ -226,7 +226,7 @@ fn is_lone_tag(text: &[u8]) -> bool {
     end.is_some_and(|end| is_blank_text(&text[end..]))
 }
 
-// Whether a text has a part, in any case.
+// Returns whether a text has a part, in any case.
 fn has_part(text: &[u8], part: &[u8]) -> bool {
     text.windows(part.len().max(1))
         .any(|window| window.eq_ignore_ascii_case(part))

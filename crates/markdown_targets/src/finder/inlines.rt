@@ -1,11 +1,11 @@
 //! The targets in the text of a page's blocks.
 ghost use Rattle.std.specs.Prelude.{◌≡◌, ◌≤◌, ◌<◌, ◌+◌, true, length, slice_index, Ok, IfOk, IfSome};
 ghost use Rattle.markdown_targets.specs.Classes.{is_special, is_only_text};
-ghost use Rattle.markdown_targets.specs.Steps.{Skips, Advances, first_from};
+ghost use Rattle.markdown_targets.specs.Offsets.{Skips, Advances, first_from};
 
 use crate::finder::autolinks::autolink_end;
 use crate::finder::brackets::{Bracket, Brackets, Opener};
-use crate::finder::bytes::{byte_at, special_at, step_over};
+use crate::finder::bytes::{byte_at, skip_escape_or_byte, special_at};
 use crate::finder::code_spans::BacktickRuns;
 use crate::finder::definitions::{Definition, add_names};
 use crate::finder::html::{Endings, unclosed_end};
@@ -17,20 +17,20 @@ use crate::span::Span;
 use crate::target::{LinkTarget, LinkTargets, PassedOver, TargetKind, WhyPassedOver};
 use std::alloc::{AllocError, Global};
 
-// The targets of links, images, definitions and attributes, in the order in which these end, and what
-// is passed over.
+// Returns the targets of links, images, definitions and attributes, in the order in which these end, and what is passed
+// over.
 pub(crate) fn read_inlines(alloc: Global, text: &TextBlocks) -> Result<LinkTargets, AllocError> {
-    let mut reader = Reader::new(alloc, names(alloc, text)?)?;
+    let mut reader = InlineReader::new(alloc, names(alloc, text)?)?;
     for block in text.blocks() {
         if let Some(bytes) = text.text_through(*block) {
             reader.read_inlines_of_block(block.kind, bytes, block.start)?;
         }
     }
-    let Reader { found, .. } = reader;
+    let InlineReader { found, .. } = reader;
     Ok(found)
 }
 
-// The names that the paragraphs of a page define.
+// Returns the names that the paragraphs of a page define.
 fn names(alloc: Global, text: &TextBlocks) -> Result<Names, AllocError> {
     let mut names = Names::new(alloc);
     for block in text.blocks() {
@@ -46,7 +46,7 @@ fn names(alloc: Global, text: &TextBlocks) -> Result<Names, AllocError> {
 // What is known while a page is read: of its block the brackets, the runs of backticks, the words that
 // end HTML, and how far the content of an element is text.
 #[derive(Drop)]
-struct Reader {
+struct InlineReader {
     found: LinkTargets,
     names: Names,
     brackets: Brackets,
@@ -55,10 +55,10 @@ struct Reader {
     content_end: usize,
 }
 
-impl Reader {
-    // Nothing was read.
-    fn new(alloc: Global, names: Names) -> Result<Reader, AllocError> {
-        Ok(Reader {
+impl InlineReader {
+    // Returns a reader that has read nothing.
+    fn new(alloc: Global, names: Names) -> Result<InlineReader, AllocError> {
+        Ok(InlineReader {
             found: LinkTargets {
                 targets: Vec::new(alloc),
                 passed_over: Vec::new(alloc),
@@ -138,7 +138,7 @@ impl Reader {
                 Ok(k + 2)
             }
             [b']', ..] => self.close_bracket(text, k + 1),
-            [b'\\', ..] => Ok(step_over(text, k)),
+            [b'\\', ..] => Ok(skip_escape_or_byte(text, k)),
             _ => Ok(special_at(text, k + 1)),
         }
     }
@@ -212,7 +212,7 @@ impl Reader {
         Ok(end)
     }
 
-    // The end of the link whose text ends at an offset.
+    // Returns the end of the link whose text ends at an offset.
     fn link_end(
         &mut self,
         text: &[u8],
@@ -223,7 +223,7 @@ impl Reader {
         ensures { IfOk result (λ end. IfSome end (λ end. Skips text.now after end)) }
     {
         let Some(link) = inline_link(text, after) else {
-            return self.reference_end(text, bracket, after);
+            return self.reference_link_end(text, bracket, after);
         };
         if let Some(target) = link.target {
             self.add_target(text, TargetKind::Inline, target)?;
@@ -231,8 +231,8 @@ impl Reader {
         Ok(Some(link.after))
     }
 
-    // The end of the link by name whose text ends at an offset: `[text][name]`, `[name][]` or `[name]`.
-    fn reference_end(
+    // Returns the end of the link by name whose text ends at an offset: `[text][name]`, `[name][]` or `[name]`.
+    fn reference_link_end(
         &mut self,
         text: &[u8],
         bracket: Bracket,
@@ -260,7 +260,7 @@ impl Reader {
         })
     }
 
-    // The end of a link by a name in brackets, if the name is defined. Otherwise the name is passed over,
+    // Returns the end of a link by a name in brackets, if the name is defined. Otherwise the name is passed over,
     // unless it is a footnote's or has a target of its own.
     fn named_end(
         &mut self,
@@ -307,7 +307,7 @@ impl Reader {
     }
 }
 
-// Whether a template writes a destination.
+// Returns whether a template writes a destination.
 fn is_template(destination: &[u8]) -> bool {
     matches!(destination, [b'{', b'{' | b'%', ..] | [b'$', b'{', ..])
 }

@@ -1,11 +1,11 @@
 //! The parts of a link: its destination, its title and a label.
 ghost use Rattle.std.specs.Prelude.{◌≡◌, ◌≤◌, ◌<◌, false, length, IfSome};
 ghost use Rattle.markdown_targets.specs.Destinations.{stops, depth_after, destination_end};
-ghost use Rattle.markdown_targets.specs.Steps.{Advances};
+ghost use Rattle.markdown_targets.specs.Offsets.{Advances};
 
 use crate::finder::bytes::{
-    destination_mark_at, find_unescaped, is_line_end, is_space_or_control, skip_byte, skip_spaces,
-    step_over,
+    destination_mark_at, find_unescaped, is_line_end, is_space_or_control, skip_byte,
+    skip_escape_or_byte, skip_spaces,
 };
 use crate::span::Span;
 
@@ -26,7 +26,7 @@ pub(crate) struct InlineLink {
     pub(crate) after: usize,
 }
 
-// The parentheses of a link at an offset.
+// Returns the parentheses of a link at an offset.
 pub(crate) fn inline_link(text: &[u8], start: usize) -> Option<InlineLink>
     ensures { IfSome result (λ link. Advances text.now start link.after) }
 {
@@ -44,7 +44,7 @@ pub(crate) fn inline_link(text: &[u8], start: usize) -> Option<InlineLink>
     })
 }
 
-// The destination at an offset. A destination may be empty only between `<` and `>`.
+// Returns the destination at an offset. A destination may be empty only between `<` and `>`.
 pub(crate) fn read_destination(text: &[u8], start: usize) -> Option<Destination>
     requires { start ≤ length text.now }
     ensures { IfSome result (λ destination. Advances text.now start destination.after) }
@@ -67,7 +67,7 @@ pub(crate) fn read_destination(text: &[u8], start: usize) -> Option<Destination>
     }
 }
 
-// The end of a destination without angles, whose parentheses are balanced.
+// Returns the end of a destination without angles, whose parentheses are balanced.
 fn bare_destination_end(text: &[u8], start: usize) -> Option<usize>
     requires { start ≤ length text.now }
     ensures end { result ≡ destination_end text.now start }
@@ -77,7 +77,7 @@ fn bare_destination_end(text: &[u8], start: usize) -> Option<usize>
     let mut k = destination_mark_at(text, start);
     while k < text.len() && !stops(depth, text[k]) {
         depth = depth_after(depth, text[k]);
-        k = destination_mark_at(text, step_over(text, k));
+        k = destination_mark_at(text, skip_escape_or_byte(text, k));
     }
     if depth == 0 && k > start {
         Some(k)
@@ -86,7 +86,7 @@ fn bare_destination_end(text: &[u8], start: usize) -> Option<usize>
     }
 }
 
-// Whether a destination with so many open parentheses stops before a byte.
+// Returns whether a destination with so many open parentheses stops before a byte.
 fn stops(depth: usize, byte: u8) -> bool
     ensures { result ≡ stops depth byte }
 {
@@ -97,7 +97,7 @@ fn stops(depth: usize, byte: u8) -> bool
     }
 }
 
-// How many parentheses are open after a byte of a destination.
+// Returns how many parentheses are open after a byte of a destination.
 fn depth_after(depth: usize, byte: u8) -> usize
     requires goes_on { stops depth byte ≡ false }
     requires few { depth ≤ DEEPEST }
@@ -111,7 +111,7 @@ fn depth_after(depth: usize, byte: u8) -> usize
     }
 }
 
-// The end of the title at an offset, which begins with spaces.
+// Returns the end of the title at an offset, which begins with spaces.
 pub(crate) fn title_end(text: &[u8], start: usize) -> Option<usize>
     requires { start ≤ length text.now }
     ensures { IfSome result (λ end. Advances text.now start end) }

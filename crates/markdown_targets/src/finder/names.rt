@@ -3,7 +3,7 @@ ghost use Rattle.std.specs.Prelude.{◌≡◌, ◌≤◌, ◌<◌, nat_lt, lengt
 ghost use Rattle.std.specs.List.{count_by};
 ghost use Rattle.markdown_targets.specs.Classes.{begins_character};
 ghost use Rattle.markdown_targets.specs.Labels.{normalized_label};
-ghost use Rattle.markdown_targets.specs.Steps.{Advances};
+ghost use Rattle.markdown_targets.specs.Offsets.{Advances};
 
 use crate::finder::bytes::{find_unescaped, is_space, skip_byte};
 use crate::span::Span;
@@ -22,7 +22,7 @@ pub(crate) struct Label<'a> {
 }
 
 impl<'a> Label<'a> {
-    // The label in brackets at an offset. It has no brackets inside, and holds more than spaces.
+    // Returns the label in brackets at an offset. It has no brackets inside, and holds more than spaces.
     pub(crate) fn read(text: &'a [u8], start: usize) -> Option<Label<'a>>
         ensures { IfSome result (λ label. Advances text.now start label.after) }
     {
@@ -40,20 +40,20 @@ impl<'a> Label<'a> {
         })
     }
 
-    // Whether the label is a footnote's.
+    // Returns whether the label is a footnote's.
     pub(crate) fn is_footnote(self) -> bool {
         self.name.first() == Some(&b'^')
     }
 }
 
-// Whether a label has too many characters. The characters are counted only if there are as many bytes.
+// Returns whether a label has too many characters. The characters are counted only if there are as many bytes.
 fn is_too_long(name: &[u8]) -> bool
     ensures { result ≡ nat_lt LONGEST_LABEL (count_by begins_character name.now) }
 {
     name.len() > LONGEST_LABEL && character_count(name) > LONGEST_LABEL
 }
 
-// How many characters a text in UTF-8 has: as many as it has bytes that begin a character.
+// Returns how many characters a text in UTF-8 has: as many as it has bytes that begin a character.
 fn character_count(text: &[u8]) -> usize
     ensures { result ≡ count_by begins_character text.now }
 {
@@ -66,49 +66,52 @@ fn character_count(text: &[u8]) -> usize
 #[derive(Drop)]
 pub(crate) struct Names {
     alloc: Global,
-    folded: BTreeSet<Vec<u8>>,
+    normalized: BTreeSet<Vec<u8>>,
 }
 
 impl Names {
-    // No names.
+    // Returns no names.
     pub(crate) fn new(alloc: Global) -> Names {
         Names {
             alloc,
-            folded: BTreeSet::new(alloc),
+            normalized: BTreeSet::new(alloc),
         }
     }
 
     // Adds a name.
     pub(crate) fn add(&mut self, name: &[u8]) -> Result<(), AllocError> {
-        self.folded.insert(folded(self.alloc, name)?)?;
+        self.normalized.insert(normalized_label(self.alloc, name)?)?;
         Ok(())
     }
 
-    // Whether a name was added, in this case or another.
+    // Returns whether a name was added, in this case or another.
     pub(crate) fn has(&self, name: &[u8]) -> Result<bool, AllocError> {
-        if self.folded.is_empty() {
+        if self.normalized.is_empty() {
             return Ok(false);
         }
-        Ok(self.folded.contains(folded(self.alloc, name)?.as_slice()))
+        Ok(
+            self.normalized
+                .contains(normalized_label(self.alloc, name)?.as_slice()),
+        )
     }
 }
 
-// Returns a name without case as far as ASCII, with one space in place of several.
-fn folded(alloc: Global, name: &[u8]) -> Result<Vec<u8>, AllocError>
-    ensures { IfOk result (λ folded. folded.items ≡ normalized_label name.now) }
+// Returns the label as it is compared: without case as far as ASCII, with one space in place of several.
+fn normalized_label(alloc: Global, name: &[u8]) -> Result<Vec<u8>, AllocError>
+    ensures { IfOk result (λ label. label.items ≡ normalized_label name.now) }
 {
-    let mut folded = Vec::with_capacity(alloc, name.len())?;
+    let mut normalized = Vec::with_capacity(alloc, name.len())?;
     let mut is_apart = false;
     for &byte in name {
         if is_space(byte) {
             is_apart = true;
         } else {
-            if is_apart && !folded.is_empty() {
-                folded.push(b' ')?;
+            if is_apart && !normalized.is_empty() {
+                normalized.push(b' ')?;
             }
-            folded.push(byte.to_ascii_lowercase())?;
+            normalized.push(byte.to_ascii_lowercase())?;
             is_apart = false;
         }
     }
-    Ok(folded)
+    Ok(normalized)
 }

@@ -41,19 +41,19 @@ pub(crate) enum Before {
 }
 
 impl Before {
-    // Whether there is a paragraph of the same containers.
+    // Returns whether there is a paragraph of the same containers.
     pub(crate) fn is_paragraph(self) -> bool {
         matches!(self, Before::Paragraph)
     }
 
-    // Whether there is a paragraph.
+    // Returns whether there is a paragraph.
     pub(crate) fn is_open(self) -> bool {
         !matches!(self, Before::Nothing)
     }
 }
 
 impl Start {
-    // What the rest of a line begins, which opens no container.
+    // Returns what the rest of a line begins, which opens no container.
     pub(crate) fn read(cursor: Cursor<'_>, before: Before) -> Start {
         if cursor.is_at_end() {
             return Start::Blank;
@@ -75,22 +75,22 @@ impl Start {
         if let Some(fence) = Fence::read(text) {
             return Start::Fenced(fence);
         }
-        HtmlBlock::begun_by(text, before.is_open()).map_or(Start::Text, Start::Html)
+        HtmlBlock::read(text, before.is_open()).map_or(Start::Text, Start::Html)
     }
 }
 
-// Whether a text begins with the `#` of a heading.
+// Returns whether a text begins with the `#` of a heading.
 fn is_heading(text: &[u8]) -> bool {
     let level = run_length(text, b'#');
     level > 0 && level <= DEEPEST_HEADING && text.get(level).is_none_or(|&byte| is_blank(byte))
 }
 
-// Whether a text is a thematic break, or underlines the paragraph before it.
+// Returns whether a text is a thematic break, or underlines the paragraph before it.
 fn is_rule(text: &[u8], before: Before) -> bool {
     is_thematic_break(text) || (before.is_paragraph() && is_underline(text))
 }
 
-// Whether a text underlines a heading.
+// Returns whether a text underlines a heading.
 fn is_underline(text: &[u8]) -> bool {
     match text.first() {
         Some(&byte) if byte == b'=' || byte == b'-' => {
@@ -100,7 +100,7 @@ fn is_underline(text: &[u8]) -> bool {
     }
 }
 
-// Whether a text is a thematic break.
+// Returns whether a text is a thematic break.
 pub(crate) fn is_thematic_break(text: &[u8]) -> bool {
     match text.first() {
         Some(&byte) if byte == b'*' || byte == b'-' || byte == b'_' => {

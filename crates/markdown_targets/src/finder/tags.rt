@@ -1,7 +1,7 @@
 //! Tags in HTML, with the attributes that link.
 ghost use Rattle.std.specs.Prelude.{◌≡◌, ◌≤◌, ◌<◌, ◌&&◌, length, slice_index, IfSome};
 ghost use Rattle.markdown_targets.specs.Classes.{is_of_tag, begins_attribute, is_of_attribute, is_of_value};
-ghost use Rattle.markdown_targets.specs.Steps.{Skips, Advances};
+ghost use Rattle.markdown_targets.specs.Offsets.{Skips, Advances};
 ghost use Rattle.markdown_targets.specs.Tags.{begins_with_name, ends_name, closes};
 
 use crate::finder::bytes::{is_space, run_end, skip_byte, skip_spaces};
@@ -48,7 +48,7 @@ pub(crate) struct StartTag<'a> {
 }
 
 impl Links {
-    // These attributes and another attribute.
+    // Returns these attributes and another attribute.
     fn with(self, attribute: Attribute<'_>) -> Links {
         let mut links = self;
         if links.href.is_none() && attribute.name.eq_ignore_ascii_case(b"href") {
@@ -62,7 +62,7 @@ impl Links {
 }
 
 impl<'a> StartTag<'a> {
-    // The start tag at an offset.
+    // Returns the start tag at an offset.
     pub(crate) fn read(text: &'a [u8], start: usize) -> Option<StartTag<'a>>
         ensures { IfSome result (λ tag. Advances text.now start tag.after) }
     {
@@ -86,17 +86,17 @@ impl<'a> StartTag<'a> {
         })
     }
 
-    // Whether the tag has this name, in any case.
+    // Returns whether the tag has this name, in any case.
     pub(crate) fn is(self, name: &[u8]) -> bool {
         self.name.eq_ignore_ascii_case(name)
     }
 
-    // The value of its first `href`.
+    // Returns the value of its first `href`.
     pub(crate) fn href(self) -> Option<Value> {
         self.links.href?
     }
 
-    // The values of its first `href` and its first `src`, in the order of the page.
+    // Returns the values of its first `href` and its first `src`, in the order of the page.
     pub(crate) fn values(self) -> [Option<Value>; 2] {
         let href = self.links.href.flatten();
         let src = self.links.src.flatten();
@@ -106,7 +106,7 @@ impl<'a> StartTag<'a> {
         }
     }
 
-    // The end of the tag's element if its content is text, or else the offset after the tag.
+    // Returns the end of the tag's element if its content is text, or else the offset after the tag.
     pub(crate) fn content_end(self, text: &[u8], after: usize) -> usize
         requires { after ≤ length text.now }
         ensures { Skips text.now after result }
@@ -124,7 +124,7 @@ impl<'a> StartTag<'a> {
 }
 
 impl<'a> Attribute<'a> {
-    // The attribute at an offset, which begins with spaces.
+    // Returns the attribute at an offset, which begins with spaces.
     fn read(text: &'a [u8], start: usize) -> Option<Attribute<'a>>
         requires { start ≤ length text.now }
         ensures { IfSome result (λ attribute. Advances text.now start attribute.after) }
@@ -147,7 +147,7 @@ impl<'a> Attribute<'a> {
     }
 }
 
-// The value after the name of an attribute that ends at an offset.
+// Returns the value after the name of an attribute that ends at an offset.
 fn read_value(text: &[u8], name_end: usize) -> Option<Value>
     requires { name_end ≤ length text.now }
     ensures { IfSome result (λ value. Advances text.now name_end value.after) }
@@ -167,7 +167,7 @@ fn read_value(text: &[u8], name_end: usize) -> Option<Value>
     Some(Value { quote, span, after })
 }
 
-// The value without quotes at an offset.
+// Returns the value without quotes at an offset.
 fn read_unquoted_value(text: &[u8], start: usize) -> Option<Value>
     requires { start ≤ length text.now }
     ensures { IfSome result (λ value. Advances text.now start value.after) }
@@ -187,7 +187,7 @@ fn read_unquoted_value(text: &[u8], start: usize) -> Option<Value>
     })
 }
 
-// The end of the closing tag at an offset.
+// Returns the end of the closing tag at an offset.
 pub(crate) fn closing_tag_end(text: &[u8], start: usize) -> Option<usize>
     ensures { IfSome result (λ end. Advances text.now start end) }
 {
@@ -234,7 +234,7 @@ fn ends_name(byte: u8) -> bool
     is_space(byte) || matches!(byte, FORM_FEED | b'/' | b'>')
 }
 
-// The end of the name of a tag at an offset.
+// Returns the end of the name of a tag at an offset.
 fn tag_name_end(text: &[u8], start: usize) -> Option<usize>
     requires { start ≤ length text.now }
     ensures { IfSome result (λ end. Advances text.now start end) }
@@ -247,28 +247,28 @@ fn tag_name_end(text: &[u8], start: usize) -> Option<usize>
     }
 }
 
-// Whether the name of a tag may have a byte.
+// Returns whether the name of a tag may have a byte.
 fn is_of_tag(byte: u8) -> bool
     ensures { result ≡ is_of_tag byte }
 {
     byte.is_ascii_alphanumeric() || byte == b'-'
 }
 
-// Whether a byte may begin the name of an attribute.
+// Returns whether a byte may begin the name of an attribute.
 fn begins_attribute(byte: u8) -> bool
     ensures { result ≡ begins_attribute byte }
 {
     byte.is_ascii_alphabetic() || byte == b'_' || byte == b':'
 }
 
-// Whether the name of an attribute may have a byte.
+// Returns whether the name of an attribute may have a byte.
 fn is_of_attribute(byte: u8) -> bool
     ensures { result ≡ is_of_attribute byte }
 {
     begins_attribute(byte) || byte.is_ascii_digit() || byte == b'.' || byte == b'-'
 }
 
-// Whether a value without quotes may have a byte.
+// Returns whether a value without quotes may have a byte.
 fn is_of_value(byte: u8) -> bool
     ensures { result ≡ is_of_value byte }
 {

@@ -31,7 +31,7 @@ pub(crate) struct TextBlocks {
 }
 
 impl TextBlocks {
-    // The page with no blocks yet.
+    // Returns the page with no blocks yet.
     pub(crate) fn new(alloc: Global, page: &[u8]) -> Result<TextBlocks, AllocError> {
         Ok(TextBlocks {
             bytes: page.to_vec(alloc)?,
@@ -60,12 +60,12 @@ impl TextBlocks {
         }
     }
 
-    // The blocks, in the order of the page.
+    // Returns the blocks, in the order of the page.
     pub(crate) fn blocks(&self) -> &[TextBlock] {
         &self.blocks
     }
 
-    // The text of the last block.
+    // Returns the text of the last block.
     pub(crate) fn last_text(&self) -> &[u8] {
         match self.blocks.last() {
             Some(block) => self.bytes.get(block.start..block.end).unwrap_or(&[]),
@@ -73,7 +73,7 @@ impl TextBlocks {
         }
     }
 
-    // The page as far as to the end of a block.
+    // Returns the page as far as to the end of a block.
     pub(crate) fn text_through(&self, block: TextBlock) -> Option<&[u8]>
         ensures { IfSome result (λ text. block.start ≤ length text.now) }
     {

@@ -2,7 +2,7 @@
 use Rattle.std.proofs.Common.{◌≡◌, ◌-◌, ◌+◌, true, false, length, drop, take, Some, sym, ap, subst, ◌∙◌, arith}
 use Rattle.std.proofs.lemmas.List.{take_all, length-drop}
 use Rattle.markdown_targets.specs.Words.{begins_with}
-use Rattle.markdown_targets.proofs.StepsLemmas.{word_end-here, word_end-later}
+use Rattle.markdown_targets.proofs.OffsetsLemmas.{word_end-here, word_end-later}
 use Rattle.markdown_targets.proofs.finder.bytes.find_end.Goals as goal
 
 pub returns-in-Some-clause-end : goal.returns-in-Some-clause-end

@@ -1,6 +1,6 @@
 -- No word begins before the offset.
 use Rattle.std.proofs.Common.{◌≡◌, ◌-◌, length, drop}
-use Rattle.markdown_targets.specs.Steps.{Skips}
+use Rattle.markdown_targets.specs.Offsets.{Skips}
 use Rattle.markdown_targets.specs.Words.{word_end}
 use Rattle.markdown_targets.proofs.finder.bytes.find_end.Given as goal
 

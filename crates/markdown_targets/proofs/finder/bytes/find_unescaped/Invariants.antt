@@ -1,6 +1,6 @@
 -- The offset stays within the text.
 use Rattle.std.proofs.Common.{◌-◌, length}
-use Rattle.markdown_targets.specs.Steps.{Skips}
+use Rattle.markdown_targets.specs.Offsets.{Skips}
 use Rattle.markdown_targets.proofs.finder.bytes.find_unescaped.Given as goal
 
 abbrev pub invariant-loop-k : goal.invariant-loop-k

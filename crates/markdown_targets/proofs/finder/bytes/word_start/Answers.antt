@@ -1,5 +1,5 @@
 -- A word begins with its first byte.
-use Rattle.markdown_targets.proofs.StepsLemmas.{word_end-first}
+use Rattle.markdown_targets.proofs.OffsetsLemmas.{word_end-first}
 use Rattle.markdown_targets.proofs.finder.bytes.word_start.Goals as goal
 
 pub returns-in-Some-clause-none_before : goal.returns-in-Some-clause-none_before

@@ -1,6 +1,6 @@
 -- The offset stays within the text.
 use Rattle.std.proofs.Common.{◌-◌, length}
-use Rattle.markdown_targets.specs.Steps.{Skips}
+use Rattle.markdown_targets.specs.Offsets.{Skips}
 use Rattle.markdown_targets.proofs.finder.definitions.add_names.Given as goal
 
 abbrev pub invariant-loop-definition : goal.invariant-loop-definition

@@ -1,7 +1,7 @@
 -- The destination ends where it ends in what is left from the offset on, and the parentheses are within their limit.
 use Rattle.std.proofs.Common.{◌≡◌, ◌-◌, false, length, drop, ◌≤◌}
 use Rattle.markdown_targets.specs.Destinations.{end_of}
-use Rattle.markdown_targets.specs.Steps.{Skips}
+use Rattle.markdown_targets.specs.Offsets.{Skips}
 use Rattle.markdown_targets.specs.declared.finder.links.TheConstants.{DEEPEST}
 use Rattle.markdown_targets.proofs.finder.links.bare_destination_end.Given as goal
 

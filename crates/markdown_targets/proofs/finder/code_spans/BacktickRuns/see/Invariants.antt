@@ -1,6 +1,6 @@
 -- The offset stays within the text.
 use Rattle.std.proofs.Common.{◌-◌, length}
-use Rattle.markdown_targets.specs.Steps.{Skips}
+use Rattle.markdown_targets.specs.Offsets.{Skips}
 use Rattle.markdown_targets.proofs.finder.code_spans.BacktickRuns.see.Given as goal
 
 abbrev pub invariant-loop-run : goal.invariant-loop-run

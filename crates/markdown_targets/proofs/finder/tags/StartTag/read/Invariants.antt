@@ -1,6 +1,6 @@
 -- The offset stays within the text, after the name.
 use Rattle.std.proofs.Common.{◌-◌, length}
-use Rattle.markdown_targets.specs.Steps.{Skips}
+use Rattle.markdown_targets.specs.Offsets.{Skips}
 use Rattle.markdown_targets.proofs.finder.tags.StartTag.read.Given as goal
 
 abbrev pub invariant-loop-attribute : goal.invariant-loop-attribute

@@ -1,14 +1,14 @@
-//! References to characters: `&amp;`, `&#38;`, `&#x26;`.
+//! Character references: `&amp;`, `&#38;`, `&#x26;`.
 ghost use Rattle.std.specs.Prelude.{◌≡◌, ◌≤◌, ◌<◌, ◌+◌, length, min, slice_index, MatchOption, true, false};
 ghost use Rattle.std.specs.Char.{is_ascii_alphabetic, is_ascii_alphanumeric};
 ghost use Rattle.std.specs.List.{list_all, position};
 ghost use Rattle.std.specs.Option.{option_map};
-ghost use Rattle.target_paths.specs.References.{
+ghost use Rattle.target_paths.specs.CharacterReferences.{
   are_digits,
-  body_name,
   body_number,
   body_of,
   character_of,
+  character_of_name,
   ends_body,
   is_closed,
   is_name,
@@ -19,7 +19,7 @@ ghost use Rattle.target_paths.specs.References.{
 // The first number that isn't that of a character.
 const PAST_CHARACTERS: u32 = 0x11_0000;
 
-// The body of the reference that a text after an `&` may begin with: letters, digits and `#`, if a
+// Returns the body of the character reference that a text after an `&` may begin with: letters, digits and `#`, if a
 // semicolon comes after them.
 pub(crate) fn body(text: &[u8]) -> Option<&[u8]>
     ensures { MatchOption result (is_closed text.now ≡ false)
@@ -31,7 +31,7 @@ pub(crate) fn body(text: &[u8]) -> Option<&[u8]>
     }
 }
 
-// The end of the body of a reference, if text comes after it.
+// Returns the end of the body of a character reference, if text comes after it.
 fn body_end(text: &[u8]) -> Option<usize>
     ensures { result ≡ position ends_body text.now }
 {
@@ -39,7 +39,7 @@ fn body_end(text: &[u8]) -> Option<usize>
         .position(|&byte| !(byte.is_ascii_alphanumeric() || byte == b'#'))
 }
 
-// Whether a body has the form of a name.
+// Returns whether a body has the form of a name.
 pub(crate) fn is_name(body: &[u8]) -> bool
     ensures { result ≡ is_name body.now }
 {
@@ -55,16 +55,16 @@ pub(crate) fn begins_with_letter(text: &[u8]) -> bool
     }
 }
 
-// Whether a text has only letters and digits.
+// Returns whether a text has only letters and digits.
 fn are_alphanumeric(text: &[u8]) -> bool
     ensures { result ≡ list_all is_ascii_alphanumeric text.now }
 {
     text.iter().all(|byte| byte.is_ascii_alphanumeric())
 }
 
-// The character that a name stands for.
-pub(crate) fn named(body: &[u8]) -> Option<char>
-    ensures { result ≡ body_name body.now }
+// Returns the character that a name stands for.
+pub(crate) fn character_of_name(body: &[u8]) -> Option<char>
+    ensures { result ≡ character_of_name body.now }
 {
     if body == b"amp".as_slice() {
         Some('&')
@@ -83,7 +83,7 @@ pub(crate) fn named(body: &[u8]) -> Option<char>
     }
 }
 
-// The number in a body, or a number past all characters if the body's number is greater.
+// Returns the number in a body, or a number past all characters if the body's number is greater.
 pub(crate) fn number(body: &[u8]) -> Option<u32>
     ensures { result ≡ option_map (min 0x11_0000) (body_number body.now) }
 {
@@ -95,7 +95,7 @@ pub(crate) fn number(body: &[u8]) -> Option<u32>
     }
 }
 
-// The number that at most `most` digits write, or the first number past all characters if that is less.
+// Returns the number that at most `most` digits write, or the first number past all characters if that is less.
 fn number_of(digits: &[u8], radix: u32, most: usize) -> Option<u32>
     requires lower { 2 ≤ radix }
     requires upper { radix ≤ 16 }

@@ -1,7 +1,7 @@
 -- The offset stays within the text.
 use Rattle.std.proofs.Common.{◌-◌, length}
-use Rattle.markdown_targets.specs.Steps.{Skips}
-use Rattle.markdown_targets.proofs.finder.inlines.Reader.read_html.Given as goal
+use Rattle.markdown_targets.specs.Offsets.{Skips}
+use Rattle.markdown_targets.proofs.finder.inlines.InlineReader.read_html.Given as goal
 
 abbrev pub invariant-loop-k : goal.invariant-loop-k
 invariant-loop-k l = Skips l.text l.start l.k

@@ -1,4 +1,4 @@
--- References to characters: CommonMark 0.31.2, section 2.5, "Entity and numeric character references".
+-- Character references: CommonMark 0.31.2, section 2.5, "Entity and numeric character references".
 use Rattle.std.specs.Prelude.{ℕ, ◌+◌, Bool, ◌==◌, ◌&&◌, ◌||◌, not, nat_lt, List, length, drop, codes, Option, Some, None, if◌then◌else◌, slice_index}
 use Rattle.std.specs.List.{before_first, list_all}
 use Rattle.std.specs.Str.{bytes_eq}
@@ -10,7 +10,7 @@ use lib.Utf8.{scalar}
 abbrev pub ends_body : ℕ → Bool
 ends_body b = not (is_ascii_alphanumeric b || b == 35)
 
--- the body of a reference: the letters, digits and `#` at the start of the text after the `&`
+-- the body of a character reference: the letters, digits and `#` at the start of the text after the `&`
 abbrev pub body_of : List ℕ → List ℕ
 body_of text = before_first ends_body text
 
@@ -43,8 +43,8 @@ body_number body =
     else number_of 10 7 (drop 1 body)
 
 -- the character that one of six names stands for
-abbrev pub body_name : List ℕ → Option ℕ
-body_name body =
+abbrev pub character_of_name : List ℕ → Option ℕ
+character_of_name body =
     if bytes_eq body (codes "amp") then Some 38
     else if bytes_eq body (codes "lt") then Some 60
     else if bytes_eq body (codes "gt") then Some 62

@@ -19,6 +19,6 @@ first_from p text from = from + position_or_len p (drop from text)
 abbrev pub begins_with_escape : List ℕ → Bool
 begins_with_escape text = slice_index text 0 == 92 && is_ascii_punctuation (slice_index text 1)
 
--- how many bytes a step over the front of a text passes: the two bytes of an escape, or one byte
-abbrev pub step_len : List ℕ → ℕ
-step_len text = if begins_with_escape text then 2 else 1
+-- how many bytes a text has at its front: the two bytes of an escape, or one byte
+abbrev pub escape_or_byte_len : List ℕ → ℕ
+escape_or_byte_len text = if begins_with_escape text then 2 else 1

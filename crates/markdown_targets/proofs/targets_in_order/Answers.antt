@@ -1,7 +1,7 @@
 -- After the last target there are no more.
 use Rattle.std.proofs.Common.{map}
 use Rattle.markdown_targets.proofs.SpansLemmas.{AreInOrder-whole}
-use Rattle.markdown_targets.proofs.in_order.Goals as goal
+use Rattle.markdown_targets.proofs.targets_in_order.Goals as goal
 
 pub returns : goal.returns
 returns c =

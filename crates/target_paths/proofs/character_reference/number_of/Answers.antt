@@ -3,7 +3,7 @@ use Rattle.std.proofs.lemmas.Bool.Decides.{nat_tests}
 use Rattle.std.specs.Char.{digit_value, is_digit}
 use Rattle.std.specs.Str.Parse.{digits_value_after}
 use Rattle.target_paths.proofs.NumbersLemmas.{value-next, list_all-next}
-use Rattle.target_paths.proofs.reference.number_of.Goals as goal
+use Rattle.target_paths.proofs.character_reference.number_of.Goals as goal
 
 pub loop-byte-preserved : goal.loop-byte-preserved
 loop-byte-preserved c =

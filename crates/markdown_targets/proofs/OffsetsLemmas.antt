@@ -7,31 +7,31 @@ use Rattle.std.specs.Cmp.Lexicographic.{pointwise}
 use Rattle.std.specs.List.{position_or_len}
 use Rattle.markdown_targets.specs.Classes.{is_destination_mark}
 use Rattle.markdown_targets.specs.Destinations.{stops, depth_after, end_at, end_of}
-use Rattle.markdown_targets.specs.Steps.{first_from, step_len}
+use Rattle.markdown_targets.specs.Offsets.{first_from, escape_or_byte_len}
 use Rattle.markdown_targets.specs.Words.{begins_with, word_end}
 
 -- what is found from an offset on is found from the first byte of a class on, if no other byte changes it
-module _ (found : ℕ → List ℕ → Option ℕ) (p : ℕ → Bool)
-    (passes : (at b : ℕ) (bs : List ℕ) → p b ≡ false → found at (b ∷ bs) ≡ found (at + 1) bs) where
-  -- what is found after some bytes
-  abbrev Found : ℕ → List ℕ → ℕ → Type 0
-  Found at text n = found at text ≡ found (at + n) (drop n text)
+module _ (find : ℕ → List ℕ → Option ℕ) (p : ℕ → Bool)
+    (passes : (at b : ℕ) (bs : List ℕ) → p b ≡ false → find at (b ∷ bs) ≡ find (at + 1) bs) where
+  -- the same is found after some bytes
+  abbrev IsFoundAfter : ℕ → List ℕ → ℕ → Type 0
+  IsFoundAfter at text n = find at text ≡ find (at + n) (drop n text)
 
-  passes-first : (at : ℕ) (text : List ℕ) → Found at text (position_or_len p text)
-  passes-first at [] = ap (λ n. found n []) (omega arith)
+  passes-first : (at : ℕ) (text : List ℕ) → IsFoundAfter at text (position_or_len p text)
+  passes-first at [] = ap (λ n. find n []) (omega arith)
   passes-first at (b ∷ bs) = of (p b) refl (passes-first (at + 1) bs) where
-    of : (t : Bool) → p b ≡ t → Found (at + 1) bs (position_or_len p bs)
-        → Found at (b ∷ bs) (cond (not (p b)) (1 + position_or_len p bs) 0)
+    of : (t : Bool) → p b ≡ t → IsFoundAfter (at + 1) bs (position_or_len p bs)
+        → IsFoundAfter at (b ∷ bs) (cond (not (p b)) (1 + position_or_len p bs) 0)
     of true is others =
-        subst (λ t. Found at (b ∷ bs) (cond (not t) (1 + position_or_len p bs) 0)) (sym is)
-        (ap (λ n. found n (b ∷ bs)) (omega arith))
+        subst (λ t. IsFoundAfter at (b ∷ bs) (cond (not t) (1 + position_or_len p bs) 0)) (sym is)
+        (ap (λ n. find n (b ∷ bs)) (omega arith))
     of false is others =
         let n = position_or_len p bs in
         let next : suc n ≡ 1 + n = omega arith in
         let later : at + 1 + n ≡ at + suc n = omega arith in
-        subst (λ t. Found at (b ∷ bs) (cond (not t) (1 + n) 0)) (sym is)
-        (subst (Found at (b ∷ bs)) next
-        (passes at b bs is ∙ others ∙ ap (λ m. found m (drop (position_or_len p bs) bs)) later))
+        subst (λ t. IsFoundAfter at (b ∷ bs) (cond (not t) (1 + n) 0)) (sym is)
+        (subst (IsFoundAfter at (b ∷ bs)) next
+        (passes at b bs is ∙ others ∙ ap (λ m. find m (drop (position_or_len p bs) bs)) later))
 
 -- no word begins before its first byte
 word_end-cons : (first : ℕ) (word : List ℕ) (at : ℕ) (text : List ℕ)
@@ -104,10 +104,10 @@ abbrev len_of : Bool → Bool → ℕ
 len_of t u = if t && u then 2 else 1
 
 -- the destination goes on after a byte, or after an escape
-end_of-step : (depth at b : ℕ) (bs : List ℕ) → stops depth b ≡ false
+end_of-escape_or_byte : (depth at b : ℕ) (bs : List ℕ) → stops depth b ≡ false
     → end_of false depth at (b ∷ bs)
-    ≡ end_of false (depth_after depth b) (at + step_len (b ∷ bs)) (drop (step_len (b ∷ bs)) (b ∷ bs))
-end_of-step depth at b bs goes_on =
+    ≡ end_of false (depth_after depth b) (at + escape_or_byte_len (b ∷ bs)) (drop (escape_or_byte_len (b ∷ bs)) (b ∷ bs))
+end_of-escape_or_byte depth at b bs goes_on =
     ap (λ t. if t then end_at depth at else end_of (b == 92) (depth_after depth b) (at + 1) bs) goes_on
     ∙ of (b == 92) (is_ascii_punctuation (slice_index bs 0)) bs refl where
       of : (t u : Bool) (rest : List ℕ) → is_ascii_punctuation (slice_index rest 0) ≡ u
@@ -124,14 +124,14 @@ end_of-step depth at b bs goes_on =
           ∙ ap (λ n. end_of false (depth_after depth b) n es) far
 
 pub end_of-next : (depth k next at : ℕ) (text : List ℕ) → k < length text → stops depth (get_or text k 0) ≡ false
-    → next ≡ k + step_len (drop k text) → at ≡ first_from is_destination_mark text next
+    → next ≡ k + escape_or_byte_len (drop k text) → at ≡ first_from is_destination_mark text next
     → end_of false depth k (drop k text) ≡ end_of false (depth_after depth (get_or text k 0)) at (drop at text)
-end_of-next depth k next at text inside goes_on stepped found =
+end_of-next depth k next at text inside goes_on skipped found =
     let b = get_or text k 0 in
     let front = drop_more text k 0 inside in
     ap (end_of false depth k) front
-    ∙ end_of-step depth k b (drop (k + 1) text) goes_on
-    ∙ ap (λ l. end_of false (depth_after depth b) (k + step_len l) (drop (step_len l) l)) (sym front)
-    ∙ ap₂ (λ m l. end_of false (depth_after depth b) m l) (sym stepped)
-    (drop-drop (step_len (drop k text)) k text ∙ ap (λ m. drop m text) (sym stepped))
+    ∙ end_of-escape_or_byte depth k b (drop (k + 1) text) goes_on
+    ∙ ap (λ l. end_of false (depth_after depth b) (k + escape_or_byte_len l) (drop (escape_or_byte_len l) l)) (sym front)
+    ∙ ap₂ (λ m l. end_of false (depth_after depth b) m l) (sym skipped)
+    (drop-drop (escape_or_byte_len (drop k text)) k text ∙ ap (λ m. drop m text) (sym skipped))
     ∙ end_of-first (depth_after depth b) next at text found
