@@ -1,5 +1,6 @@
 pub mod UrlPathLemmas
 pub mod SiteMapLemmas
 pub mod TargetsLemmas
+pub mod EditsLemmas
 pub mod RewriterLemmas
 pub mod SiteLemmas

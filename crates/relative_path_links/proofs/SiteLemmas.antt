@@ -1,10 +1,10 @@
 -- Links read again after the moves, and the same page by other lists for the same directories.
-use Rattle.std.proofs.Common.{◌≡◌, ◌⊎◌, ◌≤◌, ℕ, false, List, [], ◌∷◌, ◌++◌, length, drop, take, Option, None, Some, MatchOption, inl, inr, refl, sym, ap, ◌∙◌, subst, arith, append_assoc, append-nil, take-append-drop, string_bytes}
+use Rattle.std.proofs.Common.{◌≡◌, ◌⊎◌, ℕ, true, false, List, [], ◌∷◌, ◌++◌, length, get_or, drop, Option, None, Some, String, IsNone, inl, inr, refl, sym, ap, ◌∙◌, subst, append-nil, string_bytes, true≢false}
 use Rattle.std.proofs.Math.Seq.{drop-append_seam}
 use Rattle.std.proofs.lemmas.Bool.{cond_both}
-use Rattle.std.proofs.lemmas.List.{drop-append-le, length-take-le}
-use Rattle.std.proofs.lemmas.Slice.{between_is}
-use Rattle.std.specs.List.{AllZip, between}
+use Rattle.std.proofs.lemmas.List.Elements.{All-from_recursion, recursion_from_All}
+use Rattle.std.specs.List.{AllByRecursion, AllZip}
+use Rattle.std.specs.declared.alloc.Global.{Global}
 use Rattle.relative_path.specs.Steps.{Step, slash, components, spell}
 use Rattle.relative_path.specs.Walk.{IsSame, place_of}
 use Rattle.relative_path.specs.Unix.{has_root}
@@ -14,41 +14,29 @@ use Rattle.relative_path.specs.Relating.{Leads}
 use Rattle.relative_path.proofs.ForCallers.{IsSame-refl, IsSame-sym, IsSame-trans, IsSame-append_left, IsSame-append_right, IsReachable-same, IsShortestText-same, Leads-same, SpellThemselves-components, has_root-spell, components-trailing_slash}
 use Rattle.relative_path.proofs.OnLiterals.{relative_path_on_literals}
 use Rattle.relative_path_places.specs.Places.{directory}
-use Rattle.relative_path_moves.specs.declared.tree_moves.MovedPage.{MovedPage}
+use Rattle.relative_path_places.proofs.ForCallers.{IsNormalTextOf-same}
+use Rattle.relative_path_moves.specs.declared.tree_moves.PageMove.{PageMove}
 use Rattle.relative_path_moves.specs.Moves.{Move, BelowTop}
 use Rattle.relative_path_moves.specs.TreeMoves.{IsLeftInPlace, AtTreePath}
 use Rattle.relative_path_moves.proofs.ForCallers.{AtTreePath-same}
 use Rattle.target_paths.specs.declared.target.TargetSyntax.{TargetSyntax}
+use Rattle.target_paths.specs.declared.target.WhyUnknown.{WhyUnknown}
 use Rattle.target_paths.specs.Reading.{Meaning, not_relative, path_before, unknown, meaning}
 use Rattle.target_paths.specs.Writing.{path_written, target_of}
+use Rattle.relative_path_links.specs.declared.edit.Change.{Change}
+use Rattle.relative_path_links.specs.declared.edit.Change.TheVariants.{Kept, New, Left}
+use Rattle.relative_path_links.specs.declared.edit.Edit.{Edit}
+use Rattle.relative_path_links.specs.declared.edit.Unchanged.{Unchanged}
+use Rattle.relative_path_links.specs.declared.edit.Unchanged.TheVariants.{AboveRoot, NoPath, Nul, Unknown, WouldReadOtherwise}
 use Rattle.relative_path_links.specs.declared.target.Target.{Target}
-use Rattle.relative_path_links.specs.declared.rewriter.Unchanged.{Unchanged}
-use Rattle.relative_path_links.specs.declared.rewriter.Unchanged.TheVariants.{AboveRoot, NoPath, Nul, Unknown}
 use Rattle.relative_path_links.specs.declared.site.MovedSitePage.{MovedSitePage}
 use Rattle.relative_path_links.specs.declared.site.SitePage.{SitePage}
-use Rattle.relative_path_links.specs.Targets.{target_text, HasTargets}
-use Rattle.relative_path_links.specs.Rewriter.{Moving, moving, AtFile, StillLeads, AtLostFile, with_slash, IsNewPath, StaysUnchanged, Part, IsMovedTarget, unknown_report, BecomesBy, Becomes, with_parts, IsRewritten}
-use Rattle.relative_path_links.specs.Site.{LeadsOn, KeepsLinkBy, KeepsLink, StaysInPlace, StayInPlace, KeepsLinks, moved_to, AreRewritten, KeepTheirLinks, HaveTargets}
-
-MatchOption-map : {T A C : Type 0} {B D : T → Type 0} (found : Option T) → (A → C) → ((x : T) → B x → D x)
-    → MatchOption found A B → MatchOption found C D
-MatchOption-map None none some is = none is
-MatchOption-map (Some x) none some is = some x is
-
--- a part of a text, and what comes after it
-between-rest : (text : List ℕ) (i j : ℕ) → i ≤ j → j ≤ length text → between i j text ++ drop j text ≡ drop i text
-between-rest text i j order within =
-    ap (λ front. front ++ drop j text) (between_is text i j)
-    ∙ sym (drop-append-le i (take j text) (drop j text) (omega (arith, order, length-take-le j text within)))
-    ∙ ap (drop i) (take-append-drop j text)
-
--- two neighbouring parts of a text, and what comes after them
-between-two : (text : List ℕ) (i j k : ℕ) → i ≤ j → j ≤ k → k ≤ length text
-    → between i j text ++ between j k text ++ drop k text ≡ drop i text
-between-two text i j k first second within =
-    append_assoc (between i j text) (between j k text) (drop k text)
-    ∙ ap (λ rest. between i j text ++ rest) (between-rest text j k second within)
-    ∙ between-rest text i j first (omega (arith, second, within))
+use Rattle.relative_path_links.specs.Targets.{target_text}
+use Rattle.relative_path_links.specs.Edits.{targets_of, change_text, edit_text, with_edits, is_new, IsSettled}
+use Rattle.relative_path_links.specs.Reading.{HasText}
+use Rattle.relative_path_links.specs.Rewriter.{Moving, moving, AtFile, StillLeads, AtLostFile, with_slash, IsNewPath, IsMovedTarget, LeavesPath, ChangesPath, unknown_change, ChangesBy, HasFileBy, Becomes}
+use Rattle.relative_path_links.specs.Site.{LeadsOn, KeepsLinkBy, KeepsLink, StaysInPlace, StayInPlace, IsRewritten, KeepsLinks, moved_to, AreRewritten, KeepTheirLinks}
+use Rattle.relative_path_links.proofs.EditsLemmas.{with_edits-same}
 
 -- ---- where a file is, by another list for the same place
 
@@ -98,48 +86,60 @@ module _ (m n : Moving) (same : HaveSame m n) where
     text = is.text;
   }
 
-  StaysUnchanged-same : (path : List ℕ) (why : Unchanged) → StaysUnchanged m path why → StaysUnchanged n path why
-  StaysUnchanged-same path AboveRoot is =
+  IsMovedTarget-same : (syntax : TargetSyntax) (path tail text : List ℕ) → IsMovedTarget m syntax path tail text
+      → IsMovedTarget n syntax path tail text
+  IsMovedTarget-same syntax path tail text is =
+      record { new = is.new; is_new = IsNewPath-same path is.new is.is_new; whole = is.whole; read = is.read }
+
+  LeavesPath-same : (syntax : TargetSyntax) (path tail : List ℕ) (why : Unchanged) → LeavesPath m syntax path tail why
+      → LeavesPath n syntax path tail why
+  LeavesPath-same syntax path tail AboveRoot is =
       AtLostFile-same path _ _ (λ t u to above. place_of-same t u to ∙ above) is
-  StaysUnchanged-same path NoPath is = AtLostFile-same path _ _
+  LeavesPath-same syntax path tail NoPath is = AtLostFile-same path _ _
       (BelowTop-same _ _ (λ t u to none reachable. none (IsReachable-same (IsSame-sym same.after) (IsSame-sym to) reachable))) is
-  StaysUnchanged-same path Nul (new, is, nul) = (new, IsNewPath-same path new is, nul)
-  StaysUnchanged-same path (Unknown why) is = absurd is
+  LeavesPath-same syntax path tail Nul (new, is, nul) = (new, IsNewPath-same path new is, nul)
+  LeavesPath-same syntax path tail (Unknown why) is = absurd is
+  LeavesPath-same syntax path tail WouldReadOtherwise (text, is) = (text, IsMovedTarget-same syntax path tail text is)
 
-  BecomesBy-same : (syntax : TargetSyntax) (target : List ℕ) (part : Part) (means : Meaning)
-      → BecomesBy m syntax target part means → BecomesBy n syntax target part means
-  BecomesBy-same syntax target part not_relative is = is
-  BecomesBy-same syntax target part (unknown why) is = rw same.moves at is
-  BecomesBy-same syntax target part (path_before path tail_at) is =
-      MatchOption-map part.unchanged moved (λ why stays. (StaysUnchanged-same path why stays.0, stays.1)) is where
-        moved : StillLeads m path × (part.text ≡ target) ⊎ IsMovedTarget m syntax target path tail_at part.text
-            → StillLeads n path × (part.text ≡ target) ⊎ IsMovedTarget n syntax target path tail_at part.text
-        moved (inl (still, stays)) = inl (StillLeads-same path still, stays)
-        moved (inr is) = inr (record {
-          new = is.new;
-          is_new = IsNewPath-same path is.new is.is_new;
-          whole = is.whole;
-          read = is.read;
-        })
+  ChangesPath-same : (syntax : TargetSyntax) (path tail : List ℕ) (change : Change) → ChangesPath m syntax path tail change
+      → ChangesPath n syntax path tail change
+  ChangesPath-same syntax path tail Kept is = StillLeads-same path is
+  ChangesPath-same syntax path tail (New text) is = IsMovedTarget-same syntax path tail (string_bytes text) is
+  ChangesPath-same syntax path tail (Left why) is = LeavesPath-same syntax path tail why is
 
-  AllZip-same : (page : List ℕ) (targets : List Target) (parts : List Part) → AllZip (Becomes m page) targets parts
-      → AllZip (Becomes n page) targets parts
-  AllZip-same page [] [] is = tt
-  AllZip-same page [] (part ∷ parts) is = absurd is
-  AllZip-same page (target ∷ targets) [] is = absurd is
-  AllZip-same page (target ∷ targets) (part ∷ parts) (is, rest) = (
-    BecomesBy-same target.syntax (target_text page target) part (meaning target.syntax (target_text page target)) is,
-    AllZip-same page targets parts rest,
-  )
+  ChangesBy-same : (syntax : TargetSyntax) (target : List ℕ) (change : Change) (means : Meaning)
+      → ChangesBy m syntax target change means → ChangesBy n syntax target change means
+  ChangesBy-same syntax target change not_relative is = is
+  ChangesBy-same syntax target change (unknown why) is = is ∙ ap (λ moves. unknown_change moves why) same.moves
+  ChangesBy-same syntax target change (path_before path tail_at) is =
+      ChangesPath-same syntax path (drop tail_at target) change is
+
+  HasFileBy-same : (file : Option (List ℕ)) (means : Meaning) → HasFileBy m file means → HasFileBy n file means
+  HasFileBy-same file not_relative is = is
+  HasFileBy-same file (unknown why) is = is
+  HasFileBy-same None (path_before path tail_at) is = is
+  HasFileBy-same (Some text) (path_before path tail_at) is =
+      IsNormalTextOf-same (n.before ++ components path) text is.normal_text
+      (IsSame-trans (IsSame-append_right (components path) (IsSame-sym same.before)) is.same)
+
+  Becomes-same : (page : List ℕ) (edit : Edit) → Becomes m page edit → Becomes n page edit
+  Becomes-same page edit is =
+      let means = meaning edit.target.syntax (target_text page edit.target) in (
+        ChangesBy-same edit.target.syntax (target_text page edit.target) edit.change means is.0,
+        HasFileBy-same edit.file means is.1,
+      )
 
   -- a page is rewritten alike for both
-  pub IsRewritten-same : (page : List ℕ) (targets : List Target) (text : List ℕ) (unchanged : List (ℕ × Unchanged))
-      → IsRewritten m page targets text unchanged → IsRewritten n page targets text unchanged
-  IsRewritten-same page targets text unchanged is = record {
-    parts = is.parts;
-    become = AllZip-same page targets is.parts is.become;
+  pub IsRewritten-same : (finds : List ℕ → List Target → Type 0) (page : List ℕ) (edits : List Edit)
+      (text : Option (String Global)) → IsRewritten finds m page edits text → IsRewritten finds n page edits text
+  IsRewritten-same finds page edits text is = record {
+    found = is.found;
+    in_order = is.in_order;
+    written = is.written;
+    become = λ k d within. Becomes-same page (get_or is.written k d) (is.become k d within);
+    settled = is.settled;
+    cause = is.cause;
     text_is = is.text_is;
-    unchanged_is = is.unchanged_is;
   }
 
 -- ---- what is written leads where the way leads
@@ -170,7 +170,7 @@ module _ (m : Moving) (syntax : TargetSyntax) (target path : List ℕ) (tail_at 
     LeadsOn-kept text still stays =
         record { new = path; new_tail_at = tail_at; read = rw stays means; leads = still; tail = ap (drop tail_at) stays }
 
-    LeadsOn-moved : (text : List ℕ) → IsMovedTarget m syntax target path tail_at text
+    LeadsOn-moved : (text : List ℕ) → IsMovedTarget m syntax path (drop tail_at target) text
         → LeadsOn m syntax target path tail_at text
     LeadsOn-moved text is =
         let (file, there, (lost, (below, shortest))) = is.is_new.shortest in
@@ -187,32 +187,61 @@ module _ (m : Moving) (syntax : TargetSyntax) (target path : List ℕ) (tail_at 
           tail = ap (drop (length (target_of is.new))) is.whole ∙ drop-append_seam (target_of is.new) (drop tail_at target);
         }
 
-KeepsLink-becomes : (m : Moving) (page : List ℕ) (target : Target) (part : Part) → Becomes m page target part
-    → KeepsLink m page target part
-KeepsLink-becomes m page target part is = of (meaning target.syntax (target_text page target)) refl is where
-  of : (means : Meaning) → meaning target.syntax (target_text page target) ≡ means
-      → BecomesBy m target.syntax (target_text page target) part means
-      → KeepsLinkBy m target.syntax (target_text page target) part means
-  of not_relative e is = is.0
-  of (unknown why) e is = (is.0, report m.moves is.1) where
-    report : (moves : List Move) → part.unchanged ≡ unknown_report moves why
-        → (part.unchanged ≡ Some (Unknown why)) ⊎ (moves ≡ [])
-    report [] none = inr refl
-    report (move ∷ moves) some = inl some
-  of (path_before path tail_at) e is = MatchOption-map part.unchanged leads (λ why stays. stays.1) is where
-    leads : StillLeads m path × (part.text ≡ target_text page target)
-        ⊎ IsMovedTarget m target.syntax (target_text page target) path tail_at part.text
-        → LeadsOn m target.syntax (target_text page target) path tail_at part.text
-    leads (inl (still, stays)) = LeadsOn-kept m target.syntax (target_text page target) path tail_at e part.text still stays
-    leads (inr moved) = LeadsOn-moved m target.syntax (target_text page target) path tail_at e part.text moved
+-- ---- edits whose new texts are given up
 
-AllZip-links : (m : Moving) (page : List ℕ) (targets : List Target) (parts : List Part) → AllZip (Becomes m page) targets parts
-    → AllZip (KeepsLink m page) targets parts
-AllZip-links m page [] [] is = tt
-AllZip-links m page [] (part ∷ parts) is = absurd is
-AllZip-links m page (target ∷ targets) [] is = absurd is
-AllZip-links m page (target ∷ targets) (part ∷ parts) (is, rest) =
-    (KeepsLink-becomes m page target part is, AllZip-links m page targets parts rest)
+-- what isn't known gets no new text
+is_new-unknown : (moves : List Move) (why : WhyUnknown) → is_new (unknown_change moves why) ≡ false
+is_new-unknown [] why = refl
+is_new-unknown (move ∷ moves) why = refl
+
+ChangesBy-given_up : (m : Moving) (syntax : TargetSyntax) (target : List ℕ) (change : Change) (means : Meaning)
+    → is_new change ≡ true → ChangesBy m syntax target change means
+    → ChangesBy m syntax target (Left WouldReadOtherwise) means
+ChangesBy-given_up m syntax target change not_relative new is = absurd (true≢false (sym new ∙ ap is_new is))
+ChangesBy-given_up m syntax target change (unknown why) new is =
+    absurd (true≢false (sym new ∙ ap is_new is ∙ is_new-unknown m.moves why))
+ChangesBy-given_up m syntax target Kept (path_before path tail_at) new is = absurd (true≢false (sym new))
+ChangesBy-given_up m syntax target (New text) (path_before path tail_at) new is = (string_bytes text, is)
+ChangesBy-given_up m syntax target (Left why) (path_before path tail_at) new is = absurd (true≢false (sym new))
+
+Becomes-settled : (m : Moving) (page : List ℕ) (before after : Edit) → Becomes m page before → IsSettled before after
+    → Becomes m page after
+Becomes-settled m page before after is (inl same) = subst (Becomes m page) (sym same) is
+Becomes-settled m page before after is (inr (new, given_up)) =
+    subst (Becomes m page) (sym given_up) (
+      ChangesBy-given_up m before.target.syntax (target_text page before.target) before.change
+          (meaning before.target.syntax (target_text page before.target)) new is.0,
+      is.1,
+    )
+
+become-settled : (m : Moving) (page : List ℕ) (written edits : List Edit) → AllByRecursion (Becomes m page) written
+    → AllZip IsSettled written edits → AllByRecursion (Becomes m page) edits
+become-settled m page [] [] all settled = tt
+become-settled m page [] (edit ∷ edits) all settled = absurd settled
+become-settled m page (before ∷ written) [] all settled = absurd settled
+become-settled m page (before ∷ written) (after ∷ edits) (is, all) (settled, rest) =
+    (Becomes-settled m page before after is settled, become-settled m page written edits all rest)
+
+-- ---- links are kept
+
+KeepsLink-becomes : (m : Moving) (page : List ℕ) (edit : Edit) → Becomes m page edit → KeepsLink m page edit
+KeepsLink-becomes m page edit is = (of (meaning edit.target.syntax target) refl edit.change is.0, is.1) where
+  target : List ℕ
+  target = target_text page edit.target
+
+  of : (means : Meaning) → meaning edit.target.syntax target ≡ means → (change : Change)
+      → ChangesBy m edit.target.syntax target change means → KeepsLinkBy m edit.target.syntax target change means
+  of not_relative e change is = is
+  of (unknown why) e change is = report m.moves is where
+    report : (moves : List Move) → change ≡ unknown_change moves why
+        → (change ≡ Left (Unknown why)) ⊎ (change ≡ Kept) × (moves ≡ [])
+    report [] is = inr (is, refl)
+    report (move ∷ moves) is = inl is
+  of (path_before path tail_at) e Kept is =
+      LeadsOn-kept m edit.target.syntax target path tail_at e target is refl
+  of (path_before path tail_at) e (New text) is =
+      LeadsOn-moved m edit.target.syntax target path tail_at e (string_bytes text) is
+  of (path_before path tail_at) e (Left why) is = tt
 
 -- ---- a page for which nothing moves
 
@@ -224,93 +253,94 @@ not_lost m path P stays left (file, inl taken, lost) =
 not_lost m path P stays left (file, inr (_, is), lost) =
     lost.0 (rw is (IsSame-append_right (components path) (IsSame-sym stays)))
 
-stays-target : (m : Moving) (page : List ℕ) (target : Target) (part : Part) → IsSame m.before m.after
-    → StaysInPlace m (meaning target.syntax (target_text page target)) → Becomes m page target part
-    → part.text ≡ target_text page target
-stays-target m page target part stays left is = of (meaning target.syntax (target_text page target)) left is where
-  of : (means : Meaning) → StaysInPlace m means → BecomesBy m target.syntax (target_text page target) part means
-      → part.text ≡ target_text page target
-  of not_relative left is = is.0
-  of (unknown why) left is = is.0
-  of (path_before path tail_at) left is = same part.unchanged is where
-    same : (found : Option Unchanged) → MatchOption found
-        (StillLeads m path × (part.text ≡ target_text page target)
-        ⊎ IsMovedTarget m target.syntax (target_text page target) path tail_at part.text)
-        (λ why. StaysUnchanged m path why × (part.text ≡ target_text page target))
-        → part.text ≡ target_text page target
-    same None (inl (still, is)) = is
-    same None (inr is) = absurd (not_lost m path _ stays left is.is_new.shortest)
-    same (Some why) (_, is) = is
+-- a target that leads to a file that stays, from a directory that stays, stays
+change_text-in_place : (m : Moving) (page : List ℕ) (target : Target) (change : Change) (means : Meaning)
+    → IsSame m.before m.after → StaysInPlace m means → ChangesBy m target.syntax (target_text page target) change means
+    → change_text page target change ≡ target_text page target
+change_text-in_place m page target change not_relative stays left is = ap (change_text page target) is
+change_text-in_place m page target change (unknown why) stays left is =
+    ap (change_text page target) is ∙ kept m.moves where
+      kept : (moves : List Move) → change_text page target (unknown_change moves why) ≡ target_text page target
+      kept [] = refl
+      kept (move ∷ moves) = refl
+change_text-in_place m page target Kept (path_before path tail_at) stays left is = refl
+change_text-in_place m page target (New text) (path_before path tail_at) stays left is =
+    absurd (not_lost m path _ stays left is.is_new.shortest)
+change_text-in_place m page target (Left why) (path_before path tail_at) stays left is = refl
 
-with_parts-same : (m : Moving) (page : List ℕ) (at : ℕ) (targets : List Target) (parts : List Part)
-    → HasTargets page at targets → IsSame m.before m.after → StayInPlace m page targets
-    → AllZip (Becomes m page) targets parts → with_parts page at targets parts ≡ drop at page
-with_parts-same m page at [] parts has stays left become = refl
-with_parts-same m page at (target ∷ targets) [] has stays left become = refl
-with_parts-same m page at (target ∷ targets) (part ∷ parts) (after, is, rest) stays (here, left) (becomes, become) =
-    ap (λ text. between at target.start page ++ text ++ with_parts page target.end targets parts)
-    (stays-target m page target part stays here becomes)
-    ∙ ap (λ text. between at target.start page ++ target_text page target ++ text)
-    (with_parts-same m page target.end targets parts rest stays left become)
-    ∙ between-two page at target.start target.end after is.order is.within
+all-in_place : (m : Moving) (page : List ℕ) (edits : List Edit) → IsSame m.before m.after
+    → StayInPlace m page (targets_of edits) → AllByRecursion (Becomes m page) edits
+    → AllByRecursion (λ edit. edit_text page edit ≡ target_text page edit.target) edits
+all-in_place m page [] stays left become = tt
+all-in_place m page (edit ∷ edits) stays (here, left) (is, become) = (
+  change_text-in_place m page edit.target edit.change
+      (meaning edit.target.syntax (target_text page edit.target)) stays here is.0,
+  all-in_place m page edits stays left become,
+)
 
 -- a rewritten page keeps its links
-pub KeepsLinks-rewritten : (m : Moving) (page : List ℕ) (targets : List Target) (text : List ℕ)
-    (unchanged : List (ℕ × Unchanged)) → HasTargets page 0 targets → IsRewritten m page targets text unchanged
-    → KeepsLinks m page targets text unchanged
-KeepsLinks-rewritten m page targets text unchanged has is = record {
-  parts = is.parts;
-  links = AllZip-links m page targets is.parts is.become;
+pub KeepsLinks-rewritten : (finds : List ℕ → List Target → Type 0) (m : Moving) (page : List ℕ) (edits : List Edit)
+    (text : Option (String Global)) → IsRewritten finds m page edits text → KeepsLinks finds m page edits text
+KeepsLinks-rewritten finds m page edits text is = record {
+  found = is.found;
+  in_order = is.in_order;
+  links = λ k d within. KeepsLink-becomes m page (get_or edits k d) (All-from_recursion (Becomes m page) edits become k d within);
   text_is = is.text_is;
-  unchanged_is = is.unchanged_is;
-  same = λ nothing. is.text_is ∙ with_parts-same m page 0 targets is.parts has nothing.directory nothing.files is.become;
-}
+  same = λ nothing. none text is.text_is
+      (with_edits-same page 0 edits is.in_order (all-in_place m page edits nothing.directory nothing.files become));
+} where
+  become : AllByRecursion (Becomes m page) edits
+  become = become-settled m page is.written edits (recursion_from_All (Becomes m page) is.written is.become) is.settled
+
+  none : (text : Option (String Global)) → HasText finds page edits text → with_edits page 0 edits ≡ page → IsNone text
+  none None is same = refl
+  none (Some text) is same = absurd (is.1 (is.0 ∙ same))
 
 -- ---- the pages of a site
 
 -- a page that is rewritten between its normal directories is rewritten between its directories
-pub ForMovedPage-rewritten : (moves : List Move) (page : List Step) (moved : MovedPage) (text : List ℕ)
-    (targets : List Target) (new : List ℕ) (unchanged : List (ℕ × Unchanged)) → IsNormalTextOf (directory page) moved.before
+pub ForMovedPage-rewritten : (finds : List ℕ → List Target → Type 0) (moves : List Move) (page : List Step)
+    (moved : PageMove) (text : List ℕ) (edits : List Edit) (new : Option (String Global))
+    → IsNormalTextOf (directory page) moved.before
     → AtTreePath moves page (λ now. IsNormalTextOf now moved.path × IsNormalTextOf (directory now) moved.after)
-    → IsRewritten (moving moves moved) text targets new unchanged
+    → IsRewritten finds (moving moves moved) text edits new
     → AtTreePath moves page (λ now. IsNormalTextOf now moved.path
-    × IsRewritten (moved_to moves page now) text targets new unchanged)
-ForMovedPage-rewritten moves page moved text targets new unchanged before (now, there, (normal, after)) is = (
+    × IsRewritten finds (moved_to moves page now) text edits new)
+ForMovedPage-rewritten finds moves page moved text edits new before (now, there, (normal, after)) is = (
   now,
   there,
   (
     normal,
     IsRewritten-same (moving moves moved) (moved_to moves page now)
-        (record { moves = refl; before = IsSame-sym before.same; after = IsSame-sym after.same }) text targets new unchanged is,
+        (record { moves = refl; before = IsSame-sym before.same; after = IsSame-sym after.same }) finds text edits new is,
   ),
 )
 
 -- rewritten pages keep their links
-pub KeepTheirLinks-rewritten : (moves : List Move) (pages : List SitePage) (news : List MovedSitePage) → HaveTargets pages
-    → AreRewritten moves pages news → KeepTheirLinks moves pages news
-KeepTheirLinks-rewritten moves [] [] have are = tt
-KeepTheirLinks-rewritten moves [] (new ∷ news) have are = absurd are
-KeepTheirLinks-rewritten moves (page ∷ pages) [] have are = absurd are
-KeepTheirLinks-rewritten moves (page ∷ pages) (new ∷ news) (has, have) ((now, there, (normal, is)), are) = (
+pub KeepTheirLinks-rewritten : (finds : List ℕ → List Target → Type 0) (moves : List Move) (pages : List SitePage)
+    (news : List MovedSitePage) → AreRewritten finds moves pages news → KeepTheirLinks finds moves pages news
+KeepTheirLinks-rewritten finds moves [] [] are = tt
+KeepTheirLinks-rewritten finds moves [] (new ∷ news) are = absurd are
+KeepTheirLinks-rewritten finds moves (page ∷ pages) [] are = absurd are
+KeepTheirLinks-rewritten finds moves (page ∷ pages) (new ∷ news) ((now, there, (normal, is)), are) = (
   (
     now,
     there,
     (
       normal,
-      KeepsLinks-rewritten (moved_to moves (path_components page.path) now) page.text.now page.targets.now
-          (string_bytes new.page.text) new.page.unchanged.items has is,
+      KeepsLinks-rewritten finds (moved_to moves (path_components page.path) now) page.text.now new.edits.items new.text is,
     ),
   ),
-  KeepTheirLinks-rewritten moves pages news have are,
+  KeepTheirLinks-rewritten finds moves pages news are,
 )
 
--- the pages so far are rewritten, and each of the others has its targets
-pub record SiteSoFar (moves : List Move) (pages : List SitePage) (left : List SitePage) (news : List MovedSitePage)
-    : Type 0 where
-  pub have : HaveTargets left
-  pub rewritten : (more : List MovedSitePage) → AreRewritten moves left more → AreRewritten moves pages (news ++ more)
+-- the pages so far are rewritten
+pub record SiteSoFar (finds : List ℕ → List Target → Type 0) (moves : List Move) (pages : List SitePage)
+    (left : List SitePage) (news : List MovedSitePage) : Type 0 where
+  pub rewritten : (more : List MovedSitePage) → AreRewritten finds moves left more
+      → AreRewritten finds moves pages (news ++ more)
 
-pub SiteSoFar-end : (moves : List Move) (pages left : List SitePage) (news : List MovedSitePage) → left ≡ []
-    → SiteSoFar moves pages left news → AreRewritten moves pages news
-SiteSoFar-end moves pages left news none so_far =
-    subst (AreRewritten moves pages) (append-nil news) (so_far.rewritten [] (rw none tt))
+pub SiteSoFar-end : (finds : List ℕ → List Target → Type 0) (moves : List Move) (pages left : List SitePage)
+    (news : List MovedSitePage) → left ≡ [] → SiteSoFar finds moves pages left news → AreRewritten finds moves pages news
+SiteSoFar-end finds moves pages left news none so_far =
+    subst (AreRewritten finds moves pages) (append-nil news) (so_far.rewritten [] (rw none tt))

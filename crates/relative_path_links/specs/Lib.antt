@@ -1,5 +1,7 @@
 pub mod UrlPath
 pub mod SiteMap
 pub mod Targets
+pub mod Edits
+pub mod Reading
 pub mod Rewriter
 pub mod Site

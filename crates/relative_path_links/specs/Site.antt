@@ -1,6 +1,7 @@
--- What a site keeps when its files move: each link leads to the file to which it led, or is reported.
-use Rattle.std.specs.Prelude.{◌≡◌, ◌⊎◌, ◌++◌, ℕ, List, [], ◌∷◌, drop, Some, MatchOption, ⊤, string_bytes}
-use Rattle.std.specs.List.{AllZip}
+-- What a site keeps when its files move: each link leads to the file to which it led, or is left.
+use Rattle.std.specs.Prelude.{◌≡◌, ◌⊎◌, ◌++◌, ℕ, List, [], ◌∷◌, drop, Option, String, IsNone, ⊤, string_bytes}
+use Rattle.std.specs.declared.alloc.Global.{Global}
+use Rattle.std.specs.List.{All, AllZip}
 use Rattle.relative_path.specs.Steps.{Step, components}
 use Rattle.relative_path.specs.Walk.{IsSame}
 use Rattle.relative_path.specs.Normalizing.{IsNormalTextOf}
@@ -12,12 +13,28 @@ use Rattle.relative_path_moves.specs.TreeMoves.{AtTreePath, IsLeftInPlace}
 use Rattle.target_paths.specs.declared.target.TargetSyntax.{TargetSyntax}
 use Rattle.target_paths.specs.Reading.{Meaning, not_relative, path_before, unknown, meaning}
 use Rattle.relative_path_links.specs.Targets.{target_text, HasTargets}
-use Rattle.relative_path_links.specs.Rewriter.{Moving, AtFile, Part, with_parts, unchanged_of, IsRewritten}
+use Rattle.relative_path_links.specs.Edits.{targets_of, IsSettled}
+use Rattle.relative_path_links.specs.Reading.{HasCause, HasText}
+use Rattle.relative_path_links.specs.Rewriter.{Moving, AtFile, Becomes, HasFileBy}
+use Rattle.relative_path_links.specs.declared.edit.Change.{Change}
+use Rattle.relative_path_links.specs.declared.edit.Change.TheVariants.{Kept, New, Left}
+use Rattle.relative_path_links.specs.declared.edit.Edit.{Edit}
+use Rattle.relative_path_links.specs.declared.edit.Unchanged.TheVariants.{Unknown}
 use Rattle.relative_path_links.specs.declared.target.Target.{Target}
-use Rattle.relative_path_links.specs.declared.rewriter.Unchanged.{Unchanged}
-use Rattle.relative_path_links.specs.declared.rewriter.Unchanged.TheVariants.{Unknown}
 use Rattle.relative_path_links.specs.declared.site.MovedSitePage.{MovedSitePage}
 use Rattle.relative_path_links.specs.declared.site.SitePage.{SitePage}
+
+-- the page's edits are those of the rewriter, but for new targets with which the page would read otherwise; the page
+-- changes to the text, which reads as the edits say
+pub record IsRewritten (finds : List ℕ → List Target → Type 0) (m : Moving) (page : List ℕ) (edits : List Edit)
+    (text : Option (String Global)) : Type 0 where
+  pub found : finds page (targets_of edits)
+  pub in_order : HasTargets page 0 (targets_of edits)
+  pub written : List Edit
+  pub become : All (Becomes m page) written
+  pub settled : AllZip IsSettled written edits
+  pub cause : HasCause finds page written edits
+  pub text_is : HasText finds page edits text
 
 -- a reader of the syntax takes the text as a path that leads from the page's new directory to where the file is to which
 -- the old path led, and the query and fragment after it are the old ones
@@ -29,20 +46,25 @@ pub record LeadsOn (m : Moving) (syntax : TargetSyntax) (target path : List ℕ)
   pub leads : AtFile m path (λ file. Leads m.after (components new) file)
   pub tail : drop new_tail_at text ≡ drop tail_at target
 
--- a target with this meaning keeps its link. If it isn't relative, it stays. If its meaning isn't known, it stays, and
--- is reported if there is a move. If it is read as a path, it leads to the same file, or it stays and is reported
-abbrev pub KeepsLinkBy : Moving → TargetSyntax → List ℕ → Part → Meaning → Type 0
-KeepsLinkBy m syntax target part not_relative = part.text ≡ target
-KeepsLinkBy m syntax target part (unknown why) =
-    (part.text ≡ target) × ((part.unchanged ≡ Some (Unknown why)) ⊎ (m.moves ≡ []))
-KeepsLinkBy m syntax target part (path_before path tail_at) = MatchOption part.unchanged
-    (LeadsOn m syntax target path tail_at part.text)
-    (λ why. part.text ≡ target)
+-- a target that is read as a path leads to the same file after the change, or it is left
+abbrev pub LeadsOnBy : Moving → TargetSyntax → List ℕ → List ℕ → ℕ → Change → Type 0
+LeadsOnBy m syntax target path tail_at Kept = LeadsOn m syntax target path tail_at target
+LeadsOnBy m syntax target path tail_at (New text) = LeadsOn m syntax target path tail_at (string_bytes text)
+LeadsOnBy m syntax target path tail_at (Left why) = ⊤
 
--- a target of the page keeps its link
-abbrev pub KeepsLink : Moving → List ℕ → Target → Part → Type 0
-KeepsLink m page target part =
-    KeepsLinkBy m target.syntax (target_text page target) part (meaning target.syntax (target_text page target))
+-- a target with this meaning keeps its link. If it isn't relative, it is kept. If its meaning isn't known, it is left,
+-- or kept if there is no move. If it is read as a path, it leads to the same file, or it is left
+abbrev pub KeepsLinkBy : Moving → TargetSyntax → List ℕ → Change → Meaning → Type 0
+KeepsLinkBy m syntax target change not_relative = change ≡ Kept
+KeepsLinkBy m syntax target change (unknown why) = (change ≡ Left (Unknown why)) ⊎ (change ≡ Kept) × (m.moves ≡ [])
+KeepsLinkBy m syntax target change (path_before path tail_at) = LeadsOnBy m syntax target path tail_at change
+
+-- a target of the page keeps its link, and has its file
+abbrev pub KeepsLink : Moving → List ℕ → Edit → Type 0
+KeepsLink m page edit =
+    KeepsLinkBy m edit.target.syntax (target_text page edit.target) edit.change
+    (meaning edit.target.syntax (target_text page edit.target))
+    × HasFileBy m edit.file (meaning edit.target.syntax (target_text page edit.target))
 
 -- if a target with this meaning is read as a path, no move takes along the file to which the path leads
 abbrev pub StaysInPlace : Moving → Meaning → Type 0
@@ -61,37 +83,30 @@ pub record NothingMoves (m : Moving) (page : List ℕ) (targets : List Target) :
   pub directory : IsSame m.before m.after
   pub files : StayInPlace m page targets
 
--- each target keeps its link, and all other bytes of the page stay; the reported targets are listed, with their first
--- bytes and the reasons; a page for which nothing moves stays as it is
-pub record KeepsLinks (m : Moving) (page : List ℕ) (targets : List Target) (text : List ℕ)
-    (unchanged : List (ℕ × Unchanged)) : Type 0 where
-  pub parts : List Part
-  pub links : AllZip (KeepsLink m page) targets parts
-  pub text_is : text ≡ with_parts page 0 targets parts
-  pub unchanged_is : unchanged ≡ unchanged_of targets parts
-  pub same : NothingMoves m page targets → text ≡ page
+-- the finder finds the targets of the edits in the page, and each keeps its link; the page changes to the text, with the
+-- edits alone, which reads as they say; a page for which nothing moves stays as it is
+pub record KeepsLinks (finds : List ℕ → List Target → Type 0) (m : Moving) (page : List ℕ) (edits : List Edit)
+    (text : Option (String Global)) : Type 0 where
+  pub found : finds page (targets_of edits)
+  pub in_order : HasTargets page 0 (targets_of edits)
+  pub links : All (KeepsLink m page) edits
+  pub text_is : HasText finds page edits text
+  pub same : NothingMoves m page (targets_of edits) → IsNone text
 
 -- the moves, with the directory of a page at this path before them and of the page at its new path after them
 abbrev pub moved_to : List Move → List Step → List Step → Moving
 moved_to moves page now = record { moves = moves; before = directory page; after = directory now }
 
--- P holds of a page: of its text, its targets, its new text and its unchanged targets, as it moves from its path to its
--- new path
-abbrev pub ForMovedPage : (Moving → List ℕ → List Target → List ℕ → List (ℕ × Unchanged) → Type 0) → List Move
-    → SitePage → MovedSitePage → Type 0
+-- P holds of a page: of its text, its edits and its new text, as it moves from its path to its new path
+abbrev pub ForMovedPage : (Moving → List ℕ → List Edit → Option (String Global) → Type 0) → List Move → SitePage → MovedSitePage
+    → Type 0
 ForMovedPage P moves page new = AtTreePath moves (path_components page.path) (λ now. IsNormalTextOf now new.path
-    × P (moved_to moves (path_components page.path) now) page.text.now page.targets.now (string_bytes new.page.text)
-    new.page.unchanged.items)
+    × P (moved_to moves (path_components page.path) now) page.text.now new.edits.items new.text)
 
 -- the pages of a site are rewritten
-abbrev pub AreRewritten : List Move → List SitePage → List MovedSitePage → Type 0
-AreRewritten moves pages news = AllZip (ForMovedPage IsRewritten moves) pages news
+abbrev pub AreRewritten : (List ℕ → List Target → Type 0) → List Move → List SitePage → List MovedSitePage → Type 0
+AreRewritten finds moves pages news = AllZip (ForMovedPage (IsRewritten finds) moves) pages news
 
 -- the pages of a site keep their links
-abbrev pub KeepTheirLinks : List Move → List SitePage → List MovedSitePage → Type 0
-KeepTheirLinks moves pages news = AllZip (ForMovedPage KeepsLinks moves) pages news
-
--- each page of a site has its targets, in order
-abbrev pub HaveTargets : List SitePage → Type 0
-HaveTargets [] = ⊤
-HaveTargets (page ∷ pages) = HasTargets page.text.now 0 page.targets.now × HaveTargets pages
+abbrev pub KeepTheirLinks : (List ℕ → List Target → Type 0) → List Move → List SitePage → List MovedSitePage → Type 0
+KeepTheirLinks finds moves pages news = AllZip (ForMovedPage (KeepsLinks finds) moves) pages news

@@ -1,11 +1,43 @@
-//! The targets of a page's links that moves can change.
-ghost use Rattle.std.specs.Prelude.{◌≡◌, map, IfOk};
+//! What finds the targets of a page's links.
+ghost use Rattle.std.specs.Prelude.{◌≡◌, ℕ, List, map, IfOk};
+ghost use Rattle.relative_path_links.specs.declared.target.Target.{Target};
 ghost use Rattle.relative_path_links.specs.Targets.{HasTargets, span_of};
 
 use crate::target::Target;
 use markdown_targets::{LinkTarget, Span, TargetKind, link_targets};
 use std::alloc::{AllocError, Global};
 use target_paths::TargetSyntax;
+
+/// What finds the targets of a page's links. [`Markdown`] does for pages in Markdown.
+pub trait Finder {
+    // it may find these targets in a page
+    ghost finds: { Self → List ℕ → List Target → Type 0 };
+
+    /// Returns the targets of a page's links in the order of the page, each with the syntax of its text.
+    fn targets(&self, alloc: Global, page: &str) -> Result<Vec<Target>, AllocError>
+        // it finds them in the page
+        ensures found { IfOk result (λ targets. finds self.now page.now targets.items) }
+        // spans of whole characters of the page, in order, without overlap
+        ensures in_order { IfOk result (λ targets. HasTargets page.now 0 targets.items) };
+}
+
+/// Finds the links of a page in Markdown, as [`targets`] does.
+///
+/// ```
+/// let found = Markdown.targets(alloc, "[a](b.md)")?;
+/// assert_eq!(rt; found.len(), 1);
+/// ```
+#[derive(Clone, Copy, Debug)]
+pub struct Markdown;
+
+impl Finder for Markdown {
+    // spans of the page, in order; no clause says which
+    ghost finds = { λ _ page targets. HasTargets page 0 targets };
+
+    fn targets(&self, alloc: Global, page: &str) -> Result<Vec<Target>, AllocError> {
+        targets(alloc, page)
+    }
+}
 
 /// Returns the targets of a page's links in the order of the page, each with the syntax of its text.
 ///

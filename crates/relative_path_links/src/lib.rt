@@ -3,18 +3,22 @@
 //!
 //! ```text
 //! pages of a site       site
-//! pages and links       site_map  finder  rewriter
-//! targets               target
+//! pages and links       site_map  rewriter  reread
+//! targets, edits        finder  edit
+//! a target              target
 //! ```
 #![tactic(auto)]
 
-pub use self::finder::targets;
-pub use self::rewriter::{RewrittenPage, Unchanged, rewrite_links};
+pub use self::edit::{Change, Edit, Unchanged, edited};
+pub use self::finder::{Finder, Markdown, targets};
+pub use self::rewriter::rewrite_links;
 pub use self::site::{MovedSitePage, SitePage, rewrite_site};
 pub use self::site_map::{SiteMap, SiteMapError};
 pub use self::target::{Target, are_in_order};
 
+mod edit;
 mod finder;
+mod reread;
 mod rewriter;
 mod site;
 mod site_map;

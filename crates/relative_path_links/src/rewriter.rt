@@ -1,236 +1,196 @@
 //! Rewrites the targets of a page after files moved.
-ghost use Rattle.std.specs.Prelude.{◌≡◌, ◌++◌, IfOk, IfErr, MatchOption, string_bytes};
-ghost use Rattle.std.specs.List.{list_any};
+ghost use Rattle.std.specs.Prelude.{◌≡◌, ◌++◌, IfOk, string_bytes};
+ghost use Rattle.std.specs.List.{All, list_any};
+ghost use Rattle.relative_path.specs.Steps.{components};
+ghost use Rattle.relative_path.specs.Normalizing.{IsNormalTextOf};
+ghost use Rattle.target_paths.specs.Reading.{IsTail};
 ghost use Rattle.target_paths.specs.Writing.{is_nul};
-ghost use Rattle.relative_path_links.specs.Targets.{HasTargets};
+ghost use Rattle.relative_path_links.specs.Targets.{HasTarget, HasTargets};
+ghost use Rattle.relative_path_links.specs.Edits.{IsGivenUp, targets_of};
 ghost use Rattle.relative_path_links.specs.Rewriter.{
-  BecomesPart,
-  IsNewTarget,
-  IsPathToWrite,
-  IsRewritten,
-  IsUnchangedPath,
-  IsUnchangedTarget,
-  KeepsTarget,
+  Becomes,
+  ChangesPath,
+  IsChangeByWay,
+  IsChangeOf,
   moving,
-  Part,
-  reported,
-  StillLeads,
+  unknown_change,
   with_slash,
 };
 
+use crate::edit::{Change, Edit, Unchanged};
 use crate::target::Target;
-use relative_path::RelativePath;
-use relative_path_moves::{MovedPage, ReferenceError, TreeMoves};
+use relative_path::{RelativePath, RelativePathBuf};
+use relative_path_moves::{PageMove, ReferenceError, TreeMoves};
+use relative_path_places::NormalPath;
 use std::alloc::{AllocError, Global};
 use target_paths::{TargetReading, TargetSyntax, WhyUnknown, path_of_target, push_target_of_path};
 
-/// Why [`rewrite_links`] reports a target and leaves it as it is.
-#[derive(Clone, Copy, Debug, PartialEq, Eq)]
-pub enum Unchanged {
-    /// Its file is above the root.
-    AboveRoot,
-    /// No path leads from the page's new directory to its file.
-    NoPath,
-    /// The path to its file has a NUL, which no target spells.
-    Nul,
-    /// What it means isn't known, so it may lead to a file that moved.
-    Unknown(WhyUnknown),
-}
-
-/// A page after the moves, as [`rewrite_links`] returns it.
-#[derive(Drop)]
-pub struct RewrittenPage {
-    /// Its text.
-    pub text: String,
-    /// The targets that stay unchanged although they no longer lead to their file, or may not: the offset of
-    /// the target in the page before the moves, and the reason.
-    pub unchanged: Vec<(usize, Unchanged)>,
-}
-
-// What is written in place of a target: a new path, and after it the old query and fragment.
-#[derive(Drop)]
-struct NewTarget<'t> {
-    path: String,
-    tail: &'t str,
-}
-
-// Why a target has no new text.
-enum RewriteError {
-    Unchanged(Unchanged),
-    OutOfMemory,
-}
-
-impl From<AllocError> for RewriteError {
-    ghost use Rattle.relative_path_links.specs.declared.rewriter.RewriteError.TheVariants.{OutOfMemory};
-
-    ghost from_gives = { λ _ error. error ≡ OutOfMemory };
-
-    fn from(_: AllocError) -> RewriteError {
-        RewriteError::OutOfMemory
-    }
-}
-
-/// Rewrites a page after the moves of a table. Each target then leads from the page's new directory to the
-/// file to which it led before, wherever that file is now. All other bytes stay.
+/// Returns what becomes of each target of a page after the moves of a table. With these edits each target leads
+/// from the page's new directory to the file to which it led before, wherever that file is now.
+/// [`edited`](crate::edited) returns the page with them.
 ///
 /// The targets are those that [`targets`](crate::targets) finds, or others that are in order in the page, as
 /// [`are_in_order`](crate::are_in_order) tests. `moved` is what [`TreeMoves::moved_page`] returns for the path
 /// of the page before the moves; the page itself may move or stay.
 ///
-/// Each target is read as a browser reads it, by [`path_of_target`]. A target that isn't a relative path stays.
-/// So does a target whose path, as it is written, still leads to its file. The path of another becomes the
+/// Each target is read as a browser reads it, by [`path_of_target`]. A target that isn't a relative path is
+/// kept. So is a target whose path, as it is written, still leads to its file. The path of another becomes the
 /// shortest path to the file, written by [`target_of_path`](target_paths::target_of_path); a slash at its
-/// end, the query and the fragment stay. If there is no such path, the target stays as it is and is reported
-/// in `unchanged`. A target whose meaning isn't known stays too. It is reported if the table has a move,
-/// since it may lead to what moved.
+/// end, the query and the fragment stay. If there is no such path, the target is left as it is. A target whose
+/// meaning isn't known is left too, if the table has a move, since it may lead to what moved.
 ///
-/// Allocates the text, at first as many bytes as the page has, and the list of unchanged targets. For each
-/// target it allocates at most six times: what [`path_of_target`] and [`TreeMoves::moved_in`] do. The only
-/// error is lack of memory.
+/// Allocates the list of edits. For each target it allocates at most six times: what [`path_of_target`] and
+/// [`TreeMoves::reference_in`] do, and the new text. The only error is lack of memory.
 ///
 /// ```
 /// let moves = [("a.md", "docs/a.md"), ("my b.md", "docs/more/b.md")]
 ///     .map(|(old, new)| (RelativePath::new(old), RelativePath::new(new)));
-/// let tree = TreeMoves::new(alloc, &moves)?;
+/// let moves = TreeMoves::new(alloc, &moves)?;
 /// let page = "[b](my%20b.md#top), <img src='img/c.png'>, [d](../d.md)";
 /// let found = targets(alloc, page)?;
-/// let moved = tree.moved_page(alloc, RelativePath::new("a.md"))?;
-/// let new = rewrite_links(alloc, page, &found, &tree, &moved)?;
+/// let moved = moves.moved_page(alloc, RelativePath::new("a.md"))?;
+/// let edits = rewrite_links(alloc, page, &found, &moves, &moved)?;
 /// let expected = "[b](more/b.md#top), <img src='../img/c.png'>, [d](../d.md)";
-/// assert_eq!(rt; new.text.as_str(), expected);
-/// assert_eq!(rt; new.unchanged.as_slice(), [(47, Unchanged::AboveRoot)].as_slice());
+/// assert_eq!(rt; edited(alloc, page, &edits)?.as_str(), expected);
+/// assert_eq!(rt; edits[2].change, Change::Left(Unchanged::AboveRoot));
 /// ```
 pub fn rewrite_links(
     alloc: Global,
     page: &str,
     targets: &[Target],
-    tree: &TreeMoves<'_>,
-    moved: &MovedPage,
-) -> Result<RewrittenPage, AllocError>
+    moves: &TreeMoves<'_>,
+    moved: &PageMove,
+) -> Result<Vec<Edit>, AllocError>
     requires { HasTargets page.now 0 targets.now }
-    // targets become what `IsRewritten` says, and other bytes stay
-    ensures rewritten { IfOk result (λ new. IsRewritten (moving tree.now moved.now) page.now targets.now
-        (string_bytes new.text) new.unchanged.items) }
+    // one edit for each target, in order
+    ensures targets { IfOk result (λ edits. targets_of edits.items ≡ targets.now) }
+    // each target becomes what `Becomes` says
+    ensures changes { IfOk result
+        (λ edits. All (Becomes (moving moves.now moved.now) page.now) edits.items) }
+    // no new target is given up
+    ensures new { IfOk result (λ edits. All (λ edit. ¬ IsGivenUp edit.change) edits.items) }
 {
-    let mut text = String::with_capacity(alloc, page.len())?;
-    let mut unchanged = Vec::new(alloc);
-    let mut at = 0;
+    let mut edits = Vec::with_capacity(alloc, targets.len())?;
     let mut rest = targets;
     while let Some((target, others)) = rest.split_first() {
-        text.push_str(&page[at..target.start])?;
-        let why = push_target(
-            alloc,
-            &mut text,
-            target.syntax,
-            target.text(page),
-            tree,
-            moved,
-        )?;
-        push_unchanged(&mut unchanged, target.start, why)?;
-        at = target.end;
+        edits.push(edit_of(alloc, page, *target, moves, moved)?)?;
         rest = others;
     }
-    text.push_str(&page[at..])?;
-    Ok(RewrittenPage { text, unchanged })
+    Ok(edits)
 }
 
-// Adds an unchanged target to the others.
-fn push_unchanged(
-    unchanged: &mut Vec<(usize, Unchanged)>,
-    start: usize,
-    why: Option<Unchanged>,
-) -> Result<(), AllocError>
-    ensures { IfOk result (λ _. unchanged.new.items ≡ unchanged.old.items ++ reported start why) }
-{
-    if let Some(why) = why {
-        unchanged.push((start, why))?;
-    }
-    Ok(())
-}
-
-// Adds what a target becomes. Returns why it is reported as unchanged, if so.
-fn push_target(
+// Returns what becomes of a target.
+fn edit_of(
     alloc: Global,
-    text: &mut String,
-    syntax: TargetSyntax,
-    target: &str,
-    tree: &TreeMoves<'_>,
-    moved: &MovedPage,
-) -> Result<Option<Unchanged>, AllocError>
-    ensures { IfOk result (λ unchanged. (part : Part)
-        × BecomesPart (moving tree.now moved.now) syntax target.now part
-        × (part.unchanged ≡ unchanged) × (string_bytes text.new ≡ string_bytes text.old ++ part.text)) }
+    page: &str,
+    target: Target,
+    moves: &TreeMoves<'_>,
+    moved: &PageMove,
+) -> Result<Edit, AllocError>
+    requires { HasTarget page.now target }
+    ensures target { IfOk result (λ edit. edit.target ≡ target) }
+    ensures becomes { IfOk result (Becomes (moving moves.now moved.now) page.now) }
+    ensures new { IfOk result (λ edit. ¬ IsGivenUp edit.change) }
 {
-    match new_target(alloc, syntax, target, tree, moved) {
-        Ok(Some(new)) => {
-            push_target_of_path(text, &new.path)?;
-            text.push_str(new.tail)?;
-            Ok(None)
-        }
-        Ok(None) => {
-            text.push_str(target)?;
-            Ok(None)
-        }
-        Err(RewriteError::Unchanged(why)) => {
-            text.push_str(target)?;
-            Ok(Some(why))
-        }
-        Err(RewriteError::OutOfMemory) => Err(AllocError),
-    }
-}
-
-// Returns what to write in place of a target. `None` if the target stays and isn't reported.
-fn new_target<'t>(
-    alloc: Global,
-    syntax: TargetSyntax,
-    target: &'t str,
-    tree: &TreeMoves<'_>,
-    moved: &MovedPage,
-) -> Result<Option<NewTarget<'t>>, RewriteError>
-    ensures new { IfOk result (λ new. MatchOption new
-        (KeepsTarget (moving tree.now moved.now) syntax target.now)
-        (λ new. IsNewTarget (moving tree.now moved.now) syntax target.now (string_bytes new.path) new.tail.now)) }
-    ensures unchanged { IfErr result (IsUnchangedTarget (moving tree.now moved.now) syntax target.now) }
-{
-    match path_of_target(alloc, syntax, target)? {
-        TargetReading::NotRelative => Ok(None),
+    let text = target.text(page);
+    match path_of_target(alloc, target.syntax, text)? {
+        TargetReading::NotRelative => Ok(Edit {
+            target,
+            change: Change::Kept,
+            file: None,
+        }),
+        TargetReading::Unknown(why) => Ok(Edit {
+            target,
+            change: unknown_change(moves, why),
+            file: None,
+        }),
         TargetReading::Path { path, tail_at } => {
-            let Some(new) = new_path(alloc, &path, tree, moved)? else {
-                return Ok(None);
-            };
-            let tail = &target[tail_at..];
-            Ok(Some(NewTarget { path: new, tail }))
+            let (file, change) = followed(
+                alloc,
+                target.syntax,
+                &path,
+                &text[tail_at..],
+                moves,
+                moved,
+            )?;
+            Ok(Edit {
+                target,
+                change,
+                file: Some(file),
+            })
         }
-        TargetReading::Unknown(why) => match tree.len() {
-            0 => Ok(None),
-            _ => Err(RewriteError::Unchanged(Unchanged::Unknown(why))),
-        },
     }
 }
 
-// Returns the path to write in place of a path. `None` if the path still leads to its file.
-fn new_path(
+// Returns what becomes of a target whose meaning isn't known.
+fn unknown_change(moves: &TreeMoves<'_>, why: WhyUnknown) -> Change
+    ensures change { result ≡ unknown_change moves.now why }
+    ensures new { ¬ IsGivenUp result }
+{
+    if moves.len() == 0 {
+        Change::Kept
+    } else {
+        Change::Left(Unchanged::Unknown(why))
+    }
+}
+
+// Returns the file to which a path leads in a page, and what becomes of a target that is this path and then the tail.
+fn followed(
+    alloc: Global,
+    syntax: TargetSyntax,
+    path: &str,
+    tail: &str,
+    moves: &TreeMoves<'_>,
+    moved: &PageMove,
+) -> Result<(NormalPath, Change), AllocError>
+    ensures file { IfOk result (λ found.
+        IsNormalTextOf (components moved.now.before ++ components path.now) found.0) }
+    ensures change { IsTail syntax tail.now → IfOk result (λ found.
+        ChangesPath (moving moves.now moved.now) syntax path.now tail.now found.1) }
+    ensures new { IfOk result (λ found. ¬ IsGivenUp found.1) }
+{
+    let found = moves.reference_in(alloc, moved, RelativePath::new(path))?;
+    let change = change_of(alloc, path, tail, found.moved)?;
+    Ok((found.file, change))
+}
+
+// Returns what becomes of a target that is this path and then the tail, if this becomes of the path.
+fn change_of(
     alloc: Global,
     path: &str,
-    tree: &TreeMoves<'_>,
-    moved: &MovedPage,
-) -> Result<Option<String>, RewriteError>
-    ensures new { IfOk result (λ new. MatchOption new (StillLeads (moving tree.now moved.now) path.now)
-        (λ new. IsPathToWrite (moving tree.now moved.now) path.now (string_bytes new))) }
-    ensures unchanged { IfErr result (IsUnchangedPath (moving tree.now moved.now) path.now) }
+    tail: &str,
+    moved: Result<Option<RelativePathBuf>, ReferenceError>,
+) -> Result<Change, AllocError>
+    ensures change { IfOk result (IsChangeOf path.now tail.now moved) }
+    ensures new { IfOk result (λ change. ¬ IsGivenUp change) }
 {
-    let way = match tree.moved_in(alloc, moved, RelativePath::new(path)) {
-        Ok(Some(way)) => way,
-        Ok(None) => return Ok(None),
-        Err(ReferenceError::AboveRoot) => return Err(RewriteError::Unchanged(Unchanged::AboveRoot)),
-        Err(ReferenceError::NoPath) => return Err(RewriteError::Unchanged(Unchanged::NoPath)),
-        Err(ReferenceError::OutOfMemory) => return Err(RewriteError::OutOfMemory),
-    };
+    match moved {
+        Ok(None) => Ok(Change::Kept),
+        Ok(Some(way)) => new_target(alloc, path, tail, way),
+        Err(ReferenceError::AboveRoot) => Ok(Change::Left(Unchanged::AboveRoot)),
+        Err(ReferenceError::NoPath) => Ok(Change::Left(Unchanged::NoPath)),
+        Err(ReferenceError::OutOfMemory) => Err(AllocError),
+    }
+}
+
+// Returns the target for a way, with a slash at its end if the path has one, and then the tail.
+fn new_target(
+    alloc: Global,
+    path: &str,
+    tail: &str,
+    way: RelativePathBuf,
+) -> Result<Change, AllocError>
+    ensures change { IfOk result (IsChangeByWay path.now tail.now way.text) }
+    ensures new { IfOk result (λ change. ¬ IsGivenUp change) }
+{
     let new = with_slash(path, way.into_string())?;
     if has_nul(&new) {
-        return Err(RewriteError::Unchanged(Unchanged::Nul));
+        return Ok(Change::Left(Unchanged::Nul));
     }
-    Ok(Some(new))
+    let mut text = String::with_capacity(alloc, new.len().saturating_add(tail.len()))?;
+    push_target_of_path(&mut text, &new)?;
+    text.push_str(tail)?;
+    Ok(Change::New(text))
 }
 
 // Returns the way, with a slash at its end if the path has one.

@@ -1,11 +1,11 @@
 //! Rewrites the pages of a site after its files moved.
 ghost use Rattle.std.specs.Prelude.{IfOk};
-ghost use Rattle.relative_path_links.specs.Site.{AreRewritten, ForMovedPage, HaveTargets, KeepTheirLinks};
-ghost use Rattle.relative_path_links.specs.Rewriter.{IsRewritten};
-ghost use Rattle.relative_path_links.specs.Targets.{HasTargets};
+ghost use Rattle.relative_path_links.specs.Site.{AreRewritten, ForMovedPage, IsRewritten, KeepTheirLinks};
 
-use crate::rewriter::{RewrittenPage, rewrite_links};
-use crate::target::Target;
+use crate::edit::Edit;
+use crate::finder::Finder;
+use crate::reread::settle;
+use crate::rewriter::rewrite_links;
 use relative_path::RelativePath;
 use relative_path_moves::TreeMoves;
 use relative_path_places::NormalPath;
@@ -18,8 +18,6 @@ pub struct SitePage<'a> {
     pub path: RelativePath<'a>,
     /// Its text.
     pub text: &'a str,
-    /// The targets of its links.
-    pub targets: &'a [Target],
 }
 
 /// A page of a site after the moves.
@@ -27,64 +25,72 @@ pub struct SitePage<'a> {
 pub struct MovedSitePage {
     /// Its path from the root of the site.
     pub path: NormalPath,
-    /// Its text and its unchanged targets.
-    pub page: RewrittenPage,
+    /// What becomes of each of its targets.
+    pub edits: Vec<Edit>,
+    /// Its text, if it changes.
+    pub text: Option<String>,
 }
 
 /// Rewrites the pages of a site after the moves of a table. Each link then leads to the file to which it led
-/// before, wherever that file is now, or it is reported as unchanged.
+/// before, wherever that file is now, or it is left.
 ///
-/// A link leads, as a browser reads its target, from the directory of its page. All bytes outside the targets
-/// stay. A page stays as it is if its directory doesn't move and no link of it leads to a file that moves.
+/// The links of a page are those whose targets the finder finds, as [`Markdown`](crate::Markdown) does. A link
+/// leads, as a browser reads its target, from the directory of its page. All bytes outside the targets stay. A page
+/// stays as it is if its directory doesn't move and no link of it leads to a file that moves.
 ///
-/// The targets of each page are those that [`targets`](crate::targets) finds, or others that are in order in
-/// the page, as [`are_in_order`](crate::are_in_order) tests. What the finder passes over isn't among them:
-/// [`link_targets`](markdown_targets::link_targets) lists it.
+/// A page that changes is read again. If the finder doesn't find the targets of the edits where they are now, or
+/// finds others, the new target next to the first difference is given up. It is left as it is, with the reason
+/// [`WouldReadOtherwise`](crate::Unchanged::WouldReadOtherwise). After three such targets all new ones of the page
+/// are given up. So a page is read again at most four times.
 ///
-/// Allocates the list of pages, and for each page what [`TreeMoves::moved_page`] and [`rewrite_links`] do. The only
-/// error is lack of memory.
+/// Allocates the list of pages, and for each page what the finder, [`TreeMoves::moved_page`] and [`rewrite_links`]
+/// do. For a page that changes it also allocates its text, and what the finder does once more, each time that the
+/// page is read again. The only error is lack of memory.
 ///
 /// ```
 /// let moves = [(RelativePath::new("guide"), RelativePath::new("docs/guide"))];
-/// let tree = TreeMoves::new(alloc, &moves)?;
-/// let text = "[a](guide/a.md)";
-/// let found = targets(alloc, text)?;
-/// let page = SitePage { path: RelativePath::new("index.md"), text, targets: &found };
-/// let moved = rewrite_site(alloc, &[page], &tree)?;
+/// let moves = TreeMoves::new(alloc, &moves)?;
+/// let page = SitePage { path: RelativePath::new("index.md"), text: "[a](guide/a.md)" };
+/// let moved = rewrite_site(alloc, &[page], &moves, &Markdown)?;
 /// assert_eq!(rt; moved[0].path.as_relative_path().as_str(), "index.md");
-/// assert_eq!(rt; moved[0].page.text.as_str(), "[a](docs/guide/a.md)");
+/// assert_eq!(rt; moved[0].text.as_deref(), Some("[a](docs/guide/a.md)"));
 /// ```
-pub fn rewrite_site(
+pub fn rewrite_site<F: Finder>(
     alloc: Global,
     pages: &[SitePage<'_>],
-    tree: &TreeMoves<'_>,
+    moves: &TreeMoves<'_>,
+    finder: &F,
 ) -> Result<Vec<MovedSitePage>, AllocError>
-    requires { HaveTargets pages.now }
-    // each page as by `rewrite_links`, at its path after the moves
-    ensures rewritten { IfOk result (λ new. AreRewritten tree.now pages.now new.items) }
-    // each relative link still leads to its file, query and fragment kept, or is reported
-    ensures links { IfOk result (λ new. KeepTheirLinks tree.now pages.now new.items) }
+    // each page as by `rewrite_links`, but for targets that are given up, at its path after the moves
+    ensures rewritten { IfOk result
+        (λ new. AreRewritten (F.finds finder.now) moves.now pages.now new.items) }
+    // each relative link still leads to its file, query and fragment kept, or is left, and is found again
+    ensures links { IfOk result
+        (λ new. KeepTheirLinks (F.finds finder.now) moves.now pages.now new.items) }
 {
     let mut moved = Vec::with_capacity(alloc, pages.len())?;
     for page in pages {
-        moved.push(moved_page(alloc, *page, tree)?)?;
+        moved.push(moved_page(alloc, *page, moves, finder)?)?;
     }
     Ok(moved)
 }
 
 // Returns a page of the site after the moves.
-fn moved_page(
+fn moved_page<F: Finder>(
     alloc: Global,
     page: SitePage<'_>,
-    tree: &TreeMoves<'_>,
+    moves: &TreeMoves<'_>,
+    finder: &F,
 ) -> Result<MovedSitePage, AllocError>
-    requires { HasTargets page.text.now 0 page.targets.now }
-    ensures { IfOk result (ForMovedPage IsRewritten tree.now page.entry) }
+    ensures { IfOk result (ForMovedPage (IsRewritten (F.finds finder.now)) moves.now page.entry) }
 {
-    let moved = tree.moved_page(alloc, page.path)?;
-    let new = rewrite_links(alloc, page.text, page.targets, tree, &moved)?;
+    let targets = finder.targets(alloc, page.text)?;
+    let moved = moves.moved_page(alloc, page.path)?;
+    let edits = rewrite_links(alloc, page.text, &targets, moves, &moved)?;
+    let settled = settle(alloc, page.text, edits, finder)?;
     Ok(MovedSitePage {
         path: moved.path,
-        page: new,
+        edits: settled.edits,
+        text: settled.text,
     })
 }

@@ -6,8 +6,10 @@ use std::test::Fail;
 
 mod calling;
 mod finder;
+mod new_targets;
 mod pages;
 mod refusals;
+mod reread;
 mod rewriter;
 mod site_map;
 

@@ -1,6 +1,5 @@
 -- The one target of a reference, and the shortest path to it or the error.
-use Rattle.std.proofs.Common.{◌≡◌, ◌≢◌, ◌↔◌, ℕ, ◌<◌, List, length, Option, Some, None, IsNone, IfSome, Result, Ok, Err, IfOk, inl, inr, [], ◌++◌, refl, sym, ap, ◌∙◌, arith, Bool, IsTrue, is_some, not, true≢false}
-use Rattle.std.proofs.lemmas.Bool.{not-false}
+use Rattle.std.proofs.Common.{◌≡◌, ◌≢◌, ◌↔◌, ℕ, ◌<◌, List, length, Option, Some, None, IsNone, IfSome, Result, Ok, Err, IfOk, inl, inr, [], ◌++◌, refl, sym, ap, ◌∙◌, arith}
 use Rattle.std.proofs.lemmas.List.{length-map}
 use Rattle.relative_path.specs.Steps.{Step}
 use Rattle.relative_path.specs.Walk.{walk, IsSame, place_of}
@@ -10,7 +9,7 @@ use Rattle.relative_path.proofs.ForCallers.{IsSame-refl, IsSame-sym, IsSame-tran
 use Rattle.relative_path_moves.specs.declared.move_error.ReferenceError.{ReferenceError}
 use Rattle.relative_path_moves.specs.declared.move_error.ReferenceError.TheVariants.{AboveRoot, NoPath, OutOfMemory}
 use Rattle.relative_path_places.specs.Places.{directory}
-use Rattle.relative_path_places.specs.PlaceIndex.{IsFirstAt, IsNoneAt, IsFoundAt}
+use Rattle.relative_path_places.specs.PlaceIndex.{IsFirstAt, IsNoneAt}
 use Rattle.relative_path_moves.specs.Moves.{Move, move_at, MovesFrom, AreApart, IsUnmoved, IsTarget, AtNewPath, ForTargetOfLink, ClimbsAbove, BelowTop}
 use Rattle.relative_path_moves.specs.MoveError.{Refuses}
 use Rattle.relative_path_moves.specs.MoveTable.{olds_of, LeadToTarget, IsWay, IsShortestBuffer, IsLink}

@@ -10,7 +10,7 @@
 pub use self::move_error::{MoveError, MoveTableError, ReferenceError};
 pub use self::move_table::MoveTable;
 pub use self::reference::moved;
-pub use self::tree_moves::{MovedPage, TreeMoves};
+pub use self::tree_moves::{MovedReference, PageMove, TreeMoves};
 
 mod leading;
 mod move_error;

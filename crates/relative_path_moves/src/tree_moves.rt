@@ -1,5 +1,5 @@
 //! A table of moves of files and directories.
-ghost use Rattle.std.specs.Prelude.{◌≡◌, ◌↔◌, ℕ, List, length, map, None, Some, IfOk, IfSome, IfNone, IsNone, OnOk, IsErrOf, MatchOption};
+ghost use Rattle.std.specs.Prelude.{◌≡◌, ◌↔◌, ℕ, List, ◌++◌, length, map, None, Some, IfOk, IfSome, IfNone, IsNone, OnOk, IsErrOf, MatchOption};
 ghost use Rattle.relative_path.specs.Steps.{Step, components};
 ghost use Rattle.relative_path.specs.Normalizing.{IsNormalTextOf};
 ghost use Rattle.relative_path.specs.Relating.{Leads, IsReachable, IsShortestText};
@@ -73,13 +73,22 @@ impl<'a> Model for TreeMoves<'a> {
 ///
 /// [`TreeMoves::moved_page`] makes it once for all references of the page.
 #[derive(Debug, Drop)]
-pub struct MovedPage {
+pub struct PageMove {
     /// The page's path after the moves.
     pub path: NormalPath,
     /// The page's directory before the moves.
     pub before: NormalPath,
     /// The page's directory after the moves.
     pub after: NormalPath,
+}
+
+/// A reference in a page: the file to which it leads before the moves, and what it becomes after them.
+#[derive(Debug, Drop)]
+pub struct MovedReference {
+    /// The normal path of the file to which the reference leads before the moves.
+    pub file: NormalPath,
+    /// What the reference becomes: the result of [`TreeMoves::moved_in`].
+    pub moved: Result<Option<RelativePathBuf>, ReferenceError>,
 }
 
 impl<'a> TreeMoves<'a> {
@@ -162,6 +171,31 @@ impl<'a> TreeMoves<'a> {
         }
     }
 
+    /// Returns the normal path, after the moves, of a file or directory with a normal path that a move takes along.
+    /// `None` if it stays where it is.
+    ///
+    /// Allocates at most once, the result. Fails only if that allocation fails.
+    ///
+    /// ```
+    /// let moves = [(RelativePath::new("docs"), RelativePath::new("guide"))];
+    /// let tree = TreeMoves::new(alloc, &moves)?;
+    /// let file = NormalPath::of(alloc, RelativePath::new("docs/a.md"))?;
+    /// let now = tree.new_path(alloc, &file)?.ok_or("a new path")?;
+    /// assert_eq!(rt; now.as_relative_path().as_str(), "guide/a.md");
+    /// ```
+    pub fn new_path(
+        &self,
+        alloc: Global,
+        file: &NormalPath,
+    ) -> Result<Option<NormalPath>, AllocError>
+        // where the nearest move takes it, or `None` if no move takes it along
+        ensures { IfOk result (λ now. MatchOption now (IsLeftInPlace self.now (components file.now))
+            (λ now. (target : List Step) × IsTakenTo self.now (components file.now) target
+            × IsNormalTextOf target now)) }
+    {
+        self.taken_to(alloc, file)
+    }
+
     /// Returns where a page is after the moves, and its directory before and after them. The result serves
     /// all references of the page, by [`TreeMoves::moved_in`].
     ///
@@ -176,7 +210,7 @@ impl<'a> TreeMoves<'a> {
     /// assert_eq!(rt; page.before.as_relative_path().as_str(), "docs/sub");
     /// assert_eq!(rt; page.after.as_relative_path().as_str(), "guide/sub");
     /// ```
-    pub fn moved_page(&self, alloc: Global, page: RelativePath<'_>) -> Result<MovedPage, AllocError>
+    pub fn moved_page(&self, alloc: Global, page: RelativePath<'_>) -> Result<PageMove, AllocError>
         // `before` is the page's normal directory before the moves
         ensures before { IfOk result
             (λ moved. IsNormalTextOf (directory (path_components page.entry)) moved.before) }
@@ -189,7 +223,7 @@ impl<'a> TreeMoves<'a> {
         match self.taken_to(alloc, &place)? {
             Some(path) => {
                 let after = NormalPath::of(alloc, path.directory())?;
-                Ok(MovedPage {
+                Ok(PageMove {
                     path,
                     before,
                     after,
@@ -197,7 +231,7 @@ impl<'a> TreeMoves<'a> {
             }
             None => {
                 let after = NormalPath::of(alloc, directory(page))?;
-                Ok(MovedPage {
+                Ok(PageMove {
                     path: place,
                     before,
                     after,
@@ -237,7 +271,7 @@ impl<'a> TreeMoves<'a> {
     pub fn moved_in(
         &self,
         alloc: Global,
-        page: &MovedPage,
+        page: &PageMove,
         reference: RelativePath<'_>,
     ) -> Result<Option<RelativePathBuf>, ReferenceError>
         // `None` only if the reference still leads to its target
@@ -260,24 +294,84 @@ impl<'a> TreeMoves<'a> {
             (λ target. (¬ Leads (components page.now.after) (path_components reference.entry) target)
             × BelowTop (λ target. ¬ IsReachable (components page.now.after) target) target) }
     {
-        let target = self.target(alloc, &page.before, reference)?;
-        link_from(alloc, &page.after, reference, &target)
+        self.reference_in(alloc, page, reference)?.moved
     }
 
-    // Returns the normal path, after the moves, of where a reference led from a directory.
-    fn target(
+    /// Returns what a reference in a page becomes after the moves, as [`TreeMoves::moved_in`] does, and the file
+    /// to which it leads before them.
+    ///
+    /// Allocates what [`TreeMoves::moved_in`] does. Fails only if the allocation of the file's path fails.
+    ///
+    /// ```
+    /// let moves = [(RelativePath::new("docs"), RelativePath::new("guide"))];
+    /// let tree = TreeMoves::new(alloc, &moves)?;
+    /// let page = tree.moved_page(alloc, RelativePath::new("docs/a.md"))?;
+    /// let found = tree.reference_in(alloc, &page, RelativePath::new("../b.md"))?;
+    /// assert_eq!(rt; found.file.as_relative_path().as_str(), "b.md");
+    /// assert!(rt; found.moved?.is_none());
+    /// ```
+    pub fn reference_in(
+        &self,
+        alloc: Global,
+        page: &PageMove,
+        reference: RelativePath<'_>,
+    ) -> Result<MovedReference, AllocError>
+        // the normal path of where the reference leads before the moves
+        ensures file { IfOk result (λ found.
+            IsNormalTextOf (components page.now.before ++ path_components reference.entry) found.file) }
+        // `None` only if the reference still leads to its target
+        ensures stays { IfOk result (λ found. IfOk found.moved (λ way. IsNone way
+            → AtTreeTarget self.now (components page.now.before) (path_components reference.entry)
+            (λ target. Leads (components page.now.after) (path_components reference.entry) target))) }
+        // the shortest path to the target, where the reference no longer leads
+        ensures shortest { IfOk result (λ found. IfOk found.moved (λ way. IfSome way (λ way.
+            AtTreeTarget self.now (components page.now.before) (path_components reference.entry)
+            (λ target. (¬ Leads (components page.now.after) (path_components reference.entry) target)
+            × BelowTop (λ target. IsShortestText (components page.now.after) target way.text) target)))) }
+        // `AboveRoot` only for a target above the root, where the reference no longer leads
+        ensures above_root { IfOk result (λ found. IsErrOf found.moved ReferenceError.AboveRoot
+            → AtTreeTarget self.now (components page.now.before) (path_components reference.entry)
+            (λ target. (¬ Leads (components page.now.after) (path_components reference.entry) target)
+            × ClimbsAbove target)) }
+        // `NoPath` only for an unreachable target in the root
+        ensures no_path { IfOk result (λ found. IsErrOf found.moved ReferenceError.NoPath
+            → AtTreeTarget self.now (components page.now.before) (path_components reference.entry)
+            (λ target. (¬ Leads (components page.now.after) (path_components reference.entry) target)
+            × BelowTop (λ target. ¬ IsReachable (components page.now.after) target) target)) }
+    {
+        let file = page.before.join(alloc, reference)?;
+        let moved = self.link_to_file(alloc, &page.after, reference, &file);
+        Ok(MovedReference { file, moved })
+    }
+
+    // Returns the shortest path from a directory after the moves to a file, or `None` if the reference leads
+    // there.
+    fn link_to_file(
         &self,
         alloc: Global,
         directory: &NormalPath,
         reference: RelativePath<'_>,
-    ) -> Result<NormalPath, AllocError>
-        ensures { IfOk result (λ now. AtTreeTarget self.now (components directory.now)
-            (path_components reference.entry) (λ target. IsNormalTextOf target now)) }
+        file: &NormalPath,
+    ) -> Result<Option<RelativePathBuf>, ReferenceError>
+        ensures stays { IfOk result (λ way. IsNone way → (from : List Step) → IsNormalTextOf from file.now
+            → AtTreePath self.now from
+            (λ target. Leads (components directory.now) (path_components reference.entry) target)) }
+        ensures shortest { IfOk result (λ way. IfSome way (λ way. (from : List Step) → IsNormalTextOf from file.now
+            → AtTreePath self.now from
+            (λ target. (¬ Leads (components directory.now) (path_components reference.entry) target)
+            × BelowTop (λ target. IsShortestText (components directory.now) target way.text) target))) }
+        ensures above_root { IsErrOf result ReferenceError.AboveRoot
+            → (from : List Step) → IsNormalTextOf from file.now → AtTreePath self.now from
+            (λ target. (¬ Leads (components directory.now) (path_components reference.entry) target)
+            × ClimbsAbove target) }
+        ensures no_path { IsErrOf result ReferenceError.NoPath
+            → (from : List Step) → IsNormalTextOf from file.now → AtTreePath self.now from
+            (λ target. (¬ Leads (components directory.now) (path_components reference.entry) target)
+            × BelowTop (λ target. ¬ IsReachable (components directory.now) target) target) }
     {
-        let meant = directory.join(alloc, reference)?;
-        match self.taken_to(alloc, &meant)? {
-            Some(now) => Ok(now),
-            None => Ok(meant),
+        match self.taken_to(alloc, file)? {
+            Some(now) => link_from(alloc, directory, reference, &now),
+            None => link_from(alloc, directory, reference, file),
         }
     }
 
@@ -287,6 +381,9 @@ impl<'a> TreeMoves<'a> {
         ensures target { IfOk result (λ now. (file : List Step) → IsNormalTextOf file place.now
             → MatchOption now (IsLeftInPlace self.now file)
             (λ now. (target : List Step) × IsTakenTo self.now file target × IsNormalTextOf target now)) }
+        ensures own { IfOk result (λ now. MatchOption now (IsLeftInPlace self.now (components place.now))
+            (λ now. (target : List Step) × IsTakenTo self.now (components place.now) target
+            × IsNormalTextOf target now)) }
         ensures named { IfOk result (λ now. IfSome now (λ _. AreNamed self.now)) }
     {
         let file = place.view();

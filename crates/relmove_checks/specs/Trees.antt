@@ -16,7 +16,7 @@ use Rattle.relative_path_moves.specs.TreeMoves.{AtTreePath}
 use Rattle.relative_path_places.specs.declared.place_index.PlaceIndex.{PlaceIndex}
 use Rattle.relmove_checks.specs.declared.entry.Entry.{Entry}
 use Rattle.relmove_checks.specs.declared.entry.Kind.{Kind}
-use Rattle.relmove_checks.specs.declared.entry.Kind.TheVariants.{File, Directory, Link}
+use Rattle.relmove_checks.specs.declared.entry.Kind.TheVariants.{File, Directory, Symlink}
 use Rattle.relmove_checks.specs.declared.refused.Barrier.{Barrier}
 use Rattle.relmove_checks.specs.declared.refused.Barrier.TheVariants.{Files, UnreadDirectories}
 
@@ -36,13 +36,13 @@ IsNotThere entries cs = IsNoneAt (entry_paths entries) cs
 abbrev pub is_foreign : Kind → Bool
 is_foreign File = false
 is_foreign (Directory foreign read) = foreign
-is_foreign (Link target) = false
+is_foreign (Symlink path) = false
 
 -- the entry is a directory
 abbrev pub is_directory : Kind → Bool
 is_directory File = false
 is_directory (Directory foreign read) = true
-is_directory (Link target) = false
+is_directory (Symlink path) = false
 
 -- the entry is a file or a symbolic link
 abbrev pub is_file : Kind → Bool
@@ -52,7 +52,7 @@ is_file kind = not (is_directory kind)
 abbrev pub is_unread : Kind → Bool
 is_unread File = false
 is_unread (Directory foreign read) = not read
-is_unread (Link target) = false
+is_unread (Symlink path) = false
 
 -- the entry is of the kind below which no new path may be
 abbrev pub is_barrier : Barrier → Kind → Bool

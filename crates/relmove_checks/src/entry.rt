@@ -15,9 +15,9 @@ pub enum Kind<'a> {
         is_read: bool,
     },
     /// A symbolic link, and the path that it has. `None` if that isn't a relative path in UTF-8.
-    Link {
-        /// The path, from the directory of the link.
-        target: Option<RelativePath<'a>>,
+    Symlink {
+        /// The path, from the directory of the symbolic link.
+        path: Option<RelativePath<'a>>,
     },
 }
 

@@ -36,7 +36,7 @@ fn is_foreign(kind: Kind<'_>) -> bool
             ..
         } => has_foreign_name,
         Kind::File => false,
-        Kind::Link { .. } => false,
+        Kind::Symlink { .. } => false,
     }
 }
 

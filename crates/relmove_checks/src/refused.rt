@@ -417,7 +417,7 @@ fn is_file(kind: Kind<'_>) -> bool
     match kind {
         Kind::Directory { .. } => false,
         Kind::File => true,
-        Kind::Link { .. } => true,
+        Kind::Symlink { .. } => true,
     }
 }
 
@@ -428,6 +428,6 @@ fn is_unread(kind: Kind<'_>) -> bool
     match kind {
         Kind::Directory { is_read, .. } => !is_read,
         Kind::File => false,
-        Kind::Link { .. } => false,
+        Kind::Symlink { .. } => false,
     }
 }

@@ -64,8 +64,8 @@ fn item_of<'a>(tree: &Tree, path: &'a str, kind: &'a EntryKind) -> Item<'a> {
         EntryKind::File | EntryKind::Other => Item::File,
         EntryKind::Directory if is_read_directory(tree, path) => Item::Directory,
         EntryKind::Directory => Item::Unread(path),
-        EntryKind::Link(Some(text)) => Item::Symlink(Some(text.as_str())),
-        EntryKind::Link(None) => Item::Symlink(None),
+        EntryKind::Symlink(Some(text)) => Item::Symlink(Some(text.as_str())),
+        EntryKind::Symlink(None) => Item::Symlink(None),
     }
 }
 

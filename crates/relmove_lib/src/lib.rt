@@ -18,8 +18,7 @@ pub use self::arguments::{Command, Effect, WrongCall, command_of};
 pub use self::dead_links::{DeadLink, WhyDead, dead_links_of};
 pub use self::losses::Loss;
 pub use self::moving::{
-    ChangedLink, LeftLink, LostSymlink, Moving, WhyLeft, WhyRefused, changed_links_of,
-    is_directory, moving_of,
+    LeftLink, LostSymlink, Moving, WhyLeft, WhyRefused, is_directory, moving_of,
 };
 pub use self::position::{Position, position_after};
 pub use self::program::{Status, answer};

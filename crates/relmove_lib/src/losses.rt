@@ -54,16 +54,11 @@ impl<'a> Watch<'a> {
         })
     }
 
-    /// Whether anything is asked for of a link that the plan changes or lets stay.
-    pub fn sees_links(&self) -> bool {
-        self.ignores_case || self.has_symlink || self.has_dot_directory
-    }
-
-    /// Whether anything is asked for of such a link, whose target is written so.
-    pub fn sees(&self, written: &str) -> bool {
+    /// Whether anything is asked for of a link to this path that the plan changes or lets stay.
+    pub fn sees(&self, path: &str) -> bool {
         self.ignores_case
             || self.has_symlink
-            || self.has_dot_directory && may_have_dot_name(written)
+            || self.has_dot_directory && (path.starts_with('.') || path.contains("/."))
     }
 
     /// Where a path leads after the moves, if it led to something else before them. A path that leads nowhere has nothing
@@ -89,22 +84,13 @@ fn has_symlink(tree: &Tree) -> bool {
         || tree
             .entries
             .values()
-            .any(|kind| matches!(kind, EntryKind::Link(_)))
+            .any(|kind| matches!(kind, EntryKind::Symlink(_)))
 }
 
 // Whether a tree has a directory whose name begins with a dot.
 fn has_dot_directory(tree: &Tree) -> bool {
     tree.entries.iter().any(|(path, kind)| *kind == EntryKind::Directory
         && has_dot_name(path.as_str()))
-}
-
-// Whether a target that is written so may have a path with a name that begins with a dot, other than `.` and `..`. What may
-// stand for another character counts as a dot.
-fn may_have_dot_name(written: &str) -> bool {
-    written
-        .bytes()
-        .any(|byte| byte <= b' ' || matches!(byte, b'%' | b'&' | b'\\'))
-        || written.split('/').any(|name| name.starts_with('.') && name != "." && name != "..")
 }
 
 // Whether the file system takes a name for one in another case. Asks for one name: the first one that has an ASCII letter,

@@ -1,26 +1,19 @@
-//! Plans moves in a tree that was read, and finds the links that the plan leaves or changes.
-ghost use Rattle.std.specs.Prelude.{IfOk, string_bytes};
-ghost use Rattle.relative_path_links.specs.Site.{HaveTargets};
-ghost use Rattle.relmove_lib.specs.Pages.{AreTargetsOf};
-
+//! Plans moves in a tree that was read, and finds the links that the plan leaves.
 use crate::dead_links::leads_somewhere;
 use crate::losses::{Loss, Watch};
 use crate::position::{Position, Positions};
 use crate::presence::{Presence, presence_at};
 use crate::tree::{EntryKind, Page, Tree, cannot_read, has_dot_name, has_path, is_read_directory};
 use relative_path::RelativePath;
-use relative_path_links::{
-    MovedSitePage, SitePage, Target, Unchanged, are_in_order, rewrite_links, targets,
-};
-use relative_path_moves::{MoveTableError, MovedPage, TreeMoves};
-use relative_path_places::directory;
+use relative_path_links::{Change, Edit, Markdown, MovedSitePage, SitePage, Unchanged};
+use relative_path_moves::{MoveTableError, TreeMoves};
+use relative_path_places::NormalPath;
 use relmove_plan::{Entry, Kind, NameRule, Plan, Refusal, make_plan};
 use relmove_run::{
     Call, Fault, FoundKind, JOURNAL, LONGEST_PATH, Store, at, is_absence, join, need_short,
 };
 use std::alloc::{AllocError, AllocFailed, Global};
 use std::io::ErrorKind;
-use target_paths::{TargetReading, path_of_target};
 
 /// Why moves are refused. Moves are numbered from 0.
 #[derive(Debug, Drop)]
@@ -109,19 +102,6 @@ pub struct LostSymlink<'a> {
     pub loss: Loss,
 }
 
-/// A link that gets a new target.
-#[derive(Debug, Drop)]
-pub struct ChangedLink<'a> {
-    /// The path of its page before the moves.
-    pub page: &'a str,
-    /// Where its target begins in the page before the moves.
-    pub position: Position,
-    /// Its target before the moves, as it is written.
-    pub target: &'a str,
-    /// Its target after the moves.
-    pub new: String,
-}
-
 /// What moves do to a tree.
 #[derive(Drop)]
 pub struct Moving<'a> {
@@ -131,8 +111,6 @@ pub struct Moving<'a> {
     pub left: Vec<LeftLink<'a>>,
     /// The symbolic links that no longer lead to what they led to, and aren't among those of the plan.
     pub lost: Vec<LostSymlink<'a>>,
-    // The targets of each page.
-    found: Vec<Vec<Target>>,
 }
 
 /// Plans the moves of a tree: each OLD with its NEW. Nothing is changed. Fails with [`Fault::TooLong`] if something in the
@@ -151,47 +129,13 @@ pub fn moving_of<'a, S: Store>(
     let alloc = store.alloc();
     need_read_directories(alloc, moves)?;
     let pairs = pairs_of(alloc, moves)?;
-    let found = found_targets(alloc, &tree.pages)?;
-    let plan = plan_of(alloc, tree, &found, &pairs, rule)?;
+    let plan = plan_of(alloc, tree, &pairs, rule)?;
     need_directories(alloc, tree, moves)?;
     need_other_names(moves)?;
     let table = TreeMoves::new(alloc, &pairs)?;
     need_short_paths(store, tree, &pairs, &table)?;
-    let (left, lost) = losses_of(store, tree, &found, &plan, &table)?;
-    Ok(Moving {
-        plan,
-        left,
-        lost,
-        found,
-    })
-}
-
-/// Returns the links that moves change: those of a plan that [`moving_of`] made of the same moves in the same tree.
-///
-/// The plan has the new texts of the pages. This call writes each new target once more. Of other moves, which no plan
-/// accepts, no link changes.
-pub fn changed_links_of<'a>(
-    alloc: Global,
-    tree: &'a Tree,
-    moves: &[(&str, &str)],
-    moving: &Moving<'_>,
-) -> Result<Vec<ChangedLink<'a>>, AllocError> {
-    let mut changed = Vec::new(alloc);
-    let pairs = pairs_of(alloc, moves)?;
-    let table = match TreeMoves::new(alloc, &pairs) {
-        Ok(table) => table,
-        Err(MoveTableError::OutOfMemory) => return Err(AllocError),
-        Err(MoveTableError::NoFileName(_) | MoveTableError::SameOld(..)) => return Ok(changed),
-    };
-    for change in &moving.plan.changed {
-        if let (Some(page), Some(targets)) = (
-            tree.pages.get(change.number),
-            moving.found.get(change.number),
-        ) {
-            add_changed_links(alloc, page, targets, &table, &mut changed)?;
-        }
-    }
-    Ok(changed)
+    let (left, lost) = losses_of(store, tree, &plan, &table)?;
+    Ok(Moving { plan, left, lost })
 }
 
 // The moves, as paths.
@@ -355,34 +299,20 @@ pub fn is_directory(alloc: Global, tree: &Tree, path: &str) -> Result<bool, Allo
     }
 }
 
-// Returns the targets of each page.
-fn found_targets(alloc: Global, pages: &[Page]) -> Result<Vec<Vec<Target>>, AllocError>
-    ensures { IfOk result (λ found. AreTargetsOf (λ page. string_bytes page.text) pages.now found.items) }
-{
-    let mut found = Vec::with_capacity(alloc, pages.len())?;
-    for page in pages {
-        found.push(targets(alloc, page.text.as_str())?)?;
-    }
-    Ok(found)
-}
-
 // The plan of moves.
 fn plan_of(
     alloc: Global,
     tree: &Tree,
-    found: &[Vec<Target>],
     moves: &[(RelativePath<'_>, RelativePath<'_>)],
     rule: NameRule,
-) -> Result<Plan, Refusal>
-    requires { AreTargetsOf (λ page. string_bytes page.text) tree.now.pages.items found.now }
-{
+) -> Result<Plan, Refusal> {
     let entries = entries_of(alloc, tree)?;
-    let pages = site_pages(alloc, &tree.pages, found)?;
+    let pages = site_pages(alloc, &tree.pages)?;
     let tree = relmove_plan::Tree {
         entries: &entries,
         pages: &pages,
     };
-    make_plan(alloc, tree, moves, rule)
+    make_plan(alloc, tree, moves, rule, &Markdown)
 }
 
 // The entries of a tree, as the plan takes them.
@@ -393,8 +323,8 @@ fn entries_of<'a>(alloc: Global, tree: &'a Tree) -> Result<Vec<Entry<'a>>, Alloc
             EntryKind::File => Kind::File,
             EntryKind::Other => Kind::File,
             EntryKind::Directory => directory_kind(tree, path.as_str()),
-            EntryKind::Link(Some(target)) => link_of(target.as_str()),
-            EntryKind::Link(None) => Kind::Link { target: None },
+            EntryKind::Symlink(Some(path)) => symlink_of(path.as_str()),
+            EntryKind::Symlink(None) => Kind::Symlink { path: None },
         };
         let path = RelativePath::new(path.as_str());
         entries.push(Entry { path, kind })?;
@@ -410,37 +340,25 @@ fn directory_kind<'a>(tree: &Tree, path: &str) -> Kind<'a> {
     }
 }
 
-// The symbolic link with this target.
-fn link_of<'a>(target: &'a str) -> Kind<'a> {
-    Kind::Link {
-        target: if target.starts_with('/') {
+// Returns the symbolic link that has this path.
+fn symlink_of<'a>(path: &'a str) -> Kind<'a> {
+    Kind::Symlink {
+        path: if path.starts_with('/') {
             None
         } else {
-            Some(RelativePath::new(target))
+            Some(RelativePath::new(path))
         },
     }
 }
 
-// Returns the pages with their targets, as the plan takes them.
-fn site_pages<'a>(
-    alloc: Global,
-    pages: &'a [Page],
-    found: &'a [Vec<Target>],
-) -> Result<Vec<SitePage<'a>>, AllocError>
-    requires { AreTargetsOf (λ page. string_bytes page.text) pages.now found.now }
-    ensures { IfOk result (λ site. HaveTargets site.items) }
-{
+// Returns the pages, as the plan takes them.
+fn site_pages(alloc: Global, pages: &[Page]) -> Result<Vec<SitePage<'_>>, AllocError> {
     let mut site = Vec::with_capacity(alloc, pages.len())?;
-    let (mut pages, mut found) = (pages, found);
-    while let Some((page, other_pages)) = pages.split_first()
-        && let Some((targets, other_found)) = found.split_first()
-    {
+    for page in pages {
         site.push(SitePage {
             path: RelativePath::new(page.path.as_str()),
             text: page.text.as_str(),
-            targets: targets.as_slice(),
         })?;
-        (pages, found) = (other_pages, other_found);
     }
     Ok(site)
 }
@@ -449,12 +367,11 @@ fn site_pages<'a>(
 fn losses_of<'a, S: Store>(
     store: &mut S,
     tree: &'a Tree,
-    found: &[Vec<Target>],
     plan: &Plan,
     table: &TreeMoves<'_>,
 ) -> Result<(Vec<LeftLink<'a>>, Vec<LostSymlink<'a>>), Fault> {
     let mut watch = Watch::new(store, tree, table, plan)?;
-    let left = left_links(store, &tree.pages, found, &plan.pages, &mut watch)?;
+    let left = left_links(store, &tree.pages, &plan.pages, &mut watch)?;
     let lost = lost_symlinks(store, tree, plan, &mut watch)?;
     Ok((left, lost))
 }
@@ -463,139 +380,84 @@ fn losses_of<'a, S: Store>(
 fn left_links<'a, S: Store>(
     store: &mut S,
     pages: &'a [Page],
-    found: &[Vec<Target>],
     news: &[MovedSitePage],
     watch: &mut Watch<'_>,
 ) -> Result<Vec<LeftLink<'a>>, Fault> {
     let mut left = Vec::new(store.alloc());
-    for ((page, targets), new) in pages.iter().zip(found).zip(news) {
-        if watch.sees_links() {
-            add_watched_links(store, page, targets, new, watch, &mut left)?;
-        } else {
-            add_left_links(store, page, targets, new, &mut left)?;
-        }
+    for (page, new) in pages.iter().zip(news) {
+        add_left_links(store, page, &new.edits, watch, &mut left)?;
     }
     Ok(left)
 }
 
-// Adds the links of a page that stay.
+// Adds the links of a page that stay although they no longer lead to their file, or may not, and those that no longer lead
+// there although they have the target that the plan gives them.
 fn add_left_links<'a, S: Store>(
     store: &mut S,
     page: &'a Page,
-    targets: &[Target],
-    new: &MovedSitePage,
+    edits: &[Edit],
+    watch: &mut Watch<'_>,
     left: &mut Vec<LeftLink<'a>>,
 ) -> Result<(), Fault> {
     let mut positions = Positions::new(page.text.as_str());
-    // Both lists are in the order of the page.
-    let mut rest = targets.iter();
-    for (start, why) in &new.page.unchanged {
-        if let Some(target) = rest.find(|target| target.start == *start)
-            && let Some(link) = left_link(store, page, *target, *why, &mut positions)?
+    for edit in edits {
+        if let Some((why, leads)) = loss_of_edit(store, edit, watch)?
+            && let Some((position, target)) = positions.of(edit.target)
         {
-            left.push(link)?;
+            left.push(LeftLink {
+                page: page.path.as_str(),
+                position,
+                target,
+                why,
+                leads,
+            })?;
         }
     }
     Ok(())
 }
 
-// Adds the links of a page that stay, and those that no longer lead to their file although they have the target that the
-// plan gives them.
-fn add_watched_links<'a, S: Store>(
+// Returns why the link of an edit no longer leads to its file after the moves, or may not, and whether it leads to a file
+// before them, or may. `None` if it still leads there.
+fn loss_of_edit<S: Store>(
     store: &mut S,
-    page: &'a Page,
-    targets: &[Target],
-    new: &MovedSitePage,
+    edit: &Edit,
     watch: &mut Watch<'_>,
-    left: &mut Vec<LeftLink<'a>>,
-) -> Result<(), Fault> {
-    let mut positions = Positions::new(page.text.as_str());
-    // Both lists are in the order of the page.
-    let mut unchanged = new.page.unchanged.as_slice();
-    for target in targets {
-        let link = match unchanged.split_first() {
-            Some(((start, why), rest)) if *start == target.start => {
-                unchanged = rest;
-                left_link(store, page, *target, *why, &mut positions)?
-            }
-            _ => watched_link(store, page, *target, watch, &mut positions)?,
-        };
-        if let Some(link) = link {
-            left.push(link)?;
-        }
+) -> Result<Option<(WhyLeft, bool)>, Fault> {
+    if let Change::Left(why) = edit.change {
+        let leads = may_lead(store, edit.file.as_ref())?;
+        return Ok(Some((WhyLeft::Unchanged(why), leads)));
     }
-    Ok(())
+    match watched_loss(store, edit.file.as_ref(), watch)? {
+        Some(why) => Ok(Some((why, true))),
+        None => Ok(None),
+    }
 }
 
-// The link of a target that stays.
-fn left_link<'a, S: Store>(
-    store: &mut S,
-    page: &'a Page,
-    target: Target,
-    why: Unchanged,
-    positions: &mut Positions<'_>,
-) -> Result<Option<LeftLink<'a>>, Fault> {
-    let Some((position, written)) = place_of(page, target, positions) else {
-        return Ok(None);
+// Returns whether a relative target with this file leads to a file, or may. A target without one has a meaning that isn't
+// known.
+fn may_lead<S: Store>(store: &mut S, file: Option<&NormalPath>) -> Result<bool, Fault> {
+    let Some(file) = file else {
+        return Ok(true);
     };
-    let leads = may_lead(store, page.path.as_str(), target, written)?;
-    Ok(Some(LeftLink {
-        page: page.path.as_str(),
-        position,
-        target: written,
-        why: WhyLeft::Unchanged(why),
-        leads,
-    }))
+    let file = file.as_relative_path();
+    // What is above the root isn't looked at.
+    Ok(file.climb() > 0 || leads_somewhere(store, file.as_str())?)
 }
 
-// The link of a target that the plan changes or lets stay, if it no longer leads to its file, or may not.
-fn watched_link<'a, S: Store>(
+// Returns why a link to this file that the plan changes or lets stay no longer leads there, or may not.
+fn watched_loss<S: Store>(
     store: &mut S,
-    page: &'a Page,
-    target: Target,
+    file: Option<&NormalPath>,
     watch: &mut Watch<'_>,
-    positions: &mut Positions<'_>,
-) -> Result<Option<LeftLink<'a>>, Fault> {
-    let Some(written) = page.text.get(target.start..target.end) else {
+) -> Result<Option<WhyLeft>, Fault> {
+    let Some(file) = file else {
         return Ok(None);
     };
-    if !watch.sees(written) {
+    let file = file.as_relative_path();
+    if !watch.sees(file.as_str()) || file.climb() > 0 {
         return Ok(None);
     }
-    let Some(file) = file_of(store.alloc(), page.path.as_str(), target, written)? else {
-        return Ok(None);
-    };
-    let Some(why) = why_left(store, file.as_str(), watch)? else {
-        return Ok(None);
-    };
-    let Some(position) = positions.at(target.start) else {
-        return Ok(None);
-    };
-    Ok(Some(LeftLink {
-        page: page.path.as_str(),
-        position,
-        target: written,
-        why,
-        leads: true,
-    }))
-}
-
-// The path below the root to which a target of a page leads, if it leads to one.
-fn file_of(
-    alloc: Global,
-    page: &str,
-    target: Target,
-    written: &str,
-) -> Result<Option<String>, AllocError> {
-    let TargetReading::Path { path, .. } = path_of_target(alloc, target.syntax, written)? else {
-        return Ok(None);
-    };
-    let directory = directory(RelativePath::new(page));
-    let file = directory.join_normalized(alloc, RelativePath::new(path.as_str()))?;
-    if file.as_relative_path().climb() > 0 {
-        return Ok(None);
-    }
-    Ok(Some(file.into_string()))
+    why_left(store, file.as_str(), watch)
 }
 
 // Why a link that leads to this path no longer leads to its file after the moves, or may not.
@@ -625,11 +487,17 @@ fn lost_symlinks<'a, S: Store>(
     watch: &mut Watch<'_>,
 ) -> Result<Vec<LostSymlink<'a>>, Fault> {
     let mut lost = Vec::new(store.alloc());
-    for (number, (path, kind)) in tree.entries.iter().enumerate() {
-        if matches!(kind, EntryKind::Link(_))
-            && !plan.links.iter().any(|notice| notice.entry == number)
-            && let Some(loss) = watch.loss_of(store, path.as_str())?
+    // Those of the plan are in the order of the entries.
+    let mut notices = plan.symlinks.as_slice();
+    for (path, kind) in &tree.entries {
+        if !matches!(kind, EntryKind::Symlink(_)) {
+            continue;
+        }
+        if let Some((notice, rest)) = notices.split_first()
+            && notice.path.as_relative_path().as_str() == path.as_str()
         {
+            notices = rest;
+        } else if let Some(loss) = watch.loss_of(store, path.as_str())? {
             lost.push(LostSymlink {
                 path: path.as_str(),
                 loss,
@@ -637,87 +505,4 @@ fn lost_symlinks<'a, S: Store>(
         }
     }
     Ok(lost)
-}
-
-// Where a target begins, and its text.
-fn place_of<'a>(
-    page: &'a Page,
-    target: Target,
-    positions: &mut Positions<'_>,
-) -> Option<(Position, &'a str)> {
-    let written = page.text.get(target.start..target.end)?;
-    Some((positions.at(target.start)?, written))
-}
-
-// Whether a target of a page leads to a file, or may.
-fn may_lead<S: Store>(
-    store: &mut S,
-    page: &str,
-    target: Target,
-    written: &str,
-) -> Result<bool, Fault> {
-    let alloc = store.alloc();
-    match path_of_target(alloc, target.syntax, written)? {
-        TargetReading::NotRelative => Ok(false),
-        TargetReading::Unknown(_) => Ok(true),
-        TargetReading::Path { path, .. } => {
-            let directory = RelativePath::new(page)
-                .parent()
-                .unwrap_or(RelativePath::new(""));
-            let file = directory.join_normalized(alloc, RelativePath::new(path.as_str()))?;
-            let file = file.as_relative_path();
-            // What is above the root isn't looked at.
-            Ok(file.climb() > 0 || leads_somewhere(store, file.as_str())?)
-        }
-    }
-}
-
-// Adds the links of a page that change.
-fn add_changed_links<'a>(
-    alloc: Global,
-    page: &'a Page,
-    targets: &[Target],
-    table: &TreeMoves<'_>,
-    changed: &mut Vec<ChangedLink<'a>>,
-) -> Result<(), AllocError> {
-    let moved = table.moved_page(alloc, RelativePath::new(page.path.as_str()))?;
-    let mut positions = Positions::new(page.text.as_str());
-    for target in targets {
-        if let Some(link) = changed_link(alloc, page, *target, table, &moved, &mut positions)? {
-            changed.push(link)?;
-        }
-    }
-    Ok(())
-}
-
-// The link of a target, if it changes.
-fn changed_link<'a>(
-    alloc: Global,
-    page: &'a Page,
-    target: Target,
-    table: &TreeMoves<'_>,
-    moved: &MovedPage,
-    positions: &mut Positions<'_>,
-) -> Result<Option<ChangedLink<'a>>, AllocError> {
-    let Some((position, written)) = place_of(page, target, positions) else {
-        return Ok(None);
-    };
-    let whole = [Target {
-        syntax: target.syntax,
-        start: 0,
-        end: written.len(),
-    }];
-    if !are_in_order(written, &whole) {
-        return Ok(None);
-    }
-    let new = rewrite_links(alloc, written, &whole, table, moved)?.text;
-    if new.as_str() == written {
-        return Ok(None);
-    }
-    Ok(Some(ChangedLink {
-        page: page.path.as_str(),
-        position,
-        target: written,
-        new,
-    }))
 }

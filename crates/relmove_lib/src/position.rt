@@ -4,6 +4,7 @@ ghost use Rattle.std.specs.List.{after_last, count_by};
 ghost use Rattle.markdown_targets.specs.Classes.{begins_character};
 ghost use Rattle.relmove_lib.specs.Position.{is_line_end, first_place, place_after};
 
+use relative_path_links::Target;
 use std::simd::prelude::*;
 
 /// A place in a text. Both numbers begin at 1, and columns count characters.
@@ -78,6 +79,13 @@ impl<'a> Positions<'a> {
         self.position = self.position.after(passed);
         self.offset = offset;
         Some(self.position)
+    }
+
+    // Returns the place at which a target begins, and its text. There is none if the target begins before the last place,
+    // or begins or ends within a character.
+    pub(crate) fn of(&mut self, target: Target) -> Option<(Position, &'a str)> {
+        let written = self.text.get(target.start..target.end)?;
+        Some((self.at(target.start)?, written))
     }
 }
 

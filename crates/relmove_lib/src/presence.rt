@@ -15,7 +15,7 @@ pub(crate) enum Presence {
 /// What is at a path, as far as the entries of a tree say it. Allocates nothing.
 pub(crate) fn presence_at(tree: &Tree, path: &str) -> Presence {
     match tree.entries.get(path) {
-        Some(EntryKind::Link(_)) => Presence::Unknown,
+        Some(EntryKind::Symlink(_)) => Presence::Unknown,
         Some(_) => Presence::There,
         None if path.is_empty() => Presence::There,
         None => presence_below(tree, path),
@@ -29,7 +29,7 @@ fn presence_below(tree: &Tree, path: &str) -> Presence {
         match tree.entries.get(above) {
             Some(EntryKind::Directory) if is_read_directory(tree, above) => {}
             Some(EntryKind::Directory) => return Presence::Unknown,
-            Some(EntryKind::Link(_)) => return Presence::Unknown,
+            Some(EntryKind::Symlink(_)) => return Presence::Unknown,
             _ => return Presence::Absent,
         }
     }

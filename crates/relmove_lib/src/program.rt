@@ -226,7 +226,7 @@ fn plan<'a, S: Store, O: Write, E: Write>(
         }
     };
     let counts = counts_of(store.alloc(), tree, moves, &moving)?;
-    if print_plan(store, tree, moves, &moving, options, out).is_err() {
+    if print_plan(store, tree, &moving, options, out).is_err() {
         return Err(CallEnd::Status(Status::Refused));
     }
     let status = status_of_moving(&moving);
@@ -248,9 +248,9 @@ fn old_texts<'a>(
     tree: &'a Tree,
     moving: &Moving<'_>,
 ) -> Result<Vec<PageText<'a>>, AllocError> {
-    let mut texts = Vec::with_capacity(alloc, moving.plan.changed.len())?;
-    for change in &moving.plan.changed {
-        if let Some(page) = tree.pages.get(change.number) {
+    let mut texts = Vec::new(alloc);
+    for (page, new) in tree.pages.iter().zip(&moving.plan.pages) {
+        if new.text.is_some() {
             texts.push(PageText {
                 path: page.path.as_str(),
                 text: page.text.as_str(),
@@ -270,7 +270,7 @@ fn refuse<E: Write>(root: &str, fault: &Fault, errors: &mut E) -> Status {
 
 // The status of a run that does all of the plan.
 fn status_of_moving(moving: &Moving<'_>) -> Status {
-    let keeps_symlinks = moving.plan.links.is_empty() && moving.lost.is_empty();
+    let keeps_symlinks = moving.plan.symlinks.is_empty() && moving.lost.is_empty();
     if keeps_symlinks && !moving.left.iter().any(|link| link.leads) {
         Status::Kept
     } else {
@@ -282,13 +282,12 @@ fn status_of_moving(moving: &Moving<'_>) -> Status {
 fn print_plan<S: Store, O: Write>(
     store: &S,
     tree: &Tree,
-    moves: &[(&str, &str)],
     moving: &Moving<'_>,
     options: MoveOptions,
     out: &mut O,
 ) -> io::Result<()> {
     if options.json {
-        print_moving_as_json(store.alloc(), out, tree, moves, moving)?;
+        print_moving_as_json(store.alloc(), out, tree, moving)?;
     } else {
         print_moving(out, store.root(), tree, moving)?;
     }

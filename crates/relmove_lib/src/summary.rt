@@ -1,12 +1,10 @@
 //! What a call that moves files prints.
 use crate::losses::Loss;
-use crate::moving::{
-    ChangedLink, LeftLink, LostSymlink, Moving, WhyLeft, WhyRefused, changed_links_of, is_directory,
-};
-use crate::position::Position;
-use crate::tree::Tree;
-use relative_path_links::{MovedSitePage, Unchanged};
-use relmove_plan::{ChangedPage, LinkNotice, Refusal};
+use crate::moving::{LeftLink, LostSymlink, Moving, WhyLeft, WhyRefused, is_directory};
+use crate::position::{Position, Positions};
+use crate::tree::{Page, Tree};
+use relative_path_links::{Change, MovedSitePage, Unchanged};
+use relmove_plan::{Refusal, SymlinkNotice};
 use relmove_run::Printable;
 use serde_json::json;
 use std::alloc::{AllocError, Global};
@@ -75,10 +73,15 @@ pub fn counts_of(
         }
     }
     Ok(Counts {
-        pages: moving.plan.changed.len(),
+        pages: changed_page_count(&moving.plan.pages),
         files: moves.len().saturating_sub(directories),
         directories,
     })
+}
+
+// Returns how many pages change.
+fn changed_page_count(pages: &[MovedSitePage]) -> usize {
+    pages.iter().filter(|page| page.text.is_some()).count()
 }
 
 /// Prints what moves do: the pages that change, the links that no longer lead to their file or may not, and symbolic links.
@@ -88,17 +91,17 @@ pub fn print_moving<W: Write>(
     tree: &Tree,
     moving: &Moving<'_>,
 ) -> io::Result<()> {
-    for change in &moving.plan.changed {
-        if let Some(new) = moving.plan.pages.get(change.number)
-            && let Some(page) = tree.pages.get(change.number)
-        {
-            print_changed_page(out, root, page.path.as_str(), new, *change)?;
+    for (page, new) in tree.pages.iter().zip(&moving.plan.pages) {
+        if new.text.is_some() {
+            print_changed_page(out, root, page.path.as_str(), new)?;
         }
     }
     for link in &moving.left {
         print_left_link(out, root, link)?;
     }
-    print_notices(out, root, tree, &moving.plan.links)?;
+    for notice in &moving.plan.symlinks {
+        print_notice(out, root, notice)?;
+    }
     for symlink in &moving.lost {
         print_lost_symlink(out, root, symlink)?;
     }
@@ -111,10 +114,9 @@ fn print_changed_page<W: Write>(
     root: &str,
     old: &str,
     new: &MovedSitePage,
-    change: ChangedPage,
 ) -> io::Result<()> {
     let links = Counted {
-        number: change.links,
+        number: new.edits.iter().filter(|edit| edit.is_new()).count(),
         word: "link",
     };
     let path = new.path.as_relative_path().as_str();
@@ -172,6 +174,9 @@ fn why_unchanged(why: Unchanged) -> &'static str {
         Unchanged::NoPath => "leads to a file to which no path leads from the page",
         Unchanged::Nul => "leads to a path with a NUL",
         Unchanged::Unknown(why) => why_unknown(why),
+        Unchanged::WouldReadOtherwise => {
+            "can't get its new target, with which the page would be read otherwise"
+        }
     }
 }
 
@@ -185,40 +190,16 @@ fn why_unknown(why: WhyUnknown) -> &'static str {
     }
 }
 
-// Prints the symbolic links that move, or that lead to what moves. They are in the order of the tree.
-fn print_notices<W: Write>(
-    out: &mut W,
-    root: &str,
-    tree: &Tree,
-    notices: &[LinkNotice],
-) -> io::Result<()> {
-    let mut rest = notices.iter();
-    let mut next = rest.next();
-    for (number, (path, _)) in tree.entries.iter().enumerate() {
-        if let Some(notice) = next
-            && notice.entry == number
-        {
-            print_notice(out, root, path.as_str(), *notice)?;
-            next = rest.next();
-        }
-    }
-    Ok(())
-}
-
 // Prints a symbolic link that moves, or that leads to what moves.
-fn print_notice<W: Write>(
-    out: &mut W,
-    root: &str,
-    path: &str,
-    notice: LinkNotice,
-) -> io::Result<()> {
+fn print_notice<W: Write>(out: &mut W, root: &str, notice: &SymlinkNotice) -> io::Result<()> {
+    let path = notice.path.as_relative_path().as_str();
     let link = Below { root, path };
     let why = why_noticed(notice);
     writeln!(out, "{link}: this symbolic link {why}, left as it is")
 }
 
 // Why a symbolic link is printed.
-fn why_noticed(notice: LinkNotice) -> &'static str {
+fn why_noticed(notice: &SymlinkNotice) -> &'static str {
     match (notice.moves, notice.leads_to_moved) {
         (true, true) => "moves and leads to what moves",
         (true, false) => "moves",
@@ -264,30 +245,51 @@ pub fn print_moving_as_json<W: Write>(
     alloc: Global,
     out: &mut W,
     tree: &Tree,
-    moves: &[(&str, &str)],
     moving: &Moving<'_>,
 ) -> io::Result<()> {
-    for link in &changed_links_of(alloc, tree, moves, moving)? {
-        print_changed_link_as_json(alloc, out, link)?;
+    for (page, new) in tree.pages.iter().zip(&moving.plan.pages) {
+        print_changed_links_as_json(alloc, out, page, new)?;
     }
     for link in &moving.left {
         print_left_link_as_json(alloc, out, link)?;
     }
-    print_notices_as_json(alloc, out, tree, &moving.plan.links)?;
+    for notice in &moving.plan.symlinks {
+        let path = notice.path.as_relative_path().as_str();
+        print_symlink_as_json(alloc, out, path, why_noticed(notice))?;
+    }
     for symlink in &moving.lost {
         print_symlink_as_json(alloc, out, symlink.path, why_lost(symlink.loss))?;
     }
     Ok(())
 }
 
-// Prints a link that changes.
+// Prints the links of a page that change.
+fn print_changed_links_as_json<W: Write>(
+    alloc: Global,
+    out: &mut W,
+    page: &Page,
+    new: &MovedSitePage,
+) -> io::Result<()> {
+    let mut positions = Positions::new(page.text.as_str());
+    for edit in &new.edits {
+        if let Change::New(text) = &edit.change
+            && let Some(place) = positions.of(edit.target)
+        {
+            print_changed_link_as_json(alloc, out, page.path.as_str(), place, text.as_str())?;
+        }
+    }
+    Ok(())
+}
+
+// Prints a link that changes: its page, where its target begins, its target and the new one.
 fn print_changed_link_as_json<W: Write>(
     alloc: Global,
     out: &mut W,
-    link: &ChangedLink<'_>,
+    page: &str,
+    (position, target): (Position, &str),
+    new: &str,
 ) -> io::Result<()> {
-    let (page, target, new) = (link.page, link.target, link.new.as_str());
-    let Position { line, column } = link.position;
+    let Position { line, column } = position;
     let (line, column) = (line as u64, column as u64);
     let object = json!(in alloc; {
         "page": page,
@@ -318,26 +320,6 @@ fn print_left_link_as_json<W: Write>(
     })?;
     let text = object.to_string(alloc)?;
     writeln!(out, "{text}")
-}
-
-// Prints the symbolic links that move, or that lead to what moves. They are in the order of the tree.
-fn print_notices_as_json<W: Write>(
-    alloc: Global,
-    out: &mut W,
-    tree: &Tree,
-    notices: &[LinkNotice],
-) -> io::Result<()> {
-    let mut rest = notices.iter();
-    let mut next = rest.next();
-    for (number, (path, _)) in tree.entries.iter().enumerate() {
-        if let Some(notice) = next
-            && notice.entry == number
-        {
-            print_symlink_as_json(alloc, out, path.as_str(), why_noticed(*notice))?;
-            next = rest.next();
-        }
-    }
-    Ok(())
 }
 
 // Prints a symbolic link, and why.

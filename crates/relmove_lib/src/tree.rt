@@ -13,7 +13,7 @@ pub enum EntryKind {
     /// A directory.
     Directory,
     /// A symbolic link, and where it leads as it is written, or `None` if that isn't UTF-8.
-    Link(Option<String>),
+    Symlink(Option<String>),
     /// A FIFO, a socket or a device.
     Other,
 }
@@ -192,7 +192,7 @@ impl Walk {
     ) -> Result<(), Fault> {
         let alloc = store.alloc();
         let kind = kind_of(store, path.as_str(), found.kind)?;
-        if kind == EntryKind::Link(None) {
+        if kind == EntryKind::Symlink(None) {
             self.unread.push(Unread {
                 path: String::from_str(alloc, path.as_str())?,
                 why: String::from_str(alloc, NO_TEXT)?,
@@ -261,7 +261,7 @@ fn kind_of<S: Store>(store: &mut S, path: &str, found: FoundKind) -> Result<Entr
         FoundKind::Other => EntryKind::Other,
         FoundKind::Symlink => {
             let read = store.read_link(path);
-            EntryKind::Link(at(store.alloc(), Call::ReadLink, path, read)?)
+            EntryKind::Symlink(at(store.alloc(), Call::ReadLink, path, read)?)
         }
     })
 }
@@ -282,7 +282,7 @@ fn read_pages<S: Store>(
                 }
                 EntryKind::File => reading.add(store, path.as_str())?,
                 EntryKind::Other => reading.leave_out(alloc, path.as_str(), NO_FILE)?,
-                EntryKind::Directory | EntryKind::Link(_) => {}
+                EntryKind::Directory | EntryKind::Symlink(_) => {}
             }
         }
     }

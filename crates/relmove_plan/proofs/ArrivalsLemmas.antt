@@ -1,7 +1,6 @@
 -- Each entry comes to where the moves take it, and each new text to the new path of its page.
 use Rattle.std.proofs.Common.{All, Bool, false, true≢false, ◌≡◌, ◌≢◌, ℕ, ◌<◌, ◌≤◌, List, [], ◌∷◌, ◌++◌, Contains, Option, Some, None, IsSome, length, map, take, get_or, inl, inr, refl, sym, ap, subst, ◌∙◌, arith}
 use Rattle.std.proofs.lemmas.Bool.{or_parts}
-use Rattle.std.specs.Prelude.{string_bytes}
 use Rattle.std.specs.Option.{option_and_then}
 use Rattle.std.specs.List.{Any, AllZip, list_any}
 use Rattle.std.proofs.lemmas.List.{get_or_default, length-append}
@@ -247,11 +246,10 @@ module _ {entries : List Entry} {pages changed : List (List Step)} {moves : List
       HasNoName-entry false file.place file.file,
     )
 
-    TextArrives-target : (page : SitePage) (new : MovedSitePage) (target : List Step)
+    TextArrives-target : (page : SitePage) (new : MovedSitePage) (text : List ℕ) (target : List Step)
         → LeadsToFile entries (path_components page.path) → IsTreeTarget moves (path_components page.path) target
-        → IsNormalTextOf target new.path → ReplacesPage steps page new
-        → TextArrives moves steps page (string_bytes new.page.text)
-    TextArrives-target page new target file is normal replaces =
+        → IsNormalTextOf target new.path → ReplacesPage steps page new text → TextArrives moves steps page text
+    TextArrives-target page new text target file is normal replaces =
         let (i, within, here) = replaces.carries.leaves in
         let src = carrying.source run i (replaces.file, replaces.carries.between) within here in
         let (place, leads, some, ends) = target_place (path_components page.path) target file is in
@@ -275,7 +273,9 @@ module _ {entries : List Entry} {pages changed : List (List Step)} {moves : List
           );
         }
 
-    pub TextArrives-page : (page : SitePage) (new : MovedSitePage) → LeadsToFile entries (path_components page.path)
-        → AtTreePath moves (path_components page.path) (λ now. IsNormalTextOf now new.path) → ReplacesPage steps page new
-        → TextArrives moves steps page (string_bytes new.page.text)
-    TextArrives-page page new file (target, is, normal) replaces = TextArrives-target page new target file is normal replaces
+    pub TextArrives-page : (page : SitePage) (new : MovedSitePage) (text : List ℕ)
+        → LeadsToFile entries (path_components page.path)
+        → AtTreePath moves (path_components page.path) (λ now. IsNormalTextOf now new.path)
+        → ReplacesPage steps page new text → TextArrives moves steps page text
+    TextArrives-page page new text file (target, is, normal) replaces =
+        TextArrives-target page new text target file is normal replaces

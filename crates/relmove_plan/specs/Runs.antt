@@ -1,5 +1,5 @@
 -- Where things go while a run renames, one step after another. A rename takes along all that is below a directory.
-use Rattle.std.specs.Prelude.{◌≡◌, ◌⊎◌, ◌<◌, ℕ, Bool, List, [], ◌∷◌, ◌++◌, ◌+◌, Contains, map, length, drop, take, slice_get, slice_index_or, Some, string_bytes, if◌then◌else◌}
+use Rattle.std.specs.Prelude.{◌≡◌, ◌⊎◌, ◌<◌, ℕ, Bool, List, [], ◌∷◌, ◌++◌, ◌+◌, Contains, map, length, drop, take, slice_index_or, Some, IfSome, string_bytes, if◌then◌else◌}
 use Rattle.std.specs.List.{All, AllZip, Any, starts_with}
 use Rattle.std.specs.Str.{bytes_eq}
 use Rattle.relative_path.specs.Steps.{Step, step_text, components}
@@ -13,7 +13,6 @@ use Rattle.relative_path_places.specs.PlaceIndex.{IsNoneAt}
 use Rattle.relative_path_moves.specs.TreeMoves.{AtTreePath}
 use Rattle.relmove_checks.specs.declared.entry.Entry.{Entry}
 use Rattle.relmove_checks.specs.Trees.{AreAfter}
-use Rattle.relmove_steps.specs.declared.changed.ChangedPage.{ChangedPage}
 use Rattle.relmove_steps.specs.Directories.{AreMissing}
 use Rattle.relmove_steps.specs.Steps.{StepTexts}
 use Rattle.relmove_plan.specs.WholeTrees.{HasDirectoryAt, IsAt}
@@ -65,11 +64,13 @@ pub record TextArrives (moves : List Move) (steps : StepTexts) (page : SitePage)
   pub written : Contains steps.texts (old, file, text)
   pub arrives : ComesToItsPath moves steps (path_components page.path) (components file)
 
+-- the new text of the page arrives if the page changes
+abbrev pub ChangedTextArrives : List Move → StepTexts → SitePage → MovedSitePage → Type 0
+ChangedTextArrives moves steps page new = IfSome new.text (λ text. TextArrives moves steps page (string_bytes text))
+
 -- the new text of each page that changes arrives
-abbrev pub TextsArrive : List Move → List SitePage → List MovedSitePage → List ChangedPage → StepTexts → Type 0
-TextsArrive moves pages news changed steps = All (λ change. (page : SitePage) (new : MovedSitePage)
-    → slice_get pages change.number ≡ Some page → slice_get news change.number ≡ Some new
-    → TextArrives moves steps page (string_bytes new.page.text)) changed
+abbrev pub TextsArrive : List Move → List SitePage → List MovedSitePage → StepTexts → Type 0
+TextsArrive moves pages news steps = AllZip (ChangedTextArrives moves steps) pages news
 
 -- after the first k renames, something is at the place that was where an entry is, or a new file
 pub record IsThereAfter (entries : List Entry) (steps : StepTexts) (k : ℕ) (place : List (List ℕ)) : Type 0 where

@@ -4,16 +4,13 @@
 //!
 //! ```text
 //! the plan     plan
-//! its parts    pages  symbolic
+//! its parts    symlinks
 //! ```
 #![tactic(auto)]
 
-pub use self::pages::have_targets;
 pub use self::plan::{Plan, Tree, make_plan};
-pub use self::symbolic::LinkNotice;
+pub use self::symlinks::SymlinkNotice;
 pub use relmove_checks::{Entry, Kind, NameRule, Refusal};
-pub use relmove_steps::ChangedPage;
 
-mod pages;
 mod plan;
-mod symbolic;
+mod symlinks;

@@ -1,26 +1,25 @@
 //! The plan of a run.
-ghost use Rattle.std.specs.Prelude.{◌≡◌, ◌<◌, All, IfErr, IfOk, OnOk, length, map, string_bytes};
-ghost use Rattle.relative_path_links.specs.Site.{HaveTargets, KeepTheirLinks};
+ghost use Rattle.std.specs.Prelude.{All, IfErr, IfOk, OnOk, map, string_bytes};
+ghost use Rattle.relative_path_links.specs.Site.{KeepTheirLinks};
 ghost use Rattle.relative_path_moves.specs.Moves.{moves_of};
 ghost use Rattle.relmove_checks.specs.Plan.{IsAccepted, IsRefused};
 ghost use Rattle.relmove_checks.specs.Moves.{EachMove};
 ghost use Rattle.relmove_checks.specs.Trees.{entry_paths};
 ghost use Rattle.relmove_steps.specs.NewFiles.{HaveOwnFiles, LeaveOnce};
-ghost use Rattle.relmove_steps.specs.Pages.{changed_from, page_paths};
+ghost use Rattle.relmove_steps.specs.Pages.{changed_paths, page_paths};
 ghost use Rattle.relmove_steps.specs.Directories.{AreLeftByMoves};
-ghost use Rattle.relmove_steps.specs.Steps.{AboveFirst, BelowFirst, DoesMove, LosesNothing, OnlyTheseLeave, RemovesAt, ReplacesPages, WritesPages, changed_paths, names_left, step_texts};
+ghost use Rattle.relmove_steps.specs.Steps.{AboveFirst, BelowFirst, DoesMove, LosesNothing, OnlyTheseLeave, RemovesAt, ReplacesPages, WritesPages, names_left, step_texts};
 ghost use Rattle.relmove_steps.specs.BetweenNames.{AreFreeNames};
 ghost use Rattle.relmove_plan.specs.Runs.{CanBeMade, CanCome, EntriesArrive, MakesDirectories, NothingInTheWay, TextsArrive};
 ghost use Rattle.relmove_plan.specs.WholeTrees.{IsWhole};
 
-use crate::symbolic::{LinkNotice, link_notices};
+use crate::symlinks::{SymlinkNotice, symlink_notices};
 use relative_path::RelativePath;
-use relative_path_links::{MovedSitePage, SitePage, rewrite_site};
-use relative_path_moves::TreeMoves;
+use relative_path_links::{Finder, MovedSitePage, SitePage, rewrite_site};
 use relmove_actions::Steps;
 use relmove_checks::{Entry, NameRule, Refusal, coming_index, entry_index, leaving_table};
-use relmove_steps::{After, ChangedPage, changed_pages, steps_of};
-use std::alloc::{AllocError, Global};
+use relmove_steps::{After, steps_of};
+use std::alloc::Global;
 
 /// A tree of files, and the pages among them.
 #[derive(Clone, Copy, Debug)]
@@ -28,39 +27,35 @@ pub struct Tree<'a> {
     /// All that is below the root: each entry with its normal path, and each after the directory that holds it. It has no
     /// name that isn't UTF-8, and not what is in a directory that isn't read.
     pub entries: &'a [Entry<'a>],
-    /// The pages, with their targets.
+    /// The pages.
     pub pages: &'a [SitePage<'a>],
 }
 
 /// What a run does.
 #[derive(Drop)]
 pub struct Plan {
-    /// Each page after the moves, in the order of the tree's pages: its path, its text, and its targets that stay
-    /// although they no longer lead to their file, or may not.
+    /// Each page after the moves, in the order of the tree's pages: its path, what becomes of its targets, and its text if
+    /// it changes.
     pub pages: Vec<MovedSitePage>,
-    /// The pages whose text changes.
-    pub changed: Vec<ChangedPage>,
     /// The symbolic links that move, or that lead to what moves.
-    pub links: Vec<LinkNotice>,
+    pub symlinks: Vec<SymlinkNotice>,
     /// The steps that do it.
     pub steps: Steps,
 }
 
 /// Plans to move files and directories of a tree, each from its old path to its new one, and to change the pages so that
-/// each link leads to the file to which it led before, or is reported.
-pub fn make_plan(
+/// each link leads to the file to which it led before, or is reported. The links of a page are those whose targets the finder
+/// finds.
+pub fn make_plan<F: Finder>(
     alloc: Global,
     tree: Tree<'_>,
     moves: &[(RelativePath<'_>, RelativePath<'_>)],
     rule: NameRule,
+    finder: &F,
 ) -> Result<Plan, Refusal>
-    requires { HaveTargets tree.pages.now }
-    // each relative link still leads to its file, query and fragment kept, or is reported
-    ensures links { IfOk result
-        (λ plan. KeepTheirLinks (moves_of moves.now) tree.entry.pages.now plan.pages.items) }
-    // exactly the pages whose new text differs, in order
-    ensures changed { IfOk result (λ plan. map (λ page. page.number) plan.changed.items
-        ≡ changed_from 0 tree.entry.pages.now plan.pages.items) }
+    // each relative link still leads to its file, query and fragment kept, or is left; just pages with a text change
+    ensures links { IfOk result (λ plan. KeepTheirLinks (F.finds finder.now) (moves_of moves.now)
+        tree.entry.pages.now plan.pages.items) }
     // the moves pass each check but `NoFreeName`
     ensures accepted { OnOk result (IsAccepted tree.entry.entries.now (moves_of moves.now) rule) }
     // what is below a path comes before it
@@ -73,14 +68,13 @@ pub fn make_plan(
     ensures kept { IfOk result (λ plan. LosesNothing (step_texts plan.steps)) }
     // what moves comes to its new path, changed pages aside
     ensures moved { IfOk result (λ plan. EachMove
-        (DoesMove (changed_paths tree.entry.pages.now plan.changed.items) (step_texts plan.steps))
+        (DoesMove (changed_paths tree.entry.pages.now plan.pages.items) (step_texts plan.steps))
         (moves_of moves.now)) }
     // a changed page's new text comes by a new file to its new path
-    ensures replaced { IfOk result (λ plan. ReplacesPages tree.entry.pages.now plan.pages.items
-        plan.changed.items (step_texts plan.steps)) }
+    ensures replaced { IfOk result (λ plan. ReplacesPages tree.entry.pages.now plan.pages.items (step_texts plan.steps)) }
     // each changed page's old text goes to a name in between, and is removed
     ensures removed { IfOk result (λ plan. All (RemovesAt (step_texts plan.steps))
-        (changed_paths tree.entry.pages.now plan.changed.items)) }
+        (changed_paths tree.entry.pages.now plan.pages.items)) }
     // what is below a path comes before it
     ensures emptied { IfOk result (λ plan. BelowFirst (map string_bytes plan.steps.emptied.items)) }
     // `emptied` has only directories above old paths, where they are after the moves
@@ -88,26 +82,26 @@ pub fn make_plan(
         (λ plan. AreLeftByMoves (moves_of moves.now) (moves_of moves.now) plan.steps.emptied.items) }
     // nothing leaves but from old paths, changed pages and the files of new texts
     ensures only { IfOk result (λ plan. OnlyTheseLeave (moves_of moves.now)
-        (changed_paths tree.entry.pages.now plan.changed.items) (step_texts plan.steps)) }
+        (changed_paths tree.entry.pages.now plan.pages.items) (step_texts plan.steps)) }
     // names in between are `.relmove-` and a number, all different, and no entry has one
     ensures names { IfOk result
         (λ plan. AreFreeNames (entry_paths tree.entry.entries.now) (names_left (step_texts plan.steps))) }
     // new texts are of exactly the changed pages, in order
     ensures texts { IfOk result (λ plan. WritesPages
-        (changed_paths tree.entry.pages.now plan.changed.items) (step_texts plan.steps)) }
+        (changed_paths tree.entry.pages.now plan.pages.items) (step_texts plan.steps)) }
     // in a whole tree nothing leaves a path twice
     ensures once { IfOk result (λ plan. IsWhole tree.entry.entries.now (page_paths tree.entry.pages.now)
         → LeaveOnce (step_texts plan.steps)) }
     // each new text has its own file, in the page's directory, where no entry is
     ensures files { IfOk result (λ plan. HaveOwnFiles (entry_paths tree.entry.entries.now)
-        (changed_paths tree.entry.pages.now plan.changed.items) (step_texts plan.steps)) }
+        (changed_paths tree.entry.pages.now plan.pages.items) (step_texts plan.steps)) }
     // in a whole tree entries come where the moves take them, changed pages aside
     ensures entries_arrive { IfOk result (λ plan. IsWhole tree.entry.entries.now (page_paths tree.entry.pages.now)
         → EntriesArrive (moves_of moves.now) tree.entry.entries.now
-        (changed_paths tree.entry.pages.now plan.changed.items) (step_texts plan.steps)) }
+        (changed_paths tree.entry.pages.now plan.pages.items) (step_texts plan.steps)) }
     // in a whole tree new texts come where the moves take their pages
     ensures texts_arrive { IfOk result (λ plan. IsWhole tree.entry.entries.now (page_paths tree.entry.pages.now)
-        → TextsArrive (moves_of moves.now) tree.entry.pages.now plan.pages.items plan.changed.items
+        → TextsArrive (moves_of moves.now) tree.entry.pages.now plan.pages.items
         (step_texts plan.steps)) }
     // in a whole tree each rename leads from something to where nothing is
     ensures clear { IfOk result (λ plan. IsWhole tree.entry.entries.now (page_paths tree.entry.pages.now)
@@ -128,38 +122,18 @@ pub fn make_plan(
     let index = entry_index(alloc, tree.entries)?;
     let table = leaving_table(alloc, tree.entries, &index, moves, rule)?;
     let after = coming_index(alloc, tree.entries, &index, &table, moves)?;
-    let (pages, changed) = rewritten_pages(alloc, tree.pages, &table)?;
-    let links = link_notices(alloc, tree.entries, &table)?;
+    let pages = rewrite_site(alloc, tree.pages, &table, finder)?;
+    let symlinks = symlink_notices(alloc, tree.entries, &table)?;
     let now = After {
         index: &index,
         table: &table,
         after: &after,
         pages: &pages,
-        changed: &changed,
     };
     let steps = steps_of(alloc, tree.pages, moves, now)?;
     Ok(Plan {
         pages,
-        changed,
-        links,
+        symlinks,
         steps,
     })
-}
-
-// Returns the pages after the moves, and which of them change.
-fn rewritten_pages(
-    alloc: Global,
-    pages: &[SitePage<'_>],
-    table: &TreeMoves<'_>,
-) -> Result<(Vec<MovedSitePage>, Vec<ChangedPage>), AllocError>
-    requires { HaveTargets pages.now }
-    ensures links { IfOk result (λ found. KeepTheirLinks table.now pages.now found.0.items) }
-    ensures changed { IfOk result (λ found. map (λ page. page.number) found.1.items
-        ≡ changed_from 0 pages.now found.0.items) }
-    ensures within { IfOk result (λ found. All (λ page. page.number < length pages.now) found.1.items) }
-    ensures long { IfOk result (λ found. length found.0.items ≡ length pages.now) }
-{
-    let news = rewrite_site(alloc, pages, table)?;
-    let changed = changed_pages(alloc, pages, &news, table)?;
-    Ok((news, changed))
 }

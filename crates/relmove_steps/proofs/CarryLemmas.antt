@@ -1,11 +1,10 @@
 -- What renames do, more renames do too.
-use Rattle.std.proofs.Common.{All, ◌≡◌, ℕ, ◌<◌, ◌≤◌, ◌+◌, true, false, List, [], ◌∷◌, ◌++◌, Option, Some, None, Contains, length, map, take, get_or, string_bytes, is_some, refl, sym, ap, subst, ◌∙◌}
+use Rattle.std.proofs.Common.{All, ◌≡◌, ℕ, ◌<◌, ◌≤◌, ◌+◌, true, false, List, [], ◌∷◌, ◌++◌, Option, Some, None, Contains, length, take, get_or, string_bytes, is_some, refl, sym, ap, subst, ◌∙◌}
 use Rattle.std.proofs.lemmas.Bool.{false≢true}
 use Rattle.std.proofs.lemmas.List.{get_or-map, length-map, take_all, take_more}
 use Rattle.std.proofs.lemmas.List.Elements.{All-more, All-weaker, Contains-append_left, Contains-push}
 use Rattle.std.proofs.lemmas.List.Sorted.{Contains-permutation}
-use Rattle.std.proofs.lemmas.Option.{get_or_from_slice_get}
-use Rattle.std.specs.List.{slice_get}
+use Rattle.std.proofs.lemmas.Option.{IfSome_then}
 use Rattle.std.specs.List.Sorted.{IsPermutation}
 use Rattle.relative_path.specs.Steps.{Step}
 use Rattle.relative_path.specs.Normalizing.{IsNormalTextOf}
@@ -20,8 +19,7 @@ use Rattle.relative_path_places.specs.PlaceIndex.{Indexes, IsFoundAt, IsNoneAt, 
 use Rattle.relative_path_places.specs.declared.place_index.PlaceIndex.{PlaceIndex}
 use Rattle.relmove_checks.specs.Moves.{EachMove}
 use Rattle.relmove_checks.proofs.ForCallers.{length-moves_of, move_at-moves_of}
-use Rattle.relmove_steps.specs.declared.changed.ChangedPage.{ChangedPage}
-use Rattle.relmove_steps.specs.Steps.{StepTexts, with_text, with_carried, with_removed, AreAmong, Carries, Removes, RemovesAt, RemovesMoved, DoesMove, changed_paths, old_paths, ReplacesPage, ReplacesPages}
+use Rattle.relmove_steps.specs.Steps.{StepTexts, with_text, with_carried, with_removed, AreAmong, Carries, Removes, RemovesAt, RemovesMoved, DoesMove, old_paths, ReplacesPage, ReplacesPages}
 
 -- ---- more renames
 
@@ -109,15 +107,25 @@ module _ (steps more : StepTexts) (among : AreAmong steps more) where
       → RemovesMoved moves cs more
   RemovesMoved-among moves cs each = λ k l same. RemovesAt-among (move_at moves k).old (each k l same)
 
-  pub ReplacesPage-among : (page : SitePage) (new : MovedSitePage) → ReplacesPage steps page new
-      → ReplacesPage more page new
-  ReplacesPage-among page new is = record {
+  pub ReplacesPage-among : (page : SitePage) (new : MovedSitePage) (text : List ℕ) → ReplacesPage steps page new text
+      → ReplacesPage more page new text
+  ReplacesPage-among page new text is = record {
     old = is.old;
     old_of = is.old_of;
     file = is.file;
-    written = among.texts (is.old, is.file, string_bytes new.page.text) is.written;
+    written = among.texts (is.old, is.file, text) is.written;
     carries = Carries-among is.file new.path is.carries;
   }
+
+  pub ReplacesPages-among : (pages : List SitePage) (news : List MovedSitePage) → ReplacesPages pages news steps
+      → ReplacesPages pages news more
+  ReplacesPages-among [] [] each = each
+  ReplacesPages-among [] (new ∷ news) each = each
+  ReplacesPages-among (page ∷ pages) [] each = each
+  ReplacesPages-among (page ∷ pages) (new ∷ news) each = (
+    IfSome_then new.text each.0 (λ text. ReplacesPage-among page new (string_bytes text)),
+    ReplacesPages-among pages news each.1,
+  )
 
 -- ---- one rename more
 
@@ -186,16 +194,15 @@ AreAmong-page before steps page file text from between to among =
     (AreAmong-trans (with_text before page file text) steps (with_carried steps from between to) among
     (AreAmong-with_carried steps from between to))
 
-pub ReplacesPage-carried : (before steps : StepTexts) (page : SitePage) (new : MovedSitePage) (old file between : List ℕ)
-    → IsNormalTextOf (path_components page.path) old
-    → AreAmong (with_text before old file (string_bytes new.page.text)) steps
-    → ReplacesPage (with_carried steps file between new.path) page new
-ReplacesPage-carried before steps page new old file between is among = record {
+pub ReplacesPage-carried : (before steps : StepTexts) (page : SitePage) (new : MovedSitePage)
+    (old file text between : List ℕ) → IsNormalTextOf (path_components page.path) old
+    → AreAmong (with_text before old file text) steps
+    → ReplacesPage (with_carried steps file between new.path) page new text
+ReplacesPage-carried before steps page new old file text between is among = record {
   old = old;
   old_of = is;
   file = file;
-  written = among.texts (old, file, string_bytes new.page.text) (Contains-push before.texts
-      (old, file, string_bytes new.page.text));
+  written = among.texts (old, file, text) (Contains-push before.texts (old, file, text));
   carries = Carries-with_carried steps file between new.path;
 }
 
@@ -261,48 +268,6 @@ pub Indexes-next : (paths : List (List Step)) (k : ℕ) (path : List Step) (inde
 Indexes-next paths k path index within is has =
     subst (λ all. Indexes all index)
     (sym (take_more paths k [] within ∙ ap (λ next. take k paths ++ next ∷ []) is)) has
-
--- the path of the next page that changes
-pub path_at-changed_paths : (pages : List SitePage) (changed : List ChangedPage) (k : ℕ) (d : ChangedPage) (e : SitePage)
-    → k < length changed → (get_or changed k d).number < length pages
-    → path_at (changed_paths pages changed) k ≡ path_components (get_or pages (get_or changed k d).number e).path
-path_at-changed_paths pages changed k d e within within_2 =
-    get_or-map (λ (change : ChangedPage). path_at (map
-    (λ page. path_components page.path) pages) change.number) changed k d [] within
-    ∙ get_or-map (λ (page : SitePage). path_components page.path) pages (get_or changed k d).number e [] within_2
-
-pub length-changed_paths : (pages : List SitePage) (changed : List ChangedPage)
-    → length (changed_paths pages changed) ≡ length changed
-length-changed_paths pages changed =
-    length-map changed (λ (change : ChangedPage). path_at (map (λ page. path_components page.path) pages) change.number)
-
--- ---- pages, one after another
-
-module _ (pages : List SitePage) (news : List MovedSitePage) (changed : List ChangedPage) where
-  pub ReplacesPages-among : (steps more : StepTexts) → AreAmong steps more → ReplacesPages pages news changed steps
-      → ReplacesPages pages news changed more
-  ReplacesPages-among steps more among each = λ k d l page new at at_2.
-      ReplacesPage-among steps more among page new (each k d l page new at at_2)
-
-  pub ReplacesPages-all : (steps : StepTexts) (k : ℕ) → length changed ≤ k
-      → ReplacesPages pages news (take k changed) steps
-      → ReplacesPages pages news changed steps
-  ReplacesPages-all steps k all each = subst (λ some. ReplacesPages pages news some steps) (take_all k changed all) each
-
-pub ReplacesPages-next : (pages : List SitePage) (news : List MovedSitePage) (changed : List ChangedPage)
-    (steps more : StepTexts) (k : ℕ) (d : ChangedPage) (e : SitePage) (new : MovedSitePage) → AreAmong steps more
-    → k < length changed → new ≡ get_or news (get_or changed k d).number new
-    → ReplacesPage more (get_or pages (get_or changed k d).number e) new
-    → ReplacesPages pages news (take k changed) steps → ReplacesPages pages news (take (k + 1) changed) more
-ReplacesPages-next pages news changed steps more k d e new among within is here each =
-    All-more (λ (change : ChangedPage). (page : SitePage)
-    (other : MovedSitePage) → slice_get pages change.number ≡ Some page
-    → slice_get news change.number ≡ Some other → ReplacesPage more page other) changed k d within
-    (ReplacesPages-among pages news (take k changed) steps more among each)
-    (λ page other at at_2.
-    subst (λ one. ReplacesPage more one other) (get_or_from_slice_get pages (get_or changed k d).number page e at)
-    (subst (λ one. ReplacesPage more (get_or pages (get_or changed k d).number e) one)
-    (is ∙ get_or_from_slice_get news (get_or changed k d).number other new at_2) here))
 
 -- ---- old paths, one after another
 

@@ -1,80 +1,135 @@
--- The pages whose text changes, one after another.
-use Rattle.std.proofs.Common.{◌≡◌, ℕ, ◌<◌, ◌≤◌, ◌+◌, Bool, true, false, if◌then◌else◌, All, List, [], ◌∷◌, ◌++◌, map, length, drop, get_or, string_bytes, refl, sym, ap, subst, ◌∙◌, add-one, append_assoc, append-nil, arith}
-use Rattle.std.proofs.Math.Seq.{drop-cons}
-use Rattle.std.proofs.lemmas.List.{drop_all, get_or-map, length-map, map_push}
-use Rattle.std.proofs.lemmas.List.Elements.{All-cons, All-nil, All-weaker}
-use Rattle.std.specs.Str.{bytes_eq}
+-- The pages that change, one after another.
+use Rattle.std.proofs.Common.{◌≡◌, ℕ, ◌<◌, ◌≤◌, ◌+◌, Bool, true, false, if◌then◌else◌, List, [], ◌∷◌, ◌++◌, length, take, drop, get_or, is_some, refl, sym, ap, ◌∙◌, take-append-drop, append_assoc, arith}
+use Rattle.std.specs.List.{AllZip}
+use Rattle.std.proofs.lemmas.List.{get_or_at, length-append, length-take-le, take_all, take_more}
+use Rattle.std.proofs.lemmas.Slice.Zip.{all_zipped_more}
+use Rattle.relative_path.specs.Steps.{Step}
+use Rattle.relative_path.specs.RelativePath.{path_components}
 use Rattle.relative_path_links.specs.declared.site.MovedSitePage.{MovedSitePage}
 use Rattle.relative_path_links.specs.declared.site.SitePage.{SitePage}
-use Rattle.relmove_steps.specs.declared.changed.ChangedPage.{ChangedPage}
-use Rattle.relmove_steps.specs.Pages.{changed_from}
+use Rattle.relative_path_places.specs.PlaceIndex.{path_at}
+use Rattle.relmove_steps.specs.Pages.{changed_paths}
 
--- the numbers so far, and those of the pages from number k on
-abbrev pub ChangedSoFar : List SitePage → List MovedSitePage → ℕ → List ChangedPage → Type 0
-ChangedSoFar pages news k changed = map (λ page. page.number) changed ++ changed_from k (drop k pages) (drop k news)
-    ≡ changed_from 0 pages news
+-- how many of the first i pages change
+abbrev pub count_changed : List SitePage → List MovedSitePage → ℕ → ℕ
+count_changed pages news i = length (changed_paths (take i pages) (take i news))
 
-drop-next : {X : Type 0} (xs : List X) (k : ℕ) (d : X) → k < length xs → drop k xs ≡ get_or xs k d ∷ drop (k + 1) xs
-drop-next xs k d l = rw add-one (drop-cons xs k d l)
-
-module _ (pages : List SitePage) (news : List MovedSitePage) (k : ℕ) (p : SitePage) (n : MovedSitePage)
-    (within : k < length pages) (within_2 : k < length news)
+-- no more pages change than there are
+length-changed_paths : (pages : List SitePage) (news : List MovedSitePage) → length (changed_paths pages news) ≤ length pages
+length-changed_paths [] news = omega arith
+length-changed_paths (page ∷ pages) [] = omega arith
+length-changed_paths (page ∷ pages) (new ∷ news) = either (is_some new.text) (length-changed_paths pages news)
   where
-    -- a page whose text stays
-    changed_from-same : bytes_eq (get_or pages k p).text.now (string_bytes (get_or news k n).page.text) ≡ true
-        → changed_from k (drop k pages) (drop k news) ≡ changed_from (k + 1) (drop (k + 1) pages) (drop (k + 1) news)
-    changed_from-same same = rw (drop-next pages k p within, drop-next news k n within_2, same) refl
+    either : (changes : Bool) → length (changed_paths pages news) ≤ length pages
+        → length (if changes then path_components page.path ∷ changed_paths pages news else changed_paths pages news)
+        ≤ length (page ∷ pages)
+    either true so_far = omega (arith, so_far)
+    either false so_far = omega (arith, so_far)
 
-    -- a page whose text changes
-    changed_from-differs : bytes_eq (get_or pages k p).text.now (string_bytes (get_or news k n).page.text) ≡ false
-        → changed_from k (drop k pages) (drop k news) ≡ k ∷ changed_from (k + 1) (drop (k + 1) pages) (drop (k + 1) news)
-    changed_from-differs differs = rw (drop-next pages k p within, drop-next news k n within_2, differs) refl
+changed_paths-append : (pages more : List SitePage) (news others : List MovedSitePage) → length news ≡ length pages
+    → changed_paths (pages ++ more) (news ++ others) ≡ changed_paths pages news ++ changed_paths more others
+changed_paths-append [] more [] others long = refl
+changed_paths-append [] more (new ∷ news) others long = absurd (omega (arith, long))
+changed_paths-append (page ∷ pages) more [] others long = absurd (omega (arith, long))
+changed_paths-append (page ∷ pages) more (new ∷ news) others long =
+    either (is_some new.text) (changed_paths-append pages more news others (omega (arith, long)))
+  where
+    either : (changes : Bool)
+        → changed_paths (pages ++ more) (news ++ others) ≡ changed_paths pages news ++ changed_paths more others
+        → (if changes then path_components page.path ∷ changed_paths (pages ++ more) (news ++ others)
+        else changed_paths (pages ++ more) (news ++ others))
+        ≡ (if changes then path_components page.path ∷ changed_paths pages news else changed_paths pages news)
+        ++ changed_paths more others
+    either true rest = ap (λ paths. path_components page.path ∷ paths) rest
+    either false rest = rest
 
-    pub ChangedSoFar-same : (changed : List ChangedPage)
-        → bytes_eq (get_or pages k p).text.now (string_bytes (get_or news k n).page.text) ≡ true
-        → ChangedSoFar pages news k changed → ChangedSoFar pages news (k + 1) changed
-    ChangedSoFar-same changed same so_far =
-        ap (λ more. map (λ page. page.number) changed ++ more) (sym (changed_from-same same)) ∙ so_far
+-- the pages so far, and the next one
+module _ (pages : List SitePage) (news : List MovedSitePage) (long : length news ≡ length pages) (i : ℕ) (page : SitePage)
+    (new : MovedSitePage) (within : i < length pages) (is : page ≡ get_or pages i page) (is_2 : new ≡ get_or news i new)
+  where
+    abbrev front : List (List Step)
+    front = changed_paths (take i pages) (take i news)
 
-    pub ChangedSoFar-differs : (changed : List ChangedPage) (page : ChangedPage) → page.number ≡ k
-        → bytes_eq (get_or pages k p).text.now (string_bytes (get_or news k n).page.text) ≡ false
-        → ChangedSoFar pages news k changed → ChangedSoFar pages news (k + 1) (changed ++ page ∷ [])
-    ChangedSoFar-differs changed page is differs so_far =
-        ap (λ numbers. numbers ++ changed_from (k + 1) (drop (k + 1) pages) (drop (k + 1) news))
-        (map_push (λ page. page.number) changed page)
-        ∙ append_assoc (map (λ page. page.number) changed) (page.number ∷ [])
-        (changed_from (k + 1) (drop (k + 1) pages) (drop (k + 1) news))
-        ∙ ap (λ j. map (λ page. page.number) changed ++ j ∷ changed_from (k + 1) (drop (k + 1) pages) (drop (k + 1) news)) is
-        ∙ ap (λ more. map (λ page. page.number) changed ++ more) (sym (changed_from-differs differs)) ∙ so_far
+    long_front : length (take i news) ≡ length (take i pages)
+    long_front =
+        length-take-le i news (omega (arith, within, long)) ∙ sym (length-take-le i pages (omega (arith, within)))
+
+    next_pages : take (i + 1) pages ≡ take i pages ++ page ∷ []
+    next_pages = take_more pages i page within ∙ ap (λ last. take i pages ++ last ∷ []) (sym is)
+
+    next_news : take (i + 1) news ≡ take i news ++ new ∷ []
+    next_news = take_more news i new (rw long within) ∙ ap (λ last. take i news ++ last ∷ []) (sym is_2)
+
+    next : changed_paths (take (i + 1) pages) (take (i + 1) news) ≡ front ++ changed_paths (page ∷ []) (new ∷ [])
+    next = rw (next_pages, next_news) (changed_paths-append (take i pages) (page ∷ []) (take i news) (new ∷ []) long_front)
+
+    all_pages : pages ≡ take i pages ++ page ∷ drop (i + 1) pages
+    all_pages =
+        sym (take-append-drop (i + 1) pages) ∙ ap (λ some. some ++ drop (i + 1) pages) next_pages
+        ∙ append_assoc (take i pages) (page ∷ []) (drop (i + 1) pages)
+
+    all_news : news ≡ take i news ++ new ∷ drop (i + 1) news
+    all_news =
+        sym (take-append-drop (i + 1) news) ∙ ap (λ some. some ++ drop (i + 1) news) next_news
+        ∙ append_assoc (take i news) (new ∷ []) (drop (i + 1) news)
+
+    all : changed_paths pages news ≡ front ++ changed_paths (page ∷ drop (i + 1) pages) (new ∷ drop (i + 1) news)
+    all =
+        ap (λ some. changed_paths some news) all_pages
+        ∙ ap (changed_paths (take i pages ++ page ∷ drop (i + 1) pages)) all_news
+        ∙ changed_paths-append (take i pages) (page ∷ drop (i + 1) pages) (take i news) (new ∷ drop (i + 1) news) long_front
+
+    -- a page that stays
+    pub count_changed-same : is_some new.text ≡ false → count_changed pages news (i + 1) ≡ count_changed pages news i
+    count_changed-same stays =
+        ap length next ∙ length-append front (changed_paths (page ∷ []) (new ∷ []))
+        ∙ ap (λ changes. length front + length (if changes then path_components page.path ∷ [] else [])) stays
+        ∙ omega arith
+
+    -- a page that changes
+    pub count_changed-more : is_some new.text ≡ true → count_changed pages news (i + 1) ≡ count_changed pages news i + 1
+    count_changed-more changes =
+        ap length next ∙ length-append front (changed_paths (page ∷ []) (new ∷ []))
+        ∙ ap (λ changes. length front + length (if changes then path_components page.path ∷ [] else [])) changes
+
+    all_changing : is_some new.text ≡ true
+        → changed_paths pages news
+        ≡ front ++ path_components page.path ∷ changed_paths (drop (i + 1) pages) (drop (i + 1) news)
+    all_changing changes =
+        all ∙ ap (λ changes. front ++ (if changes
+        then path_components page.path ∷ changed_paths (drop (i + 1) pages) (drop (i + 1) news)
+        else changed_paths (drop (i + 1) pages) (drop (i + 1) news))) changes
+
+    -- it is the next of those that change
+    pub count_changed-within : is_some new.text ≡ true → count_changed pages news i < length (changed_paths pages news)
+    count_changed-within changes =
+        let count = ap length (all_changing changes)
+        ∙ length-append front (path_components page.path ∷ changed_paths (drop (i + 1) pages) (drop (i + 1) news)) in
+        omega (arith, count)
+
+    pub path_at-changed_paths : is_some new.text ≡ true
+        → path_at (changed_paths pages news) (count_changed pages news i) ≡ path_components page.path
+    path_at-changed_paths changes =
+        ap (λ paths. get_or paths (count_changed pages news i) []) (all_changing changes)
+        ∙ get_or_at front (path_components page.path) (changed_paths (drop (i + 1) pages) (drop (i + 1) news)) []
+        (count_changed pages news i) refl
+
+    -- what holds of each page and its new page so far, and of the next ones
+    pub AllZip-next_page : (R : SitePage → MovedSitePage → Type 0) → AllZip R (take i pages) (take i news) → R page new
+        → AllZip R (take (i + 1) pages) (take (i + 1) news)
+    AllZip-next_page R so_far here =
+        rw (next_pages, next_news) (all_zipped_more R (take i pages) (take i news) page new so_far here)
+
+    -- fewer pages changed so far than there are
+    pub count_changed-less : count_changed pages news i < length pages
+    count_changed-less =
+        let count = length-changed_paths (take i pages) (take i news) in
+        let so_far = length-take-le i pages (omega (arith, within)) in
+        omega (arith, count, so_far, within)
 
 -- after the last page
-pub ChangedSoFar-end : (pages : List SitePage) (news : List MovedSitePage) (k : ℕ) (changed : List ChangedPage)
-    → length pages ≤ k → ChangedSoFar pages news k changed
-    → map (λ page. page.number) changed ≡ changed_from 0 pages news
-ChangedSoFar-end pages news k changed all so_far =
-    sym (append-nil (map (λ page. page.number) changed)) ∙ (rw (drop_all k pages all) at so_far)
-
--- the pages whose text changes are among the pages
-All-changed_from : (k : ℕ) (pages : List SitePage) (news : List MovedSitePage)
-    → All (λ number. number < k + length pages) (changed_from k pages news)
-All-changed_from k [] news = All-nil (λ number. number < k + 0)
-All-changed_from k (page ∷ pages) [] = All-nil (λ number. number < k + length (page ∷ pages))
-All-changed_from k (page ∷ pages) (new ∷ news) =
-    either (bytes_eq page.text.now (string_bytes new.page.text))
-    (All-weaker (λ number. number < k + 1 + length pages) (λ number. number < k + length (page ∷ pages))
-    (λ number l. omega (arith, l)) (changed_from (k + 1) pages news) (All-changed_from (k + 1) pages news))
-  where
-    either : (same : Bool) → All (λ number. number < k + length (page ∷ pages)) (changed_from (k + 1) pages news)
-        → All (λ number. number < k + length (page ∷ pages))
-        (if same then changed_from (k + 1) pages news else k ∷ changed_from (k + 1) pages news)
-    either true rest = rest
-    either false rest =
-        All-cons (λ number. number < k + length (page ∷ pages)) k (changed_from (k + 1) pages news) (omega arith) rest
-
-pub All-changed : (pages : List SitePage) (news : List MovedSitePage) (changed : List ChangedPage)
-    → map (λ page. page.number) changed ≡ changed_from 0 pages news → All (λ page. page.number < length pages) changed
-All-changed pages news changed is = λ k d l.
-    let all = subst (All (λ number. number < 0 + length pages)) (sym is) (All-changed_from 0 pages news) in
-    let at = get_or-map (λ (page : ChangedPage). page.number) changed k d d.number l in
-    let within = all k d.number (rw (length-map changed (λ (page : ChangedPage). page.number)) l) in
-    omega (arith, at, within)
+pub count_changed-all : (pages : List SitePage) (news : List MovedSitePage) (i : ℕ) → length news ≡ length pages
+    → length pages ≤ i → count_changed pages news i ≡ length (changed_paths pages news)
+count_changed-all pages news i long all =
+    ap (λ some. length (changed_paths some (take i news))) (take_all i pages all)
+    ∙ ap (λ some. length (changed_paths pages some)) (take_all i news (omega (arith, long, all)))

@@ -1,6 +1,5 @@
--- The paths of the pages, and the pages whose text changes.
-use Rattle.std.specs.Prelude.{ℕ, ◌+◌, List, [], ◌∷◌, map, string_bytes, if◌then◌else◌}
-use Rattle.std.specs.Str.{bytes_eq}
+-- The paths of the pages, and of those that change.
+use Rattle.std.specs.Prelude.{List, [], ◌∷◌, map, is_some, if◌then◌else◌}
 use Rattle.relative_path.specs.Steps.{Step}
 use Rattle.relative_path.specs.RelativePath.{path_components}
 use Rattle.relative_path_links.specs.declared.site.MovedSitePage.{MovedSitePage}
@@ -10,11 +9,9 @@ use Rattle.relative_path_links.specs.declared.site.SitePage.{SitePage}
 abbrev pub page_paths : List SitePage → List (List Step)
 page_paths = map (λ page. path_components page.path)
 
--- the numbers, from k on, of the pages whose new text differs from the old one
-abbrev pub changed_from : ℕ → List SitePage → List MovedSitePage → List ℕ
-changed_from k [] news = []
-changed_from k (page ∷ pages) [] = []
-changed_from k (page ∷ pages) (new ∷ news) =
-    if bytes_eq page.text.now (string_bytes new.page.text)
-    then changed_from (k + 1) pages news
-    else k ∷ changed_from (k + 1) pages news
+-- the components of the paths of the pages that change: those whose new page has a text
+abbrev pub changed_paths : List SitePage → List MovedSitePage → List (List Step)
+changed_paths [] news = []
+changed_paths (page ∷ pages) [] = []
+changed_paths (page ∷ pages) (new ∷ news) =
+    if is_some new.text then path_components page.path ∷ changed_paths pages news else changed_paths pages news

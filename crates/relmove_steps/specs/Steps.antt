@@ -1,5 +1,5 @@
 -- A run's renames: their order, that they lose nothing, and where they take things.
-use Rattle.std.specs.Prelude.{◌≡◌, ◌<◌, ℕ, List, [], ◌∷◌, ◌++◌, Some, String, All, Contains, IsPermutation, length, map, slice_get, slice_index_or, string_bytes}
+use Rattle.std.specs.Prelude.{◌≡◌, ◌<◌, ℕ, List, [], ◌∷◌, ◌++◌, IfSome, String, All, Contains, IsPermutation, length, map, slice_index_or, string_bytes}
 use Rattle.std.specs.List.{AllZip}
 use Rattle.std.specs.declared.alloc.Global.{Global}
 use Rattle.relative_path.specs.Steps.{Step, slash}
@@ -10,8 +10,6 @@ use Rattle.relative_path_links.specs.declared.site.MovedSitePage.{MovedSitePage}
 use Rattle.relative_path_links.specs.declared.site.SitePage.{SitePage}
 use Rattle.relative_path_moves.specs.Moves.{Move, move_at}
 use Rattle.relative_path_places.specs.PlaceIndex.{IsNoneAt, path_at}
-use Rattle.relmove_steps.specs.Pages.{page_paths}
-use Rattle.relmove_steps.specs.declared.changed.ChangedPage.{ChangedPage}
 use Rattle.relmove_steps.specs.declared.renames.Renames.{Renames}
 use Rattle.relmove_actions.specs.declared.steps.NewText.{NewText}
 use Rattle.relmove_actions.specs.declared.steps.Rename.{Rename}
@@ -164,10 +162,6 @@ RemovesMoved moves cs steps =
 abbrev pub old_paths : List Move → List (List Step)
 old_paths moves = map (λ move. move.old) moves
 
--- the paths of the pages that change
-abbrev pub changed_paths : List SitePage → List ChangedPage → List (List Step)
-changed_paths pages changed = map (λ change. path_at (page_paths pages) change.number) changed
-
 -- the pages of which new texts are written
 abbrev pub pages_written : StepTexts → List (List ℕ)
 pages_written steps = map (λ new. new.0) steps.texts
@@ -182,18 +176,20 @@ WritesPage cs before after =
     (page : List ℕ) × IsNormalTextOf cs page × (pages_written after ≡ pages_written before ++ page ∷ [])
 
 -- the new text of the page is written to a new file, which is carried to the page's new path
-pub record ReplacesPage (steps : StepTexts) (page : SitePage) (new : MovedSitePage) : Type 0 where
+pub record ReplacesPage (steps : StepTexts) (page : SitePage) (new : MovedSitePage) (text : List ℕ) : Type 0 where
   pub old : List ℕ
   pub old_of : IsNormalTextOf (path_components page.path) old
   pub file : List ℕ
-  pub written : Contains steps.texts (old, file, string_bytes new.page.text)
+  pub written : Contains steps.texts (old, file, text)
   pub carries : Carries steps file new.path
 
+-- the page is replaced if it changes
+abbrev pub ReplacesChanged : StepTexts → SitePage → MovedSitePage → Type 0
+ReplacesChanged steps page new = IfSome new.text (λ text. ReplacesPage steps page new (string_bytes text))
+
 -- each page that changes is replaced
-abbrev pub ReplacesPages : List SitePage → List MovedSitePage → List ChangedPage → StepTexts → Type 0
-ReplacesPages pages news changed steps = All (λ change. (page : SitePage) (new : MovedSitePage)
-    → slice_get pages change.number ≡ Some page → slice_get news change.number ≡ Some new
-    → ReplacesPage steps page new) changed
+abbrev pub ReplacesPages : List SitePage → List MovedSitePage → StepTexts → Type 0
+ReplacesPages pages news steps = AllZip (ReplacesChanged steps) pages news
 
 -- ---- nothing else leaves
 

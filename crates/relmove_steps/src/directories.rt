@@ -11,13 +11,12 @@ ghost use Rattle.relmove_steps.specs.Directories.{AreLeftByMoves, AreMissingText
 ghost use Rattle.relmove_steps.specs.Steps.{BelowFirst};
 
 use relative_path::RelativePath;
-use relative_path_links::{SitePage, Target};
+use relative_path_links::MovedSitePage;
 use relative_path_moves::TreeMoves;
-use relative_path_places::{NormalPath, PlaceIndex, directory};
+use relative_path_places::{NormalPath, PlaceIndex};
 use relmove_checks::directory_above;
 use std::alloc::{AllocError, Global};
 use std::collections::BTreeSet;
-use target_paths::{TargetReading, path_of_target};
 
 // Returns the directories to make: those above new paths that aren't there after the moves.
 pub(crate) fn directories_to_make(
@@ -73,7 +72,7 @@ fn add_missing(
 // deepest first.
 pub(crate) fn directories_emptied(
     alloc: Global,
-    pages: &[SitePage<'_>],
+    news: &[MovedSitePage],
     moves: &[(RelativePath<'_>, RelativePath<'_>)],
     tree: &TreeMoves<'_>,
 ) -> Result<Vec<String>, AllocError>
@@ -85,11 +84,11 @@ pub(crate) fn directories_emptied(
     for (old, _) in moves {
         add_left(alloc, &mut left, *old, tree)?;
     }
-    for page in pages {
+    for new in news {
         if left.is_empty() {
             break;
         }
-        remove_linked(alloc, &mut left, *page, tree)?;
+        remove_linked(alloc, &mut left, new, tree)?;
     }
     from_last(alloc, left)
 }
@@ -130,35 +129,35 @@ fn add_left(
 fn remove_linked(
     alloc: Global,
     left: &mut BTreeSet<String>,
-    page: SitePage<'_>,
+    new: &MovedSitePage,
     tree: &TreeMoves<'_>,
 ) -> Result<(), AllocError>
     ensures { OnOk result ((moves : List Move) → AreLeftByMoves tree.now moves left.old.keys
         → AreLeftByMoves tree.now moves left.new.keys) }
 {
-    for target in page.targets {
-        if let Some(place) = place_after(alloc, page, *target, tree)? {
-            left.remove(place.as_relative_path().as_str());
+    for edit in &new.edits {
+        if let Some(file) = &edit.file {
+            remove_file(alloc, left, file, tree)?;
         }
     }
     Ok(())
 }
 
-// Returns where that is after the moves to which a link of a page leads, if the link's path is known.
-fn place_after(
+// Removes where a file is after the moves.
+fn remove_file(
     alloc: Global,
-    page: SitePage<'_>,
-    target: Target,
+    left: &mut BTreeSet<String>,
+    file: &NormalPath,
     tree: &TreeMoves<'_>,
-) -> Result<Option<NormalPath>, AllocError> {
-    let Some(written) = page.text.get(target.start..target.end) else {
-        return Ok(None);
+) -> Result<(), AllocError>
+    ensures { OnOk result ((moves : List Move) → AreLeftByMoves tree.now moves left.old.keys
+        → AreLeftByMoves tree.now moves left.new.keys) }
+{
+    match tree.new_path(alloc, file)? {
+        Some(now) => left.remove(now.as_relative_path().as_str()),
+        None => left.remove(file.as_relative_path().as_str()),
     };
-    let TargetReading::Path { path, .. } = path_of_target(alloc, target.syntax, written)? else {
-        return Ok(None);
-    };
-    let place = directory(page.path).join(alloc, RelativePath::new(path.as_str()))?;
-    Ok(Some(tree.path_after(alloc, place.as_relative_path())?))
+    Ok(())
 }
 
 // Returns the paths of the directories above a path, without the root: the nearest first.

@@ -10,7 +10,6 @@
 //! ```
 #![tactic(auto)]
 
-pub use self::changed::{ChangedPage, changed_pages};
 pub use self::steps::{After, steps_of};
 
 mod between;

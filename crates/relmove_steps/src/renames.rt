@@ -8,13 +8,13 @@ ghost use Rattle.relative_path_moves.specs.Moves.{AreApart, Move, move_at, moves
 ghost use Rattle.relative_path_places.specs.PlaceIndex.{Indexes, IsNoneAt, path_at};
 ghost use Rattle.relative_path_places.specs.declared.place_index.PlaceIndex.{PlaceIndex};
 ghost use Rattle.relmove_checks.specs.Moves.{EachMove, move_of};
-ghost use Rattle.relmove_steps.specs.Steps.{AreAmong, DoesMove, LosesNothing, RemovesAt, RemovesMoved, ReplacesPage, ReplacesPages, OnlyTheseLeave, WritesPage, WritesPages, changed_paths, names_left, old_paths, rename_texts, with_carried, with_removed, with_text};
+ghost use Rattle.relmove_steps.specs.Steps.{AreAmong, DoesMove, LosesNothing, RemovesAt, RemovesMoved, ReplacesPage, ReplacesPages, OnlyTheseLeave, WritesPage, WritesPages, names_left, old_paths, rename_texts, with_carried, with_removed, with_text};
+ghost use Rattle.relmove_steps.specs.Pages.{changed_paths};
 ghost use Rattle.relmove_steps.specs.BetweenNames.{AreDrawn, IsStepsRefusal};
 ghost use Rattle.relmove_steps.specs.NewFiles.{AreFilesDrawn, DoNothingYet, LeaveFromEntries, LeaveOnce, LeavesToo, StaysThere};
 ghost use Rattle.relmove_steps.specs.Directories.{LeavesTo, LeaveToNames, moves_to_names};
 
 use crate::between::FreeNames;
-use crate::changed::ChangedPage;
 use relative_path::RelativePath;
 use relative_path_links::{MovedSitePage, SitePage};
 use relative_path_places::{NormalPath, PlaceIndex};
@@ -236,43 +236,42 @@ pub(crate) fn add_pages(
     names: &mut FreeNames<'_>,
     pages: &[SitePage<'_>],
     news: &[MovedSitePage],
-    changed: &[ChangedPage],
     olds: &PlaceIndex,
 ) -> Result<(), Refusal>
     requires kept { LosesNothing (rename_texts renames.old) }
-    requires within { All (λ page. page.number < length pages.now) changed.now }
     requires long { length news.now ≡ length pages.now }
     ensures kept { OnOk result (LosesNothing (rename_texts renames.new)) }
     ensures among { OnOk result (AreAmong (rename_texts renames.old) (rename_texts renames.new)) }
     ensures replaced { OnOk result
-        (ReplacesPages pages.now news.now changed.now (rename_texts renames.new)) }
+        (ReplacesPages pages.now news.now (rename_texts renames.new)) }
     ensures removed { OnOk result ((moves : List Move) → Indexes (old_paths moves) olds.now
-        → EachMove (DoesMove (changed_paths pages.now changed.now) (rename_texts renames.old)) moves
-        → All (RemovesAt (rename_texts renames.new)) (changed_paths pages.now changed.now)) }
+        → EachMove (DoesMove (changed_paths pages.now news.now) (rename_texts renames.old)) moves
+        → All (RemovesAt (rename_texts renames.new)) (changed_paths pages.now news.now)) }
     ensures only { OnOk result ((moves : List Move)
-        → OnlyTheseLeave moves (changed_paths pages.now changed.now) (rename_texts renames.old)
-        → OnlyTheseLeave moves (changed_paths pages.now changed.now) (rename_texts renames.new)) }
+        → OnlyTheseLeave moves (changed_paths pages.now news.now) (rename_texts renames.old)
+        → OnlyTheseLeave moves (changed_paths pages.now news.now) (rename_texts renames.new)) }
     ensures free { OnOk result ((index : PlaceIndex)
         → AreDrawn index names.old (names_left (rename_texts renames.old))
         → AreDrawn index names.new (names_left (rename_texts renames.new))) }
     ensures files { OnOk result ((index : PlaceIndex)
         → AreDrawn index names.old (names_left (rename_texts renames.old))
-        → AreFilesDrawn index (changed_paths pages.now changed.now) names.old (rename_texts renames.old)
-        → AreFilesDrawn index (changed_paths pages.now changed.now) names.new (rename_texts renames.new)) }
+        → AreFilesDrawn index (changed_paths pages.now news.now) names.old (rename_texts renames.old)
+        → AreFilesDrawn index (changed_paths pages.now news.now) names.new (rename_texts renames.new)) }
     ensures once { OnOk result ((index : PlaceIndex) (entries : List (List Step)) (moves : List Move)
         → Indexes entries index → Indexes (old_paths moves) olds.now
-        → LeaveFromEntries entries moves (changed_paths pages.now changed.now)
+        → LeaveFromEntries entries moves (changed_paths pages.now news.now)
         → AreDrawn index names.old (names_left (rename_texts renames.old))
-        → AreFilesDrawn index (changed_paths pages.now changed.now) names.old (rename_texts renames.old)
+        → AreFilesDrawn index (changed_paths pages.now news.now) names.old (rename_texts renames.old)
         → OnlyTheseLeave moves [] (rename_texts renames.old)
         → LeaveOnce (rename_texts renames.old) → LeaveOnce (rename_texts renames.new)) }
     ensures texts { OnOk result ((rename_texts renames.old).texts ≡ []
-        → WritesPages (changed_paths pages.now changed.now) (rename_texts renames.new)) }
+        → WritesPages (changed_paths pages.now news.now) (rename_texts renames.new)) }
     ensures refused { IfErr result IsStepsRefusal }
 {
-    for page in changed {
-        let old = pages[page.number];
-        add_page(alloc, renames, names, old, &news[page.number], olds)?;
+    for (page, new) in pages.iter().zip(news) {
+        if let Some(text) = &new.text {
+            add_page(alloc, renames, names, *page, new, text, olds)?;
+        }
     }
     Ok(())
 }
@@ -285,12 +284,13 @@ fn add_page(
     names: &mut FreeNames<'_>,
     page: SitePage<'_>,
     new: &MovedSitePage,
+    text: &str,
     olds: &PlaceIndex,
 ) -> Result<(), Refusal>
     requires { LosesNothing (rename_texts renames.old) }
     ensures kept { OnOk result (LosesNothing (rename_texts renames.new)) }
     ensures among { OnOk result (AreAmong (rename_texts renames.old) (rename_texts renames.new)) }
-    ensures replaced { OnOk result (ReplacesPage (rename_texts renames.new) page.entry new.now) }
+    ensures replaced { OnOk result (ReplacesPage (rename_texts renames.new) page.entry new.now text.now) }
     ensures removed { OnOk result ((moves : List Move) → Indexes (old_paths moves) olds.now
         → RemovesMoved moves (path_components page.entry.path) (rename_texts renames.old)
         → RemovesAt (rename_texts renames.new) (path_components page.entry.path)) }
@@ -320,7 +320,7 @@ fn add_page(
     let old = NormalPath::of(alloc, page.path)?;
     let file = names.in_directory(alloc, old.directory())?;
     let normal = old.as_relative_path().as_str();
-    add_text(alloc, renames, normal, &file, &new.page.text)?;
+    add_text(alloc, renames, normal, &file, text)?;
     add_old_text(alloc, renames, names, old, olds)?;
     let name = names.in_root(alloc)?;
     let to = String::from_str(alloc, new.path.as_relative_path().as_str())?;

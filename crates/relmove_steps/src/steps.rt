@@ -1,5 +1,5 @@
 //! The steps of a run.
-ghost use Rattle.std.specs.Prelude.{◌≡◌, ◌<◌, All, IfErr, IfOk, List, length, map, string_bytes};
+ghost use Rattle.std.specs.Prelude.{◌≡◌, All, IfErr, IfOk, List, length, map, string_bytes};
 ghost use Rattle.relative_path.specs.Steps.{Step};
 ghost use Rattle.relative_path_moves.specs.Moves.{AreApart, AreNamed, moves_of};
 ghost use Rattle.relative_path_places.specs.PlaceIndex.{Indexes};
@@ -7,12 +7,13 @@ ghost use Rattle.relative_path_places.specs.declared.place_index.PlaceIndex.{Pla
 ghost use Rattle.relmove_checks.specs.Refusals.{turned};
 ghost use Rattle.relmove_checks.specs.Moves.{EachMove};
 ghost use Rattle.relmove_steps.specs.NewFiles.{AreFilesDrawn, HaveOwnFiles, LeaveFromEntries, LeaveOnce};
+ghost use Rattle.relmove_steps.specs.Pages.{changed_paths};
 ghost use Rattle.relmove_steps.specs.Directories.{AreLeftByMoves, AreMade, LeaveToNames, MakesMissing, moves_to_names};
-ghost use Rattle.relmove_steps.specs.Steps.{AboveFirst, BelowFirst, DoesMove, LosesNothing, OnlyTheseLeave, RemovesAt, ReplacesPages, WritesPages, changed_paths, names_left, rename_texts, step_texts};
+ghost use Rattle.relmove_steps.specs.Steps.{AboveFirst, BelowFirst, DoesMove, LosesNothing, OnlyTheseLeave, RemovesAt, ReplacesPages, WritesPages, names_left, rename_texts, step_texts};
 ghost use Rattle.relmove_steps.specs.BetweenNames.{AreDrawn, AreFreeNames, IsStepsRefusal};
 
 use crate::between::FreeNames;
-use crate::changed::{ChangedPage, changed_index};
+use crate::changed::changed_index;
 use crate::directories::{directories_emptied, directories_to_make};
 use crate::order::{above_first, below_first};
 use crate::renames::{Renames, add_moves, add_pages, names_between, news_between, old_index};
@@ -33,10 +34,8 @@ pub struct After<'a, 'b> {
     pub after: &'a PlaceIndex,
     /// The table of the moves.
     pub table: &'a TreeMoves<'b>,
-    /// The pages after the moves.
+    /// The pages after the moves. Those with a text change.
     pub pages: &'a [MovedSitePage],
-    /// Which of the pages change.
-    pub changed: &'a [ChangedPage],
 }
 
 /// Returns the steps that move the files and change the pages. Fails if no name is free, or an allocation fails.
@@ -48,8 +47,6 @@ pub fn steps_of(
     moves: &[(RelativePath<'_>, RelativePath<'_>)],
     now: After<'_, '_>,
 ) -> Result<Steps, Refusal>
-    // the changed pages have to be among the pages
-    requires within { All (λ page. page.number < length pages.now) now.changed.now }
     // there has to be one new page for each page
     requires long { length now.pages.now ≡ length pages.now }
     // each path has to have a file name
@@ -66,13 +63,12 @@ pub fn steps_of(
     ensures kept { IfOk result (λ steps. LosesNothing (step_texts steps)) }
     // what moves comes to its new path, changed pages aside
     ensures moved { IfOk result (λ steps. EachMove
-        (DoesMove (changed_paths pages.now now.entry.changed.now) (step_texts steps)) (moves_of moves.now)) }
+        (DoesMove (changed_paths pages.now now.entry.pages.now) (step_texts steps)) (moves_of moves.now)) }
     // a changed page's new text comes by a new file to its new path
-    ensures replaced { IfOk result (λ steps. ReplacesPages pages.now now.entry.pages.now
-        now.entry.changed.now (step_texts steps)) }
+    ensures replaced { IfOk result (λ steps. ReplacesPages pages.now now.entry.pages.now (step_texts steps)) }
     // each changed page's old text goes to a name in between, and is removed
     ensures removed { IfOk result (λ steps. All (RemovesAt (step_texts steps))
-        (changed_paths pages.now now.entry.changed.now)) }
+        (changed_paths pages.now now.entry.pages.now)) }
     // what is below a path comes before it
     ensures emptied { IfOk result (λ steps. BelowFirst (map string_bytes steps.emptied.items)) }
     // `emptied` has only directories above old paths, where they are after the moves
@@ -80,20 +76,20 @@ pub fn steps_of(
         (λ steps. AreLeftByMoves now.entry.table.now (moves_of moves.now) steps.emptied.items) }
     // nothing leaves but from old paths, changed pages and the files of new texts
     ensures only { IfOk result (λ steps. OnlyTheseLeave (moves_of moves.now)
-        (changed_paths pages.now now.entry.changed.now) (step_texts steps)) }
+        (changed_paths pages.now now.entry.pages.now) (step_texts steps)) }
     // names in between are `.relmove-` and a number, all different, and no entry has one
     ensures names { IfOk result (λ steps. (paths : List (List Step)) → Indexes paths now.entry.index.now
         → AreFreeNames paths (names_left (step_texts steps))) }
     // new texts are of exactly the changed pages, in order
     ensures texts { IfOk result (λ steps. WritesPages
-        (changed_paths pages.now now.entry.changed.now) (step_texts steps)) }
+        (changed_paths pages.now now.entry.pages.now) (step_texts steps)) }
     // nothing leaves a path twice, if old paths, and changed pages, are distinct entries
     ensures once { IfOk result (λ steps. (paths : List (List Step)) → Indexes paths now.entry.index.now
-        → LeaveFromEntries paths (moves_of moves.now) (changed_paths pages.now now.entry.changed.now)
+        → LeaveFromEntries paths (moves_of moves.now) (changed_paths pages.now now.entry.pages.now)
         → LeaveOnce (step_texts steps)) }
     // each new text has its own file, in the page's directory, where no entry is
     ensures files { IfOk result (λ steps. (paths : List (List Step)) → Indexes paths now.entry.index.now
-        → HaveOwnFiles paths (changed_paths pages.now now.entry.changed.now) (step_texts steps)) }
+        → HaveOwnFiles paths (changed_paths pages.now now.entry.pages.now) (step_texts steps)) }
     // each directory missing above new paths, where names in between put it
     ensures made { IfOk result (λ steps. (paths : List (List Step)) → Indexes paths now.entry.after.now
         → MakesMissing (moves_of moves.now) paths (step_texts steps) (map string_bytes steps.made.items)) }
@@ -109,7 +105,7 @@ pub fn steps_of(
         made: directories_made(alloc, moves, &between, now.after)?,
         together: above_first(alloc, renames.arrivals)?,
         removed: renames.removed,
-        emptied: directories_emptied(alloc, pages, moves, now.table)?,
+        emptied: directories_emptied(alloc, now.pages, moves, now.table)?,
     })
 }
 
@@ -122,47 +118,37 @@ fn renames_of(
     between: &[String],
     now: After<'_, '_>,
 ) -> Result<Renames, Refusal>
-    requires within { All (λ page. page.number < length pages.now) now.changed.now }
     requires long { length now.pages.now ≡ length pages.now }
     requires count { length between.now ≡ length moves.now }
     ensures kept { IfOk result (λ renames. LosesNothing (rename_texts renames)) }
     ensures moved { IfOk result (λ renames. EachMove
-        (DoesMove (changed_paths pages.now now.entry.changed.now) (rename_texts renames)) (moves_of moves.now)) }
-    ensures replaced { IfOk result (λ renames. ReplacesPages pages.now now.entry.pages.now
-        now.entry.changed.now (rename_texts renames)) }
+        (DoesMove (changed_paths pages.now now.entry.pages.now) (rename_texts renames)) (moves_of moves.now)) }
+    ensures replaced { IfOk result (λ renames. ReplacesPages pages.now now.entry.pages.now (rename_texts renames)) }
     ensures removed { IfOk result (λ renames. All (RemovesAt (rename_texts renames))
-        (changed_paths pages.now now.entry.changed.now)) }
+        (changed_paths pages.now now.entry.pages.now)) }
     ensures only { IfOk result (λ renames. OnlyTheseLeave (moves_of moves.now)
-        (changed_paths pages.now now.entry.changed.now) (rename_texts renames)) }
+        (changed_paths pages.now now.entry.pages.now) (rename_texts renames)) }
     ensures free { IfOk result (λ renames. (index : PlaceIndex)
         → AreDrawn index names.old (map string_bytes between.now)
         → AreDrawn index names.new (names_left (rename_texts renames))) }
     ensures files { IfOk result (λ renames. (index : PlaceIndex)
         → AreDrawn index names.old (map string_bytes between.now)
-        → AreFilesDrawn index (changed_paths pages.now now.entry.changed.now) names.new (rename_texts renames)) }
+        → AreFilesDrawn index (changed_paths pages.now now.entry.pages.now) names.new (rename_texts renames)) }
     ensures texts { IfOk result (λ renames. WritesPages
-        (changed_paths pages.now now.entry.changed.now) (rename_texts renames)) }
+        (changed_paths pages.now now.entry.pages.now) (rename_texts renames)) }
     ensures once { IfOk result (λ renames. (index : PlaceIndex) (entries : List (List Step))
         → Indexes entries index
-        → LeaveFromEntries entries (moves_of moves.now) (changed_paths pages.now now.entry.changed.now)
+        → LeaveFromEntries entries (moves_of moves.now) (changed_paths pages.now now.entry.pages.now)
         → AreDrawn index names.old (map string_bytes between.now) → LeaveOnce (rename_texts renames)) }
     ensures named { IfOk result (λ renames. LeaveToNames (moves_of moves.now) (map string_bytes between.now)
         (rename_texts renames)) }
     ensures refused { IfErr result IsStepsRefusal }
 {
     let mut renames = Renames::new(alloc);
-    let rewritten = changed_index(alloc, pages, now.changed)?;
+    let rewritten = changed_index(alloc, pages, now.pages)?;
     add_moves(alloc, &mut renames, moves, between, &rewritten)?;
     let olds = old_index(alloc, moves)?;
-    add_pages(
-        alloc,
-        &mut renames,
-        names,
-        pages,
-        now.pages,
-        now.changed,
-        &olds,
-    )?;
+    add_pages(alloc, &mut renames, names, pages, now.pages, &olds)?;
     Ok(renames)
 }
 

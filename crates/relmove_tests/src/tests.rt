@@ -14,6 +14,7 @@ mod moving;
 mod outputs;
 mod progress;
 mod reading;
+mod reread;
 
 // Fails in the words of this case where another value was found than is expected. A call of it costs
 // a proof a fourth of what `assert_eq!` with a message does.

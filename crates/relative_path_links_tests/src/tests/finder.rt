@@ -1,5 +1,5 @@
 use super::same;
-use relative_path_links::{Target, are_in_order, targets};
+use relative_path_links::{Finder, Markdown, Target, are_in_order, targets};
 use std::test::Fail;
 use target_paths::TargetSyntax;
 
@@ -13,6 +13,8 @@ fn finds_targets_with_their_syntax(rt: HostRuntime) -> Result<(), Fail> {
         (TargetSyntax::Markdown, 48, 51),
     ]
     .map(|(syntax, start, end)| Target { syntax, start, end });
+    same(page, found.as_slice(), [b, c, g].as_slice())?;
+    let found = Markdown.targets(rt.alloc(), page)?;
     same(page, found.as_slice(), [b, c, g].as_slice())
 }
 

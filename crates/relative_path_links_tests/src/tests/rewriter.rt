@@ -1,8 +1,8 @@
 use super::pages::PAGE;
 use super::{moves, same};
 use relative_path::RelativePath;
-use relative_path_links::{RewrittenPage, Unchanged, rewrite_links, targets};
-use relative_path_moves::{MovedPage, TreeMoves};
+use relative_path_links::{Change, Edit, Unchanged, edited, rewrite_links, targets};
+use relative_path_moves::{PageMove, TreeMoves};
 use std::alloc::{AllocError, Global};
 use std::test::Fail;
 use target_paths::WhyUnknown;
@@ -59,15 +59,36 @@ const KEPT: [&str; 7] = [
     "] (c.md) [c]\n(c.md)\r\n",
 ];
 
+// A page with its edits: its text, and where a target is left, and why.
+#[derive(Drop)]
+struct EditedPage {
+    text: String,
+    left: Vec<(usize, Unchanged)>,
+}
+
+// Returns the offsets of the targets that are left, and the reasons.
+fn left_in(alloc: Global, edits: &[Edit]) -> Result<Vec<(usize, Unchanged)>, AllocError> {
+    let mut left = Vec::new(alloc);
+    for edit in edits {
+        if let Change::Left(why) = &edit.change {
+            left.push((edit.target.start, *why))?;
+        }
+    }
+    Ok(left)
+}
+
 // What a page that moves so becomes in a tree.
 fn after_move(
     alloc: Global,
     tree: &TreeMoves<'_>,
-    moved: &MovedPage,
+    moved: &PageMove,
     page: &str,
-) -> Result<RewrittenPage, AllocError> {
+) -> Result<EditedPage, AllocError> {
     let found = targets(alloc, page)?;
-    rewrite_links(alloc, page, &found, tree, moved)
+    let edits = rewrite_links(alloc, page, &found, tree, moved)?;
+    let text = edited(alloc, page, &edits)?;
+    let left = left_in(alloc, &edits)?;
+    Ok(EditedPage { text, left })
 }
 
 // What a page at a path becomes in a tree.
@@ -76,7 +97,7 @@ fn after_in(
     tree: &TreeMoves<'_>,
     from: &str,
     page: &str,
-) -> Result<RewrittenPage, AllocError> {
+) -> Result<EditedPage, AllocError> {
     let moved = tree.moved_page(alloc, RelativePath::new(from))?;
     after_move(alloc, tree, &moved, page)
 }
@@ -87,13 +108,13 @@ fn after(
     pairs: &[(&str, &str)],
     from: &str,
     page: &str,
-) -> Result<RewrittenPage, Fail> {
+) -> Result<EditedPage, Fail> {
     let moves = moves(alloc, pairs)?;
     let tree = TreeMoves::new(alloc, &moves)?;
     Ok(after_in(alloc, &tree, from, page)?)
 }
 
-// Fails where it becomes another text than is expected, or a link is reported as unchanged.
+// Fails where it becomes another text than is expected, or a target is left.
 fn becomes(
     alloc: Global,
     pairs: &[(&str, &str)],
@@ -103,7 +124,7 @@ fn becomes(
 ) -> Result<(), Fail> {
     let new = after(alloc, pairs, from, page)?;
     same(page, new.text.as_str(), expected)?;
-    same(page, new.unchanged.as_slice(), [].as_slice())
+    same(page, new.left.as_slice(), [].as_slice())
 }
 
 // Fails where a page at this path becomes another text than its row says.
@@ -174,13 +195,105 @@ fn leaves(
 ) -> Result<(), Fail> {
     let moved = after(alloc, &[(old, new)], old, page)?;
     same(old, moved.text.as_str(), page)?;
-    same(old, moved.unchanged.as_slice(), [(at, why)].as_slice())
+    same(old, moved.left.as_slice(), [(at, why)].as_slice())
 }
 
 #[test]
 fn leaves_a_link_that_it_cant_move(rt: HostRuntime) -> Result<(), Fail> {
     for row in &UNCHANGED {
         leaves(rt.alloc(), *row)?;
+    }
+    Ok(())
+}
+
+// A page's path, the page with one target, and the file to which it leads before the moves.
+type WithFile = (&'static str, &'static str, Option<&'static str>);
+
+// Targets of each syntax before `MOVES`, and those of files that move with their page or alone.
+const FILES: [WithFile; 8] = [
+    ("docs/a.md", "[b](b%20\\_c.md?q#t)", Some("docs/b _c.md")),
+    ("docs/a.md", "![x](./../img//x.png)", Some("img/x.png")),
+    ("docs/a.md", "[c]: <c.md#&#35;> 't'\n", Some("docs/c.md")),
+    ("docs/a.md", "<img src='i&amp;j.png'>", Some("docs/i&j.png")),
+    ("docs/a.md", "<a href=sub/>", Some("docs/sub")),
+    ("docs/d.md", "[a](a.md)", Some("docs/a.md")),
+    ("d.md", "[u](docs/%C3%BCber.md)", Some("docs/über.md")),
+    ("docs/a.md", "[r](..)", Some("")),
+];
+
+// Targets that lead above the root, and such as aren't read as paths.
+const ABOVE_OR_NONE: [WithFile; 10] = [
+    ("docs/a.md", "[e](../../e.md)", Some("../e.md")),
+    ("d.md", "<img src=\"x/../../e.png\">", Some("../e.png")),
+    ("../d.md", "[e]: e.md\n", Some("../e.md")),
+    ("d.md", "[r](..)", Some("..")),
+    ("docs/a.md", "[q](?q) ", None),
+    ("docs/a.md", "[h](https://x.org/c.md)", None),
+    ("docs/a.md", "<a href='/c.md'>", None),
+    ("docs/a.md", "<a href='&T;'>", None),
+    ("docs/a.md", "[x](a%2Fb)", None),
+    ("docs/a.md", "[n](docs%00x.md)", None),
+];
+
+// Fails where the edits aren't one, of a target that leads to this file.
+fn has_file(case: &str, edits: &[Edit], file: Option<&str>) -> Result<(), Fail> {
+    let [edit] = edits else {
+        return Err(Fail::new(format_args!("{case:?}: another number of edits than 1")));
+    };
+    let found = edit
+        .file
+        .as_ref()
+        .map(|found| found.as_relative_path().as_str());
+    same(case, found, file)
+}
+
+// Fails where the target of a page leads to another file than its row says.
+fn leads_to(alloc: Global, tree: &TreeMoves<'_>, (path, page, file): WithFile) -> Result<(), Fail> {
+    let moved = tree.moved_page(alloc, RelativePath::new(path))?;
+    let found = targets(alloc, page)?;
+    let edits = rewrite_links(alloc, page, &found, tree, &moved)?;
+    has_file(page, &edits, file)
+}
+
+// The same of each of these rows, after these moves.
+fn all_lead(alloc: Global, pairs: &[(&str, &str)], rows: &[WithFile]) -> Result<(), Fail> {
+    let moves = moves(alloc, pairs)?;
+    let tree = TreeMoves::new(alloc, &moves)?;
+    for row in rows {
+        leads_to(alloc, &tree, *row)?;
+    }
+    Ok(())
+}
+
+#[test]
+fn tells_the_file_before_the_moves(rt: HostRuntime) -> Result<(), Fail> {
+    all_lead(rt.alloc(), &MOVES, &FILES)?;
+    all_lead(rt.alloc(), &[], &FILES)
+}
+
+#[test]
+fn tells_a_file_above_the_root_and_none_for_what_is_no_path(rt: HostRuntime) -> Result<(), Fail> {
+    all_lead(rt.alloc(), &MOVES, &ABOVE_OR_NONE)?;
+    all_lead(rt.alloc(), &[], &ABOVE_OR_NONE)
+}
+
+// Targets that are left, for each reason that a path has.
+const LEFT_WITH_FILE: [((&str, &str), WithFile); 3] = [
+    (
+        ("a.md", "b/a.md"),
+        ("a.md", "[e](../e.md)", Some("../e.md")),
+    ),
+    (("d.md", "../x/d.md"), ("d.md", "[e](e.md)", Some("e.md"))),
+    (
+        ("a\0/a.md", "b/a.md"),
+        ("a\0/a.md", "[x](x.md)", Some("a\0/x.md")),
+    ),
+];
+
+#[test]
+fn tells_the_file_of_a_target_that_is_left(rt: HostRuntime) -> Result<(), Fail> {
+    for (pair, row) in &LEFT_WITH_FILE {
+        all_lead(rt.alloc(), &[*pair], &[*row])?;
     }
     Ok(())
 }
@@ -193,7 +306,7 @@ fn moves_the_others_beside_a_link_that_is_left(rt: HostRuntime) -> Result<(), Fa
     let expected = "[x](%2f) [y](<../My%20Docs/y.md#z>) [z](../../z.md)";
     same(page, moved.text.as_str(), expected)?;
     let slash = Unchanged::Unknown(WhyUnknown::EncodedSlash);
-    same(page, moved.unchanged.as_slice(), [(4, slash)].as_slice())
+    same(page, moved.left.as_slice(), [(4, slash)].as_slice())
 }
 
 // Moves of files with awkward names, and of directories.
@@ -246,7 +359,7 @@ fn reads_and_writes_targets_as_a_browser_does(rt: HostRuntime) -> Result<(), Fai
 }
 
 #[test]
-fn reports_nothing_where_nothing_moves(rt: HostRuntime) -> Result<(), Fail> {
+fn leaves_nothing_where_nothing_moves(rt: HostRuntime) -> Result<(), Fail> {
     let page = "[x](a%2Fb) <img src='&T;'> [y](../../y)";
     becomes(rt.alloc(), &[], "docs/a.md", page, page)
 }

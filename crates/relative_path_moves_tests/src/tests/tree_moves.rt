@@ -1,7 +1,7 @@
 //! Where files are after moves of directories.
 use super::{gives_text, read_moves, same, told_of};
 use relative_path::RelativePath;
-use relative_path_moves::{MoveTableError, MovedPage, TreeMoves};
+use relative_path_moves::{MoveTableError, MovedReference, PageMove, TreeMoves};
 use relative_path_places::NormalPath;
 use std::alloc::Global;
 use std::test::Fail;
@@ -78,7 +78,7 @@ type Link = (&'static str, &'static str, &'static str);
 fn becomes_in_page(
     alloc: Global,
     tree: &TreeMoves<'_>,
-    page: &MovedPage,
+    page: &PageMove,
     reference: &str,
     expected: &str,
 ) -> Result<(), Fail> {
@@ -220,4 +220,64 @@ const TO_ABOVE_THE_ROOT: [Link; 4] = [
 #[test]
 fn links_with_a_new_path_above_the_root(rt: HostRuntime) -> Result<(), Fail> {
     links_become(rt.alloc(), "out > ../out", &TO_ABOVE_THE_ROOT)
+}
+
+// A page before moves, a reference in it, the file to which it leads, and what the reference becomes, `as it is`, or
+// an error's words after `! `.
+type Found = (&'static str, &'static str, &'static str, &'static str);
+
+// References before a move of `docs` to `guide`, of `deep` to another depth, and of `out` above the root.
+const OF_FILES: [Found; 12] = [
+    ("index.md", "docs/./a.md", "docs/a.md", "guide/a.md"),
+    ("docs/a.md", "img/x.png", "docs/img/x.png", "as it is"),
+    ("docs/sub/a.md", "../../docs//b.md", "docs/b.md", "../b.md"),
+    ("docs2/a.md", "./x/../b.md", "docs2/b.md", "as it is"),
+    ("docs/a.md", "", "docs", "as it is"),
+    ("docs/a.md", "..", "", "as it is"),
+    (
+        "deep/a.md",
+        "../../issues",
+        "../issues",
+        "! reference climbs above the root",
+    ),
+    ("docs/a.md", "../../issues", "../issues", "as it is"),
+    (
+        "index.md",
+        "out/a.md",
+        "out/a.md",
+        "! reference climbs above the root",
+    ),
+    ("out/a.md", "../index.md", "index.md", "! no path"),
+    ("out/a.md", "b.md", "out/b.md", "as it is"),
+    ("../c.md", "docs/a.md", "../docs/a.md", "as it is"),
+];
+
+// Fails where a reference in a page leads to another file than is expected, or becomes something else.
+fn leads_to(
+    alloc: Global,
+    moves: &TreeMoves<'_>,
+    page: &PageMove,
+    (_, reference, file, expected): Found,
+) -> Result<(), Fail> {
+    let found = moves.reference_in(alloc, page, RelativePath::new(reference))?;
+    let MovedReference { file: found, moved } = found;
+    is_at(reference, &found, file)?;
+    gives_text(reference, told_of(alloc, moved), expected)
+}
+
+// The same of each of these rows.
+fn all_lead(alloc: Global, moves: &TreeMoves<'_>, rows: &[Found]) -> Result<(), Fail> {
+    for row in rows {
+        let page = moves.moved_page(alloc, RelativePath::new(row.0))?;
+        leads_to(alloc, moves, &page, *row)?;
+    }
+    Ok(())
+}
+
+#[test]
+fn files_of_references_before_the_moves(rt: HostRuntime) -> Result<(), Fail> {
+    let alloc = rt.alloc();
+    let moves = read_moves(alloc, "docs > guide, deep > deep/er, out > ../out")?;
+    let moves = TreeMoves::new(alloc, &moves)?;
+    all_lead(alloc, &moves, &OF_FILES)
 }

@@ -1,8 +1,8 @@
 //! Plans for the trees of the vectors.
 use super::model::DIRECTORY;
 use relative_path::RelativePath;
-use relative_path_links::{SitePage, Target, targets};
-use relmove_plan::{Entry, Kind, NameRule, Plan, Refusal, Tree, have_targets, make_plan};
+use relative_path_links::{Markdown, SitePage};
+use relmove_plan::{Entry, Kind, NameRule, Plan, Refusal, Tree, make_plan};
 use std::alloc::Global;
 use std::test::Fail;
 
@@ -27,8 +27,8 @@ fn entry_of<'a>((path, text): (&'a str, &'a str)) -> Entry<'a> {
             is_read: false,
         },
         _ => match text.strip_prefix("-> ") {
-            Some(target) => Kind::Link {
-                target: Some(RelativePath::new(target)),
+            Some(path) => Kind::Symlink {
+                path: Some(RelativePath::new(path)),
             },
             None => Kind::File,
         },
@@ -47,18 +47,13 @@ pub fn planned(
     rule: NameRule,
 ) -> Result<Result<Plan, Refusal>, Fail> {
     let mut entries = Vec::new(alloc);
-    let mut found: Vec<Vec<Target>> = Vec::new(alloc);
-    for row in rows {
-        entries.push(entry_of(*row))?;
-        found.push(targets(alloc, row.1)?)?;
-    }
     let mut pages = Vec::new(alloc);
-    for ((path, text), list) in rows.iter().zip(&found) {
+    for (path, text) in rows {
+        entries.push(entry_of((path, text)))?;
         if path.ends_with(".md") {
             pages.push(SitePage {
                 path: RelativePath::new(path),
-                text: *text,
-                targets: list,
+                text,
             })?;
         }
     }
@@ -66,12 +61,9 @@ pub fn planned(
     for pair in moves {
         pairs.push(as_paths(*pair))?;
     }
-    if !have_targets(&pages) {
-        return Err(Fail::new("targets that aren't in order"));
-    }
     let tree = Tree {
         entries: &entries,
         pages: &pages,
     };
-    Ok(make_plan(alloc, tree, &pairs, rule))
+    Ok(make_plan(alloc, tree, &pairs, rule, &Markdown))
 }

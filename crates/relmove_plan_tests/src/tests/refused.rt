@@ -97,7 +97,11 @@ const REFUSED: [(&str, &[(&str, &str)], Refusal); 22] = [
         &[("a.md", "b.md/x/y")],
         Refusal::BelowFile(0),
     ),
-    ("below a link", &[("a.md", "l/x")], Refusal::BelowFile(0)),
+    (
+        "below a symbolic link",
+        &[("a.md", "l/x")],
+        Refusal::BelowFile(0),
+    ),
     (
         "below a file that comes",
         &[("a.md", "n"), ("b.md", "n/x")],

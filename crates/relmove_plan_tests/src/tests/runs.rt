@@ -2,6 +2,7 @@
 use super::model::Files;
 use super::planned::planned;
 use super::same;
+use relative_path_links::{Change, MovedSitePage};
 use relmove_plan::NameRule;
 use std::alloc::Global;
 use std::test::Fail;
@@ -228,6 +229,19 @@ fn a_page_that_moves_and_changes(rt: HostRuntime) -> Result<(), Fail> {
     )
 }
 
+// How many targets of a page get a new text, and how many are left.
+fn new_and_left(page: &MovedSitePage) -> (usize, usize) {
+    let (mut new, mut left) = (0usize, 0usize);
+    for edit in &page.edits {
+        match edit.change {
+            Change::Kept => {}
+            Change::New(_) => new = new.saturating_add(1),
+            Change::Left(_) => left = left.saturating_add(1),
+        }
+    }
+    (new, left)
+}
+
 // What a plan says besides its steps.
 #[test]
 fn pages_that_change(rt: HostRuntime) -> Result<(), Fail> {
@@ -239,17 +253,15 @@ fn pages_that_change(rt: HostRuntime) -> Result<(), Fail> {
     ];
     let plan = planned(rt.alloc(), &rows, &[("b.md", "d/b.md")], NameRule::Plain)?;
     let plan = plan.map_err(|refusal| Fail::new(format_args!("{refusal}")))?;
-    let numbers = [(0, 2), (1, 1)];
-    same("changed", &plan.changed.len(), &2)?;
-    for (page, (number, links)) in plan.changed.iter().zip(&numbers) {
-        same("a page", &page.number, number)?;
-        same("its links", &page.links, links)?;
+    let expected = [(true, (2, 0)), (true, (1, 0)), (false, (0, 1))];
+    same("pages", &plan.pages.len(), &3)?;
+    for (page, (changes, counts)) in plan.pages.iter().zip(&expected) {
+        same("a page changes", &page.text.is_some(), changes)?;
+        same("its targets", &new_and_left(page), counts)?;
     }
-    let page = plan.pages.get(2).ok_or("a page")?;
-    same("reports", &page.page.unchanged.len(), &1)?;
-    same("links", &plan.links.len(), &1)?;
-    let link = plan.links.first().ok_or("a link")?;
-    same("a link", &link.entry, &3)?;
-    same("it moves", &link.moves, &false)?;
-    same("it leads to what moves", &link.leads_to_moved, &true)
+    same("symbolic links", &plan.symlinks.len(), &1)?;
+    let symlink = plan.symlinks.first().ok_or("a symbolic link")?;
+    same("its path", &symlink.path.as_relative_path().as_str(), &"l")?;
+    same("it moves", &symlink.moves, &false)?;
+    same("it leads to what moves", &symlink.leads_to_moved, &true)
 }

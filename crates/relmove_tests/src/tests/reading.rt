@@ -96,7 +96,7 @@ fn reads_where_links_lead(rt: HostRuntime) -> Result<(), Fail> {
     let disk = site(rt.alloc())?;
     let machine = DiskMachine(&disk);
     let tree = read_tree(&mut machine.store_at("site")?)?;
-    let guide = EntryKind::Link(Some(String::from_str(rt.alloc(), "guide")?));
+    let guide = EntryKind::Symlink(Some(String::from_str(rt.alloc(), "guide")?));
     same("a link", &tree.entries.get("s"), &Some(&guide))?;
     let directory = EntryKind::Directory;
     same("a directory", &tree.entries.get("guide"), &Some(&directory))

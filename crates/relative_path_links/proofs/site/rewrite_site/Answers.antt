@@ -5,12 +5,14 @@ use Rattle.relative_path_links.proofs.SiteLemmas.{SiteSoFar-end, KeepTheirLinks-
 use Rattle.relative_path_links.proofs.site.rewrite_site.Goals as goal
 
 pub returns-clause-rewritten : goal.returns-clause-rewritten
-returns-clause-rewritten c =
-    SiteSoFar-end c.args.tree.now c.args.pages.now (drop c.loop-page.page-index c.args.pages.now) c.loop-page.moved.items
+returns-clause-rewritten g c =
+    SiteSoFar-end (g.F.Finder.finds c.args.finder.now) c.args.moves.now c.args.pages.now
+    (drop c.loop-page.page-index c.args.pages.now) c.loop-page.moved.items
     (drop_all c.loop-page.page-index c.args.pages.now (grind (arith, c.loop-page-test.false))) c.loop-page.invariant
 
 pub returns-clause-links : goal.returns-clause-links
-returns-clause-links c =
-    KeepTheirLinks-rewritten c.args.tree.now c.args.pages.now c.loop-page.moved.items c.requires
-    (SiteSoFar-end c.args.tree.now c.args.pages.now (drop c.loop-page.page-index c.args.pages.now) c.loop-page.moved.items
+returns-clause-links g c =
+    KeepTheirLinks-rewritten (g.F.Finder.finds c.args.finder.now) c.args.moves.now c.args.pages.now c.loop-page.moved.items
+    (SiteSoFar-end (g.F.Finder.finds c.args.finder.now) c.args.moves.now c.args.pages.now
+    (drop c.loop-page.page-index c.args.pages.now) c.loop-page.moved.items
     (drop_all c.loop-page.page-index c.args.pages.now (grind (arith, c.loop-page-test.false))) c.loop-page.invariant)

@@ -4,4 +4,5 @@ use Rattle.relative_path_links.proofs.SiteLemmas.{SiteSoFar}
 use Rattle.relative_path_links.proofs.site.rewrite_site.Given as goal
 
 abbrev pub invariant-loop-page : goal.invariant-loop-page
-invariant-loop-page l = SiteSoFar l.tree l.pages (drop l.page-index l.pages) l.moved.items
+invariant-loop-page g l =
+    SiteSoFar (g.F.Finder.finds l.finder) l.moves l.pages (drop l.page-index l.pages) l.moved.items

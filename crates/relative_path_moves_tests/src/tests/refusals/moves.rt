@@ -4,8 +4,10 @@ use super::{directory_of, end_with, end_with_normal, long_text};
 use crate::tests::{as_paths, same, text_of};
 use relative_path::{RelativePath, RelativePathBuf};
 use relative_path_moves::{
-    MoveError, MoveTable, MoveTableError, MovedPage, ReferenceError, TreeMoves, moved,
+    MoveError, MoveTable, MoveTableError, MovedReference, PageMove, ReferenceError, TreeMoves,
+    moved,
 };
+use relative_path_places::NormalPath;
 use std::alloc::{AllocError, Global};
 use std::fmt::Debug;
 use std::test::Fail;
@@ -260,8 +262,39 @@ fn the_path_of_a_file_in_a_tree(rt: HostRuntime) -> Result<(), Fail> {
     ask_of_files_of_a_tree(rt.alloc(), &tree)
 }
 
+// The new path of a file after a move of a directory, if the move takes it along.
+fn ask_if_taken(
+    alloc: Global,
+    tree: &TreeMoves<'_>,
+    file: &str,
+    now: Option<&str>,
+) -> Result<(), Fail> {
+    let path = NormalPath::of(alloc, RelativePath::new(file))?;
+    begin(alloc);
+    let answer = tree.new_path(alloc, &path);
+    match answer {
+        Ok(path) => end_with(alloc, file, path.as_ref().map(normal_text), now),
+        Err(_) => end(alloc, true),
+    }
+}
+
+fn normal_text(path: &NormalPath) -> &str {
+    path.as_relative_path().as_str()
+}
+
+// Requests: 7 = 1, = 0, = 0, = 0
+#[test]
+fn the_new_path_of_a_file_in_a_tree(rt: HostRuntime) -> Result<(), Fail> {
+    let moves = docs_moves();
+    let tree = TreeMoves::new(rt.alloc(), &moves)?;
+    ask_if_taken(rt.alloc(), &tree, "docs/a", Some("guide/a"))?;
+    ask_if_taken(rt.alloc(), &tree, "docs2/a", None)?;
+    ask_if_taken(rt.alloc(), &tree, "", None)?;
+    ask_if_taken(rt.alloc(), &tree, "../a", None)
+}
+
 // The path of a page after the moves, and its directories before and after them.
-fn texts_of(moved: &MovedPage) -> (&str, &str, &str) {
+fn texts_of(moved: &PageMove) -> (&str, &str, &str) {
     (
         moved.path.as_relative_path().as_str(),
         moved.before.as_relative_path().as_str(),
@@ -273,7 +306,7 @@ fn texts_of(moved: &MovedPage) -> (&str, &str, &str) {
 fn end_with_page(
     alloc: Global,
     page: &str,
-    answer: Result<MovedPage, AllocError>,
+    answer: Result<PageMove, AllocError>,
     now: (&str, &str, &str),
 ) -> Result<(), Fail> {
     match answer {
@@ -396,6 +429,99 @@ fn a_reference_in_a_tree(rt: HostRuntime) -> Result<(), Fail> {
     let moves = docs_moves();
     let tree = TreeMoves::new(rt.alloc(), &moves)?;
     ask_for_references(rt.alloc(), &tree)
+}
+
+// Returns the file of a reference, and what the reference becomes. Fails where either allocation failed, and then
+// holds nothing.
+fn whole(answer: Result<MovedReference, AllocError>) -> Result<MovedReference, ReferenceError> {
+    let found = answer?;
+    match found.moved {
+        Err(ReferenceError::OutOfMemory) => Err(ReferenceError::OutOfMemory),
+        _ => Ok(found),
+    }
+}
+
+// The mark after a call. Fails if no allocation failed and a reference leads to another file, or becomes another text.
+fn end_with_reference(
+    alloc: Global,
+    reference: &str,
+    answer: Result<MovedReference, ReferenceError>,
+    (file, becomes): (&str, Result<Option<&str>, ReferenceError>),
+) -> Result<(), Fail> {
+    match answer {
+        Ok(found) => {
+            end(alloc, false)?;
+            same(reference, found.file.as_relative_path().as_str(), file)?;
+            is_moved(reference, &found.moved, becomes)
+        }
+        Err(error) => {
+            end(alloc, true)?;
+            same(reference, error, ReferenceError::OutOfMemory)
+        }
+    }
+}
+
+// Fails where a reference becomes another text than is expected, or fails otherwise.
+fn is_moved(
+    reference: &str,
+    moved: &Result<Option<RelativePathBuf>, ReferenceError>,
+    becomes: Result<Option<&str>, ReferenceError>,
+) -> Result<(), Fail> {
+    match moved {
+        Ok(way) => same(reference, Ok(way.as_ref().map(text_of)), becomes),
+        Err(error) => same(reference, Err(*error), becomes),
+    }
+}
+
+// A page, a reference in it, the file to which it leads before moves, and what it becomes.
+type FoundReference = (
+    &'static str,
+    &'static str,
+    &'static str,
+    Result<Option<&'static str>, ReferenceError>,
+);
+
+// A reference in a page after a move of a directory, its file, and what it becomes.
+fn find_in_a_tree(
+    alloc: Global,
+    moves: &TreeMoves<'_>,
+    (page, reference): (&str, &str),
+    expected: (&str, Result<Option<&str>, ReferenceError>),
+) -> Result<(), Fail> {
+    let page = moves.moved_page(alloc, RelativePath::new(page))?;
+    begin(alloc);
+    let answer = moves.reference_in(alloc, &page, RelativePath::new(reference));
+    end_with_reference(alloc, reference, whole(answer), expected)
+}
+
+// References before a move of `docs` to `new/guide`.
+const FOUND_REFERENCES: [FoundReference; 5] = [
+    ("c/d", "../docs/b", "docs/b", Ok(Some("../new/guide/b"))),
+    ("d", "docs/b", "docs/b", Ok(Some("new/guide/b"))),
+    ("docs/a", "b", "docs/b", Ok(None)),
+    ("c/d", "", "c", Ok(None)),
+    ("docs/a", "../../x", "../x", Err(ReferenceError::AboveRoot)),
+];
+
+fn find_references(alloc: Global, moves: &TreeMoves<'_>) -> Result<(), Fail> {
+    for (page, reference, file, becomes) in &FOUND_REFERENCES {
+        find_in_a_tree(alloc, moves, (page, reference), (file, *becomes))?;
+    }
+    let long = long_text(alloc)?;
+    find_in_a_tree(
+        alloc,
+        moves,
+        ("d", long.as_str()),
+        (long.as_str(), Ok(None)),
+    )
+}
+
+// Requests: 4s 6 11 15 = 2, 2s 6 11 12 = 2, 2s 6 11 = 1, 1s 1 = 1, 4s 4 = 1, 524288s 1048576 = 1
+#[test]
+fn a_reference_in_a_tree_with_its_file(rt: HostRuntime) -> Result<(), Fail> {
+    let moves = [("docs", "new/guide")].map(as_paths);
+    let moves = TreeMoves::new(rt.alloc(), &moves)?;
+    find_references(rt.alloc(), &moves)
 }
 
 // A reference of a page that stays, and what it becomes, if that is another.

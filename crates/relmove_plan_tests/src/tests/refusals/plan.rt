@@ -2,8 +2,8 @@
 use super::marks::{begin, end};
 use crate::tests::same;
 use relative_path::RelativePath;
-use relative_path_links::{SitePage, targets};
-use relmove_plan::{Entry, Kind, NameRule, Plan, Refusal, Tree, have_targets, make_plan};
+use relative_path_links::{Markdown, SitePage};
+use relmove_plan::{Entry, Kind, NameRule, Plan, Refusal, Tree, make_plan};
 use std::alloc::Global;
 use std::test::Fail;
 
@@ -30,36 +30,31 @@ fn entries<'a>() -> [Entry<'a>; 3] {
 
 // The plan of a move of the file, between two marks. The page has this text.
 fn planned(alloc: Global, text: &str, new: &str) -> Result<Result<Plan, Refusal>, Fail> {
-    let found = targets(alloc, text)?;
     let pages = [SitePage {
         path: RelativePath::new("a.md"),
         text,
-        targets: &found,
     }];
-    if !have_targets(&pages) {
-        return Err(Fail::new("targets that aren't in order"));
-    }
     let tree = Tree {
         entries: &entries(),
         pages: &pages,
     };
     let moves = [(RelativePath::new("d/b.md"), RelativePath::new(new))];
     begin(alloc);
-    let answer = make_plan(alloc, tree, &moves, NameRule::Plain);
+    let answer = make_plan(alloc, tree, &moves, NameRule::Plain, &Markdown);
     end(alloc, matches!(&answer, Err(Refusal::OutOfMemory)))?;
     Ok(answer)
 }
 
 // Requests: 1s 4 488 1s 1 2s 6 2s 6 2s 6 2s 6 488 1s 2s 6 2s 6 32 2s 6 488 1s 2s 6 2s 6 72 1s 4 1s 1 2s 6 7 1s 4 488 1s
-// 1 2s 6 2s 6 1s 1 2s 6 1s 1 72 1s 4 11 6 6 2s 6 7 7 1s 4 6 6 6 2s 6 7 7 64 1s 9 18 1s 10 1s 4 488 2s 6 2s 6 10 192 10
-// 192 2s 6 488 1s 4 9 18 1s 10 4 10 11 288 9 18 1s 10 10 10 96 9 18 1s 10 4 10 10 144 32 2s 6 488 1s 1s 10 2s 6 64 1s 1
-// 1 368 1s 1s 1 96 2s 6 64 1s 1 368 6 6 6 2s 6 7 1s = 26
+// 1 2s 6 2s 6 1s 1 2s 6 1s 1 80 11 96 648 64 96 96 1s 1s 4 88 6 6 2s 6 7 7 6 11 11 96 648 64 96 96 1s 1s 9 18 1s 10 1s
+// 4 488 2s 6 2s 6 10 192 10 192 2s 6 488 1s 4 9 18 1s 10 4 10 11 288 9 18 1s 10 10 10 96 9 18 1s 10 4 10 10 144 32 2s 6
+// 488 1s 1s 10 2s 6 64 1s 1 1 368 1s 1s 1 96 2s 6 64 1s 1 368 7 1s = 28
 #[test]
 fn a_plan_with_a_page_that_changes(rt: HostRuntime) -> Result<(), Fail> {
     match planned(rt.alloc(), "[b](d/b.md)", "e/b.md")? {
         Ok(plan) => {
             let page = plan.pages.first().ok_or("a page")?;
-            same("the page", &page.page.text.as_str(), &"[b](e/b.md)")?;
+            same("the page", &page.text.as_deref(), &Some("[b](e/b.md)"))?;
             same("renames", &plan.steps.apart.len(), &3)
         }
         Err(refusal) => same("a refusal", &refusal, &Refusal::OutOfMemory),

@@ -18,5 +18,5 @@ pub returns-clause-left : goal.returns-clause-left
 returns-clause-left c =
     let moves = moves_of c.args.moves.now in
     IfOk-weaker c.from_last.result _ _
-    (λ texts is. rw is (All-reverse (λ text. IsLeftByMove c.args.tree.now moves (string_bytes text)) c.loop-page.left.keys
-    c.loop-page.invariant)) c.from_last.ensures.reversed
+    (λ texts is. rw is (All-reverse (λ text. IsLeftByMove c.args.tree.now moves (string_bytes text)) c.loop-new.left.keys
+    c.loop-new.invariant)) c.from_last.ensures.reversed

@@ -6,5 +6,5 @@ use Rattle.relmove_steps.proofs.directories.directories_emptied.Given as goal
 abbrev pub invariant-loop-old : goal.invariant-loop-old
 invariant-loop-old l = AreLeftByMoves l.tree (moves_of l.moves) l.left.keys
 
-abbrev pub invariant-loop-page : goal.invariant-loop-page
-invariant-loop-page l = AreLeftByMoves l.tree (moves_of l.moves) l.left.keys
+abbrev pub invariant-loop-new : goal.invariant-loop-new
+invariant-loop-new l = AreLeftByMoves l.tree (moves_of l.moves) l.left.keys

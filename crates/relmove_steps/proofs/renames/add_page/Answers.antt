@@ -41,16 +41,16 @@ returns-clause-replaced c =
     let new = c.args.new.now in
     let old = c.in_ok-old.old in
     let file = string_bytes c.in_ok-file.file in
-    let name = c.deref-3.result.now in
+    let name = c.deref-2.result.now in
     let page_is = c.as_str-normal.ensures ∙ c.as_relative_path.ensures.text in
     let to_is = c.in_ok-to.ensures.ok ∙ c.as_str.ensures ∙ c.as_relative_path-2.ensures.text in
-    let text_is : rename_texts c.add_text.new.renames ≡ with_text before old file (string_bytes new.page.text) =
-    c.in_ok-add_text.ensures ∙ with_text-same before _ old _ file _
-    (string_bytes new.page.text) page_is c.deref.ensures c.deref-2.ensures in
+    let text = c.args.text.now in
+    let text_is : rename_texts c.add_text.new.renames ≡ with_text before old file text =
+    c.in_ok-add_text.ensures ∙ with_text-same before _ old _ file _ text page_is c.deref.ensures refl in
     let carried : rename_texts c.add_carried.new.renames ≡ with_carried steps file name new.path =
     c.in_ok-add_carried.ensures ∙ ap (with_carried steps file name) to_is in
-    subst (λ all. ReplacesPage all page new) (sym carried)
-    (ReplacesPage-carried before steps page new old file name c.in_ok-old.ensures
+    subst (λ all. ReplacesPage all page new text) (sym carried)
+    (ReplacesPage-carried before steps page new old file text name c.in_ok-old.ensures
     (subst (λ some. AreAmong some steps) text_is c.in_ok-add_old_text.ensures.among))
 
 pub returns-clause-removed : goal.returns-clause-removed
@@ -76,8 +76,8 @@ returns-clause-free c = λ index drawn.
     let removed = c.in_ok-add_old_text.ensures.free index
     (subst (AreDrawn index c.in_directory.new.self) (sym (ap names_left c.in_ok-add_text.ensures)) written) in
     let left = ap names_left c.in_ok-add_carried.ensures
-    ∙ names_left-push steps (string_bytes c.in_ok-file.file) c.deref-3.result.now in
-    rw (left, c.deref-3.ensures)
+    ∙ names_left-push steps (string_bytes c.in_ok-file.file) c.deref-2.result.now in
+    rw (left, c.deref-2.ensures)
     (AreDrawn-next index c.add_old_text.new.names c.in_root.new.self
     (names_left steps) _ c.in_ok-name.ensures.drawn removed)
 
@@ -87,7 +87,7 @@ returns-clause-only c = λ moves paths k l here only.
     let steps = rename_texts c.add_old_text.new.renames in
     let page = c.as_str-normal.result.now in
     let file = string_bytes c.in_ok-file.file in
-    let text = c.deref-2.result.now in
+    let text = c.args.text.now in
     let written_is : rename_texts c.add_text.new.renames ≡ with_text before page file text =
     c.in_ok-add_text.ensures ∙ with_text-same before _ page _ file _ text refl c.deref.ensures refl in
     let written = subst (OnlyTheseLeave moves paths) (sym written_is)
@@ -97,7 +97,7 @@ returns-clause-only c = λ moves paths k l here only.
     c.in_ok-add_old_text.ensures.among.texts (page, file, text)
     (subst (λ all. Contains all.texts (page, file, text)) (sym written_is) (Contains-push before.texts (page, file, text))) in
     subst (OnlyTheseLeave moves paths) (sym c.in_ok-add_carried.ensures)
-    (OnlyTheseLeave-with_carried moves paths steps file c.deref-3.result.now (string_bytes c.in_ok-to.to)
+    (OnlyTheseLeave-with_carried moves paths steps file c.deref-2.result.now (string_bytes c.in_ok-to.to)
     (of_text page text has) removed)
 
 pub returns-clause-files : goal.returns-clause-files
@@ -106,7 +106,7 @@ returns-clause-files c = λ index paths k l here drawn files.
     let steps = rename_texts c.add_old_text.new.renames in
     let old = c.in_ok-old.old in
     let file = string_bytes c.in_ok-file.file in
-    let text = c.deref-2.result.now in
+    let text = c.args.text.now in
     let names = c.in_directory.new.self in
     let page_is = c.as_str-normal.ensures ∙ c.as_relative_path.ensures.text in
     let written_is : rename_texts c.add_text.new.renames ≡ with_text before old file text =
@@ -117,8 +117,8 @@ returns-clause-files c = λ index paths k l here drawn files.
     c.in_ok-old.ensures.normal_text (k, l, rw here c.in_ok-old.ensures) drawn files in
     let removed = c.in_ok-add_old_text.ensures.files index paths
     (subst (AreFilesDrawn index paths names) (sym written_is) written) in
-    let left = ap names_left c.in_ok-add_carried.ensures ∙ names_left-push steps file c.deref-3.result.now
-    ∙ ap (λ name. names_left steps ++ name ∷ []) c.deref-3.ensures in
+    let left = ap names_left c.in_ok-add_carried.ensures ∙ names_left-push steps file c.deref-2.result.now
+    ∙ ap (λ name. names_left steps ++ name ∷ []) c.deref-2.ensures in
     AreFilesDrawn-name index paths c.add_old_text.new.names c.in_root.new.self steps
     (rename_texts c.add_carried.new.renames) _ c.in_ok-name.ensures.drawn
     (ap (λ (all : StepTexts). all.texts) c.in_ok-add_carried.ensures) left removed
@@ -131,7 +131,7 @@ returns-clause-once c = λ index entries paths moves k has has_olds leave l here
     let cs = path_components c.args.page.path in
     let old = c.in_ok-old.old in
     let file = string_bytes c.in_ok-file.file in
-    let text = c.deref-2.result.now in
+    let text = c.args.text.now in
     let names = c.in_directory.new.self in
     let page_is = c.as_str-normal.ensures ∙ c.as_relative_path.ensures.text in
     let written_is : written ≡ with_text before old file text =
@@ -153,4 +153,4 @@ returns-clause-once c = λ index entries paths moves k has has_olds leave l here
     (components-next_to old file drawn_in.number drawn_in.fits c.in_ok-old.ensures.normal_text drawn_in.file_of) only
     (ap (λ (all : StepTexts). all.apart) written_is) old_is c.in_ok-add_old_text.ensures.leaves in
     subst LeaveOnce (sym c.in_ok-add_carried.ensures)
-    (LeaveOnce-with_file steps file c.deref-3.result.now (string_bytes c.in_ok-to.to) others removed)
+    (LeaveOnce-with_file steps file c.deref-2.result.now (string_bytes c.in_ok-to.to) others removed)

@@ -1,7 +1,8 @@
 -- The moves are done before the pages are added.
 use Rattle.std.proofs.Common.{Global, [], ◌++◌, map, string_bytes, sym, ap, subst, ◌∙◌}
 use Rattle.relative_path_moves.specs.Moves.{moves_of, move_at}
-use Rattle.relmove_steps.specs.Steps.{changed_paths, rename_texts}
+use Rattle.relmove_steps.specs.Steps.{rename_texts}
+use Rattle.relmove_steps.specs.Pages.{changed_paths}
 use Rattle.relmove_steps.specs.BetweenNames.{AreDrawn}
 use Rattle.relmove_steps.proofs.CarryLemmas.{DoesMove-among}
 use Rattle.relmove_steps.proofs.NewFilesLemmas.{AreFilesDrawn-none}
@@ -10,7 +11,7 @@ use Rattle.relmove_steps.proofs.steps.renames_of.Goals as goal
 
 pub returns-clause-moved : goal.returns-clause-moved
 returns-clause-moved c =
-    let paths = changed_paths c.args.pages.now c.args.now.changed.now in
+    let paths = changed_paths c.args.pages.now c.args.now.pages.now in
     λ k l. DoesMove-among (rename_texts c.add_moves.new.renames) (rename_texts c.add_pages.new.renames)
     c.in_ok-add_pages.ensures.among paths (move_at (moves_of c.args.moves.now) k)
     (c.in_ok-add_moves.ensures.moved paths c.in_ok-rewritten.ensures k l)
@@ -18,7 +19,7 @@ returns-clause-moved c =
 pub returns-clause-removed : goal.returns-clause-removed
 returns-clause-removed c =
     c.in_ok-add_pages.ensures.removed (moves_of c.args.moves.now) c.in_ok-olds.ensures
-    (c.in_ok-add_moves.ensures.moved (changed_paths c.args.pages.now c.args.now.changed.now) c.in_ok-rewritten.ensures)
+    (c.in_ok-add_moves.ensures.moved (changed_paths c.args.pages.now c.args.now.pages.now) c.in_ok-rewritten.ensures)
 
 pub returns-clause-free : goal.returns-clause-free
 returns-clause-free c = λ index drawn.
@@ -29,14 +30,14 @@ returns-clause-free c = λ index drawn.
 pub returns-clause-only : goal.returns-clause-only
 returns-clause-only c =
     let moves = moves_of c.args.moves.now in
-    let paths = changed_paths c.args.pages.now c.args.now.changed.now in
+    let paths = changed_paths c.args.pages.now c.args.now.pages.now in
     c.in_ok-add_pages.ensures.only moves (c.in_ok-add_moves.ensures.only paths (c.new-renames.ensures.only moves paths))
 
 pub returns-clause-files : goal.returns-clause-files
 returns-clause-files c = λ index drawn.
     let names = map (string_bytes {Z = Global}) c.args.between.now in
     let left = c.in_ok-add_moves.ensures.left ∙ ap (λ before. before ++ names) c.new-renames.ensures.left in
-    let paths = changed_paths c.args.pages.now c.args.now.changed.now in
+    let paths = changed_paths c.args.pages.now c.args.now.pages.now in
     c.in_ok-add_pages.ensures.files index (subst (AreDrawn index c.args.names.now) (sym left) drawn)
     (AreFilesDrawn-none index paths c.args.names.now (rename_texts c.add_moves.new.renames)
     (c.in_ok-add_moves.ensures.texts ∙ c.new-renames.ensures.none.texts))
@@ -46,7 +47,7 @@ returns-clause-once c = λ index entries has leave drawn.
     let names = map (string_bytes {Z = Global}) c.args.between.now in
     let left = c.in_ok-add_moves.ensures.left ∙ ap (λ before. before ++ names) c.new-renames.ensures.left in
     let moves = moves_of c.args.moves.now in
-    let paths = changed_paths c.args.pages.now c.args.now.changed.now in
+    let paths = changed_paths c.args.pages.now c.args.now.pages.now in
     c.in_ok-add_pages.ensures.once index entries moves has c.in_ok-olds.ensures leave
     (subst (AreDrawn index c.args.names.now) (sym left) drawn)
     (AreFilesDrawn-none index paths c.args.names.now (rename_texts c.add_moves.new.renames)

@@ -5,7 +5,8 @@ use Rattle.std.proofs.lemmas.List.Sorted.{IsPermutation-map}
 use Rattle.relative_path_moves.specs.Moves.{moves_of, move_at}
 use Rattle.relmove_steps.specs.declared.renames.Renames.{Renames}
 use Rattle.relmove_actions.specs.declared.steps.Rename.{Rename}
-use Rattle.relmove_steps.specs.Steps.{StepTexts, RemovesAt, changed_paths, names_left, new_text, rename_text, rename_texts, to_name}
+use Rattle.relmove_steps.specs.Steps.{StepTexts, RemovesAt, names_left, new_text, rename_text, rename_texts, to_name}
+use Rattle.relmove_steps.specs.Pages.{changed_paths}
 use Rattle.relmove_steps.proofs.StepsLemmas.{LosesNothing-reordered}
 use Rattle.relmove_steps.proofs.CarryLemmas.{AreAmong-reordered, DoesMove-among, RemovesAt-among, ReplacesPages-among}
 use Rattle.relmove_steps.proofs.NamesLemmas.{AreFreeNames-IsPermutation}
@@ -54,7 +55,7 @@ returns-clause-moved c =
     AreAmong-reordered (rename_texts renames) steps c.in_ok-below_first.ensures.same c.in_ok-above_first.ensures.same
     refl refl in
     λ k l. DoesMove-among (rename_texts renames) steps among
-    (changed_paths c.args.pages.now c.args.now.changed.now) (move_at (moves_of c.args.moves.now) k)
+    (changed_paths c.args.pages.now c.args.now.pages.now) (move_at (moves_of c.args.moves.now) k)
     (c.in_ok-renames.ensures.moved k l)
 
 pub returns-clause-replaced : goal.returns-clause-replaced
@@ -64,7 +65,7 @@ returns-clause-replaced c =
     let among =
     AreAmong-reordered (rename_texts renames) steps c.in_ok-below_first.ensures.same c.in_ok-above_first.ensures.same
     refl refl in
-    ReplacesPages-among c.args.pages.now c.args.now.pages.now c.args.now.changed.now (rename_texts renames) steps among
+    ReplacesPages-among (rename_texts renames) steps among c.args.pages.now c.args.now.pages.now
     c.in_ok-renames.ensures.replaced
 
 pub returns-clause-removed : goal.returns-clause-removed
@@ -75,7 +76,7 @@ returns-clause-removed c =
     AreAmong-reordered (rename_texts renames) steps c.in_ok-below_first.ensures.same c.in_ok-above_first.ensures.same
     refl refl in
     All-weaker (RemovesAt (rename_texts renames)) (RemovesAt steps) (RemovesAt-among (rename_texts renames) steps among)
-    (changed_paths c.args.pages.now c.args.now.changed.now) c.in_ok-renames.ensures.removed
+    (changed_paths c.args.pages.now c.args.now.pages.now) c.in_ok-renames.ensures.removed
 
 pub returns-clause-names : goal.returns-clause-names
 returns-clause-names c = λ paths has.
@@ -98,7 +99,7 @@ returns-clause-only c =
       together = map rename_text c.in_ok-above_first.field-0.items;
       removed = map string_bytes renames.removed.items;
     } in
-    OnlyTheseLeave-reordered (moves_of c.args.moves.now) (changed_paths c.args.pages.now c.args.now.changed.now)
+    OnlyTheseLeave-reordered (moves_of c.args.moves.now) (changed_paths c.args.pages.now c.args.now.pages.now)
     (rename_texts renames) steps c.in_ok-below_first.ensures.same refl c.in_ok-renames.ensures.only
 
 pub returns-clause-files : goal.returns-clause-files
@@ -108,7 +109,7 @@ returns-clause-files c = λ paths has.
     let steps = in_order renames c.in_ok-below_first.field-0 c.in_ok-above_first.field-0 in
     let between = c.in_ok-between.ensures.free index c.new-names.ensures in
     let drawn = c.in_ok-renames.ensures.files index (rw c.deref.ensures.value between) in
-    HaveOwnFiles-reordered paths (changed_paths c.args.pages.now c.args.now.changed.now) (rename_texts renames) steps
+    HaveOwnFiles-reordered paths (changed_paths c.args.pages.now c.args.now.pages.now) (rename_texts renames) steps
     c.in_ok-below_first.ensures.same refl (drawn.own paths has)
 
 pub returns-clause-once : goal.returns-clause-once

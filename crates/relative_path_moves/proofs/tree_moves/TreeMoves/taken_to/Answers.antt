@@ -38,3 +38,15 @@ returns-clause-target c = λ file normal.
     (name_components c.unwrap.result) taken split
     (rw c.index.ensures (HaveNewTexts-at c.args.self.now _ c.in-Some.j _ (rw moves_is at c.self.invariant.news) within))
     c.in_ok-now.ensures
+
+pub returns-in_default-clause-own : goal.returns-in_default-clause-own
+returns-in_default-clause-own c =
+    let place = c.args.place.now in
+    returns-in_default-clause-target c (components place)
+    (IsNormalTextOf-same (components place) place c.view-file.ensures.normal (IsSame-refl (components place)))
+
+pub returns-clause-own : goal.returns-clause-own
+returns-clause-own c =
+    let place = c.args.place.now in
+    returns-clause-target c (components place)
+    (IsNormalTextOf-same (components place) place c.view-file.ensures.normal (IsSame-refl (components place)))
