@@ -4,8 +4,11 @@ use crate::draw::Draw;
 use crate::prose::sentences;
 use crate::refused;
 use crate::site::{Place, places, push_image_target, push_page_target, tree_of};
+use relative_path_links::{Change, Edit, Target};
 use relmove_lib::report::print_dead_link;
-use relmove_lib::{Moving, NameRule, Tree, changed_links_of, dead_links_of, moving_of};
+use relmove_lib::{
+    Moving, NameRule, Page, Position, Tree, dead_links_of, moving_of, position_after,
+};
 use relmove_run::Machine;
 use std::alloc::{AllocError, Global};
 use std::io;
@@ -70,26 +73,60 @@ pub(crate) fn plan(
     let Ok(moving) = moving_of(&mut rt.store_at("site")?, tree, &pairs, NameRule::Plain) else {
         return Err(refused());
     };
-    add_moving(&moving, digest);
-    for link in &changed_links_of(rt.alloc(), tree, &pairs, &moving)? {
-        digest.add(link.page);
-        digest.add_number(link.position.line);
-        digest.add_number(link.position.column);
-        digest.add(link.target);
-        digest.add(link.new.as_str());
+    add_moving(tree, &moving, digest);
+    for (page, new) in tree.pages.iter().zip(&moving.plan.pages) {
+        add_changed_links(page, &new.edits, digest);
     }
     Ok(())
 }
 
-// Adds what a plan is.
-fn add_moving(moving: &Moving<'_>, digest: &mut Digest) {
-    for page in &moving.plan.pages {
-        digest.add(page.path.as_relative_path().as_str());
-        digest.add_number(page.page.text.len());
+// Adds the links of a page that change.
+fn add_changed_links(page: &Page, edits: &[Edit], digest: &mut Digest) {
+    let mut position = position_after("");
+    let mut offset = 0;
+    for edit in edits {
+        if let Change::New(new) = &edit.change {
+            let Target { start, end, .. } = edit.target;
+            position = place_after(position, page.text.get(offset..start).unwrap_or(""));
+            offset = start;
+            digest.add(page.path.as_str());
+            digest.add_number(position.line);
+            digest.add_number(position.column);
+            digest.add(page.text.get(start..end).unwrap_or(""));
+            digest.add(new.as_str());
+        }
     }
-    for change in &moving.plan.changed {
-        digest.add_number(change.number);
-        digest.add_number(change.links);
+}
+
+// Returns the place after a text that begins at a place.
+fn place_after(here: Position, text: &str) -> Position {
+    let Position { line, column } = position_after(text);
+    if line == 1 {
+        Position {
+            line: here.line,
+            column: here.column.saturating_add(column).saturating_sub(1),
+        }
+    } else {
+        Position {
+            line: here.line.saturating_add(line).saturating_sub(1),
+            column,
+        }
+    }
+}
+
+// Adds what a plan is.
+fn add_moving(tree: &Tree, moving: &Moving<'_>, digest: &mut Digest) {
+    let news = &moving.plan.pages;
+    for (page, new) in tree.pages.iter().zip(news) {
+        let text = new.text.as_ref().unwrap_or(&page.text);
+        digest.add(new.path.as_relative_path().as_str());
+        digest.add_number(text.len());
+    }
+    for (number, new) in news.iter().enumerate() {
+        if new.text.is_some() {
+            digest.add_number(number);
+            digest.add_number(new.edits.iter().filter(|edit| edit.is_new()).count());
+        }
     }
     for link in &moving.left {
         digest.add(link.page);
